@@ -1,0 +1,92 @@
+//! A list of words.
+
+ghost use Rattle.std.specs.Prelude.{◌≡◌, ◌==◌, ℕ, List, [], ◌∷◌, ◌++◌, length, slice_get, IfOk, OnOk, OnErr};
+
+use crate::memory::NoMemory;
+use std::alloc::Global;
+use std::marker::Model;
+
+/// A list of words.
+#[derive(Drop)]
+pub struct Words {
+    items: Vec<u64>,
+}
+
+impl Model for Words {
+    ghost Value = { List ℕ };
+
+    ghost view = { λ list. list.items.items };
+}
+
+impl Words {
+    /// No words.
+    pub fn empty(alloc: Global) -> Words
+        ensures { result ≡ [] }
+    {
+        Words {
+            items: Vec::new(alloc),
+        }
+    }
+
+    /// These words.
+    pub fn from_slice(alloc: Global, words: &[u64]) -> Result<Words, NoMemory>
+        ensures { IfOk result (λ list. list ≡ words.now) }
+    {
+        Ok(Words {
+            items: Vec::from_slice(alloc, words)?,
+        })
+    }
+
+    /// Puts a word at the end.
+    pub fn push(&mut self, word: u64) -> Result<(), NoMemory>
+        ensures ok { OnOk result (self.new ≡ self.old ++ word ∷ []) }
+        ensures err { OnErr result (self.new ≡ self.old) }
+    {
+        self.items.push(word)?;
+        Ok(())
+    }
+
+    /// Puts words at the end.
+    pub fn extend(&mut self, words: &[u64]) -> Result<(), NoMemory>
+        ensures ok { OnOk result (self.new ≡ self.old ++ words.now) }
+        ensures err { OnErr result (self.new ≡ self.old) }
+    {
+        self.items.extend_from_slice(words)?;
+        Ok(())
+    }
+
+    /// How many there are.
+    pub fn len(&self) -> usize
+        ensures { result ≡ length self.now }
+    {
+        self.items.len()
+    }
+
+    /// Whether there are none.
+    pub fn is_empty(&self) -> bool
+        ensures { result ≡ (length self.now == 0) }
+    {
+        self.items.is_empty()
+    }
+
+    /// The word at a place, counted from 0.
+    pub fn get(&self, place: usize) -> Option<u64>
+        ensures { result ≡ slice_get self.now place }
+    {
+        self.items.get(place).copied()
+    }
+
+    /// The words as a slice.
+    pub fn as_slice(&self) -> &[u64]
+        ensures { result.now ≡ self.now }
+    {
+        &self.items
+    }
+
+    /// The same words once more.
+    pub fn copy(&self, alloc: Global) -> Result<Words, NoMemory>
+        ensures { IfOk result (λ list. list ≡ self.now) }
+    {
+        Words::from_slice(alloc, &self.items)
+    }
+}
