@@ -1,0 +1,103 @@
+-- Worked runs: what the sequential meaning gives for small programs, by computing.
+use Rattle.std.proofs.Common.{◌≡◌, ℕ, List, [], ◌∷◌, codes, refl, Some, None, Option}
+use Rattle.ws_words.specs.declared.alu.Alu.TheVariants.{Add, Sub, Mul, Div, Rem, Shl, Le}
+use Rattle.ws_words.specs.Outside.{World, Act, prints, loads, stores, reads}
+use Rattle.src_ast.specs.declared.lexeme.Name.{Name}
+use Rattle.src_ast.specs.Lexemes.{start}
+use Rattle.src_ast.specs.Syntax.{Expression, Number, Variable, Cell, Binary, Assign, Store, Print, Read, Call, While, Statements, Nothing, Then, Part, Array, Proc}
+use Rattle.src_ast.specs.Turns.{CallEnd, Returned, Stopped}
+use Rattle.src_ast.specs.Meaning.{run}
+
+abbrev name : List ℕ → Name
+name t = record { text = t; place = start }
+
+abbrev var : List ℕ → Expression
+var t = Variable (name t)
+
+abbrev proc : List ℕ → List Name → List Name → Statements → Option Expression → Part
+proc f params vars body None = Proc (record { name = name f; params = params; vars = vars; body = body; ending = None })
+proc f params vars body (Some e) = Proc (record { name = name f; params = params; vars = vars; body = body; ending = Some (record { place = start; value = e }) })
+
+abbrev main : List Name → Statements → Part
+main vars body = proc (codes "main") [] vars body None
+
+abbrev world : List ℕ → World
+world input = record { input = input; left = [] }
+
+abbrev acts_of : CallEnd → List Act
+acts_of (Returned v o k) = o.acts
+acts_of (Stopped o) = o.acts
+
+abbrev turns_left : CallEnd → Option ℕ
+turns_left (Returned v o k) = Some k
+turns_left (Stopped o) = None
+
+-- the sum of 1 to 10
+abbrev sums : List Part
+sums =
+    main (name (codes "i") ∷ name (codes "s") ∷ [])
+    (Then (Assign start (name (codes "i")) (Number 1))
+    (Then (While start (Binary Le (var (codes "i")) (Number 10))
+    (Then (Assign start (name (codes "s")) (Binary Add (var (codes "s")) (var (codes "i"))))
+    (Then (Assign start (name (codes "i")) (Binary Add (var (codes "i")) (Number 1))) Nothing)))
+    (Then (Print start (var (codes "s"))) Nothing)))
+    ∷ []
+
+pub sum_prints_55 : acts_of (run sums (world []) 40) ≡ prints 55 ∷ []
+sum_prints_55 = refl
+
+pub sum_takes_33_turns : turns_left (run sums (world []) 40) ≡ Some 7
+sum_takes_33_turns = refl
+
+pub sum_wants_a_turn_more : turns_left (run sums (world []) 32) ≡ None
+sum_wants_a_turn_more = refl
+
+abbrev prints_three : Expression → Expression → Expression → List Part
+prints_three a b c = main [] (Then (Print start a) (Then (Print start b) (Then (Print start c) Nothing))) ∷ []
+
+pub divides_and_shifts : acts_of (run (prints_three (Binary Div (Number 5) (Number 0)) (Binary Rem (Number 5) (Number 0)) (Binary Shl (Number 1) (Number 65))) (world []) 3)
+    ≡ prints 18446744073709551615 ∷ prints 5 ∷ prints 2 ∷ []
+divides_and_shifts = refl
+
+pub wraps : acts_of (run (prints_three (Binary Add (Number 18446744073709551615) (Number 1)) (Binary Sub (Number 0) (Number 1)) (Number 7)) (world []) 3)
+    ≡ prints 0 ∷ prints 18446744073709551615 ∷ prints 7 ∷ []
+wraps = refl
+
+-- a procedure that doubles, called twice
+abbrev doubles : List Part
+doubles =
+    proc (codes "dbl") (name (codes "x") ∷ []) [] Nothing (Some (Binary Mul (var (codes "x")) (Number 2)))
+    ∷ main (name (codes "a") ∷ name (codes "b") ∷ name (codes "k") ∷ [])
+    (Then (Assign start (name (codes "k")) (Number 5))
+    (Then (Call start (Some (name (codes "a"))) (name (codes "dbl")) (var (codes "k") ∷ []))
+    (Then (Call start (Some (name (codes "b"))) (name (codes "dbl")) (var (codes "a") ∷ []))
+    (Then (Print start (Binary Add (Binary Add (var (codes "a")) (var (codes "b"))) (var (codes "k")))) Nothing))))
+    ∷ []
+
+pub doubled_is_35 : acts_of (run doubles (world []) 6) ≡ prints 35 ∷ []
+doubled_is_35 = refl
+
+pub doubling_takes_6_turns : turns_left (run doubles (world []) 6) ≡ Some 0
+doubling_takes_6_turns = refl
+
+-- three reads of two words
+abbrev reads_three : List Part
+reads_three =
+    main (name (codes "x") ∷ [])
+    (Then (Read start (name (codes "x"))) (Then (Print start (var (codes "x")))
+    (Then (Read start (name (codes "x"))) (Then (Print start (var (codes "x")))
+    (Then (Read start (name (codes "x"))) (Then (Print start (var (codes "x"))) Nothing))))))
+    ∷ []
+
+pub past_the_input_is_0 : acts_of (run reads_three (world (4 ∷ 9 ∷ [])) 6) ≡ reads ∷ prints 4 ∷ reads ∷ prints 9 ∷ reads ∷ prints 0 ∷ []
+past_the_input_is_0 = refl
+
+-- a store and a load past the end of an array of two cells
+abbrev past_the_end : List Part
+past_the_end =
+    Array (name (codes "a")) 2 start
+    ∷ main [] (Then (Store start (name (codes "a")) (Number 2) (Number 9)) (Then (Print start (Cell (name (codes "a")) (Number 2))) Nothing))
+    ∷ []
+
+pub past_the_end_acts : run past_the_end (world []) 2 ≡ Returned 0 (record { cells = (0 ∷ 0 ∷ []) ∷ []; input = []; left = []; acts = stores 1 2 9 ∷ loads 1 2 ∷ prints 0 ∷ [] }) 0
+past_the_end_acts = refl

@@ -1,0 +1,46 @@
+-- Where a text's lexemes are wrong: the first fault, from the left.
+use Rattle.std.specs.Prelude.{◌≡◌, ℕ, ◌^◌, ◌<◌, ◌≤◌, length, ◌==◌, false, IsTrue, List, [], ◌∷◌, ◌++◌}
+use Rattle.ws_words.specs.Digits.{is_digit, is_number, value_of}
+use Rattle.src_ast.specs.declared.lexeme.Lexeme.{Lexeme}
+use Rattle.src_ast.specs.declared.lexeme.Shape.{Shape}
+use Rattle.src_ast.specs.declared.lexeme.Mark.{Mark}
+use Rattle.src_ast.specs.declared.fault.Refusal.{Refusal}
+use Rattle.src_ast.specs.declared.fault.RefusalKind.{RefusalKind}
+use Rattle.src_ast.specs.declared.fault.RefusalKind.TheVariants.{Byte, Wide, Limit}
+use Rattle.src_ast.specs.declared.fault.Quantity.TheVariants.{NameBytes, Depth, Lexemes}
+use Rattle.src_ast.specs.declared.fault.TextFault.{TextFault}
+use Rattle.src_ast.specs.declared.fault.TextFault.TheVariants.{Refused, NoMemory}
+use Rattle.src_ast.specs.Lexemes.{start, is_blank, is_letter, is_word, is_word_byte, starts_without, spelling, Spells, Leads, IsShort, open_behind, row_behind, KeepLimits, open_after, row_after}
+
+-- no lexeme and no gap begins with this byte
+pub record BeginsNothing (b : ℕ) : Type 0 where
+  pub blank : is_blank b ≡ false
+  pub comment : (b == 35) ≡ false
+  pub letter : is_letter b ≡ false
+  pub digit : is_digit b ≡ false
+  pub mark : (m : Mark) (more : List ℕ) → b ∷ [] ≡ spelling m ++ more → ⊥
+
+-- What is wrong at this rest of a text, behind so many open braces and so many lexemes in a row.
+pub data Wrong (open' row : ℕ) : List ℕ → RefusalKind → Type 0 where
+  byte : {rest : List ℕ} (b : ℕ) (bytes : List ℕ) → rest ≡ b ∷ bytes → BeginsNothing b → Wrong open' row rest Byte
+  wide : {rest : List ℕ} (digits behind : List ℕ) → rest ≡ digits ++ behind → IsTrue (is_number digits) → IsTrue (starts_without is_digit behind)
+      → 2 ^ 64 ≤ value_of digits → Wrong open' row rest Wide
+  long : {rest : List ℕ} (bytes behind : List ℕ) → rest ≡ bytes ++ behind → IsTrue (is_word bytes) → IsTrue (starts_without is_word_byte behind)
+      → 64 < length bytes → Wrong open' row rest (Limit NameBytes)
+  deep : {rest : List ℕ} (s : Shape) (bytes behind : List ℕ) → rest ≡ bytes ++ behind → Spells s bytes behind
+      → 32 < open_behind open' s → Wrong open' row rest (Limit Depth)
+  crowded : {rest : List ℕ} (s : Shape) (bytes behind : List ℕ) → rest ≡ bytes ++ behind → Spells s bytes behind → IsShort s
+      → 256 < row_behind row s → Wrong open' row rest (Limit Lexemes)
+
+-- The first fault of a text: the lexemes before its place are the text's and keep the limits, and this is wrong there.
+pub record LexFault (text : List ℕ) (refusal : Refusal) : Type 0 where
+  pub ls : List Lexeme
+  pub rest : List ℕ
+  pub leads : Leads start text ls refusal.place rest
+  pub kept : KeepLimits 0 0 ls
+  pub wrong : Wrong (open_after 0 ls) (row_after 0 ls) rest refusal.kind
+
+-- why a text has no lexemes: memory, or its first fault
+abbrev pub IsLexFault : List ℕ → TextFault → Type 0
+IsLexFault text NoMemory = Unit {0}
+IsLexFault text (Refused r) = LexFault text r

@@ -1,0 +1,72 @@
+//! Why a text is refused.
+
+use crate::lexeme::Place;
+
+/// What a limit counts.
+#[derive(Clone, Copy, Debug, PartialEq, Eq)]
+pub enum Quantity {
+    /// Bytes in a word: at most 64.
+    NameBytes,
+    /// Open braces: at most 32.
+    Depth,
+    /// Lexemes in a row none of which is `;`, `{` or `}`: at most 256.
+    Lexemes,
+    /// Arrays: at most 64.
+    Arrays,
+    /// Cells in an array: at most 65,536.
+    Length,
+    /// Cells in all arrays together: at most 1,048,576.
+    CellSum,
+    /// Procedures, `main` included: at most 64.
+    Procs,
+    /// Parameters of a procedure: at most 8.
+    Params,
+    /// Parameters and variables of a procedure: at most 32.
+    Vars,
+    /// Statements in the program, `return` included: at most 1,024.
+    Statements,
+    /// The number of a port: from 1 to 7.
+    PortNumber,
+}
+
+/// What is wrong with a text.
+#[derive(Clone, Copy, Debug, PartialEq, Eq)]
+pub enum RefusalKind {
+    /// A byte that begins no lexeme.
+    Byte,
+    /// A number of 2^64 or more.
+    Wide,
+    /// A lexeme that no program continues, or a text that lacks a rest.
+    Syntax,
+    /// A name that isn't visible.
+    Unknown,
+    /// A declared name that is visible already.
+    Twice,
+    /// A visible name that is used as another kind.
+    Kind,
+    /// A call with another number of arguments than the procedure has parameters.
+    Count,
+    /// `main` is missing, has a parameter, or isn't the last procedure.
+    Main,
+    Limit(Quantity),
+    /// More bytes than the command reads.
+    TooLong,
+    /// An item of the input section that is no word.
+    Input,
+    /// A program that this version doesn't run yet.
+    Unbuilt,
+}
+
+/// What is wrong, and where.
+#[derive(Clone, Copy, Debug, PartialEq, Eq)]
+pub struct Refusal {
+    pub kind: RefusalKind,
+    pub place: Place,
+}
+
+/// Why a text has no answer.
+#[derive(Clone, Copy, Debug, PartialEq, Eq)]
+pub enum TextFault {
+    Refused(Refusal),
+    NoMemory,
+}
