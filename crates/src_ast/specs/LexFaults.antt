@@ -1,7 +1,9 @@
 -- Where a text's lexemes are wrong: the first fault, from the left.
-use Rattle.std.specs.Prelude.{◌≡◌, ℕ, ◌^◌, ◌<◌, ◌≤◌, length, ◌==◌, false, IsTrue, List, [], ◌∷◌, ◌++◌}
+use Rattle.std.specs.Prelude.{◌≡◌, ℕ, ◌^◌, ◌<◌, ◌≤◌, length, ◌==◌, false, IsTrue, List, [], ◌∷◌, ◌++◌, Result, Ok, Err}
 use Rattle.ws_words.specs.Digits.{is_digit, is_number, value_of}
+use Rattle.src_ast.specs.declared.lexeme.Place.{Place}
 use Rattle.src_ast.specs.declared.lexeme.Lexeme.{Lexeme}
+use Rattle.src_ast.specs.declared.lexeme.Lexemes as lexemes
 use Rattle.src_ast.specs.declared.lexeme.Shape.{Shape}
 use Rattle.src_ast.specs.declared.lexeme.Mark.{Mark}
 use Rattle.src_ast.specs.declared.fault.Refusal.{Refusal}
@@ -44,3 +46,9 @@ pub record LexFault (text : List ℕ) (refusal : Refusal) : Type 0 where
 abbrev pub IsLexFault : List ℕ → TextFault → Type 0
 IsLexFault text NoMemory = Unit {0}
 IsLexFault text (Refused r) = LexFault text r
+
+-- These lexemes and this end are answered, unless memory runs out.
+abbrev pub AnswersLexemes : Result lexemes.Lexemes TextFault → List Lexeme → Place → Type 0
+AnswersLexemes (Ok l) ls finish = (l.items.items ≡ ls) × (l.finish ≡ finish)
+AnswersLexemes (Err NoMemory) ls finish = Unit {0}
+AnswersLexemes (Err (Refused r)) ls finish = ⊥
