@@ -1,10 +1,17 @@
 -- Worked runs: what the sequential meaning gives for small programs, by computing.
-use Rattle.std.proofs.Common.{◌≡◌, ℕ, List, [], ◌∷◌, codes, refl, Some, None, Option}
+use Rattle.std.proofs.Common.{◌≡◌, ℕ, List, [], ◌∷◌, codes, refl, Some, None, Option, if◌then◌else◌}
 use Rattle.ws_words.specs.declared.alu.Alu.TheVariants.{Add, Sub, Mul, Div, Rem, Shl, Le}
 use Rattle.ws_words.specs.Outside.{World, Act, prints, loads, stores, reads}
+use Rattle.src_ast.specs.declared.lexeme.Place.{Place}
 use Rattle.src_ast.specs.declared.lexeme.Name.{Name}
 use Rattle.src_ast.specs.Lexemes.{start}
-use Rattle.src_ast.specs.Syntax.{Expression, Number, Variable, Cell, Binary, Assign, Store, Print, Read, Call, While, Statements, Nothing, Then, Part, Array, Proc}
+use Rattle.src_ast.specs.Syntax.{Expression, Number, Variable, Cell, Binary, Assign, Store, Print, Read, Give, Call, If, While, Statements, Nothing, Then, Part, Array, Proc}
+use Rattle.src_ast.specs.declared.fault.RefusalKind.{RefusalKind}
+use Rattle.src_ast.specs.declared.fault.RefusalKind.TheVariants.{Unknown, Twice, Kind, Count, Main, Limit}
+use Rattle.src_ast.specs.declared.fault.Quantity.TheVariants.{PortNumber}
+use Rattle.src_ast.specs.Rules.{Rule, rules_of}
+use Rattle.src_ast.specs.Bound.{bound}
+use Rattle.src_ast.specs.Printed.{printed_form}
 use Rattle.src_ast.specs.Turns.{CallEnd, Returned, Stopped}
 use Rattle.src_ast.specs.Meaning.{run}
 
@@ -101,3 +108,55 @@ past_the_end =
 
 pub past_the_end_acts : run past_the_end (world []) 2 ≡ Returned 0 (record { cells = (0 ∷ 0 ∷ []) ∷ []; input = []; left = []; acts = stores 1 2 9 ∷ loads 1 2 ∷ prints 0 ∷ [] }) 0
 past_the_end_acts = refl
+
+-- the first rule that isn't kept
+abbrev first_broken : List Rule → Option (RefusalKind × Place)
+first_broken [] = None
+first_broken (r ∷ rs) = if r.kept then first_broken rs else Some (r.kind, r.place)
+
+abbrev place : ℕ → Place
+place column = record { line = 1; column = column }
+
+abbrev at : List ℕ → ℕ → Name
+at text column = record { text = text; place = place column }
+
+-- proc main() { print x; }
+pub unknown_name : first_broken (rules_of (Proc (record { name = at (codes "main") 6; params = []; vars = []; body = Then (Print (place 15) (Variable (at (codes "x") 21))) Nothing; ending = None }) ∷ []) (place 25)) ≡ Some (Unknown, place 21)
+unknown_name = refl
+
+-- proc main() { var x, x; }
+pub declared_twice : first_broken (rules_of (Proc (record { name = at (codes "main") 6; params = []; vars = at (codes "x") 19 ∷ at (codes "x") 22 ∷ []; body = Nothing; ending = None }) ∷ []) (place 26)) ≡ Some (Twice, place 22)
+declared_twice = refl
+
+-- array a[1]; proc main() { print a; }
+pub array_as_variable : first_broken (rules_of (Array (at (codes "a") 7) 1 (place 9) ∷ Proc (record { name = at (codes "main") 18; params = []; vars = []; body = Then (Print (place 27) (Variable (at (codes "a") 33))) Nothing; ending = None }) ∷ []) (place 37)) ≡ Some (Kind, place 33)
+array_as_variable = refl
+
+-- proc f(a, b) { } proc main() { f(1); }
+pub too_few_arguments : first_broken (rules_of (Proc (record { name = at (codes "f") 6; params = at (codes "a") 8 ∷ at (codes "b") 11 ∷ []; vars = []; body = Nothing; ending = None }) ∷ Proc (record { name = at (codes "main") 23; params = []; vars = []; body = Then (Call (place 32) None (at (codes "f") 32) (Number 1 ∷ [])) Nothing; ending = None }) ∷ []) (place 39)) ≡ Some (Count, place 32)
+too_few_arguments = refl
+
+-- proc main(x) { }
+pub parameter_of_main : first_broken (rules_of (Proc (record { name = at (codes "main") 6; params = at (codes "x") 11 ∷ []; vars = []; body = Nothing; ending = None }) ∷ []) (place 17)) ≡ Some (Main, place 11)
+parameter_of_main = refl
+
+-- the empty text
+pub no_main : first_broken (rules_of [] start) ≡ Some (Main, start)
+no_main = refl
+
+-- proc f(f) { } proc main() { }
+pub own_name_is_free : first_broken (rules_of (Proc (record { name = at (codes "f") 6; params = at (codes "f") 8 ∷ []; vars = []; body = Nothing; ending = None }) ∷ Proc (record { name = at (codes "main") 20; params = []; vars = []; body = Nothing; ending = None }) ∷ []) (place 30)) ≡ None
+own_name_is_free = refl
+
+-- proc main() { give 8, x; }
+pub port_limit : first_broken (rules_of (Proc (record { name = at (codes "main") 6; params = []; vars = []; body = Then (Give (place 15) 8 (place 20) (at (codes "x") 23)) Nothing; ending = None }) ∷ []) (place 27)) ≡ Some (Limit PortNumber, place 20)
+port_limit = refl
+
+-- the largest statement has 3 nodes, and there are 2 variables
+pub bound_of_sums : bound sums ≡ 166
+bound_of_sums = refl
+
+-- print (a + b) * c and an `if` with nothing in it
+pub printed_program : printed_form (main [] (Then (Print start (Binary Mul (Binary Add (var (codes "a")) (var (codes "b"))) (var (codes "c")))) (Then (If start (var (codes "a")) Nothing Nothing) Nothing)) ∷ [])
+    ≡ codes "proc main() {\n  print (a + b) * c;\n  if (a) {\n  }\n}\n"
+printed_program = refl

@@ -4,5 +4,9 @@ pub mod Lexemes
 pub mod LexFaults
 pub mod Grammar
 pub mod Faults
+pub mod Rules
+pub mod Bound
+pub mod Printed
+pub mod Same
 pub mod Turns
 pub mod Meaning
