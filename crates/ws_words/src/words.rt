@@ -5,6 +5,7 @@ ghost use Rattle.std.specs.Prelude.{◌≡◌, ◌==◌, ℕ, List, [], ◌∷�
 use crate::memory::NoMemory;
 use std::alloc::Global;
 use std::marker::Model;
+use std::mem::swap;
 
 /// A list of words.
 #[derive(Drop)]
@@ -81,6 +82,14 @@ impl Words {
         ensures { result.now ≡ self.now }
     {
         &self.items
+    }
+
+    /// Exchanges the words for those of a vector.
+    pub fn exchange(&mut self, items: &mut Vec<u64>)
+        ensures words { self.new ≡ items.old.items }
+        ensures items { items.new.items ≡ self.old }
+    {
+        swap(&mut self.items, items);
     }
 
     /// The same words once more.

@@ -1,0 +1,5 @@
+pub mod Straight
+pub mod Built
+pub mod Tokens
+pub mod Flow
+pub mod Running

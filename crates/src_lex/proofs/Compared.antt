@@ -1,0 +1,56 @@
+-- Two readings of one text: they are one, or one goes on where the other stops.
+use Rattle.std.specs.Prelude.{◌≡◌, ℕ, suc, not, cond, true, false, List, [], ◌∷◌, ◌++◌, refl}
+use Rattle.std.proofs.Common.{arith, sym, ap, ◌∙◌}
+use Rattle.std.proofs.lemmas.Bool.{or_right}
+use Rattle.src_ast.specs.declared.lexeme.Place.{Place}
+use Rattle.src_ast.specs.declared.lexeme.Lexeme.{Lexeme}
+use Rattle.src_ast.specs.declared.lexeme.Shape.{Shape}
+use Rattle.src_ast.specs.declared.lexeme.Shape.TheVariants as shape
+use Rattle.ws_words.specs.Digits.{is_digit}
+use Rattle.src_ast.specs.Lexemes.{after, is_end, is_letter, Spells, Leads}
+use Rattle.src_lex.specs.Reads.{begins_gap, ends_gap}
+use Rattle.src_lex.proofs.Unique.{gap_same, spelled_same, head_kind, spelled_kind}
+
+pub kind_ends_gap : (xs : List ℕ) (k : ℕ) → head_kind xs ≡ suc k → ends_gap xs ≡ true
+kind_ends_gap [] k h = refl
+kind_ends_gap (b ∷ xs) k h =
+    or_right (is_end (b ∷ xs)) (not (begins_gap b)) ((elim (begins_gap b) as (λ t. cond t 0 (cond (is_letter b) 1 (cond (is_digit b) 2 3)) ≡ suc k → not t ≡ true) [
+      | true ↦ λ h. absurd (omega arith)
+      | false ↦ λ h. refl
+    ]) h)
+
+pub spelled_ends_gap : (s : Shape) (a b : List ℕ) → Spells s a b → ends_gap (a ++ b) ≡ true
+spelled_ends_gap (shape.Word w) a b p = kind_ends_gap (a ++ b) 0 (spelled_kind (shape.Word w) a b p)
+spelled_ends_gap (shape.Number n) a b p = kind_ends_gap (a ++ b) 1 (spelled_kind (shape.Number n) a b p)
+spelled_ends_gap (shape.Mark m) a b p = kind_ends_gap (a ++ b) 2 (spelled_kind (shape.Mark m) a b p)
+
+pub data Compared (ls : List Lexeme) (p : Place) (r : List ℕ) (ms : List Lexeme) (q : Place) (t : List ℕ) : Type 0 where
+  same : ls ≡ ms → p ≡ q → r ≡ t → Compared ls p r ms q t
+  ahead : (l : Lexeme) (more : List Lexeme) (bytes behind : List ℕ) → ls ≡ ms ++ (l ∷ more) → t ≡ bytes ++ behind → Spells l.shape bytes behind → Compared ls p r ms q t
+  short : (l : Lexeme) (more : List Lexeme) (bytes behind : List ℕ) → ms ≡ ls ++ (l ∷ more) → r ≡ bytes ++ behind → Spells l.shape bytes behind → Compared ls p r ms q t
+
+compared_more : (l m : Lexeme) (ls ms : List Lexeme) (p q : Place) (r t : List ℕ) → l ≡ m → Compared ls p r ms q t → Compared (l ∷ ls) p r (m ∷ ms) q t
+compared_more l m ls ms p q r t e (Compared.same a b c) = Compared.same (cc) b c
+compared_more l m ls ms p q r t e (Compared.ahead n more bytes behind a b s) = Compared.ahead n more bytes behind (cc) b s
+compared_more l m ls ms p q r t e (Compared.short n more bytes behind a b s) = Compared.short n more bytes behind (cc) b s
+
+same_lexeme : (l m : Lexeme) → l.shape ≡ m.shape → l.place ≡ m.place → l ≡ m
+same_lexeme l m e p = λ i. record { shape = e i; place = p i }
+
+pub compare : (at : Place) (text : List ℕ) (ls : List Lexeme) (p : Place) (r : List ℕ) (ms : List Lexeme) (q : Place) (t : List ℕ)
+    → Leads at text ls p r → Leads at text ms q t → ends_gap r ≡ true → ends_gap t ≡ true → Compared ls p r ms q t
+compare at text ls p r ms q t (Leads.stop gap x g h) (Leads.stop gap' x' g' h') k k' =
+    let s = gap_same gap gap' r t g g' k k' (sym x ∙ x') in
+    Compared.same refl (h ∙ (ap (after at) s.front ∙ sym h')) s.back
+compare at text ls p r ms q t (Leads.stop gap x g h) (Leads.next {ls = more} l gap' bytes far x' g' h' w d) k k' =
+    let s = gap_same gap gap' r (bytes ++ far) g g' k (spelled_ends_gap l.shape bytes far w) (sym x ∙ x') in
+    Compared.short l more bytes far refl s.back w
+compare at text ls p r ms q t (Leads.next {ls = more} l gap bytes far x g h w d) (Leads.stop gap' x' g' h') k k' =
+    let s = gap_same gap' gap t (bytes ++ far) g' g k' (spelled_ends_gap l.shape bytes far w) (sym x' ∙ x) in
+    Compared.ahead l more bytes far refl s.back w
+compare at text ls p r ms q t (Leads.next {ls = ls'} l gap bytes far x g h w d) (Leads.next {ls = ms'} m gap' bytes' far' x' g' h' w' d') k k' =
+    let s = gap_same gap gap' (bytes ++ far) (bytes' ++ far') g g' (spelled_ends_gap l.shape bytes far w) (spelled_ends_gap m.shape bytes' far' w') (sym x ∙ x') in
+    let o = spelled_same l.shape m.shape bytes far bytes' far' w w' s.back in
+    let place : l.place ≡ m.place = h ∙ (ap (after at) s.front ∙ sym h') in
+    let on : Leads (after l.place bytes) far ms' q t = rw (place, o.1.front, o.1.back) d' in
+    compared_more l m ls' ms' p q r t (same_lexeme l m o.0 place) (compare (after l.place bytes) far ls' p r ms' q t d on k k')

@@ -1,0 +1,11 @@
+pub mod Runs
+pub mod Places
+pub mod Gaps
+pub mod Marks
+pub mod Words
+pub mod Excess
+pub mod Reached
+pub mod Unique
+pub mod Compared
+pub mod Denied
+pub mod Lawful

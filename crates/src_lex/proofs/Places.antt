@@ -1,0 +1,35 @@
+-- Places behind bytes.
+use Rattle.std.specs.Prelude.{◌≡◌, ℕ, ◌+◌, ◌≤◌, ◌<◌, ◌==◌, length, cond, true, false, List, [], ◌∷◌, ◌++◌, refl}
+use Rattle.std.proofs.Common.{take, arith, get_or}
+use Rattle.std.proofs.lemmas.List.{take_more}
+use Rattle.src_ast.specs.declared.lexeme.Place.{Place}
+use Rattle.src_ast.specs.Lexemes.{after, past}
+
+pub after_append : (at : Place) (xs ys : List ℕ) → after at (xs ++ ys) ≡ after (after at xs) ys
+after_append at [] ys = refl
+after_append at (x ∷ xs) ys = after_append (past at x) xs ys
+
+-- one byte more
+pub after_more : (at : Place) (xs : List ℕ) (i : ℕ) (d : ℕ) → i < length xs → after at (take (i + 1) xs) ≡ past (after at (take i xs)) (get_or xs i d)
+after_more at xs i d h = rw (take_more xs i d h) (after_append at (take i xs) (get_or xs i d ∷ []))
+
+pub record Kept (at : Place) (count : ℕ) (place : Place) : Type 0 where
+  pub line : 0 < place.line
+  pub column : 0 < place.column
+  pub room : place.line + place.column ≤ at.line + at.column + count
+
+pub past_kept : (at : Place) (b : ℕ) → 0 < at.line → 0 < at.column → Kept at 1 (past at b)
+past_kept at b h k =
+    elim (b == 10) as (λ t. Kept at 1 (cond t (record { line = at.line + 1; column = 1 }) (record { line = at.line; column = at.column + 1 }))) [
+      | true ↦ record { line = omega arith; column = omega arith; room = omega arith }
+      | false ↦ record { line = omega arith; column = omega arith; room = omega arith }
+    ]
+
+pub after_kept : (at : Place) (xs : List ℕ) → 0 < at.line → 0 < at.column → Kept at (length xs) (after at xs)
+after_kept at [] h k = record { line = h; column = k; room = omega arith }
+after_kept at (x ∷ xs) h k =
+    let one = past_kept at x h k in
+    let more = after_kept (past at x) xs one.line one.column in
+    record { line = more.line; column = more.column; room = omega arith }
+
+pub ruleset places = (after_append, after_more, past_kept)

@@ -1,0 +1,23 @@
+//! What the definitions of lexemes and faults come to.
+
+ghost use Rattle.std.specs.Prelude.{◌≡◌, ℕ, List};
+ghost use Rattle.src_ast.specs.declared.lexeme.Place.{Place};
+ghost use Rattle.src_ast.specs.declared.lexeme.Lexeme.{Lexeme};
+ghost use Rattle.src_ast.specs.declared.fault.Refusal.{Refusal};
+ghost use Rattle.src_ast.specs.Lexemes.{Lex, KeepLimits};
+ghost use Rattle.src_ast.specs.LexFaults.{LexFault};
+
+/// A text has at most one list of lexemes, and its end one place.
+pub fn one_lexing()
+    ensures { (text : List ℕ) (a b : List Lexeme) (p q : Place) → Lex text a p → Lex text b q → (a ≡ b) × (p ≡ q) }
+{}
+
+/// Where a text has lexemes that keep the limits, it has no fault.
+pub fn no_fault_within_limits()
+    ensures { (text : List ℕ) (ls : List Lexeme) (p : Place) (r : Refusal) → Lex text ls p → KeepLimits 0 0 ls → LexFault text r → ⊥ }
+{}
+
+/// A text has at most one first fault.
+pub fn one_fault()
+    ensures { (text : List ℕ) (a b : Refusal) → LexFault text a → LexFault text b → a ≡ b }
+{}

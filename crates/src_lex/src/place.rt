@@ -1,0 +1,41 @@
+//! Places in a text.
+
+ghost use Rattle.std.specs.Prelude.{◌≡◌, ◌+◌, ◌<◌, ◌≤◌, ◌^◌, length};
+ghost use Rattle.src_ast.specs.Lexemes as lexemes;
+
+use src_ast::Place;
+
+/// Where a byte behind this one stands.
+fn past(at: Place, byte: u8) -> Place
+    requires line { 0 < at.line }
+    requires column { 0 < at.column }
+    requires room { at.line + at.column < 2 ^ 32 }
+    ensures { result ≡ lexemes.past at byte }
+{
+    if byte == b'\n' {
+        Place {
+            line: at.line + 1,
+            column: 1,
+        }
+    } else {
+        Place {
+            line: at.line,
+            column: at.column + 1,
+        }
+    }
+}
+
+/// Where what stands behind these bytes begins.
+#[tactic(auto, using(crate::proofs::Places::places))]
+pub fn place_behind(at: Place, bytes: &[u8]) -> Place
+    requires line { 0 < at.line }
+    requires column { 0 < at.column }
+    requires room { at.line + at.column + length bytes.now ≤ 2 ^ 32 }
+    ensures { result ≡ lexemes.after at bytes.now }
+{
+    let mut place = at;
+    for byte in bytes {
+        place = past(place, *byte);
+    }
+    place
+}

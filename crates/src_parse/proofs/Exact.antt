@@ -1,0 +1,160 @@
+-- What makes a reader exact: it reads a phrase, or stops where a phrase has begun, and sees no more than the next lexeme.
+use Rattle.std.specs.Prelude.{◌≡◌, List, [], ◌∷◌, ◌++◌, Option, Some, None, refl}
+use Rattle.std.proofs.Common.{sym, ◌∙◌, ap, subst, append_assoc}
+use Rattle.src_ast.specs.declared.lexeme.Lexeme.{Lexeme}
+use Rattle.src_parse.specs.Reading.{Reading, Reader, Done, Stuck, ◌|>◌}
+
+abbrev pub head : List Lexeme → Option Lexeme
+head [] = None
+head (l ∷ ls) = Some l
+
+pub record Good {A : Type 0} (L : List Lexeme → A → Type 0) (P : Reader A) (input : List Lexeme) (a : A) (rest : List Lexeme) : Type 0 where
+  pub front : List Lexeme
+  pub is : input ≡ front ++ rest
+  pub spelled : L front a
+  pub local : (c : List Lexeme) → head c ≡ head rest → P (front ++ c) ≡ Done a c
+
+pub record Bad {A : Type 0} (L : List Lexeme → A → Type 0) (P : Reader A) (input : List Lexeme) (rest : List Lexeme) : Type 0 where
+  pub front : List Lexeme
+  pub is : input ≡ front ++ rest
+  pub more : List Lexeme
+  pub tree : A
+  pub spelled : L (front ++ more) tree
+  pub local : (c : List Lexeme) → head c ≡ head rest → P (front ++ c) ≡ Stuck c
+
+abbrev pub ExactAt : {A : Type 0} → (List Lexeme → A → Type 0) → Reader A → List Lexeme → Reading A → Type 0
+ExactAt L P input (Done a rest) = Good L P input a rest
+ExactAt L P input (Stuck rest) = Bad L P input rest
+
+abbrev pub Exact : {A : Type 0} → (List Lexeme → A → Type 0) → Reader A → List Lexeme → Type 0
+Exact L P input = ExactAt L P input (P input)
+
+pub head-nil : (c : List Lexeme) → head c ≡ None → c ≡ []
+head-nil [] e = refl
+head-nil (l ∷ c) e = cc
+
+pub head-cons : (c : List Lexeme) (l : Lexeme) → head c ≡ Some l → (d : List Lexeme) × (c ≡ l ∷ d)
+head-cons [] l e = cc
+head-cons (x ∷ c) l e = (c, cc)
+
+pub head-behind : (vs c r : List Lexeme) → head c ≡ head r → head (vs ++ c) ≡ head (vs ++ r)
+head-behind [] c r e = e
+head-behind (v ∷ vs) c r e = refl
+
+-- a reader that answers, or stops, without reading
+pub exact_done_end : {A : Type 0} (L : List Lexeme → A → Type 0) (P : Reader A) (a : A) → P [] ≡ Done a [] → L [] a → Exact L P []
+exact_done_end L P a e h =
+    subst (ExactAt L P []) (sym e) (record { front = []; is = refl; spelled = h; local = λ c s. subst (λ d. P d ≡ Done a d) (sym (head-nil c s)) e })
+
+pub exact_stuck_end : {A : Type 0} (L : List Lexeme → A → Type 0) (P : Reader A) (more : List Lexeme) (a : A) → P [] ≡ Stuck [] → L more a → Exact L P []
+exact_stuck_end L P more a e h =
+    subst (ExactAt L P []) (sym e) (record { front = []; is = refl; more = more; tree = a; spelled = h; local = λ c s. subst (λ d. P d ≡ Stuck d) (sym (head-nil c s)) e })
+
+pub exact_done : {A : Type 0} (L : List Lexeme → A → Type 0) (P : Reader A) (a : A) (l : Lexeme) (ls : List Lexeme)
+    → ((x : List Lexeme) → P (l ∷ x) ≡ Done a (l ∷ x)) → L [] a → Exact L P (l ∷ ls)
+exact_done L P a l ls e h =
+    subst (ExactAt L P (l ∷ ls)) (sym (e ls)) (record {
+      front = [];
+      is = refl;
+      spelled = h;
+      local = λ c s. let d = head-cons c l s in subst (λ d. P d ≡ Done a d) (sym d.1) (e d.0);
+    })
+
+pub exact_stuck : {A : Type 0} (L : List Lexeme → A → Type 0) (P : Reader A) (more : List Lexeme) (a : A) (l : Lexeme) (ls : List Lexeme)
+    → ((x : List Lexeme) → P (l ∷ x) ≡ Stuck (l ∷ x)) → L more a → Exact L P (l ∷ ls)
+exact_stuck L P more a l ls e h =
+    subst (ExactAt L P (l ∷ ls)) (sym (e ls)) (record {
+      front = [];
+      is = refl;
+      more = more;
+      tree = a;
+      spelled = h;
+      local = λ c s. let d = head-cons c l s in subst (λ d. P d ≡ Stuck d) (sym d.1) (e d.0);
+    })
+
+-- a reader that reads nothing and answers always
+pub exact_always : {A : Type 0} (L : List Lexeme → A → Type 0) (P : Reader A) (a : A) (ls : List Lexeme)
+    → ((x : List Lexeme) → P x ≡ Done a x) → L [] a → Exact L P ls
+exact_always L P a ls e h =
+    subst (ExactAt L P ls) (sym (e ls)) (record { front = []; is = refl; spelled = h; local = λ c s. e c })
+
+-- a reader that stops always
+pub exact_never : {A : Type 0} (L : List Lexeme → A → Type 0) (P : Reader A) (more : List Lexeme) (a : A) (ls : List Lexeme)
+    → ((x : List Lexeme) → P x ≡ Stuck x) → L more a → Exact L P ls
+exact_never L P more a ls e h =
+    subst (ExactAt L P ls) (sym (e ls)) (record { front = []; is = refl; more = more; tree = a; spelled = h; local = λ c s. e c })
+
+-- one lexeme is read, and the rest goes by another reader
+shift_at : {A : Type 0} (L M : List Lexeme → A → Type 0) (P Q : Reader A) (l : Lexeme) (ls : List Lexeme)
+    → ((x : List Lexeme) → P (l ∷ x) ≡ Q x) → ((ws : List Lexeme) (a : A) → M ws a → L (l ∷ ws) a)
+    → (x : Reading A) → ExactAt M Q ls x → ExactAt L P (l ∷ ls) x
+shift_at L M P Q l ls e m (Done a rest) h = record {
+  front = l ∷ h.front;
+  is = ap (λ r. l ∷ r) h.is;
+  spelled = m h.front a h.spelled;
+  local = λ c s. e (h.front ++ c) ∙ h.local c s;
+}
+shift_at L M P Q l ls e m (Stuck rest) h = record {
+  front = l ∷ h.front;
+  is = ap (λ r. l ∷ r) h.is;
+  more = h.more;
+  tree = h.tree;
+  spelled = m (h.front ++ h.more) h.tree h.spelled;
+  local = λ c s. e (h.front ++ c) ∙ h.local c s;
+}
+
+pub exact_shift : {A : Type 0} (L M : List Lexeme → A → Type 0) (P Q : Reader A) (l : Lexeme) (ls : List Lexeme)
+    → ((x : List Lexeme) → P (l ∷ x) ≡ Q x) → ((ws : List Lexeme) (a : A) → M ws a → L (l ∷ ws) a)
+    → Exact M Q ls → Exact L P (l ∷ ls)
+exact_shift L M P Q l ls e m h = subst (ExactAt L P (l ∷ ls)) (sym (e ls)) (shift_at L M P Q l ls e m (Q ls) h)
+
+-- one reader behind another
+bind_behind : {A B : Type 0} (L : List Lexeme → A → Type 0) (M : List Lexeme → B → Type 0) (N : List Lexeme → B → Type 0)
+    (P : Reader A) (Q : A → Reader B) (input : List Lexeme) (a : A) (rest : List Lexeme)
+    → Good L P input a rest
+    → ((us vs : List Lexeme) (b : B) → L us a → M vs b → N (us ++ vs) b)
+    → (y : Reading B) → ExactAt M (Q a) rest y → ExactAt N (λ i. P i |> Q) input y
+bind_behind L M N P Q input a rest g join (Done b rest') h = record {
+  front = g.front ++ h.front;
+  is = g.is ∙ ap (λ r. g.front ++ r) h.is ∙ sym (append_assoc g.front h.front rest');
+  spelled = join g.front h.front b g.spelled h.spelled;
+  local = λ c s. rw append_assoc (rw (g.local (h.front ++ c) (head-behind h.front c rest' s ∙ ap head (sym h.is))) (h.local c s));
+}
+bind_behind L M N P Q input a rest g join (Stuck rest') h = record {
+  front = g.front ++ h.front;
+  is = g.is ∙ ap (λ r. g.front ++ r) h.is ∙ sym (append_assoc g.front h.front rest');
+  more = h.more;
+  tree = h.tree;
+  spelled = rw append_assoc (join g.front (h.front ++ h.more) h.tree g.spelled h.spelled);
+  local = λ c s. rw append_assoc (rw (g.local (h.front ++ c) (head-behind h.front c rest' s ∙ ap head (sym h.is))) (h.local c s));
+}
+
+bind_at : {A B : Type 0} (L : List Lexeme → A → Type 0) (M : A → List Lexeme → B → Type 0) (N : List Lexeme → B → Type 0)
+    (P : Reader A) (Q : A → Reader B) (input : List Lexeme)
+    → ((us vs : List Lexeme) (a : A) (b : B) → L us a → M a vs b → N (us ++ vs) b)
+    → ((us : List Lexeme) (a : A) → L us a → (vs : List Lexeme) × (b : B) × N (us ++ vs) b)
+    → (x : Reading A) → P input ≡ x → ExactAt L P input x
+    → ((a : A) (rest : List Lexeme) → P input ≡ Done a rest → Exact (M a) (Q a) rest)
+    → ExactAt N (λ i. P i |> Q) input (x |> Q)
+bind_at L M N P Q input join fill (Done a rest) e g q =
+    bind_behind L (M a) N P Q input a rest g (λ us vs b. join us vs a b) (Q a rest) (q a rest e)
+bind_at L M N P Q input join fill (Stuck rest) e g q =
+    let f = fill (g.front ++ g.more) g.tree g.spelled in
+    record {
+      front = g.front;
+      is = g.is;
+      more = g.more ++ f.0;
+      tree = f.1;
+      spelled = subst (λ r. N r f.1) (append_assoc g.front g.more f.0) f.2;
+      local = λ c s. rw (g.local c s) refl;
+    }
+
+-- Where both are exact. A phrase of the first has something behind it that makes a whole one.
+pub exact_bind : {A B : Type 0} (L : List Lexeme → A → Type 0) (M : A → List Lexeme → B → Type 0) (N : List Lexeme → B → Type 0)
+    (P : Reader A) (Q : A → Reader B) (input : List Lexeme)
+    → ((us vs : List Lexeme) (a : A) (b : B) → L us a → M a vs b → N (us ++ vs) b)
+    → ((us : List Lexeme) (a : A) → L us a → (vs : List Lexeme) × (b : B) × N (us ++ vs) b)
+    → Exact L P input
+    → ((a : A) (rest : List Lexeme) → P input ≡ Done a rest → Exact (M a) (Q a) rest)
+    → Exact N (λ i. P i |> Q) input
+exact_bind L M N P Q input join fill g q = bind_at L M N P Q input join fill (P input) refl g q

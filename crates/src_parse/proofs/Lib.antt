@@ -1,0 +1,16 @@
+pub mod Keywords
+pub mod Exact
+pub mod Tokens
+pub mod Expressions
+pub mod Steady
+pub mod Complete
+pub mod Ready
+pub mod Names
+pub mod Lists
+pub mod Statements
+pub mod CompleteStatements
+pub mod Programs
+pub mod CompletePrograms
+pub mod Whole
+pub mod Laws
+pub mod Loops

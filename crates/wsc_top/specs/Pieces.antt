@@ -1,0 +1,47 @@
+-- The pieces of a program that only prints expressions over numbers.
+use Rattle.std.specs.Prelude.{◌≡◌, ℕ, ◌<◌, ◌^◌, List, ◌+◌, [], ◌∷◌, ◌++◌, length, IsTrue}
+use Rattle.src_ast.specs.Syntax.{Expression, Statement, Statements, Part}
+use Rattle.ws_words.specs.declared.alu.Alu.{Alu}
+use Rattle.df_core.specs.declared.piece.Piece.{Piece}
+use Rattle.df_core.specs.declared.piece.Piece.TheVariants.{Apply}
+use Rattle.df_core.specs.Built.{Computes, Prints}
+use Rattle.wsc_top.specs.Numbers.{is_closed, closed_value, is_print, only_prints, word_of, words_of, IsNumbers}
+use Rattle.wsc_top.specs.Job.{Reads}
+
+-- new is old and then the pieces that compute an expression over numbers
+pub record GrowsBy (old new : List Piece) (e : Expression) : Type 0 where
+  pub more : List Piece
+  pub is : new ≡ old ++ more
+  pub some : 0 < length more
+  pub closed : IsTrue (is_closed e)
+  pub word : closed_value e < 2 ^ 64
+  pub computes : Computes (length old) more (closed_value e)
+
+-- new is old and then an operator on the piece first and the last piece of old
+pub record EndsInApply (old new : List Piece) (op : Alu) (first : ℕ) : Type 0 where
+  pub second : ℕ
+  pub last : second + 1 ≡ length old
+  pub is : new ≡ old ++ Apply op first second ∷ []
+
+-- new is old and then the pieces that print the word of a print over numbers, so that more prints can follow
+pub record GrowsByPrint (old new : List Piece) (s : Statement) : Type 0 where
+  pub more : List Piece
+  pub is : new ≡ old ++ more
+  pub print : IsTrue (is_print s)
+  pub prints : (ps : List Piece) (ws : List ℕ) → Prints (length new) ps ws → Prints (length old) (more ++ ps) (word_of s ∷ ws)
+
+-- with what prints the rest of the words behind them, these pieces print all of them
+pub record AreBegun (pieces : List Piece) (rest all : Statements) : Type 0 where
+  pub prints : (ps : List Piece) → Prints (length pieces) ps (words_of rest) → Prints 0 (pieces ++ ps) (words_of all)
+  pub same : only_prints rest ≡ only_prints all
+
+-- these are the pieces of this program
+pub record ArePieces (pieces : List Piece) (parts : List Part) : Type 0 where
+  pub numbers : IsNumbers parts
+  pub prints : Prints 0 pieces (words_of numbers.body)
+
+-- the text is a program that is run, and these are its pieces
+pub record ArePiecesOf (pieces : List Piece) (text : List ℕ) : Type 0 where
+  pub parts : List Part
+  pub reads : Reads text parts
+  pub are : ArePieces pieces parts

@@ -1,0 +1,56 @@
+-- The texts of answers.
+use Rattle.std.specs.Prelude.{ℕ, List, [], ◌∷◌, ◌++◌, codes, decimal, flat_map}
+use Rattle.src_ast.specs.declared.lexeme.Place.{Place}
+use Rattle.src_ast.specs.declared.fault.Quantity.{Quantity}
+use Rattle.src_ast.specs.declared.fault.Quantity.TheVariants.{NameBytes, Depth, Lexemes, Arrays, Length, CellSum, Procs, Params, Vars, Statements, PortNumber}
+use Rattle.src_ast.specs.declared.fault.Refusal.{Refusal}
+use Rattle.src_ast.specs.declared.fault.RefusalKind.{RefusalKind}
+use Rattle.src_ast.specs.declared.fault.RefusalKind.TheVariants.{Byte, Wide, Syntax, Unknown, Twice, Kind, Count, Main, Limit, TooLong, Input, Unbuilt}
+
+-- a word in decimal, and a line feed
+abbrev pub word_line : ℕ → List ℕ
+word_line w = decimal w ++ codes "\n"
+
+-- the words of a run that came to its end, a line each, and `halt`
+abbrev pub done_text : List ℕ → List ℕ
+done_text ws = flat_map word_line ws ++ codes "halt\n"
+
+abbrev pub usage_text : List ℕ
+usage_text = codes "usage: wsc run|plain|format|compile|check|exec|list|trace|replay|gen|bench [--workers N] [--budget N] [--turns N] [--memory] [--stats] [NUMBER]\n"
+
+abbrev pub fault_text : List ℕ
+fault_text = codes "fault read\n"
+
+abbrev pub long_text : List ℕ
+long_text = codes "refused long\n"
+
+abbrev pub quantity_word : Quantity → List ℕ
+quantity_word NameBytes = codes "name"
+quantity_word Depth = codes "depth"
+quantity_word Lexemes = codes "lexemes"
+quantity_word Arrays = codes "arrays"
+quantity_word Length = codes "length"
+quantity_word CellSum = codes "cells"
+quantity_word Procs = codes "procs"
+quantity_word Params = codes "params"
+quantity_word Vars = codes "vars"
+quantity_word Statements = codes "statements"
+quantity_word PortNumber = codes "port"
+
+abbrev pub kind_word : RefusalKind → List ℕ
+kind_word Byte = codes "byte"
+kind_word Wide = codes "wide"
+kind_word Syntax = codes "syntax"
+kind_word Unknown = codes "unknown"
+kind_word Twice = codes "twice"
+kind_word Kind = codes "kind"
+kind_word Count = codes "count"
+kind_word Main = codes "main"
+kind_word (Limit q) = codes "limit " ++ quantity_word q
+kind_word TooLong = codes "long"
+kind_word Input = codes "input"
+kind_word Unbuilt = codes "unbuilt"
+
+-- a refusal at its place
+abbrev pub refusal_text : Refusal → List ℕ
+refusal_text r = codes "refused " ++ decimal r.place.line ++ codes ":" ++ decimal r.place.column ++ codes " " ++ kind_word r.kind ++ codes "\n"

@@ -1,0 +1,49 @@
+//! How a call ends.
+
+ghost use Rattle.std.specs.Prelude.{◌≡◌};
+ghost use Rattle.wsc_top.specs.Codes.{code_of};
+
+/// How a call of the program ends.
+#[derive(Clone, Copy, Debug, PartialEq, Eq)]
+pub enum Status {
+    /// The whole answer went out and was flushed.
+    Done,
+    /// The words are no command line.
+    Usage,
+    /// The text isn't accepted.
+    Refused,
+    /// The run wants more than its budget.
+    Budget,
+    /// Reading failed.
+    ReadFault,
+    /// Writing failed.
+    WriteFault,
+    /// A call of the port with this number failed.
+    PortFault(u8),
+    /// Memory ran out.
+    NoMemory,
+}
+
+impl Status {
+    /// The status code of the process, from 0 to 7 in the order of the variants.
+    pub fn code(self) -> u8
+        ensures { result ≡ code_of self }
+    {
+        match self {
+            Status::Done => 0,
+            Status::Usage => 1,
+            Status::Refused => 2,
+            Status::Budget => 3,
+            Status::ReadFault => 4,
+            Status::WriteFault => 5,
+            Status::PortFault(_) => 6,
+            Status::NoMemory => 7,
+        }
+    }
+}
+
+/// What a call of the program gives back.
+#[derive(Clone, Copy, Debug, PartialEq, Eq)]
+pub struct Outcome {
+    pub status: Status,
+}
