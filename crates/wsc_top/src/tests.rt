@@ -5,7 +5,7 @@ ghost use Rattle.std.specs.Prelude.{◌<◌};
 mod expressions;
 
 use super::*;
-use expressions::{LEVELS, OPERATORS};
+use expressions::{LEVEL_VALUES, LEVELS, OPERATOR_VALUES, OPERATORS};
 use std::alloc::Global;
 use std::test::Fail;
 use ws_io::{MemSink, MemSource};
@@ -101,17 +101,23 @@ fn programs_print_their_words(rt: HostRuntime) -> Result<(), Fail> {
     Ok(())
 }
 
+// The bytes with a space for each line feed.
+fn spaced(alloc: Global, text: &[u8]) -> Result<Vec<u8>, Fail> {
+    let mut all = Vec::new(alloc);
+    for byte in text {
+        all.push(if *byte == b'\n' { b' ' } else { *byte })?;
+    }
+    Ok(all)
+}
+
 #[test]
 fn expressions_have_their_values(rt: HostRuntime) -> Result<(), Fail> {
     let alloc = rt.alloc();
-    for rows in [OPERATORS, LEVELS] {
-        for (expression, value) in rows {
-            let text = format!(in alloc; "proc main() {{ print {expression}; }}")?;
-            let wanted = format!(in alloc; "{value}\nhalt\n")?;
-            let answer = run(alloc, text.as_bytes())?;
-            assert!(rt; answer.status == Status::Done, "{expression}");
-            assert!(rt; answer.text.as_slice() == wanted.as_bytes(), "{expression}");
-        }
+    for (job, values) in [(OPERATORS, OPERATOR_VALUES), (LEVELS, LEVEL_VALUES)] {
+        let answer = run(alloc, job.as_bytes())?;
+        let wanted = format!(in alloc; "{values} halt ")?;
+        assert!(rt; answer.status == Status::Done);
+        assert!(rt; spaced(alloc, &answer.text)?.as_slice() == wanted.as_bytes());
     }
     Ok(())
 }
