@@ -10,3 +10,5 @@ pub mod Printed
 pub mod Same
 pub mod Turns
 pub mod Meaning
+pub mod Commas
+pub mod Written

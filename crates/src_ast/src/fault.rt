@@ -1,6 +1,7 @@
 //! Why a text is refused.
 
 use crate::lexeme::Place;
+use ws_words::NoMemory;
 
 /// What a limit counts.
 #[derive(Clone, Copy, Debug, PartialEq, Eq)]
@@ -69,4 +70,15 @@ pub struct Refusal {
 pub enum TextFault {
     Refused(Refusal),
     NoMemory,
+}
+
+impl From<NoMemory> for TextFault {
+    ghost use Rattle.std.specs.Prelude.{◌≡◌};
+    ghost use Rattle.src_ast.specs.declared.fault.TextFault.TheVariants.{NoMemory as no_memory};
+
+    ghost from_gives = { λ _ fault. fault ≡ no_memory };
+
+    fn from(_: NoMemory) -> TextFault {
+        TextFault::NoMemory
+    }
 }

@@ -4,11 +4,21 @@
 //! sequential meaning.
 #![tactic(auto)]
 
+pub mod bound;
 pub mod fault;
+pub mod laws;
 pub mod lexeme;
 pub mod make;
+pub mod print;
+mod print_expr;
 pub mod tree;
 
+pub use bound::bound_of;
 pub use fault::{Quantity, Refusal, RefusalKind, TextFault};
+pub use laws::{printed_reads_the_same, read_is_written};
 pub use lexeme::{Lexeme, Lexemes, Mark, Name, Place, Shape};
+pub use print::print_program;
 pub use tree::{Ending, Expr, Exprs, Form, Item, Items, Names, Program, Stmt, Stmts, Unary};
+
+#[cfg(test)]
+mod tests;

@@ -11,6 +11,7 @@ mod place;
 mod text;
 
 pub use laws::{no_fault_within_limits, one_fault, one_lexing};
+pub use place::place_behind;
 pub use text::lex;
 
 #[cfg(test)]

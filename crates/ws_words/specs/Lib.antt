@@ -1,3 +1,4 @@
 pub mod Operators
 pub mod Digits
 pub mod Outside
+pub mod Plain

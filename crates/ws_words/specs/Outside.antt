@@ -1,5 +1,5 @@
 -- What a run has outside its variables, and its acts. The source and every form that it is compiled to share these.
-use Rattle.std.specs.Prelude.{ℕ, zero, suc, ◌-◌, ◌==◌, List, [], ◌∷◌, ◌++◌, Option, Some, None, slice_index, slice_set, if◌then◌else◌}
+use Rattle.std.specs.Prelude.{ℕ, zero, suc, ◌-◌, List, [], ◌∷◌, ◌++◌, slice_index, slice_set}
 
 -- What a run does outside its variables. Arrays are by number from 1, hidden ones too; ports are from 1 to 7.
 pub data Act : Type 0 where

@@ -1,6 +1,7 @@
 //! A list of words.
 
-ghost use Rattle.std.specs.Prelude.{◌≡◌, ◌==◌, ℕ, List, [], ◌∷◌, ◌++◌, length, slice_get, IfOk, OnOk, OnErr};
+ghost use Rattle.std.specs.Prelude.{◌≡◌, ◌==◌, ℕ, List, [], ◌∷◌, ◌++◌, length, slice_get, slice_index, slice_set, IfOk, OnOk, OnErr};
+ghost use Rattle.ws_words.specs.Outside.{zeros};
 
 use crate::memory::NoMemory;
 use std::alloc::Global;
@@ -36,6 +37,18 @@ impl Words {
         Ok(Words {
             items: Vec::from_slice(alloc, words)?,
         })
+    }
+
+    /// So many zeros.
+    #[tactic(auto, using(crate::proofs::Rows::zeros_more))]
+    pub fn zeros(alloc: Global, count: usize) -> Result<Words, NoMemory>
+        ensures { IfOk result (λ list. list ≡ zeros count) }
+    {
+        let mut items = Vec::new(alloc);
+        for _ in 0..count {
+            items.push(0)?;
+        }
+        Ok(Words { items })
     }
 
     /// Puts a word at the end.
@@ -75,6 +88,22 @@ impl Words {
         ensures { result ≡ slice_get self.now place }
     {
         self.items.get(place).copied()
+    }
+
+    /// The word at a place, counted from 0; past the end 0.
+    pub fn word(&self, place: usize) -> u64
+        ensures { result ≡ slice_index self.now place }
+    {
+        self.items.get(place).copied().unwrap_or(0)
+    }
+
+    /// Writes the word at a place, counted from 0; past the end nothing changes.
+    pub fn set(&mut self, place: usize, word: u64)
+        ensures { self.new ≡ slice_set self.old place word }
+    {
+        if place < self.items.len() {
+            self.items[place] = word;
+        }
     }
 
     /// The words as a slice.

@@ -1,63 +1,98 @@
--- Why a text is refused, and what it is otherwise.
-use Rattle.std.specs.Prelude.{◌≡◌, ℕ, List, [], ◌∷◌, Result, Ok, Err, refl}
-use Rattle.std.proofs.Common.{sym, ap, ◌∙◌, subst, arith}
+-- Why the text of a job is refused, and what it is otherwise.
+use Rattle.std.specs.Prelude.{◌≡◌, ℕ, ◌+◌, List, [], ◌∷◌, Option, Some, Result, Ok, Err, refl}
+use Rattle.std.proofs.Common.{sym, ap, ◌∙◌, subst}
 use Rattle.src_ast.specs.declared.lexeme.Place.{Place}
-use Rattle.src_ast.specs.declared.lexeme.Lexeme.{Lexeme}
-use Rattle.src_ast.specs.declared.tree.Item.{Item}
 use Rattle.src_ast.specs.declared.fault.Refusal.{Refusal}
+use Rattle.src_ast.specs.declared.fault.RefusalKind.{RefusalKind}
 use Rattle.src_ast.specs.declared.fault.RefusalKind.TheVariants.{Unbuilt}
+use Rattle.src_ast.specs.declared.fault.TextFault.{TextFault}
+use Rattle.src_ast.specs.declared.fault.TextFault.TheVariants as fault
 use Rattle.src_ast.specs.Syntax.{Part}
-use Rattle.src_ast.specs.View as view
-use Rattle.src_ast.specs.Lexemes.{start, Lex, KeepLimits}
+use Rattle.src_ast.specs.declared.lexeme.Lexeme.{Lexeme}
+use Rattle.src_ast.specs.Lexemes.{start, after, Lex, KeepLimits}
 use Rattle.src_ast.specs.Grammar.{Tree}
-use Rattle.df_core.specs.declared.piece.Piece.{Piece}
-use Rattle.df_core.specs.Built.{Prints}
-use Rattle.df_core.specs.Straight.{IsStraight, printed_by}
-use Rattle.wsc_top.specs.declared.status.Status.TheVariants.{Done, Refused}
-use Rattle.wsc_top.specs.Numbers.{words_of, IsNumbers}
-use Rattle.wsc_top.specs.Texts.{done_text, refusal_text}
-use Rattle.wsc_top.specs.Answers.{Answered, refused, done}
-use Rattle.wsc_top.proofs.Printing.{numbers_run}
-use Rattle.wsc_top.specs.Job.{Reads, IsBuilt, Refuses}
-use Rattle.wsc_top.specs.Pieces.{ArePieces, ArePiecesOf}
+use Rattle.src_ast.specs.Rules.{IsAccepted}
+use Rattle.src_ast.specs.Written.{IsWritten}
+use Rattle.wsc_top.specs.declared.line.Command.{Command}
+use Rattle.wsc_top.specs.declared.status.Status.{Status}
+use Rattle.wsc_top.specs.declared.status.Status.TheVariants.{Refused}
+use Rattle.wsc_top.specs.Numbers.{first_of}
+use Rattle.wsc_top.specs.Sections.{program_of, input_of, input_place, InputWords, IsInputFault, AnswersWords}
+use Rattle.wsc_top.specs.Texts.{refusal_text}
+use Rattle.wsc_top.specs.Job.{Unfit, Reads, IsJob, Refuses, program, unbuilt, input, IsRefused, IsProgramFault, AnswersParts}
+use Rattle.wsc_top.specs.Answers.{unfit_for, Yields, EndsSo, Answered, refused, done}
 
-abbrev unbuilt : Refusal
-unbuilt = record { kind = Unbuilt; place = record { line = 1; column = 1 } }
+-- a program that is refused is no job
+pub program_only : (unfit : Unfit) (text : List ℕ) (e : TextFault) → ((parts : List Part) → Reads text parts → AnswersParts (Err e) parts)
+    → (parts : List Part) (ws : List ℕ) → IsJob unfit text parts ws → e ≡ fault.NoMemory
+program_only unfit text fault.NoMemory h parts ws j = refl
+program_only unfit text (fault.Refused r) h parts ws j = absurd (h parts j.reads)
 
--- no lexemes within the limits are the text's
-pub no_lexemes : (text : List ℕ) → ((ls : List Lexeme) (finish : Place) → Lex text ls finish → KeepLimits 0 0 ls → ⊥) → Refuses text unbuilt
-no_lexemes text h = record { other = λ b. h b.reads.ls b.reads.finish b.reads.lex b.reads.kept; kind = refl; place = refl }
+pub program_refused : (unfit : Unfit) (text : List ℕ) (e : TextFault) → IsProgramFault text e → IsRefused unfit text e
+program_refused unfit text fault.NoMemory h = tt
+program_refused unfit text (fault.Refused r) h = program r h
 
--- the text's lexemes have no tree
-pub no_tree : (text : List ℕ) (ls : List Lexeme) → ((ks : List Lexeme) (p : Place) → Lex text ks p → KeepLimits 0 0 ks → ls ≡ ks) → ((all : List Part) → Tree ls all → ⊥) → Refuses text unbuilt
-no_tree text ls same h = record {
-  other = λ b. h b.parts (subst (λ ks. Tree ks b.parts) (sym (same b.reads.ls b.reads.finish b.reads.lex b.reads.kept)) b.reads.tree);
-  kind = refl;
-  place = refl;
-}
+record Begins (ps : List Place) (p : Place) : Type 0 where
+  pub more : List Place
+  pub is : ps ≡ p ∷ more
 
--- the tree of the text's lexemes is no program that is run
-pub no_numbers : (text : List ℕ) (ls : List Lexeme) (all : List Part) → ((ks : List Lexeme) (p : Place) → Lex text ks p → KeepLimits 0 0 ks → ls ≡ ks)
-    → ((parts : List Part) → Tree ls parts → all ≡ parts) → (IsNumbers all → ⊥) → Refuses text unbuilt
-no_numbers text ls all same only h = record {
-  other = λ b.
-      let tree = subst (λ ks. Tree ks b.parts) (sym (same b.reads.ls b.reads.finish b.reads.lex b.reads.kept)) b.reads.tree in
-      h (subst IsNumbers (sym (only b.parts tree)) b.numbers);
-  kind = refl;
-  place = refl;
-}
+begins : (ps : List Place) (p : Place) → first_of ps ≡ Some p → Begins ps p
+begins [] p e = cc
+begins (q ∷ ps) p e = record { more = ps; is = cc }
 
--- The pieces of a text are straight.
-pub pieces_are_straight : (pieces : List Piece) (text : List ℕ) → ((ps : List Piece) (ws : List ℕ) → Prints 0 ps ws → IsStraight ps × (printed_by ps ≡ ws)) → ArePiecesOf pieces text → IsStraight pieces
-pieces_are_straight pieces text law h = (law pieces (words_of h.are.numbers.body) h.are.prints).0
+-- a program that a command can't take is no job of it
+pub unfit_only : (unfit : Unfit) (text : List ℕ) (found : List Part) (place : Place) → ((parts : List Part) → Reads text parts → found ≡ parts) → first_of (unfit found) ≡ Some place
+    → (parts : List Part) (ws : List ℕ) → IsJob unfit text parts ws → ⊥
+unfit_only unfit text found place only e parts ws j =
+    let b = begins (unfit found) place e in
+    let none : unfit found ≡ [] = ap unfit (only parts j.reads) ∙ j.fit in
+    let bad : place ∷ b.more ≡ [] = sym b.is ∙ none in
+    cc
 
--- What they print is what the sequential run prints.
-pub done_answers : (pieces : List Piece) (text out : List ℕ) → ((ps : List Piece) (ws : List ℕ) → Prints 0 ps ws → IsStraight ps × (printed_by ps ≡ ws)) → ArePiecesOf pieces text
-    → out ≡ done_text (printed_by pieces) → Answered text Done out
-done_answers pieces text out law h e =
-    let r = numbers_run h.parts h.are.numbers in
-    let words = (law pieces (words_of h.are.numbers.body) h.are.prints).1 ∙ sym r.words in
-    subst (λ o. Answered text Done o) (sym (e ∙ ap done_text words)) (done h.parts r.turns r.end h.reads h.are.numbers r.runs)
+pub unfit_refused : (unfit : Unfit) (text : List ℕ) (found : List Part) (place : Place) → Reads text found → first_of (unfit found) ≡ Some place
+    → Refuses unfit text (record { kind = Unbuilt; place = place })
+unfit_refused unfit text found place r e = let b = begins (unfit found) place e in unbuilt found place b.more r b.is
 
-pub refused_answers : (text out : List ℕ) (r : Refusal) → Refuses text r → out ≡ refusal_text r → Answered text Refused out
-refused_answers text out r h e = subst (λ o. Answered text Refused o) (sym e) (refused r h)
+pub fits : (unfit : Unfit) (found : List Part) (first : Option Place) → first ≡ first_of (unfit found) → ((place : Place) → first ≡ Some place → ⊥) → unfit found ≡ []
+fits unfit found first e none = go (unfit found) (λ p h. none p (e ∙ h))
+  where
+    go : (ps : List Place) → ((p : Place) → first_of ps ≡ Some p → ⊥) → ps ≡ []
+    go [] h = refl
+    go (p ∷ ps) h = absurd (h p refl)
+
+pub section_at : (text section : List ℕ) (p : Place) → section ≡ program_of text → p ≡ after start section → record { line = p.line + 1; column = 1 } ≡ input_place text
+section_at text section p s e = ap (λ q. record { line = q.line + 1; column = 1 }) (e ∙ ap (after start) s)
+
+pub words_only : (unfit : Unfit) (text section : List ℕ) (at : Place) (e : TextFault) → section ≡ input_of text → at ≡ input_place text
+    → ((ws : List ℕ) → InputWords at section ws → AnswersWords (Err e) ws)
+    → (parts : List Part) (ws : List ℕ) → IsJob unfit text parts ws → e ≡ fault.NoMemory
+words_only unfit text section at fault.NoMemory s p h parts ws j = refl
+words_only unfit text section at (fault.Refused r) s p h parts ws j = absurd (h ws (subst (λ x. InputWords at x ws) (sym s) (subst (λ q. InputWords q (input_of text) ws) (sym p) j.words)))
+
+pub words_same : (unfit : Unfit) (text section : List ℕ) (at : Place) (found : List ℕ) → section ≡ input_of text → at ≡ input_place text
+    → ((ws : List ℕ) → InputWords at section ws → AnswersWords (Ok found) ws)
+    → (parts : List Part) (ws : List ℕ) → IsJob unfit text parts ws → found ≡ ws
+words_same unfit text section at found s p h parts ws j = h ws (subst (λ x. InputWords at x ws) (sym s) (subst (λ q. InputWords q (input_of text) ws) (sym p) j.words))
+
+pub words_refused : (unfit : Unfit) (text section : List ℕ) (at : Place) (found : List Part) (e : TextFault) → section ≡ input_of text → at ≡ input_place text
+    → Reads text found → unfit found ≡ [] → IsInputFault at section e → IsRefused unfit text e
+words_refused unfit text section at found fault.NoMemory s p r f h = tt
+words_refused unfit text section at found (fault.Refused x) s p r f h =
+    let here = subst (λ q. IsInputFault q (input_of text) (fault.Refused x)) p (subst (λ y. IsInputFault at y (fault.Refused x)) s h) in
+    subst (λ kind. Refuses unfit text (record { kind = kind; place = x.place })) (sym here.0) (input found x.place r f here.1)
+
+pub job_written : (unfit : Unfit) (text : List ℕ) (parts : List Part) (ws : List ℕ)
+    → ((bytes : List ℕ) (ls : List Lexeme) (finish : Place) (all : List Part) → Lex bytes ls finish → KeepLimits 0 0 ls → Tree ls all → IsAccepted all finish → IsWritten all)
+    → IsJob unfit text parts ws → IsWritten parts
+job_written unfit text parts ws law j = let r = j.reads in law (program_of text) r.ls r.finish parts r.lex r.kept r.tree r.accepted
+
+pub refused_answers : (command : Command) (text out : List ℕ) (r : Refusal) → Refuses (unfit_for command) text r → out ≡ refusal_text r → Answered command text Refused out
+refused_answers command text out r h e = subst (λ o. Answered command text Refused o) (sym e) (refused r h)
+
+pub job_done : (command : Command) (text : List ℕ) (parts : List Part) (ws out : List ℕ) (status : Status) → IsJob (unfit_for command) text parts ws → Yields command parts ws status out
+    → Answered command text status out
+job_done command text parts ws out status j y = done parts ws j y
+
+-- the status says of a job what it says of what was read
+pub ends_same : (command : Command) (parts found : List Part) (ws given : List ℕ) (status : Status) → (found ≡ parts) × (given ≡ ws) → EndsSo command found given status → EndsSo command parts ws status
+ends_same command parts found ws given status e h = subst (λ w. EndsSo command parts w status) e.1 (subst (λ ps. EndsSo command ps given status) e.0 h)

@@ -1,5 +1,11 @@
+pub mod Inputs
+pub mod Programs
+pub mod Unbuilts
 pub mod Growing
-pub mod Mains
 pub mod Printing
+pub mod Mains
 pub mod Jobs
+pub mod Lines
 pub mod Calls
+pub mod PlainTexts
+pub mod Outcomes

@@ -1,99 +1,93 @@
--- What a `main` that is built looks like.
-use Rattle.std.specs.Prelude.{◌≡◌, ℕ, zero, suc, ◌+◌, ◌≤◌, List, [], ◌∷◌, length, slice_index_or, Option, Some, None, codes, nat_eq, is_some, refl, IsTrue, Bool, true, false}
+-- An accepted program in which everything is run is a `main` of prints alone.
+use Rattle.std.specs.Prelude.{◌≡◌, ℕ, Bool, true, false, not, ◌&&◌, ◌||◌, IsTrue, List, [], ◌∷◌, ◌++◌, length, Option, Some, None, if◌then◌else◌, refl}
 use Rattle.std.proofs.Common.{sym, ap, ◌∙◌, subst, arith}
-use lib.Pointwise.{pointwise}
-use Rattle.src_ast.specs.declared.tree.Ending.{Ending}
-use Rattle.std.specs.Cmp.Lexicographic.{same_text, other_text}
-use Rattle.src_ast.specs.declared.lexeme.Name.{Name}
-use Rattle.src_ast.specs.declared.tree.Stmt.{Stmt}
+use Rattle.std.specs.List.{list_all}
+use Rattle.src_ast.specs.declared.lexeme.Place.{Place}
 use Rattle.src_ast.specs.declared.tree.Item.{Item}
 use Rattle.src_ast.specs.declared.tree.Item.TheVariants as item
-use Rattle.src_ast.specs.Syntax.{Statements, Nothing, Then, Procedure, Part, Proc, Array}
+use Rattle.src_ast.specs.Syntax.{Statement, Statements, Nothing, Then, Last, Procedure, Part, Proc, Array}
+use Rattle.src_ast.specs.Rules.{Rule, rules_behind, rules_of, part_rules, is_main, has_main, IsAccepted}
 use Rattle.src_ast.specs.View as view
-use Rattle.wsc_top.specs.Numbers.{count_of, only_prints, words_of, IsMainOf, IsNumbers}
-use Rattle.wsc_top.specs.Pieces.{ArePieces}
 use Rattle.df_core.specs.declared.piece.Piece.{Piece}
 use Rattle.df_core.specs.Built.{Prints}
-use Rattle.src_ast.specs.Meaning.{no_procedure}
+use Rattle.wsc_top.specs.Numbers.{is_print, only_prints, words_of, place_of, unbuilt_in, unbuilt_ending, unbuilt_part, unbuilt_places}
+use Rattle.wsc_top.specs.Pieces.{IsMainAlone, IsMainBody, ArePieces}
 
-pub count-statements : (xs : List Stmt) → count_of (view.statements xs) ≡ length xs
-count-statements [] = refl
-count-statements (x ∷ xs) = ap suc (count-statements xs)
+left_true : (a b : Bool) → IsTrue (a && b) → IsTrue a
+left_true true b h = refl
+left_true false b h = cc
 
--- the parts of a `main`
-pub record Fields (p : Procedure) (body : Statements) : Type 0 where
-  pub name : p.name.text ≡ codes "main"
-  pub params : p.params ≡ []
-  pub vars : p.vars ≡ []
-  pub ending : p.ending ≡ None
-  pub inside : p.body ≡ body
-  pub few : count_of body ≤ 1024
+right_true : (a b : Bool) → IsTrue (a && b) → IsTrue b
+right_true true b h = h
+right_true false b h = cc
 
-procedure_of : Part → Procedure → Procedure
-procedure_of (Proc p) q = p
-procedure_of (Array x n at) q = q
+kept : Rule → Bool
+kept r = r.kept
 
-pub main_fields : (p : Procedure) (body : Statements) → IsMainOf (Proc p) body → Fields p body
-unfolding procedure_of
-main_fields p body h =
-    let e = ap (λ q. procedure_of q p) h.is in
-    record {
-      name = ap (λ (q : Procedure). q.name.text) e ∙ h.main;
-      params = ap (λ (q : Procedure). q.params) e;
-      vars = ap (λ (q : Procedure). q.vars) e;
-      ending = ap (λ (q : Procedure). q.ending) e;
-      inside = ap (λ (q : Procedure). q.body) e;
-      few = h.few;
-    }
+left_none : (xs ys : List Place) → xs ++ ys ≡ [] → xs ≡ []
+left_none [] ys e = refl
+left_none (x ∷ xs) ys e = cc
 
-pub is_main : (part : Part) (p : Procedure) (body : Statements) → part ≡ Proc p → p.name.text ≡ codes "main" → p.params ≡ [] → p.vars ≡ [] → p.ending ≡ None → p.body ≡ body → count_of body ≤ 1024 → IsMainOf part body
-is_main part p body is n ps vs e b few = record { name = p.name; is = is ∙ whole; main = n; few = few }
+right_none : (xs ys : List Place) → xs ++ ys ≡ [] → ys ≡ []
+right_none [] ys e = e
+right_none (x ∷ xs) ys e = cc
+
+-- the rules behind some are kept where all are
+rules_right : (xs ys : List Rule) → IsTrue (list_all (λ r. r.kept) (xs ++ ys)) → IsTrue (list_all (λ r. r.kept) ys)
+rules_right [] ys h = h
+rules_right (x ∷ xs) ys h = rules_right xs ys (right_true x.kept (list_all (λ r. r.kept) (xs ++ ys)) h)
+
+rules_left : (xs ys : List Rule) → IsTrue (list_all (λ r. r.kept) (xs ++ ys)) → IsTrue (list_all (λ r. r.kept) xs)
+rules_left [] ys h = refl
+rules_left (x ∷ xs) ys h = go x.kept (list_all (λ r. r.kept) xs) (left_true x.kept (list_all (λ r. r.kept) (xs ++ ys)) h) (rules_left xs ys (right_true x.kept (list_all (λ r. r.kept) (xs ++ ys)) h))
   where
-    whole : Proc p ≡ Proc (record { name = p.name; params = []; vars = []; body = body; ending = None })
-    whole =
-        ap (λ xs. Proc (record { name = p.name; params = xs; vars = p.vars; body = p.body; ending = p.ending })) ps
-        ∙ ap (λ xs. Proc (record { name = p.name; params = []; vars = xs; body = p.body; ending = p.ending })) vs
-        ∙ ap (λ xs. Proc (record { name = p.name; params = []; vars = []; body = xs; ending = p.ending })) b
-        ∙ ap (λ x. Proc (record { name = p.name; params = []; vars = []; body = body; ending = x })) e
+    go : (a b : Bool) → IsTrue a → IsTrue b → IsTrue (a && b)
+    go true b h k = k
+    go false b h k = cc
 
-pub main_of_part : (part : Part) (p : Procedure) → part ≡ Proc p → (body : Statements) → IsMainOf part body → Fields p body
-main_of_part part p e body h = main_fields p body (subst (λ q. IsMainOf q body) e h)
+-- the name of a procedure that is run
+main_name : (p : Procedure) (ps : List Place) → (if is_main p then [] else p.name.place ∷ []) ++ ps ≡ [] → IsTrue (is_main p)
+main_name p ps e = go (is_main p) refl
+  where
+    go : (b : Bool) → is_main p ≡ b → IsTrue b
+    go true h = refl
+    go false h = let bad : p.name.place ∷ ps ≡ [] = subst (λ c. (if c then [] else p.name.place ∷ []) ++ ps ≡ []) h e in cc
 
-pub only_main : (it : Item) (items : List Item) → items ≡ it ∷ [] → ((body : Statements) → IsMainOf (view.part it) body → ⊥) → IsNumbers (view.parts items) → ⊥
-only_main it items e none h =
-    let same : view.part it ∷ [] ≡ h.main ∷ [] = sym (ap view.parts e) ∙ h.alone in
-    let one : h.main ≡ view.part it = cc in
-    none h.body (subst (λ q. IsMainOf q h.body) one h.is)
+print_first : (s : Statement) (rest : Statements) (b : Bool) → is_print s ≡ b → (unbuilt_in rest ≡ [] → IsTrue (only_prints rest)) → unbuilt_in (Then s rest) ≡ [] → IsTrue (is_print s && only_prints rest)
+print_first s rest true h ih e = rw h (ih (subst (λ c. (if c then unbuilt_in rest else place_of s ∷ unbuilt_in rest) ≡ []) h e))
+print_first s rest false h ih e = let bad : place_of s ∷ unbuilt_in rest ≡ [] = subst (λ c. (if c then unbuilt_in rest else place_of s ∷ unbuilt_in rest) ≡ []) h e in cc
 
-pub single : (items : List Item) (it : Item) → length items ≡ 1 → it ≡ slice_index_or items 0 it → items ≡ it ∷ []
-single [] it h e = cc
-single (x ∷ []) it h e = ap (λ y. y ∷ []) (sym e)
-single (x ∷ y ∷ items) it h e = absurd (omega arith)
+all_print : (body : Statements) → unbuilt_in body ≡ [] → IsTrue (only_prints body)
+all_print Nothing e = refl
+all_print (Then s rest) e = print_first s rest (is_print s) refl (all_print rest) e
 
-pub same_body : (part : Part) (a b : Statements) → IsMainOf part a → IsMainOf part b → a ≡ b
-unfolding procedure_of
-same_body part a b h k = ap (λ q. (procedure_of q no_procedure).body) (sym h.is ∙ k.is)
+no_ending : (e : Option Last) → unbuilt_ending e ≡ [] → e ≡ None
+no_ending None h = refl
+no_ending (Some l) h = cc
 
-pub pieces_are : (items : List Item) (it : Item) (pieces : List Piece) (body : Statements) → items ≡ it ∷ [] → IsMainOf (view.part it) body
-    → Prints 0 pieces (words_of body) → IsTrue (only_prints body) → ArePieces pieces (view.parts items)
-pieces_are items it pieces body e h p o = record {
-  numbers = record { main = view.part it; body = body; alone = ap view.parts e; is = h; prints = o };
-  prints = p;
-}
+main_alone : (p : Procedure) → unbuilt_part (Proc p) ≡ [] → IsMainAlone (Proc p ∷ [])
+main_alone p e =
+    let name = if is_main p then [] else p.name.place ∷ [] in
+    let rest = right_none name (unbuilt_in p.body ++ unbuilt_ending p.ending) e in
+    record { main = p; alone = refl; prints = all_print p.body (left_none (unbuilt_in p.body) (unbuilt_ending p.ending) rest); ending = no_ending p.ending (right_none (unbuilt_in p.body) (unbuilt_ending p.ending) rest) }
 
-pub not_only_prints : (items : List Item) (it : Item) (body : Statements) → items ≡ it ∷ [] → IsMainOf (view.part it) body → only_prints body ≡ false → IsNumbers (view.parts items) → ⊥
-not_only_prints items it body e h o n =
-    let same : view.part it ∷ [] ≡ n.main ∷ [] = sym (ap view.parts e) ∙ n.alone in
-    let one : n.main ≡ view.part it = cc in
-    let b : n.body ≡ body = same_body (view.part it) n.body body (subst (λ q. IsMainOf q n.body) one n.is) h in
-    let p : IsTrue (only_prints n.body) = n.prints in
-    let bad : true ≡ false = sym (subst (λ q. only_prints n.body ≡ q) refl p) ∙ (ap only_prints b ∙ o) in cc
+-- behind a `main` no other may stand
+no_second : (p q : Procedure) → IsTrue (is_main p) → IsTrue (list_all (λ r. r.kept) (part_rules (Proc p ∷ []) (Proc q))) → ⊥
+no_second p q h k = let first : IsTrue (not (is_main p || false)) = left_true (not (is_main p || false)) _ k in let bad : IsTrue (not (true || false)) = subst (λ b. IsTrue (not (b || false))) h first in cc
 
-pub ruleset main_tools = (main_of_part, count-statements, is_main, same_text, other_text)
+pub one_main : (parts : List Part) (finish : Place) → IsAccepted parts finish → unbuilt_places parts ≡ [] → IsMainAlone parts
+one_main [] finish h e = cc
+one_main (Array x n at ∷ parts) finish h e = cc
+one_main (Proc p ∷ []) finish h e = main_alone p (left_none (unbuilt_part (Proc p)) [] e)
+one_main (Proc p ∷ Array x n at ∷ parts) finish h e = let bad : x.place ∷ unbuilt_places parts ≡ [] = right_none (unbuilt_part (Proc p)) (x.place ∷ unbuilt_places parts) e in cc
+one_main (Proc p ∷ Proc q ∷ parts) finish h e =
+    let name = main_name p (unbuilt_in p.body ++ unbuilt_ending p.ending) (left_none (unbuilt_part (Proc p)) (unbuilt_part (Proc q) ++ unbuilt_places parts) e) in
+    let all = rules_left (rules_behind [] (Proc p ∷ Proc q ∷ parts)) (_ ∷ []) h in
+    let behind = rules_right (part_rules [] (Proc p)) (part_rules (Proc p ∷ []) (Proc q) ++ rules_behind (Proc p ∷ Proc q ∷ []) parts) all in
+    absurd (no_second p q name (rules_left (part_rules (Proc p ∷ []) (Proc q)) (rules_behind (Proc p ∷ Proc q ∷ []) parts) behind))
 
-pub no_last : (e : Option Ending) → is_some e ≡ false → view.maybe_last e ≡ None
-no_last None h = refl
-no_last (Some e) h = cc
+pub only_prints_body : (parts : List Part) (body : Statements) → (h : IsMainAlone parts) → IsMainBody parts body → IsTrue (only_prints body)
+only_prints_body parts body h b = subst (λ s. IsTrue (only_prints s)) (sym (b h.main h.alone)) h.prints
 
-pub main_name : (w v : List ℕ) → v ≡ codes "main" → pointwise nat_eq w v ≡ true → w ≡ codes "main"
-main_name w v e h = same_text w v (sym h) ∙ e
+pub pieces_are : (parts : List Part) (body : Statements) (pieces : List Piece) → (h : IsMainAlone parts) → IsMainBody parts body → Prints 0 pieces (words_of body) → ArePieces pieces parts
+pieces_are parts body pieces h b p = record { main = h; prints = subst (λ s. Prints 0 pieces (words_of s)) (b h.main h.alone) p }

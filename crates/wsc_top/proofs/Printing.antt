@@ -1,14 +1,14 @@
 -- The sequential run of a program that only prints expressions over numbers.
-use Rattle.std.specs.Prelude.{◌≡◌, ℕ, zero, suc, ◌+◌, ◌<◌, Bool, true, false, ◌&&◌, IsTrue, List, [], ◌∷◌, ◌++◌, map, None, refl}
+use Rattle.std.specs.Prelude.{◌≡◌, ℕ, zero, suc, ◌+◌, ◌<◌, Bool, true, false, ◌&&◌, IsTrue, List, [], ◌∷◌, ◌++◌, map, length, Option, None, refl}
 use Rattle.std.proofs.Common.{sym, ap, ◌∙◌, subst, arith, append_assoc, append-nil}
 use Rattle.ws_words.specs.Operators.{applied}
-use Rattle.ws_words.specs.Outside.{Outside, State, Act, prints, printed_words, opening_out}
+use Rattle.ws_words.specs.Outside.{Outside, State, Act, World, prints, printed_words, opening_out, zeros}
 use Rattle.src_ast.specs.declared.lexeme.Name.{Name}
 use Rattle.src_ast.specs.Syntax.{Expression, Number, Variable, Cell, Signed, Binary, Statement, Assign, Store, Print, Read, Give, Take, Call, If, While, Statements, Nothing, Then, Procedure, Part, Proc}
 use Rattle.src_ast.specs.Turns.{Outcome, Ended, and_then, CallEnd, Returned, ending}
 use Rattle.src_ast.specs.Meaning.{Scope, Calls, value, loads_of, signed_value, run_one, run_all, finish, scope_of, calls_below, run, Runs}
-use Rattle.wsc_top.specs.Numbers.{is_closed, is_print, only_prints, count_of, no_names, closed_value, word_of, words_of, IsMainOf, IsNumbers}
-use Rattle.wsc_top.specs.Job.{no_world}
+use Rattle.wsc_top.specs.Numbers.{is_closed, is_print, only_prints, closed_value, word_of, words_of}
+use Rattle.wsc_top.specs.Pieces.{IsMainAlone}
 
 left_true : (a b : Bool) → IsTrue (a && b) → IsTrue a
 left_true true b h = refl
@@ -58,6 +58,11 @@ one_print scope calls (Call at x f args) s k h = cc
 one_print scope calls (If at e a b) s k h = cc
 one_print scope calls (While at e body) s k h = cc
 
+-- how many there are
+abbrev count_of : Statements → ℕ
+count_of Nothing = 0
+count_of (Then s rest) = suc (count_of rest)
+
 all_prints : (scope : Scope) (calls : Calls) (body : Statements) (s : State) (n k : ℕ) → IsTrue (only_prints body) → n ≡ count_of body + k → run_all scope calls body s n ≡ Ended (prints_behind s (words_of body)) k
 all_prints scope calls Nothing s n k h e =
     ap (Ended s) (let m : n ≡ k = omega arith in m) ∙ ap (λ acts. Ended (with_list s acts) k) (sym (append-nil s.out.acts))
@@ -72,25 +77,31 @@ words_printed [] = refl
 words_printed (w ∷ ws) = ap (λ vs. w ∷ vs) (words_printed ws)
 
 -- the run ends, and has printed these words
-pub record RunPrints (parts : List Part) (ws : List ℕ) : Type 0 where
+pub record RunPrints (parts : List Part) (world : World) (ws : List ℕ) : Type 0 where
   pub turns : ℕ
   pub end : Outside
-  pub runs : Runs parts no_world turns end
+  pub runs : Runs parts world turns end
   pub words : printed_words end.acts ≡ ws
 
-abbrev procedure : Name → Statements → Procedure
-procedure name body = record { name = name; params = []; vars = []; body = body; ending = None }
+abbrev scope_in : Procedure → Scope
+scope_in p = scope_of [] (p.name ∷ []) p
 
-abbrev scope_in : Name → Statements → Scope
-scope_in name body = scope_of [] (name ∷ []) (procedure name body)
+abbrev opening : Procedure → World → State
+opening p world = record { vars = [] ++ zeros (length p.vars); out = opening_out [] world }
 
-main_run : (name : Name) (body : Statements) → IsTrue (only_prints body) → RunPrints (Proc (procedure name body) ∷ []) (words_of body)
-main_run name body h = record {
-  turns = count_of body;
-  end = record { cells = []; input = []; left = []; acts = map prints (words_of body) };
-  runs = (0, ap (λ o. ending o (finish (scope_in name body) None)) (all_prints (scope_in name body) (calls_below 0 (Proc (procedure name body) ∷ [])) body (record { vars = []; out = opening_out [] no_world }) (count_of body) 0 h (omega arith)));
-  words = words_printed (words_of body);
-}
+main_run : (p : Procedure) (world : World) → IsTrue (only_prints p.body) → p.ending ≡ None → RunPrints (Proc p ∷ []) world (words_of p.body)
+main_run p world h e =
+    let s = prints_behind (opening p world) (words_of p.body) in
+    record {
+      turns = count_of p.body;
+      end = s.out;
+      runs = (
+        0,
+        ap (λ o. ending o (finish (scope_in p) p.ending)) (all_prints (scope_in p) (calls_below 0 (Proc p ∷ [])) p.body (opening p world) (count_of p.body) 0 h (omega arith))
+            ∙ ap (λ x. finish (scope_in p) x s 0) e,
+      );
+      words = words_printed (words_of p.body);
+    }
 
-pub numbers_run : (parts : List Part) (h : IsNumbers parts) → RunPrints parts (words_of h.body)
-numbers_run parts h = subst (λ ps. RunPrints ps (words_of h.body)) (sym (h.alone ∙ ap (λ q. q ∷ []) h.is.is)) (main_run h.is.name h.body h.prints)
+pub numbers_run : (parts : List Part) (world : World) (h : IsMainAlone parts) → RunPrints parts world (words_of h.main.body)
+numbers_run parts world h = subst (λ ps. RunPrints ps world (words_of h.main.body)) (sym h.alone) (main_run h.main world h.prints h.ending)

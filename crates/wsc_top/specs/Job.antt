@@ -1,42 +1,73 @@
--- What the text of a job says.
-use Rattle.std.specs.Prelude.{◌≡◌, ℕ, List, []}
+-- What the text of a job says, and why it is refused.
+use Rattle.std.specs.Prelude.{◌≡◌, ℕ, List, [], ◌∷◌, Result, Ok, Err}
 use Rattle.ws_words.specs.Outside.{World}
 use Rattle.src_ast.specs.declared.lexeme.Place.{Place}
 use Rattle.src_ast.specs.declared.lexeme.Lexeme.{Lexeme}
 use Rattle.src_ast.specs.declared.fault.Refusal.{Refusal}
-use Rattle.src_ast.specs.declared.fault.RefusalKind.TheVariants.{Unbuilt}
+use Rattle.src_ast.specs.declared.fault.RefusalKind.TheVariants.{Syntax, Unbuilt, Input}
 use Rattle.src_ast.specs.declared.fault.TextFault.{TextFault}
 use Rattle.src_ast.specs.declared.fault.TextFault.TheVariants.{Refused, NoMemory}
 use Rattle.src_ast.specs.Syntax.{Part}
-use Rattle.src_ast.specs.Lexemes.{start, Lex, KeepLimits}
+use Rattle.src_ast.specs.View as view
+use Rattle.src_check.specs.declared.accepted.Accepted.{Accepted}
+use Rattle.src_ast.specs.Lexemes.{Lex, KeepLimits}
+use Rattle.src_ast.specs.LexFaults.{LexFault}
 use Rattle.src_ast.specs.Grammar.{Tree}
-use Rattle.wsc_top.specs.Numbers.{IsNumbers}
+use Rattle.src_ast.specs.Faults.{SyntaxAt}
+use Rattle.src_ast.specs.Rules.{rules_of, IsAccepted, IsFirstBroken}
+use Rattle.wsc_top.specs.Sections.{program_of, input_of, input_place, InputWords, InputFault}
 
--- the text has lexemes within the limits, and they have this tree
+-- the program section has lexemes within the limits, they have this tree, and it keeps the rules
 pub record Reads (text : List ℕ) (parts : List Part) : Type 0 where
   pub ls : List Lexeme
   pub finish : Place
-  pub lex : Lex text ls finish
+  pub lex : Lex (program_of text) ls finish
   pub kept : KeepLimits 0 0 ls
   pub tree : Tree ls parts
+  pub accepted : IsAccepted parts finish
 
--- the text is a program that is run
-pub record IsBuilt (text : List ℕ) : Type 0 where
-  pub parts : List Part
+-- the program section is refused so: by its first fault of lexemes, else of syntax, else of the rules
+pub data ProgramFault (text : List ℕ) : Refusal → Type 0 where
+  lexemes : (r : Refusal) → LexFault (program_of text) r → ProgramFault text r
+  syntax : (ls : List Lexeme) (finish place : Place) → Lex (program_of text) ls finish → KeepLimits 0 0 ls → SyntaxAt ls finish place
+      → ProgramFault text (record { kind = Syntax; place = place })
+  rules : (ls : List Lexeme) (finish : Place) (parts : List Part) (r : Refusal) → Lex (program_of text) ls finish → KeepLimits 0 0 ls → Tree ls parts
+      → IsFirstBroken (rules_of parts finish) r → ProgramFault text r
+
+-- A command can't take some programs: these are the places of what it can't take, in the order of the text.
+abbrev pub Unfit : Type 0
+Unfit = List Part → List Place
+
+-- the text is a program that a command takes, and the words that it reads
+pub record IsJob (unfit : Unfit) (text : List ℕ) (parts : List Part) (input : List ℕ) : Type 0 where
   pub reads : Reads text parts
-  pub numbers : IsNumbers parts
+  pub fit : unfit parts ≡ []
+  pub words : InputWords (input_place text) (input_of text) input
 
--- the text is refused so: it is no program that is run
-pub record Refuses (text : List ℕ) (refusal : Refusal) : Type 0 where
-  pub other : IsBuilt text → ⊥
-  pub kind : refusal.kind ≡ Unbuilt
-  pub place : refusal.place ≡ start
+-- the text is refused so: by the fault of its program, else by what the command can't take, else by its input section
+pub data Refuses (unfit : Unfit) (text : List ℕ) : Refusal → Type 0 where
+  program : (r : Refusal) → ProgramFault text r → Refuses unfit text r
+  unbuilt : (parts : List Part) (place : Place) (more : List Place) → Reads text parts → unfit parts ≡ place ∷ more
+      → Refuses unfit text (record { kind = Unbuilt; place = place })
+  input : (parts : List Part) (place : Place) → Reads text parts → unfit parts ≡ [] → InputFault (input_place text) (input_of text) place
+      → Refuses unfit text (record { kind = Input; place = place })
 
 -- why a text has no answer: memory, or it is refused
-abbrev pub IsRefused : List ℕ → TextFault → Type 0
-IsRefused text NoMemory = Unit {0}
-IsRefused text (Refused r) = Refuses text r
+abbrev pub IsRefused : Unfit → List ℕ → TextFault → Type 0
+IsRefused unfit text NoMemory = Unit {0}
+IsRefused unfit text (Refused r) = Refuses unfit text r
 
--- what a run is given: no input, and nothing left in any port
-abbrev pub no_world : World
-no_world = record { input = []; left = [] }
+-- the same for its program section alone
+abbrev pub IsProgramFault : List ℕ → TextFault → Type 0
+IsProgramFault text NoMemory = Unit {0}
+IsProgramFault text (Refused r) = ProgramFault text r
+
+-- what a run is given: these input words, and nothing left in any of the seven ports
+abbrev pub world_of : List ℕ → World
+world_of words = record { input = words; left = [] ∷ [] ∷ [] ∷ [] ∷ [] ∷ [] ∷ [] ∷ [] }
+
+-- an accepted program with this tree is answered, unless memory runs out
+abbrev pub AnswersParts : Result Accepted TextFault → List Part → Type 0
+AnswersParts (Ok a) parts = view.parts a.program.items.items ≡ parts
+AnswersParts (Err NoMemory) parts = Unit {0}
+AnswersParts (Err (Refused r)) parts = ⊥

@@ -1,7 +1,8 @@
--- Programs that only print expressions over numbers: the programs that are run so far.
-use Rattle.std.specs.Prelude.{◌≡◌, ℕ, suc, ◌≤◌, Bool, true, false, ◌&&◌, IsTrue, List, [], ◌∷◌, Option, Some, None, codes}
-use Rattle.src_ast.specs.declared.lexeme.Name.{Name}
-use Rattle.src_ast.specs.Syntax.{Expression, Number, Variable, Cell, Signed, Binary, Statement, Assign, Store, Print, Read, Give, Take, Call, If, While, Statements, Nothing, Then, Procedure, Part, Array, Proc}
+-- Programs that only print expressions over numbers: what is run so far, and what isn't.
+use Rattle.std.specs.Prelude.{◌≡◌, ℕ, Bool, true, false, ◌&&◌, List, [], ◌∷◌, ◌++◌, Option, Some, None, if◌then◌else◌}
+use Rattle.src_ast.specs.declared.lexeme.Place.{Place}
+use Rattle.src_ast.specs.Syntax.{Expression, Number, Variable, Cell, Signed, Binary, Statement, Assign, Store, Print, Read, Give, Take, Call, If, While, Statements, Nothing, Then, Last, Procedure, Part, Array, Proc}
+use Rattle.src_ast.specs.Rules.{is_main}
 use Rattle.src_ast.specs.Meaning.{Scope, value}
 
 -- an expression over numbers alone
@@ -27,24 +28,42 @@ abbrev pub only_prints : Statements → Bool
 only_prints Nothing = true
 only_prints (Then s rest) = is_print s && only_prints rest
 
-abbrev pub count_of : Statements → ℕ
-count_of Nothing = 0
-count_of (Then s rest) = suc (count_of rest)
+-- the place of a statement's first lexeme
+abbrev pub place_of : Statement → Place
+place_of (Print at e) = at
+place_of (Assign at x e) = at
+place_of (Store at a e f) = at
+place_of (Read at x) = at
+place_of (Give at p q x) = at
+place_of (Take at p q e) = at
+place_of (Call at x f es) = at
+place_of (If at e a b) = at
+place_of (While at e a) = at
 
--- a `main` with this body and nothing else, of at most 1,024 statements
-pub record IsMainOf (part : Part) (body : Statements) : Type 0 where
-  pub name : Name
-  pub is : part ≡ Proc (record { name = name; params = []; vars = []; body = body; ending = None })
-  pub main : name.text ≡ codes "main"
-  pub few : count_of body ≤ 1024
+-- the statements that aren't such prints
+abbrev pub unbuilt_in : Statements → List Place
+unbuilt_in Nothing = []
+unbuilt_in (Then s rest) = if is_print s then unbuilt_in rest else place_of s ∷ unbuilt_in rest
 
--- a `main` of prints over numbers, and nothing else
-pub record IsNumbers (parts : List Part) : Type 0 where
-  pub main : Part
-  pub body : Statements
-  pub alone : parts ≡ main ∷ []
-  pub is : IsMainOf main body
-  pub prints : IsTrue (only_prints body)
+abbrev pub unbuilt_ending : Option Last → List Place
+unbuilt_ending None = []
+unbuilt_ending (Some last) = last.place ∷ []
+
+-- an array, a procedure other than `main`, and what isn't run of a procedure, in the order of the text
+abbrev pub unbuilt_part : Part → List Place
+unbuilt_part (Array x n at) = x.place ∷ []
+unbuilt_part (Proc p) = (if is_main p then [] else p.name.place ∷ []) ++ (unbuilt_in p.body ++ unbuilt_ending p.ending)
+
+-- The places of what isn't run yet, in the order of the text: arrays, procedures other than `main`, statements other than
+-- prints over numbers, and the `return` of an ending.
+abbrev pub unbuilt_places : List Part → List Place
+unbuilt_places [] = []
+unbuilt_places (p ∷ parts) = unbuilt_part p ++ unbuilt_places parts
+
+-- the first place of some
+abbrev pub first_of : List Place → Option Place
+first_of [] = None
+first_of (p ∷ ps) = Some p
 
 -- no name is visible
 abbrev pub no_names : Scope

@@ -1,12 +1,11 @@
 -- The pieces of a program that only prints expressions over numbers.
-use Rattle.std.specs.Prelude.{◌≡◌, ℕ, ◌<◌, ◌^◌, List, ◌+◌, [], ◌∷◌, ◌++◌, length, IsTrue}
-use Rattle.src_ast.specs.Syntax.{Expression, Statement, Statements, Part}
+use Rattle.std.specs.Prelude.{◌≡◌, ℕ, ◌<◌, ◌^◌, List, ◌+◌, [], ◌∷◌, ◌++◌, length, Option, None, IsTrue}
+use Rattle.src_ast.specs.Syntax.{Expression, Statement, Statements, Procedure, Part, Proc}
 use Rattle.ws_words.specs.declared.alu.Alu.{Alu}
 use Rattle.df_core.specs.declared.piece.Piece.{Piece}
 use Rattle.df_core.specs.declared.piece.Piece.TheVariants.{Apply}
 use Rattle.df_core.specs.Built.{Computes, Prints}
-use Rattle.wsc_top.specs.Numbers.{is_closed, closed_value, is_print, only_prints, word_of, words_of, IsNumbers}
-use Rattle.wsc_top.specs.Job.{Reads}
+use Rattle.wsc_top.specs.Numbers.{is_closed, closed_value, is_print, only_prints, word_of, words_of}
 
 -- new is old and then the pieces that compute an expression over numbers
 pub record GrowsBy (old new : List Piece) (e : Expression) : Type 0 where
@@ -35,13 +34,18 @@ pub record AreBegun (pieces : List Piece) (rest all : Statements) : Type 0 where
   pub prints : (ps : List Piece) → Prints (length pieces) ps (words_of rest) → Prints 0 (pieces ++ ps) (words_of all)
   pub same : only_prints rest ≡ only_prints all
 
+-- the program is a `main` of prints over numbers
+pub record IsMainAlone (parts : List Part) : Type 0 where
+  pub main : Procedure
+  pub alone : parts ≡ Proc main ∷ []
+  pub prints : IsTrue (only_prints main.body)
+  pub ending : main.ending ≡ None
+
+-- and this is its body
+abbrev pub IsMainBody : List Part → Statements → Type 0
+IsMainBody parts body = (p : Procedure) → parts ≡ Proc p ∷ [] → body ≡ p.body
+
 -- these are the pieces of this program
 pub record ArePieces (pieces : List Piece) (parts : List Part) : Type 0 where
-  pub numbers : IsNumbers parts
-  pub prints : Prints 0 pieces (words_of numbers.body)
-
--- the text is a program that is run, and these are its pieces
-pub record ArePiecesOf (pieces : List Piece) (text : List ℕ) : Type 0 where
-  pub parts : List Part
-  pub reads : Reads text parts
-  pub are : ArePieces pieces parts
+  pub main : IsMainAlone parts
+  pub prints : Prints 0 pieces (words_of main.main.body)

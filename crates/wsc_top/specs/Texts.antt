@@ -1,11 +1,11 @@
 -- The texts of answers.
-use Rattle.std.specs.Prelude.{ℕ, List, [], ◌∷◌, ◌++◌, codes, decimal, flat_map}
-use Rattle.src_ast.specs.declared.lexeme.Place.{Place}
+use Rattle.std.specs.Prelude.{ℕ, Bool, List, [], ◌∷◌, ◌++◌, Option, Some, None, if◌then◌else◌, codes, decimal, flat_map}
 use Rattle.src_ast.specs.declared.fault.Quantity.{Quantity}
 use Rattle.src_ast.specs.declared.fault.Quantity.TheVariants.{NameBytes, Depth, Lexemes, Arrays, Length, CellSum, Procs, Params, Vars, Statements, PortNumber}
 use Rattle.src_ast.specs.declared.fault.Refusal.{Refusal}
 use Rattle.src_ast.specs.declared.fault.RefusalKind.{RefusalKind}
 use Rattle.src_ast.specs.declared.fault.RefusalKind.TheVariants.{Byte, Wide, Syntax, Unknown, Twice, Kind, Count, Main, Limit, TooLong, Input, Unbuilt}
+use Rattle.src_ast.specs.declared.lexeme.Name.{Name}
 
 -- a word in decimal, and a line feed
 abbrev pub word_line : ℕ → List ℕ
@@ -54,3 +54,40 @@ kind_word Unbuilt = codes "unbuilt"
 -- a refusal at its place
 abbrev pub refusal_text : Refusal → List ℕ
 refusal_text r = codes "refused " ++ decimal r.place.line ++ codes ":" ++ decimal r.place.column ++ codes " " ++ kind_word r.kind ++ codes "\n"
+
+-- a word in decimal behind a comma and a space
+abbrev pub further_word : ℕ → List ℕ
+further_word w = codes ", " ++ decimal w
+
+-- words in decimal, with a comma and a space between them
+abbrev pub separated_words : List ℕ → List ℕ
+separated_words [] = []
+separated_words (w ∷ ws) = decimal w ++ flat_map further_word ws
+
+-- a line for an array: its name and its cells
+abbrev pub array_line : List ℕ → List ℕ → List ℕ
+array_line name cells = name ++ codes " = [" ++ separated_words cells ++ codes "]\n"
+
+-- a line for each array that has cells
+abbrev pub array_lines : List Name → List (List ℕ) → List ℕ
+array_lines [] rows = []
+array_lines (n ∷ ns) [] = []
+array_lines (n ∷ ns) (row ∷ rows) = array_line n.text row ++ array_lines ns rows
+
+-- a line for an array, where it has cells
+abbrev pub maybe_line : List ℕ → Option (List ℕ) → List ℕ
+maybe_line name None = []
+maybe_line name (Some cells) = array_line name cells
+
+-- a line for the turns of a run
+abbrev pub turns_line : ℕ → List ℕ
+turns_line n = codes "turns " ++ decimal n ++ codes "\n"
+
+-- the answer of a sequential run that came to its end
+abbrev pub ended_text : Bool → Bool → List Name → List ℕ → List (List ℕ) → ℕ → List ℕ
+ended_text memory stats names words arrays turns =
+    done_text words ++ (if memory then array_lines names arrays else []) ++ (if stats then turns_line turns else [])
+
+-- the answer of one that wants more turns
+abbrev pub going_text : List ℕ → List ℕ
+going_text words = flat_map word_line words ++ codes "turns\n"

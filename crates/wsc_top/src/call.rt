@@ -1,11 +1,15 @@
 //! The call of the program.
 
-ghost use Rattle.std.specs.Prelude.{◌≡◌, ◌≢◌, ◌↔◌, ℕ, ◌+◌, ◌≤◌, List, [], ◌∷◌, length, map, take, Some, codes, IfOk, OnErr, IsTrue, string_bytes};
+ghost use Rattle.std.specs.Prelude.{◌≡◌, ◌≢◌, ℕ, ◌+◌, ◌≤◌, List, length, map, take, Some, IfOk, OnErr, string_bytes};
 ghost use Rattle.ws_io.specs.Streams.{Rose, Takes, Adds, Flushes};
-ghost use Rattle.wsc_top.specs.Job.{IsBuilt};
-ghost use Rattle.wsc_top.specs.Answers.{job_limit, IsRun, Answers, OrNoMemory};
+ghost use Rattle.src_ast.specs.Syntax.{Part};
+ghost use Rattle.wsc_top.specs.Lines.{IsLine};
+ghost use Rattle.wsc_top.specs.Job.{IsJob};
+ghost use Rattle.wsc_top.specs.Answers.{job_limit, unfit_for, Ends, EndsSo, Answers, OrNoMemory};
+ghost use Rattle.wsc_top.specs.declared.line.Command.{Command as Asked};
 ghost use Rattle.wsc_top.specs.declared.status.Status.{Status as Ended};
 
+use crate::line::read_line;
 use crate::status::{Outcome, Status};
 use crate::{job, texts};
 use std::alloc::Global;
@@ -15,16 +19,6 @@ use ws_words::{Bytes, NoMemory};
 /// The most bytes of a job.
 const LIMIT: usize = 1_048_576;
 
-// Whether the words are the one word `run`.
-fn is_run(words: &[String]) -> bool
-    ensures { IsTrue result ↔ IsRun (map string_bytes words.now) }
-{
-    match words {
-        [word] => word.as_bytes() == b"run".as_slice(),
-        _ => false,
-    }
-}
-
 // The status and the text of the answer.
 fn answer<S: Source>(
     alloc: Global,
@@ -33,14 +27,16 @@ fn answer<S: Source>(
 ) -> Result<(Status, Bytes), NoMemory>
     ensures ok { IfOk result (λ a. Answers (map string_bytes words.now) (S.left source.old) (S.left source.new) a.0 a.1) }
     ensures fault { IfOk result (λ a. a.0 ≡ Status.ReadFault → Rose (S.faults source.old) (S.faults source.new)) }
+    ensures job { (command : Asked) (text : List ℕ) (parts : List Part) (input : List ℕ) → IsLine (map string_bytes words.now) command → S.left source.old ≡ Some text
+        → length text ≤ job_limit → IsJob (unfit_for command) text parts input → IfOk result (λ a. a.0 ≢ Ended.ReadFault → EndsSo command parts input a.0) }
     ensures memory { OnErr result ((bytes : List ℕ) × (length bytes ≤ job_limit + 1) × Takes (S.left source.old) bytes (S.left source.new)) }
 {
-    if !is_run(words) {
+    let Some(command) = read_line(words) else {
         return Ok((Status::Usage, Bytes::from_slice(alloc, texts::USAGE)?));
-    }
+    };
     match read_all(alloc, source, LIMIT) {
         Ok(text) => {
-            let (status, answer) = job::answer(alloc, text.as_slice())?;
+            let (status, answer) = job::answer(alloc, command, text.as_slice())?;
             Ok((status, answer))
         }
         Err(ReadEnd::Failed) => Ok((Status::ReadFault, Bytes::from_slice(alloc, texts::FAULT)?)),
@@ -72,10 +68,16 @@ pub fn wsc<S: Source, K: Sink>(
     ensures read_fault { result.status ≡ Status.ReadFault → Rose (S.faults source.old) (S.faults source.new) }
     ensures write_fault { result.status ≡ Status.WriteFault → Rose (K.faults sink.old) (K.faults sink.new) }
     // Where no count rose, the words and the text alone decide, want of memory aside.
-    ensures usage { (IsRun (map string_bytes words.now) → ⊥) → (Rose (K.faults sink.old) (K.faults sink.new) → ⊥) → OrNoMemory result.status Status.Usage }
-    ensures done { (text : List ℕ) → IsRun (map string_bytes words.now) → S.left source.old ≡ Some text → length text ≤ job_limit → IsBuilt text
+    ensures usage { ((command : Asked) → IsLine (map string_bytes words.now) command → ⊥) → (Rose (K.faults sink.old) (K.faults sink.new) → ⊥)
+        → OrNoMemory result.status Status.Usage }
+    ensures done { (command : Asked) (text : List ℕ) (parts : List Part) (input : List ℕ) → IsLine (map string_bytes words.now) command → S.left source.old ≡ Some text
+        → length text ≤ job_limit → IsJob (unfit_for command) text parts input → Ends command parts input
         → (Rose (S.faults source.old) (S.faults source.new) → ⊥) → (Rose (K.faults sink.old) (K.faults sink.new) → ⊥) → OrNoMemory result.status Status.Done }
-    ensures refused { (text : List ℕ) → IsRun (map string_bytes words.now) → S.left source.old ≡ Some text → (length text ≤ job_limit → IsBuilt text → ⊥)
+    ensures budget { (command : Asked) (text : List ℕ) (parts : List Part) (input : List ℕ) → IsLine (map string_bytes words.now) command → S.left source.old ≡ Some text
+        → length text ≤ job_limit → IsJob (unfit_for command) text parts input → (Ends command parts input → ⊥)
+        → (Rose (S.faults source.old) (S.faults source.new) → ⊥) → (Rose (K.faults sink.old) (K.faults sink.new) → ⊥) → OrNoMemory result.status Status.Budget }
+    ensures refused { (command : Asked) (text : List ℕ) → IsLine (map string_bytes words.now) command → S.left source.old ≡ Some text
+        → (length text ≤ job_limit → (parts : List Part) (input : List ℕ) → IsJob (unfit_for command) text parts input → ⊥)
         → (Rose (S.faults source.old) (S.faults source.new) → ⊥) → (Rose (K.faults sink.old) (K.faults sink.new) → ⊥) → OrNoMemory result.status Status.Refused }
 {
     match answer(alloc, words, source) {

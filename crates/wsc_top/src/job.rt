@@ -1,76 +1,69 @@
 //! The answer to a job.
 
-ghost use Rattle.std.specs.Prelude.{◌≡◌, ◌<◌, ◌≤◌, ◌^◌, length, IfOk, IfErr};
-ghost use Rattle.df_core.specs.Straight.{IsStraight, printed_by};
-ghost use Rattle.wsc_top.specs.Texts.{done_text};
-ghost use Rattle.wsc_top.specs.Answers.{job_limit, Answered};
-ghost use Rattle.wsc_top.specs.Job.{IsRefused};
-ghost use Rattle.wsc_top.specs.Pieces.{ArePiecesOf};
+ghost use Rattle.std.specs.Prelude.{◌≡◌, ◌≤◌, ℕ, List, length, IfOk, IfErr};
+ghost use Rattle.src_ast.specs.View as view;
+ghost use Rattle.src_ast.specs.Syntax.{Part};
+ghost use Rattle.src_ast.specs.declared.fault.TextFault.{TextFault as Fault};
+ghost use Rattle.wsc_top.specs.Job.{IsJob, IsRefused};
+ghost use Rattle.wsc_top.specs.Answers.{job_limit, unfit_for, EndsSo, Answered};
 
-use crate::pieces::{NoPieces, straight};
+use crate::input::words;
+use crate::line::Command;
+use crate::sections::split;
 use crate::status::Status;
-use crate::texts;
-use df_core::{Core, Straight, built_is_straight};
-use src_ast::{Place, Refusal, RefusalKind, TextFault};
-use src_lex::lex;
-use src_parse::parse;
+use crate::unbuilt::unfit;
+use crate::yields::yielded;
+use crate::{program, texts};
+use src_ast::{Place, Refusal, RefusalKind, TextFault, read_is_written};
+use src_check::Accepted;
+use src_lex::place_behind;
 use std::alloc::Global;
-use ws_words::{Bytes, NoMemory};
+use ws_words::{Bytes, NoMemory, Words};
 
-/// The refusal of a text that is no program that is run.
-const UNBUILT: Refusal = Refusal {
-    kind: RefusalKind::Unbuilt,
-    place: Place { line: 1, column: 1 },
-};
+/// Where a text begins.
+const START: Place = Place { line: 1, column: 1 };
 
-// The pieces of a text that is a program that is run.
-
-fn pieces_of(alloc: Global, text: &[u8]) -> Result<Straight, TextFault>
+// The program of a job and the words that it reads, or why the text is refused.
+fn read(alloc: Global, command: Command, text: &[u8]) -> Result<(Accepted, Words), TextFault>
     requires { length text.now ≤ job_limit }
-    ensures ok { IfOk result (λ s. ArePiecesOf s.pieces.items text.now) }
-    ensures few { IfOk result (λ s. length s.pieces.items < 2 ^ 32) }
-    ensures refused { IfErr result (λ e. IsRefused text.now e) }
+    ensures ok { IfOk result (λ x. IsJob (unfit_for command) text.now (view.parts x.0.program.items.items) x.1) }
+    ensures only { (parts : List Part) (input : List ℕ) → IsJob (unfit_for command) text.now parts input → IfErr result (λ e. e ≡ Fault.NoMemory) }
+    ensures same { (parts : List Part) (input : List ℕ) → IsJob (unfit_for command) text.now parts input
+        → IfOk result (λ x. (view.parts x.0.program.items.items ≡ parts) × (x.1 ≡ input)) }
+    ensures refused { IfErr result (λ e. IsRefused (unfit_for command) text.now e) }
 {
-    let lexemes = match lex(alloc, text) {
-        Ok(lexemes) => lexemes,
-        Err(TextFault::NoMemory) => return Err(TextFault::NoMemory),
-        Err(TextFault::Refused(_)) => return Err(TextFault::Refused(UNBUILT)),
+    let (program, input) = split(text);
+    let accepted = match program::read(alloc, text, program) {
+        Ok(accepted) => accepted,
+        Err(fault) => return Err(fault),
     };
-    let program = match parse(alloc, &lexemes) {
-        Ok(program) => program,
-        Err(TextFault::NoMemory) => return Err(TextFault::NoMemory),
-        Err(TextFault::Refused(_)) => return Err(TextFault::Refused(UNBUILT)),
+    if let Some(place) = unfit(command, &accepted.program) {
+        return Err(TextFault::Refused(Refusal {
+            kind: RefusalKind::Unbuilt,
+            place,
+        }));
+    }
+    let at = Place {
+        line: place_behind(START, program).line + 1,
+        column: 1,
     };
-    match straight(alloc, &program) {
-        Ok(straight) => Ok(straight),
-        Err(NoPieces::Memory) => Err(TextFault::NoMemory),
-        Err(NoPieces::Unbuilt) => Err(TextFault::Refused(UNBUILT)),
+    match words(alloc, input, at) {
+        Ok(words) => Ok((accepted, words)),
+        Err(fault) => Err(fault),
     }
 }
 
-// The answer of a run of these pieces.
-fn run(alloc: Global, straight: &Straight) -> Result<Bytes, NoMemory>
-    requires straight { IsStraight straight.now.pieces.items }
-    requires few { length straight.now.pieces.items < 2 ^ 32 }
-    ensures { IfOk result (λ text. text ≡ done_text (printed_by straight.now.pieces.items)) }
-{
-    let mut core = Core::begin(alloc, straight)?;
-    core.run();
-    texts::done(alloc, core.printed())
-}
-
-/// The status and the text of the answer to the text of a job.
-#[tactic(auto, using(crate::proofs::Jobs::pieces_are_straight, crate::proofs::Jobs::done_answers, crate::proofs::Jobs::refused_answers))]
-pub fn answer(alloc: Global, text: &[u8]) -> Result<(Status, Bytes), NoMemory>
+/// The status and the text of the answer of a command to the text of a job.
+#[tactic(auto, using(crate::proofs::Jobs::refused_answers, crate::proofs::Jobs::job_done))]
+pub fn answer(alloc: Global, command: Command, text: &[u8]) -> Result<(Status, Bytes), NoMemory>
     requires { length text.now ≤ job_limit }
-    ensures { IfOk result (λ a. Answered text.now a.0 a.1) }
+    ensures answered { IfOk result (λ a. Answered command text.now a.0 a.1) }
+    ensures job { (parts : List Part) (input : List ℕ) → IsJob (unfit_for command) text.now parts input → IfOk result (λ a. EndsSo command parts input a.0) }
 {
-    built_is_straight();
-    match pieces_of(alloc, text) {
-        Ok(straight) => Ok((Status::Done, run(alloc, &straight)?)),
-        Err(TextFault::Refused(refusal)) => {
-            Ok((Status::Refused, texts::refused(alloc, refusal)?))
-        }
+    read_is_written();
+    match read(alloc, command, text) {
+        Ok((accepted, input)) => Ok(yielded(alloc, command, &accepted, input)?),
+        Err(TextFault::Refused(refusal)) => Ok((Status::Refused, texts::refused(alloc, refusal)?)),
         Err(TextFault::NoMemory) => Err(NoMemory),
     }
 }

@@ -3,9 +3,15 @@
 ghost use Rattle.std.specs.Prelude.{◌<◌};
 
 mod expressions;
+mod printed;
+mod refusals;
+mod sequential;
 
 use super::*;
 use expressions::{LEVEL_VALUES, LEVELS, OPERATOR_VALUES, OPERATORS};
+use printed::{PRINTED, PROGRAMS};
+use refusals::{LEXEMES, RULES, SYNTAX};
+use sequential::{NO_LINES, SEQUENTIAL};
 use std::alloc::Global;
 use std::test::Fail;
 use ws_io::{MemSink, MemSource};
@@ -81,6 +87,10 @@ const RUNS: &[(&[u8], &str)] = &[
         "0\n18446744073709551615\nhalt\n",
     ),
     (
+        b"proc main() { var x, y; print 1; }\r\n%input\r\n 007\t18446744073709551615\r\n",
+        "1\nhalt\n",
+    ),
+    (
         b"proc main() { print 5 / 0; print 5 % 0; print 1 << 65; }",
         "18446744073709551615\n5\n2\nhalt\n",
     ),
@@ -152,45 +162,163 @@ fn programs_as_large_as_the_limits_run(rt: HostRuntime) -> Result<(), Fail> {
     Ok(())
 }
 
-// Texts that are no programs of prints over numbers.
-const OTHERS: &[&[u8]] = &[
-    b"",
-    b"print 7",
-    b"proc main() { print 7",
-    b"proc main() { print 7; } }",
-    b"proc main() { var x; x = 1; }",
-    b"proc main() { print 18446744073709551616; }",
-    b"proc main() { print 1 @ 2; }",
-    b"proc main() { print x; }",
-    b"proc main() { return 1; }",
-    b"proc main(x) { }",
-    b"proc f() { } proc main() { }",
-    b"array a[1]; proc main() { }",
-    b"proc main() { print 7; }\n%input\n",
-];
+// The bytes of a text in which a bar stands for a line feed.
+fn barred(alloc: Global, text: &str) -> Result<Vec<u8>, Fail> {
+    let mut all = Vec::new(alloc);
+    for byte in text.as_bytes() {
+        all.push(if *byte == b'|' { b'\n' } else { *byte })?;
+    }
+    Ok(all)
+}
+
+// Whether a command refuses the text in front of a `$` with what stands behind it.
+fn refuses(alloc: Global, command: &str, row: &str) -> Result<bool, Fail> {
+    let Some((text, wanted)) = row.split_once('$') else {
+        return Ok(false);
+    };
+    let answer = called(alloc, &[command], &barred(alloc, text)?, SOUND)?;
+    let wanted = format!(in alloc; "{wanted}\n")?;
+    Ok(
+        answer.status == Status::Refused
+            && answer.text.as_slice() == wanted.as_bytes()
+            && answer.left == 0,
+    )
+}
 
 #[test]
-fn other_texts_are_refused(rt: HostRuntime) -> Result<(), Fail> {
+fn faults_are_refused_at_their_places(rt: HostRuntime) -> Result<(), Fail> {
     let alloc = rt.alloc();
-    for text in OTHERS {
-        let answer = run(alloc, text)?;
-        assert!(rt; answer.status == Status::Refused);
-        assert!(rt; answer.text.as_slice() == b"refused 1:1 unbuilt\n".as_slice());
-        assert_eq!(rt; answer.left, 0);
+    for table in [LEXEMES, SYNTAX, RULES] {
+        for row in table.lines() {
+            assert!(rt; refuses(alloc, "run", row)?, "{row}");
+        }
     }
-    let many = repeated(alloc, b"proc main() {", b"print 9;", 1025, b"}")?;
-    assert!(rt; run(alloc, &many)?.status == Status::Refused);
-    let wide = repeated(alloc, b"proc main() { print 1", b" + 1", 128, b"; }")?;
-    assert!(rt; run(alloc, &wide)?.status == Status::Refused);
+    for row in SYNTAX.lines() {
+        assert!(rt; refuses(alloc, "format", row)?, "{row}");
+    }
     Ok(())
+}
+
+// Whether `run` answers a text so.
+fn answers(alloc: Global, text: &[u8], wanted: &str) -> Result<bool, Fail> {
+    Ok(run(alloc, text)?.text.as_slice() == wanted.as_bytes())
+}
+
+#[test]
+fn limits_of_lexemes_hold(rt: HostRuntime) -> Result<(), Fail> {
+    let alloc = rt.alloc();
+    let name = repeated(alloc, b"proc main() { var ", b"n", 64, b"; }")?;
+    assert!(rt; answers(alloc, &name, "halt\n")?);
+    let name = repeated(alloc, b"proc main() { var ", b"n", 65, b"; }")?;
+    assert!(rt; answers(alloc, &name, "refused 1:19 limit name\n")?);
+    let deep = repeated(alloc, b"proc main() {", b" if(0){", 31, b"print;")?;
+    assert!(rt; answers(alloc, &deep, "refused 1:236 syntax\n")?);
+    let deep = repeated(alloc, b"proc main() {", b" if(0){", 32, b"print;")?;
+    assert!(rt; answers(alloc, &deep, "refused 1:237 limit depth\n")?);
+    let closed = repeated(alloc, b"", b"}", 40, b" { { {")?;
+    assert!(rt; answers(alloc, &closed, "refused 1:1 syntax\n")?);
+    let row = repeated(alloc, b"proc main() {", b"(", 256, b"; }")?;
+    assert!(rt; answers(alloc, &row, "refused 1:14 syntax\n")?);
+    let row = repeated(alloc, b"proc main() {", b"(", 257, b"; }")?;
+    assert!(rt; answers(alloc, &row, "refused 1:270 limit lexemes\n")?);
+    Ok(())
+}
+
+#[test]
+fn limits_of_programs_hold(rt: HostRuntime) -> Result<(), Fail> {
+    let alloc = rt.alloc();
+    let many = repeated(alloc, b"proc main() { ", b"print 1; ", 1025, b"}")?;
+    assert!(rt; answers(alloc, &many, "refused 1:9231 limit statements\n")?);
+    let most = repeated(alloc, b"proc main() { ", b"if(0){}", 1024, b"}")?;
+    assert!(rt; answers(alloc, &most, "refused 1:15 unbuilt\n")?);
+    let last = repeated(alloc, b"proc main() { ", b"if(0){}", 1024, b"return 1; }")?;
+    assert!(rt; answers(alloc, &last, "refused 1:7183 limit statements\n")?);
+    for (count, wanted) in [
+        (8, "refused 1:6 unbuilt\n"),
+        (9, "refused 1:40 limit params\n"),
+    ] {
+        let text = named(
+            alloc,
+            "proc f(",
+            "",
+            ", ",
+            "",
+            count,
+            ") { } proc main() { }",
+        )?;
+        assert!(rt; answers(alloc, &text, wanted)?, "{wanted}");
+    }
+    for (count, wanted) in [(32, "halt\n"), (33, "refused 1:169 limit vars\n")] {
+        let text = named(alloc, "proc main() { var ", "", ", ", "", count, "; }")?;
+        assert!(rt; answers(alloc, &text, wanted)?, "{wanted}");
+    }
+    for (count, wanted) in [
+        (64, "refused 1:7 unbuilt\n"),
+        (65, "refused 1:1085 limit arrays\n"),
+    ] {
+        let text = named(
+            alloc,
+            "",
+            "array ",
+            "",
+            "[16384];",
+            count,
+            " proc main() { }",
+        )?;
+        assert!(rt; answers(alloc, &text, wanted)?, "{wanted}");
+    }
+    let text = named(alloc, "", "array ", "", "[16385];", 64, " proc main() { }")?;
+    assert!(rt; answers(alloc, &text, "refused 1:1072 limit cells\n")?);
+    for (count, wanted) in [
+        (63, "refused 1:6 unbuilt\n"),
+        (64, "refused 1:892 limit procs\n"),
+    ] {
+        let text = named(alloc, "", "proc ", "", "() { }", count, "proc main() { }")?;
+        assert!(rt; answers(alloc, &text, wanted)?, "{wanted}");
+    }
+    Ok(())
+}
+
+#[test]
+fn programs_have_their_printed_form(rt: HostRuntime) -> Result<(), Fail> {
+    let alloc = rt.alloc();
+    for (row, wanted) in PROGRAMS.lines().zip(PRINTED) {
+        let answer = called(alloc, &["format"], &barred(alloc, row)?, SOUND)?;
+        assert!(rt; answer.status == Status::Done, "{row}");
+        assert!(rt; answer.text.as_slice() == wanted.as_bytes(), "{row}");
+        let again = called(alloc, &["format"], &answer.text, SOUND)?;
+        assert!(rt; again.text == answer.text, "{row}");
+    }
+    Ok(())
+}
+
+// Copies of a front and a back round names of their own, with this between them.
+fn named(
+    alloc: Global,
+    begin: &str,
+    front: &str,
+    between: &str,
+    back: &str,
+    count: usize,
+    end: &str,
+) -> Result<Vec<u8>, Fail> {
+    let mut text = Vec::from_slice(alloc, begin.as_bytes())?;
+    for number in 0..count {
+        if number > 0 {
+            text.extend_from_slice(between.as_bytes())?;
+        }
+        let name = format!(in alloc; "{front}v{number}{back}")?;
+        text.extend_from_slice(name.as_bytes())?;
+    }
+    text.extend_from_slice(end.as_bytes())?;
+    Ok(text)
 }
 
 #[test]
 fn a_job_has_at_most_a_mebibyte(rt: HostRuntime) -> Result<(), Fail> {
     let alloc = rt.alloc();
     let most = repeated(alloc, b"", b" ", 1_048_576, b"")?;
-    let answer = run(alloc, &most)?;
-    assert!(rt; answer.text.as_slice() == b"refused 1:1 unbuilt\n".as_slice());
+    assert!(rt; answers(alloc, &most, "refused 1:1048577 main\n")?);
     let more = repeated(alloc, b"", b" ", 1_048_577, b"and more")?;
     let answer = run(alloc, &more)?;
     assert!(rt; answer.status == Status::Refused);
@@ -219,6 +347,52 @@ fn other_words_are_no_command_line(rt: HostRuntime) -> Result<(), Fail> {
             answer.text.as_slice()
                 == b"usage: wsc run|plain|format|compile|check|exec|list|trace|replay|gen|bench [--workers N] [--budget N] [--turns N] [--memory] [--stats] [NUMBER]\n".as_slice()
         );
+        assert_eq!(rt; answer.left, 15);
+    }
+    Ok(())
+}
+
+// What a line of words, in one text with spaces between them, answers to a text.
+fn lined(alloc: Global, line: &str, text: &[u8]) -> Result<Answer, Fail> {
+    let mut words = Vec::new(alloc);
+    for word in line.split(' ') {
+        words.push(word)?;
+    }
+    called(alloc, &words, text, SOUND)
+}
+
+// Whether the sequential run of a row of a table is answered so.
+fn runs_so(alloc: Global, row: &str) -> Result<bool, Fail> {
+    let Some((line, rest)) = row.split_once('$') else {
+        return Ok(false);
+    };
+    let Some((text, wanted)) = rest.split_once('$') else {
+        return Ok(false);
+    };
+    let answer = lined(alloc, line, &barred(alloc, text)?)?;
+    let status = if wanted.ends_with("turns|") {
+        Status::Budget
+    } else {
+        Status::Done
+    };
+    Ok(answer.status == status && answer.text == barred(alloc, wanted)? && answer.left == 0)
+}
+
+#[test]
+fn sequential_runs_are_answered(rt: HostRuntime) -> Result<(), Fail> {
+    let alloc = rt.alloc();
+    for row in SEQUENTIAL.lines() {
+        assert!(rt; runs_so(alloc, row)?, "{row}");
+    }
+    Ok(())
+}
+
+#[test]
+fn options_out_of_form_are_no_line(rt: HostRuntime) -> Result<(), Fail> {
+    let alloc = rt.alloc();
+    for line in NO_LINES.lines() {
+        let answer = lined(alloc, line, b"proc main() { }")?;
+        assert!(rt; answer.status == Status::Usage, "{line}");
         assert_eq!(rt; answer.left, 15);
     }
     Ok(())

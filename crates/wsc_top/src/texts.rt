@@ -1,7 +1,7 @@
 //! The texts of answers.
 
-ghost use Rattle.std.specs.Prelude.{◌≡◌, IfOk};
-ghost use Rattle.wsc_top.specs.Texts.{done_text, kind_word, refusal_text};
+ghost use Rattle.std.specs.Prelude.{◌≡◌, ◌++◌, flat_map, IfOk, OnOk};
+ghost use Rattle.wsc_top.specs.Texts.{word_line, done_text, kind_word, refusal_text};
 
 use src_ast::{Quantity, Refusal, RefusalKind};
 use std::alloc::Global;
@@ -18,15 +18,23 @@ pub const FAULT: &[u8] = b"fault read\n";
 /// The answer where a text has too many bytes.
 pub const LONG: &[u8] = b"refused long\n";
 
+/// Puts a line for each word behind a text.
+pub fn put_words(text: &mut Bytes, words: &Words) -> Result<(), NoMemory>
+    ensures { OnOk result (text.new ≡ text.old ++ flat_map word_line words.now) }
+{
+    for word in words.as_slice() {
+        put_decimal(text, *word)?;
+        text.push(b'\n')?;
+    }
+    Ok(())
+}
+
 /// The answer of a run that came to its end: a line for each word, and `halt`.
 pub fn done(alloc: Global, words: &Words) -> Result<Bytes, NoMemory>
     ensures { IfOk result (λ text. text ≡ done_text words.now) }
 {
     let mut text = Bytes::empty(alloc);
-    for word in words.as_slice() {
-        put_decimal(&mut text, *word)?;
-        text.push(b'\n')?;
-    }
+    put_words(&mut text, words)?;
     text.extend(b"halt\n")?;
     Ok(text)
 }

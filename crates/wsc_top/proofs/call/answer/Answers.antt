@@ -1,15 +1,26 @@
-use Rattle.wsc_top.specs.Answers.{read}
-use Rattle.wsc_top.proofs.Calls.{usage_answers, unread_answers, long_answers, read_answers}
+use Rattle.std.proofs.Common.{subst}
+use Rattle.wsc_top.specs.Answers.{EndsSo}
+use Rattle.wsc_top.proofs.Lines.{same_command}
+use Rattle.wsc_top.proofs.Calls.{no_fault, no_line, usage_answers, unread_answers, long_answers, read_answers, too_much, told_job}
 use Rattle.wsc_top.proofs.call.answer.Goals as goal
 
-pub returns-then-not-is_run-clause-ok : goal.returns-then-not-is_run-clause-ok
-returns-then-not-is_run-clause-ok g c = usage_answers _ _ _ (λ r. let h = c.is_run.ensures.1 r in cc) c.in_ok-from_slice.ensures
+pub returns-in_default-clause-ok : goal.returns-in_default-clause-ok
+returns-in_default-clause-ok g c = usage_answers _ _ _ (no_line _ c.read_line.result c.read_line.ensures.none c.in_default.not-Some) (c.in_ok-from_slice.ensures)
 
 pub returns-in_ok-from_slice-in-Err-Failed-clause-ok : goal.returns-in_ok-from_slice-in-Err-Failed-clause-ok
-returns-in_ok-from_slice-in-Err-Failed-clause-ok g c = unread_answers _ _ _ _ (c.is_run.ensures.0 (cc)) (c.in-Err-Failed.ensures.failed_taken (cc)) c.in_ok-from_slice-in-Err-Failed.ensures
+returns-in_ok-from_slice-in-Err-Failed-clause-ok g c = unread_answers _ _ _ _ c.in-Some.command c.in-Some.ensures.some (c.in-Err-Failed.ensures.failed_taken (cc)) c.in_ok-from_slice-in-Err-Failed.ensures
 
 pub returns-in_ok-from_slice-in-Err-TooLong-clause-ok : goal.returns-in_ok-from_slice-in-Err-TooLong-clause-ok
-returns-in_ok-from_slice-in-Err-TooLong-clause-ok g c = long_answers _ _ _ _ (c.is_run.ensures.0 (cc)) (c.in-Err-TooLong.ensures.long (cc)) c.in_ok-from_slice-in-Err-TooLong.ensures
+returns-in_ok-from_slice-in-Err-TooLong-clause-ok g c = long_answers _ _ _ _ c.in-Some.command c.in-Some.ensures.some (c.in-Err-TooLong.ensures.long (cc)) c.in_ok-from_slice-in-Err-TooLong.ensures
 
 pub returns-in_ok-status-in-Ok-clause-ok : goal.returns-in_ok-status-in-Ok-clause-ok
-returns-in_ok-status-in-Ok-clause-ok g c = read_answers _ _ _ _ _ _ _ (c.is_run.ensures.0 (cc)) c.in-Ok.ensures.within c.in-Ok.ensures.ok c.as_slice.ensures c.in_ok-status-in-Ok.ensures
+returns-in_ok-status-in-Ok-clause-ok g c =
+    read_answers _ _ _ _ _ _ c.in-Some.command _ c.in-Some.ensures.some c.in-Ok.ensures.within c.in-Ok.ensures.ok c.as_slice.ensures c.in_ok-status-in-Ok.ensures.answered
+
+pub returns-in_ok-status-in-Ok-clause-job : goal.returns-in_ok-status-in-Ok-clause-job
+returns-in_ok-status-in-Ok-clause-job g c command text parts input l e k j f =
+    subst (λ d. EndsSo d parts input c.in_ok-status-in-Ok.status) (same_command _ c.in-Some.command command c.in-Some.ensures.some l)
+    (c.in_ok-status-in-Ok.ensures.job parts input (told_job _ command c.in-Some.command _ _ text _ _ parts input l c.in-Some.ensures.some e c.in-Ok.ensures.ok c.as_slice.ensures j))
+
+pub returns-in_ok-status-in-Ok-clause-fault : goal.returns-in_ok-status-in-Ok-clause-fault
+returns-in_ok-status-in-Ok-clause-fault g c e = absurd ((no_fault _ _ _ _ c.in_ok-status-in-Ok.ensures.answered).0 e)

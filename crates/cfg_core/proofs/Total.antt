@@ -1,0 +1,127 @@
+-- A walk of any number of turns comes to an answer: each block makes it lighter.
+use Rattle.std.proofs.Common.{ℕ, zero, suc, ◌+◌, ◌-◌, ◌*◌, ◌≡◌, ◌<◌, ◌≤◌, ◌==◌, min, Bool, true, false, List, [], ◌∷◌, length, if◌then◌else◌, slice_index, refl, ap, inl, inr, arith}
+use Rattle.std.specs.List.{AllByRecursion}
+use Rattle.ws_words.specs.Outside.{Outside, State}
+use Rattle.cfg_core.specs.Graph.{Exit, Goto, Branch, Call, Return, Send, Stop, Graph, Spot, nth, or_else, no_spot, spots, spot_at, block_at, entry_of}
+use Rattle.cfg_core.specs.Walk.{value_of, values_of, Outcome, Done, Out, run_ops, Frame, Config, At, Over, Going, landing, returned, leave, passed, step, walk, IsOver}
+use Rattle.cfg_core.specs.Rules.{In, Leads, has_turn, has_tick, calls, Lands, IsGraph}
+use Rattle.cfg_core.proofs.Turns.{AtMost, Fewer, ops_most, ops_fewer, has_tick_turns}
+use Rattle.cfg_core.proofs.Rank.{rank, rank_most, rank_falls}
+
+-- what holds of all items and of the one past the end holds at each place
+pub each_at : {A : Type 0} (P : A → Type 0) (xs : List A) (none : A) → AllByRecursion P xs → P none → (k : ℕ) → P (or_else (nth xs k) none)
+each_at P [] none h p k = p
+each_at P (x ∷ xs) none h p zero = h.0
+each_at P (x ∷ xs) none h p (suc k) = each_at P xs none h.1 p k
+
+in_place : (ls : List ℕ) (k : ℕ) → k < length ls → In (slice_index ls k) ls
+in_place [] k lt = absurd (omega arith)
+in_place (l ∷ ls) zero lt = inl refl
+in_place (l ∷ ls) (suc k) lt = inr (in_place ls k (omega arith))
+
+in_landing : (a : ℕ) (ls : List ℕ) → 1 ≤ length ls → In (landing a ls) ls
+in_landing a ls some = in_place ls (min a (length ls - 1)) (omega arith)
+
+unfoldable pub weight : Graph → ℕ → ℕ → ℕ → ℕ
+weight g frames turns b = (frames + 2 * turns) * suc (length (spots g)) + rank g b
+
+abbrev pub Lighter : Graph → ℕ → Config → Type 0
+Lighter g w (At b s frames k) = weight g (length frames) k b < w
+Lighter g w (Over o k) = Unit {0}
+Lighter g w (Going o) = Unit {0}
+
+more_rows : (n a b r q : ℕ) → a < b → r ≤ n → a * suc n + r < b * suc n + q
+more_rows n a b r q lt le = grind arith
+
+no_more_rows : (n a b r q : ℕ) → a ≤ b → r < q → a * suc n + r < b * suc n + q
+no_more_rows n a b r q le lt = grind arith
+
+no_both : {v : Bool} → v ≡ true → v ≡ false → ⊥
+no_both h i = absurd (cc)
+
+by_bool : (b : Bool) (P : Type 0) → (b ≡ true → P) → (b ≡ false → P) → P
+by_bool true P f h = f refl
+by_bool false P f h = h refl
+
+module _ (g : Graph) where
+  fewer_rounds : (f k e j b c : ℕ) → e + 2 * j < f + 2 * k → weight g e j c < weight g f k b
+  unfolding weight
+  fewer_rounds f k e j b c lt = more_rows (length (spots g)) (e + 2 * j) (f + 2 * k) (rank g c) (rank g b) lt (rank_most g c)
+
+  lower_rank : (f k j b c : ℕ) → j ≤ k → rank g c < rank g b → weight g f j c < weight g f k b
+  unfolding weight
+  lower_rank f k j b c le lt = no_more_rows (length (spots g)) (f + 2 * j) (f + 2 * k) (rank g c) (rank g b) (omega arith) lt
+
+  if_lighter : (w : ℕ) (b : Bool) (c d : Config) → Lighter g w c → Lighter g w d → Lighter g w (if b then c else d)
+  if_lighter w true c d h i = h
+  if_lighter w false c d h i = i
+
+  module _ (w : ℕ) (frames : List Frame) (k : ℕ) where
+    returned_lighter : ((c : ℕ) (f : Frame) (fs : List Frame) → frames ≡ f ∷ fs → weight g (length fs) k c < w) → (v : ℕ) (o : Outside) (fs : List Frame) → frames ≡ fs → Lighter g w (returned v o fs k)
+    returned_lighter small v o [] e = tt
+    returned_lighter small v o (f ∷ fs) e = small f.back f fs e
+
+    -- behind a turn
+    leave_turn : ((c : ℕ) (fs : List Frame) → length fs ≤ suc (length frames) → weight g (length fs) k c < w) → (exit : Exit) (s : State) → Lighter g w (leave g exit s frames k)
+    leave_turn small (Goto b) s = small b frames (omega arith)
+    leave_turn small (Branch t a b) s = if_lighter w ((value_of t s).0 == 0) _ _ (small b frames (omega arith)) (small a frames (omega arith))
+    leave_turn small (Call x f ts back) s = small (entry_of g f) (record { result = x; back = back; vars = (values_of ts s).1.vars } ∷ frames) (omega arith)
+    leave_turn small (Return t) s = returned_lighter (λ c f fs e. small c fs (omega (arith, ap length e))) _ _ frames refl
+    leave_turn small (Send t ts ls) s = small _ frames (omega arith)
+    leave_turn small Stop s = tt
+
+    -- along an edge
+    leave_quiet : ((c : ℕ) (f : Frame) (fs : List Frame) → frames ≡ f ∷ fs → weight g (length fs) k c < w) → (exit : Exit) → Lands g exit → calls exit ≡ false → ((c : ℕ) → Leads exit c → weight g (length frames) k c < w) → (s : State) → Lighter g w (leave g exit s frames k)
+    leave_quiet small (Goto b) lands none edge s = edge b refl
+    leave_quiet small (Branch t a b) lands none edge s = if_lighter w ((value_of t s).0 == 0) _ _ (edge b (inr refl)) (edge a (inl refl))
+    leave_quiet small (Call x f ts back) lands none edge s = absurd (no_both refl none)
+    leave_quiet small (Return t) lands none edge s = returned_lighter small _ _ frames refl
+    leave_quiet small (Send t ts ls) lands none edge s = edge _ (in_landing (value_of t s).0 ls lands.0)
+    leave_quiet small Stop lands none edge s = tt
+
+  passed_turn : (o : Outcome) (exit : Exit) (frames : List Frame) (k b : ℕ) → Fewer k o → Lighter g (weight g (length frames) k b) (passed g o exit frames)
+  passed_turn (Done s j) exit frames k b lt = leave_turn (weight g (length frames) k b) frames j (λ c fs le. fewer_rounds (length frames) k (length fs) j b c (omega arith)) exit s
+  passed_turn (Out o) exit frames k b lt = tt
+
+  module _ (rules : IsGraph g) where
+    pub lands_at : (b : ℕ) → Lands g (block_at g b).exit
+    unfolding spot_at no_spot
+    lands_at b = each_at (λ (s : Spot). Lands g s.block.exit) (spots g) no_spot rules.landings tt b
+
+    ticks_at : (b : ℕ) → calls (block_at g b).exit ≡ true → has_tick (block_at g b).ops ≡ true
+    unfolding spot_at no_spot
+    ticks_at b = each_at (λ (s : Spot). calls s.block.exit ≡ true → has_tick s.block.ops ≡ true) (spots g) no_spot rules.call_ticks (λ e. absurd (no_both e refl)) b
+
+    passed_quiet : (b : ℕ) → has_turn (block_at g b).ops ≡ false → (o : Outcome) (frames : List Frame) (k : ℕ) → AtMost k o → Lighter g (weight g (length frames) k b) (passed g o (block_at g b).exit frames)
+    passed_quiet b e (Done s j) frames k le = leave_quiet (weight g (length frames) k b) frames j
+        (λ c f fs d. fewer_rounds (length frames) k (length fs) j b c (let h : length frames ≡ suc (length fs) = ap length d in omega arith))
+        (block_at g b).exit (lands_at b) (no_call (calls (block_at g b).exit) refl)
+        (λ c edge. lower_rank (length frames) k j b c le (rank_falls g rules.cycles b c e edge)) s
+      where
+        no_call : (v : Bool) → calls (block_at g b).exit ≡ v → calls (block_at g b).exit ≡ false
+        no_call true c = absurd (no_both (has_tick_turns (block_at g b).ops (ticks_at b c)) e)
+        no_call false c = c
+    passed_quiet b e (Out o) frames k le = tt
+
+    pub step_lighter : (b : ℕ) (s : State) (frames : List Frame) (k : ℕ) → Lighter g (weight g (length frames) k b) (step g (At b s frames k))
+    step_lighter b s frames k = by_bool (has_turn (block_at g b).ops) (Lighter g (weight g (length frames) k b) (step g (At b s frames k)))
+        (λ e. passed_turn (run_ops (block_at g b).ops s k) (block_at g b).exit frames k b (ops_fewer (block_at g b).ops e s k))
+        (λ e. passed_quiet b e (run_ops (block_at g b).ops s k) frames k (ops_most (block_at g b).ops s k))
+
+    abbrev pub Comes : Config → Type 0
+    Comes c = (n : ℕ) × IsOver (walk g n c)
+
+    comes_below : (w : ℕ) (c : Config) → Lighter g w c → Comes c
+    comes_below w (Over o k) h = (0, tt)
+    comes_below w (Going o) h = (0, tt)
+    comes_below zero (At b s frames k) h = absurd (omega arith)
+    comes_below (suc w) (At b s frames k) h =
+        let r = comes_below w (step g (At b s frames k)) (lighter_still (step g (At b s frames k)) (step_lighter b s frames k)) in (suc r.0, r.1)
+      where
+        lighter_still : (c : Config) → Lighter g (weight g (length frames) k b) c → Lighter g w c
+        lighter_still (At d u fs j) i = omega arith
+        lighter_still (Over o j) i = tt
+        lighter_still (Going o) i = tt
+
+    pub comes : (b : ℕ) (s : State) (frames : List Frame) (k : ℕ) → Comes (At b s frames k)
+    comes b s frames k = comes_below (suc (weight g (length frames) k b)) (At b s frames k) (omega arith)

@@ -1,0 +1,149 @@
+-- What every graph keeps.
+use Rattle.std.specs.Prelude.{◌≡◌, ℕ, suc, ◌⊎◌, ◌<◌, ◌≤◌, Bool, true, false, ◌||◌, List, [], ◌∷◌, length, Option, Some, None}
+use Rattle.std.specs.List.{AllByRecursion}
+use Rattle.cfg_core.specs.Graph.{Term, Number, Var, Cell, Flip, Not, Neg, Binary, Op, Assign, Store, Print, Read, Give, Take, Choose, Tick, TickBy, Exit, Goto, Branch, Call, Return, Send, Stop, GraphProc, Graph, Spot, spots, spot_at, block_at, proc_at}
+
+-- Rule 1: each number names something that exists.
+
+abbrev pub IsArray : Graph → ℕ → Type 0
+IsArray g a = (1 ≤ a) × (a ≤ length g.arrays)
+
+abbrev pub IsPort : ℕ → Type 0
+IsPort p = (1 ≤ p) × (p ≤ 7)
+
+-- the variables of a term are below this number, and its arrays exist
+abbrev pub TermIn : Graph → ℕ → Term → Type 0
+TermIn g vars (Number n) = Unit {0}
+TermIn g vars (Var x) = x < vars
+TermIn g vars (Cell a t) = IsArray g a × TermIn g vars t
+TermIn g vars (Flip t) = TermIn g vars t
+TermIn g vars (Not t) = TermIn g vars t
+TermIn g vars (Neg t) = TermIn g vars t
+TermIn g vars (Binary op a b) = TermIn g vars a × TermIn g vars b
+
+abbrev pub OpIn : Graph → ℕ → Op → Type 0
+OpIn g vars (Assign x t) = (x < vars) × TermIn g vars t
+OpIn g vars (Store a t u) = IsArray g a × TermIn g vars t × TermIn g vars u
+OpIn g vars (Print t) = TermIn g vars t
+OpIn g vars (Read x) = x < vars
+OpIn g vars (Give p x) = IsPort p × (x < vars)
+OpIn g vars (Take p t) = IsPort p × TermIn g vars t
+OpIn g vars (Choose x t a b) = (x < vars) × TermIn g vars t × TermIn g vars a × TermIn g vars b
+OpIn g vars (Tick n) = Unit {0}
+OpIn g vars (TickBy t n m) = TermIn g vars t
+
+-- a block of this procedure
+abbrev pub StaysIn : Graph → ℕ → ℕ → Type 0
+StaysIn g home b = (b < length (spots g)) × ((spot_at g b).home ≡ home)
+
+abbrev pub ResultIn : ℕ → Option ℕ → Type 0
+ResultIn vars None = Unit {0}
+ResultIn vars (Some x) = x < vars
+
+-- of a block of the procedure with this number and this many variables
+abbrev pub ExitIn : Graph → ℕ → ℕ → Exit → Type 0
+ExitIn g home vars (Goto b) = StaysIn g home b
+ExitIn g home vars (Branch t a b) = TermIn g vars t × StaysIn g home a × StaysIn g home b
+ExitIn g home vars (Call x f ts back) = ResultIn vars x × (f < length g.procs) × (length ts ≡ (proc_at g f).params) × AllByRecursion (TermIn g vars) ts × StaysIn g home back
+ExitIn g home vars (Return t) = TermIn g vars t
+ExitIn g home vars (Send t ts ls) = TermIn g vars t × AllByRecursion (TermIn g vars) ts × AllByRecursion (λ l. l < length (spots g)) ls
+ExitIn g home vars Stop = Unit {0}
+
+abbrev pub In : ℕ → List ℕ → Type 0
+In x [] = ⊥
+In x (y ∷ ys) = (x ≡ y) ⊎ In x ys
+
+-- no number twice
+abbrev pub Apart : List ℕ → Type 0
+Apart [] = Unit {0}
+Apart (x ∷ xs) = (In x xs → ⊥) × Apart xs
+
+pub record BlockNumbers (g : Graph) (spot : Spot) : Type 0 where
+  pub ops : AllByRecursion (OpIn g spot.vars) spot.block.ops
+  pub exit : ExitIn g spot.home spot.vars spot.block.exit
+  pub named : AllByRecursion (λ x. x < spot.vars) spot.block.named
+  pub once : Apart spot.block.named
+
+pub record ProcNumbers (p : GraphProc) : Type 0 where
+  pub some_block : 1 ≤ length p.blocks
+  pub params : p.params ≤ p.vars
+
+pub record Numbers (g : Graph) : Type 0 where
+  pub some_proc : 1 ≤ length g.procs
+  pub procs : AllByRecursion ProcNumbers g.procs
+  pub blocks : AllByRecursion (BlockNumbers g) (spots g)
+
+-- Rule 2: a Send has a landing, and as many values as each of its landings names variables.
+
+abbrev pub Lands : Graph → Exit → Type 0
+Lands g (Send t ts ls) = (1 ≤ length ls) × AllByRecursion (λ l. length (block_at g l).named ≡ length ts) ls
+Lands g _ = Unit {0}
+
+-- Rule 3: a Call names an earlier procedure.
+
+abbrev pub CallsEarlier : ℕ → Exit → Type 0
+CallsEarlier home (Call x f ts back) = f < home
+CallsEarlier home _ = Unit {0}
+
+-- Rule 4: a block with the exit Call holds a Tick of at least 1.
+
+abbrev pub calls : Exit → Bool
+calls (Call x f ts back) = true
+calls _ = false
+
+abbrev pub is_tick : Op → Bool
+is_tick (Tick (suc n)) = true
+is_tick _ = false
+
+abbrev pub has_tick : List Op → Bool
+has_tick [] = false
+has_tick (op ∷ ops) = is_tick op || has_tick ops
+
+-- Rule 5: a cycle of exits takes a turn.
+
+-- takes a turn, whatever its test is
+abbrev pub takes_turn : Op → Bool
+takes_turn (Tick (suc n)) = true
+takes_turn (TickBy t (suc n) (suc m)) = true
+takes_turn _ = false
+
+abbrev pub has_turn : List Op → Bool
+has_turn [] = false
+has_turn (op ∷ ops) = takes_turn op || has_turn ops
+
+-- an edge from a block of this exit to block c: a Call leads to its return block, a Send to each landing
+abbrev pub Leads : Exit → ℕ → Type 0
+Leads (Goto b) c = c ≡ b
+Leads (Branch t a b) c = (c ≡ a) ⊎ (c ≡ b)
+Leads (Call x f ts back) c = c ≡ back
+Leads (Return t) c = ⊥
+Leads (Send t ts ls) c = In c ls
+Leads Stop c = ⊥
+
+-- a path of edges out of blocks that may take no turn
+pub data Quiet (g : Graph) : ℕ → ℕ → Type 0 where
+  one : (b c : ℕ) → has_turn (block_at g b).ops ≡ false → Leads (block_at g b).exit c → Quiet g b c
+  more : (b c d : ℕ) → Quiet g b c → has_turn (block_at g c).ops ≡ false → Leads (block_at g c).exit d → Quiet g b d
+
+-- Rule 6: the terms of a Choose and of a TickBy hold no Cell.
+
+abbrev pub NoCell : Term → Type 0
+NoCell (Cell a t) = ⊥
+NoCell (Flip t) = NoCell t
+NoCell (Not t) = NoCell t
+NoCell (Neg t) = NoCell t
+NoCell (Binary op a b) = NoCell a × NoCell b
+NoCell _ = Unit {0}
+
+abbrev pub ChoosesBare : Op → Type 0
+ChoosesBare (Choose x t a b) = NoCell t × NoCell a × NoCell b
+ChoosesBare (TickBy t n m) = NoCell t
+ChoosesBare _ = Unit {0}
+
+pub record IsGraph (g : Graph) : Type 0 where
+  pub numbers : Numbers g
+  pub landings : AllByRecursion (λ s. Lands g s.block.exit) (spots g)
+  pub earlier : AllByRecursion (λ s. CallsEarlier s.home s.block.exit) (spots g)
+  pub call_ticks : AllByRecursion (λ s. calls s.block.exit ≡ true → has_tick s.block.ops ≡ true) (spots g)
+  pub cycles : (b : ℕ) → Quiet g b b → ⊥
+  pub bare : AllByRecursion (λ s. AllByRecursion ChoosesBare s.block.ops) (spots g)

@@ -1,0 +1,21 @@
+//! Laws over the definitions of the graph and its walk.
+
+ghost use Rattle.std.specs.Prelude.{◌≡◌, ◌+◌, ◌≤◌, ℕ, List};
+ghost use Rattle.ws_words.specs.Outside.{State, World, Outside};
+ghost use Rattle.cfg_core.specs.Graph.{Graph};
+ghost use Rattle.cfg_core.specs.Walk.{Frame, walk, IsOver, starts, Ends, EndsWith, Goes};
+ghost use Rattle.cfg_core.specs.Rules.{IsGraph};
+
+/// A walk of any number of turns comes to an answer.
+pub fn walks_answer()
+    ensures { (graph : Graph) → IsGraph graph → (b : ℕ) (s : State) (frames : List Frame) (turns : ℕ) → (n : ℕ) × IsOver (walk graph n (starts b s frames turns)) }
+{}
+
+/// A walk that ends takes the same number of turns and leaves the same, however many more it is
+/// given; with fewer it is going.
+pub fn turns_are_exact()
+    ensures fewer { (graph : Graph) (world : World) (turns left : ℕ) (o : Outside) → EndsWith graph world turns o left → (n : ℕ) × (turns ≡ left + n) × Ends graph world n o }
+    ensures more { (graph : Graph) (world : World) (n left : ℕ) (o : Outside) → Ends graph world n o → EndsWith graph world (left + n) o left }
+    ensures one_end { (graph : Graph) (world : World) (n m : ℕ) (o p : Outside) → Ends graph world n o → Ends graph world m p → (n ≡ m) × (o ≡ p) }
+    ensures not_both { (graph : Graph) (world : World) (n turns : ℕ) (o p : Outside) → n ≤ turns → Ends graph world n o → Goes graph world turns p → ⊥ }
+{}

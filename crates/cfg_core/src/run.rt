@@ -1,0 +1,163 @@
+//! The run of a graph.
+
+ghost use Rattle.std.specs.Prelude.{◌≡◌, ℕ, ◌≤◌, List, [], ◌++◌, map, IfOk, OnOk, IsTrue};
+ghost use Rattle.ws_words.specs.Outside.{State, Outside, row, zeros, opening_out};
+ghost use Rattle.ws_words.specs.Plain.{IfEnded, IfGoing, has_ended, took_by_ports, world_of};
+ghost use Rattle.cfg_core.specs.Walk as walks;
+ghost use Rattle.cfg_core.specs.View as view;
+ghost use Rattle.cfg_core.specs.Rules.{IsGraph};
+ghost use Rattle.cfg_core.specs.Shown.{shown_cells};
+ghost use Rattle.cfg_core.specs.Answer.{EndsSo, GoesSo};
+ghost use Rattle.cfg_core.specs.Shows.{Shows, Held, TableIs, AnswerIs, shown_at};
+
+use crate::blocks::{Graph, GraphArray};
+use crate::exits::Next;
+use crate::table::Table;
+use crate::tape::Tape;
+use crate::walker::Walker;
+use std::alloc::Global;
+use ws_words::{Cells, NoMemory, Plain, Words, World};
+
+/// Walks a graph with at most so many turns.
+pub fn run_graph(alloc: Global, graph: &Graph, world: &World, turns: u64) -> Result<Plain, NoMemory>
+    requires { IsGraph (view.graph graph.now) }
+    ensures ended { IfOk result (λ plain. IfEnded plain (EndsSo (view.graph graph.now) (world_of world.now) turns)) }
+    ensures going { IfOk result (λ plain. IfGoing plain (GoesSo (view.graph graph.now) (world_of world.now) turns)) }
+    ensures ends_in_time { IfOk result (λ plain. (n : ℕ) (o : Outside) → n ≤ turns → walks.Ends (view.graph graph.now) (world_of world.now) n o → IsTrue (has_ended plain)) }
+{
+    let table = Table::of(alloc, graph)?;
+    let main = table.room(graph.procs.len().saturating_sub(1));
+    let mut walker = open(alloc, graph, world, main.vars, turns)?;
+    if walk(alloc, &table, &mut walker, main.entry)? {
+        let arrays = shown(alloc, &graph.arrays, &walker.cells)?;
+        Ok(Plain::Ended {
+            printed: walker.printed,
+            arrays,
+            took: walker.took,
+            turns: turns - walker.turns,
+        })
+    } else {
+        Ok(Plain::Going {
+            printed: walker.printed,
+        })
+    }
+}
+
+// Walks on from the start of a block, and says whether the walk ended.
+fn walk(
+    alloc: Global,
+    table: &Table<'_>,
+    walker: &mut Walker<'_>,
+    start: usize,
+) -> Result<bool, NoMemory>
+    requires table { TableIs table.now }
+    requires rules { IsGraph (view.graph table.now.graph.now) }
+    requires held { Held walker.old }
+    ensures { IfOk result (λ ended. (s : State) (frames : List walks.Frame) (k : ℕ) → Shows s frames k walker.old → AnswerIs (view.graph table.now.graph.now) (walks.starts start s frames k) ended walker.new) }
+{
+    let mut at = start;
+    loop {
+        match walker.pass(alloc, table, at)? {
+            Next::At(b) => at = b,
+            Next::Over => return Ok(true),
+            Next::Going => return Ok(false),
+        }
+    }
+}
+
+// The state before the first turn, with so many variables.
+fn open<'a>(
+    alloc: Global,
+    graph: &Graph,
+    world: &'a World,
+    vars: u32,
+    turns: u64,
+) -> Result<Walker<'a>, NoMemory>
+    ensures { IfOk result (λ walker. Shows (record { vars = zeros vars; out = opening_out (walks.cells_of (map view.array graph.now.arrays.items)) (world_of world.now) }) [] turns walker) }
+{
+    Ok(Walker {
+        vars: Words::zeros(alloc, vars as usize)?,
+        cells: empty_cells(alloc, &graph.arrays)?,
+        input: Tape::new(world.input.as_slice()),
+        left: tapes(alloc, &world.left)?,
+        printed: Words::empty(alloc),
+        took: no_words(alloc)?,
+        frames: Vec::new(alloc),
+        turns,
+    })
+}
+
+fn empty_cells(alloc: Global, arrays: &[GraphArray]) -> Result<Cells, NoMemory>
+    ensures { IfOk result (λ cells. cells ≡ walks.cells_of (map view.array arrays.now)) }
+{
+    let mut cells = Cells::empty(alloc);
+    for array in arrays {
+        cells.push(Words::zeros(alloc, array.length as usize)?)?;
+    }
+    Ok(cells)
+}
+
+fn tapes<'a>(alloc: Global, left: &'a Cells) -> Result<Vec<Tape<'a>>, NoMemory>
+    ensures { IfOk result (λ tapes. tapes.items ≡ left.now) }
+{
+    let mut tapes = Vec::new(alloc);
+    for port in 0..left.len() {
+        tapes.push(tape_of(left, port))?;
+    }
+    Ok(tapes)
+}
+
+// The words of a port that stands at this place; past the last one none.
+fn tape_of<'a>(left: &'a Cells, place: usize) -> Tape<'a>
+    ensures { result ≡ row left.now place }
+{
+    match left.get(place) {
+        Some(words) => Tape::new(words.as_slice()),
+        None => Tape::new(&[]),
+    }
+}
+
+// No words for each of the seven ports.
+#[tactic(auto, using(crate::proofs::Acts::took_nothing))]
+fn no_words(alloc: Global) -> Result<Cells, NoMemory>
+    ensures { IfOk result (λ took. took ≡ took_by_ports []) }
+{
+    let mut took = Cells::empty(alloc);
+    for _ in 0..7u8 {
+        took.push(Words::empty(alloc))?;
+    }
+    Ok(took)
+}
+
+// The cells of the arrays that have a name.
+fn shown(alloc: Global, arrays: &[GraphArray], cells: &Cells) -> Result<Cells, NoMemory>
+    ensures { IfOk result (λ rows. rows ≡ shown_cells (map view.array arrays.now) cells.now) }
+{
+    let mut rows = Cells::empty(alloc);
+    for (i, array) in arrays.iter().enumerate() {
+        add_shown(alloc, &mut rows, array, cells, i)?;
+    }
+    Ok(rows)
+}
+
+// The cells of the array at this place, if it has a name.
+fn add_shown(
+    alloc: Global,
+    rows: &mut Cells,
+    array: &GraphArray,
+    cells: &Cells,
+    place: usize,
+) -> Result<(), NoMemory>
+    ensures { OnOk result (rows.new ≡ rows.old ++ shown_at (view.array array.now) cells.now place) }
+{
+    if array.name.is_none() {
+        return Ok(());
+    }
+    match cells.get(place) {
+        Some(words) => {
+            rows.push(words.copy(alloc)?)?;
+            Ok(())
+        }
+        None => Ok(()),
+    }
+}

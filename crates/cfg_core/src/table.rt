@@ -1,0 +1,98 @@
+//! The blocks and procedures of a graph by number.
+
+ghost use Rattle.std.specs.Prelude.{◌≡◌, ◌++◌, map, IfOk, OnOk, MatchOption};
+ghost use Rattle.cfg_core.specs.Graph.{no_spot, spot_at, proc_at, entry_of};
+ghost use Rattle.cfg_core.specs.View as view;
+ghost use Rattle.cfg_core.specs.Shows.{TableIs, SpotIs, spot_in_code};
+
+use crate::blocks::{Graph, GraphBlock, GraphProc};
+use std::alloc::Global;
+use ws_words::NoMemory;
+
+/// A block, and how many variables its procedure has.
+#[derive(Clone, Copy)]
+pub struct Spot<'a> {
+    pub block: &'a GraphBlock,
+    pub vars: u32,
+}
+
+/// The first block of a procedure, and its counts of parameters and variables.
+#[derive(Clone, Copy)]
+pub struct Room {
+    pub entry: usize,
+    pub params: u32,
+    pub vars: u32,
+}
+
+/// A graph, with its blocks and its procedures in order.
+#[derive(Drop)]
+pub struct Table<'a> {
+    pub graph: &'a Graph,
+    pub spots: Vec<Spot<'a>>,
+    pub rooms: Vec<Room>,
+}
+
+impl<'a> Table<'a> {
+    /// The table of a graph.
+    pub fn of(alloc: Global, graph: &'a Graph) -> Result<Table<'a>, NoMemory>
+        ensures graph { IfOk result (λ table. table.graph.now ≡ graph.now) }
+        ensures table { IfOk result (λ table. TableIs table) }
+    {
+        let mut spots = Vec::new(alloc);
+        let mut rooms = Vec::new(alloc);
+        for proc in &graph.procs {
+            rooms.push(Room {
+                entry: spots.len(),
+                params: proc.params,
+                vars: proc.vars,
+            })?;
+            add_blocks(&mut spots, proc)?;
+        }
+        Ok(Table {
+            graph,
+            spots,
+            rooms,
+        })
+    }
+
+    /// The block with this number.
+    pub fn spot(&self, b: usize) -> Option<Spot<'a>>
+        requires { TableIs self.now }
+        ensures { MatchOption result (spot_at (view.graph self.now.graph.now) b ≡ no_spot) (SpotIs (spot_at (view.graph self.now.graph.now) b)) }
+    {
+        match self.spots.get(b) {
+            Some(spot) => Some(*spot),
+            None => None,
+        }
+    }
+
+    /// The procedure with this number; past the last one it has no blocks and no variables.
+    pub fn room(&self, f: usize) -> Room
+        requires { TableIs self.now }
+        ensures entry { result.entry ≡ entry_of (view.graph self.now.graph.now) f }
+        ensures params { result.params ≡ (proc_at (view.graph self.now.graph.now) f).params }
+        ensures vars { result.vars ≡ (proc_at (view.graph self.now.graph.now) f).vars }
+    {
+        match self.rooms.get(f) {
+            Some(room) => *room,
+            None => Room {
+                entry: 0,
+                params: 0,
+                vars: 0,
+            },
+        }
+    }
+}
+
+// The blocks of a procedure, behind those of the earlier ones.
+fn add_blocks<'a>(spots: &mut Vec<Spot<'a>>, proc: &'a GraphProc) -> Result<(), NoMemory>
+    ensures { OnOk result (map spot_in_code spots.new.items ≡ map spot_in_code spots.old.items ++ map (λ b. (proc.now.vars, view.block b)) proc.now.blocks.items) }
+{
+    for block in &proc.blocks {
+        spots.push(Spot {
+            block,
+            vars: proc.vars,
+        })?;
+    }
+    Ok(())
+}

@@ -1,0 +1,10 @@
+pub mod Places
+pub mod TurnsLeft
+pub mod Cost
+pub mod Acts
+pub mod Effects
+pub mod Follows
+pub mod Tables
+pub mod Resolves
+pub mod Declares
+pub mod Whole

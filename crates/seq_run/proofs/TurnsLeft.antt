@@ -1,0 +1,77 @@
+-- A run never has more turns left than it had.
+use Rattle.std.proofs.Common.{ℕ, zero, suc, ◌≤◌, ◌==◌, Bool, true, false, List, ◌++◌, Option, Some, None, if◌then◌else◌, arith}
+use Rattle.ws_words.specs.Outside.{Outside, State, zeros}
+use Rattle.src_ast.specs.Turns.{Outcome, Ended, Out, and_then, turn, CallEnd, Returned, Stopped, back_in, ending, loop}
+use Rattle.src_ast.specs.Meaning.{Calls}
+use Rattle.seq_run.specs.Resolved.{Term, Step, Do, Call, If, While, Steps, Nothing, Then, Proc, value_of, run_one, run_all, finish, run_proc, calls_below, nth_proc}
+
+abbrev pub AtMost : ℕ → Outcome → Type 0
+AtMost k (Ended s j) = j ≤ k
+AtMost k (Out o) = Unit {0}
+
+abbrev pub CallAtMost : ℕ → CallEnd → Type 0
+CallAtMost k (Returned v o j) = j ≤ k
+CallAtMost k (Stopped o) = Unit {0}
+
+abbrev pub CallsAtMost : Calls → Type 0
+CallsAtMost calls = (f : ℕ) (args : List ℕ) (o : Outside) (k : ℕ) → CallAtMost k (calls f args o k)
+
+lower : (j k : ℕ) → j ≤ k → (o : Outcome) → AtMost j o → AtMost k o
+lower j k le (Ended s i) h = omega arith
+lower j k le (Out o) h = tt
+
+then_most : (k : ℕ) (o : Outcome) (go : State → ℕ → Outcome) → AtMost k o → ((s : State) (j : ℕ) → AtMost j (go s j)) → AtMost k (and_then o go)
+then_most k (Ended s j) go h f = lower j k h (go s j) (f s j)
+then_most k (Out o) go h f = tt
+
+turn_most : (k : ℕ) (s : State) (go : ℕ → Outcome) → ((j : ℕ) → AtMost j (go j)) → AtMost k (turn k s go)
+turn_most zero s go f = tt
+turn_most (suc k) s go f = lower k (suc k) (omega arith) (go k) (f k)
+
+if_most : (k : ℕ) (b : Bool) (o p : Outcome) → AtMost k o → AtMost k p → AtMost k (if b then o else p)
+if_most k true o p h i = h
+if_most k false o p h i = i
+
+back_most : (k : ℕ) (vars : List ℕ) (x : Option ℕ) (e : CallEnd) → CallAtMost k e → AtMost k (back_in vars x e)
+back_most k vars x (Returned v o j) h = h
+back_most k vars x (Stopped o) h = tt
+
+loop_most : (fuel : ℕ) (test : State → ℕ × State) (body : State → ℕ → Outcome) → ((s : State) (k : ℕ) → AtMost k (body s k)) → (s : State) (k : ℕ) → AtMost k (loop fuel test body s k)
+loop_most zero test body f s k = tt
+loop_most (suc fuel) test body f s k =
+    turn_most k s _ (λ j. if_most j ((test s).0 == 0) _ _ (omega arith) (then_most j (body (test s).1 j) (loop fuel test body) (f (test s).1 j) (loop_most fuel test body f)))
+
+mutual
+  pub one_most : (calls : Calls) → CallsAtMost calls → (st : Step) (s : State) (k : ℕ) → AtMost k (run_one calls st s k)
+  one_most calls c (Do a) s k = turn_most k s _ (λ j. omega arith)
+  one_most calls c (Call x f ts) s k = turn_most k s _ (λ j. back_most j _ x _ (c f _ _ j))
+  one_most calls c (If t a b) s k = turn_most k s _ (λ j. if_most j ((value_of t s).0 == 0) _ _ (all_most calls c b (value_of t s).1 j) (all_most calls c a (value_of t s).1 j))
+  one_most calls c (While t body) s k = loop_most (suc k) (value_of t) (run_all calls body) (all_most calls c body) s k
+
+  pub all_most : (calls : Calls) → CallsAtMost calls → (st : Steps) (s : State) (k : ℕ) → AtMost k (run_all calls st s k)
+  all_most calls c Nothing s k = omega arith
+  all_most calls c (Then st rest) s k = then_most k (run_one calls st s k) (run_all calls rest) (one_most calls c st s k) (all_most calls c rest)
+
+finish_most : (r : Option Term) (s : State) (k : ℕ) → CallAtMost k (finish r s k)
+finish_most None s k = omega arith
+finish_most (Some t) s zero = tt
+finish_most (Some t) s (suc j) = omega arith
+
+lower_call : (j k : ℕ) → j ≤ k → (e : CallEnd) → CallAtMost j e → CallAtMost k e
+lower_call j k le (Returned v o i) h = omega arith
+lower_call j k le (Stopped o) h = tt
+
+ending_most : (k : ℕ) (o : Outcome) (r : Option Term) → AtMost k o → CallAtMost k (ending o (finish r))
+ending_most k (Ended s j) r h = lower_call j k h (finish r s j) (finish_most r s j)
+ending_most k (Out o) r h = tt
+
+if_call_most : (k : ℕ) (b : Bool) (o p : CallEnd) → CallAtMost k o → CallAtMost k p → CallAtMost k (if b then o else p)
+if_call_most k true o p h i = h
+if_call_most k false o p h i = i
+
+pub proc_most : (calls : Calls) → CallsAtMost calls → (p : Proc) (args : List ℕ) (o : Outside) (k : ℕ) → CallAtMost k (run_proc calls p args o k)
+proc_most calls c p args o k = ending_most k _ p.result (all_most calls c p.body (record { vars = args ++ zeros p.locals; out = o }) k)
+
+pub calls_most : (n : ℕ) (procs : List Proc) → CallsAtMost (calls_below n procs)
+calls_most zero procs f args o k = tt
+calls_most (suc n) procs f args o k = if_call_most k (f == n) _ _ (proc_most (calls_below n procs) (calls_most n procs) (nth_proc procs n) args o k) (calls_most n procs f args o k)

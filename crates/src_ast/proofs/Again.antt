@@ -1,0 +1,24 @@
+-- The printed form of a written program reads as the same program.
+use Rattle.std.proofs.Common.{List, subst}
+use Rattle.src_ast.specs.Lexemes.{start, after, Lex}
+use Rattle.src_ast.specs.Printed.{printed_form}
+use Rattle.src_ast.specs.Syntax.{Part}
+use Rattle.src_ast.specs.Written.{IsWritten, ReadsTheSame}
+use Rattle.src_ast.proofs.Pieces.{placed, lexed, keeps}
+use Rattle.src_ast.proofs.Printing.{parts, printed_is}
+use Rattle.src_ast.proofs.Spelt.{parts_spelt}
+use Rattle.src_ast.proofs.Kept.{parts_kept}
+use Rattle.src_ast.proofs.Regrowth.{parts_read}
+
+pub reads_the_same : (all : List Part) → IsWritten all → ReadsTheSame all
+reads_the_same all h =
+    let r = parts_read all h start in
+    record {
+      ls = placed start (parts all);
+      finish = after start (printed_form all);
+      again = r.0;
+      lex = subst (λ text. Lex text (placed start (parts all)) (after start text)) (printed_is all) (lexed (parts all) (parts_spelt all h));
+      kept = keeps start (parts_kept all h);
+      tree = r.1;
+      same = r.2;
+    }

@@ -1,0 +1,390 @@
+-- Statements and programs that are read from lexemes within the limits are written.
+use Rattle.std.proofs.Common.{◌≡◌, ℕ, suc, ◌+◌, ◌*◌, ◌≤◌, nat_lt, Bool, true, not, length, List, [], ◌∷◌, ◌++◌, Option, Some, None, codes, refl, sym, ap, ◌∙◌, subst, arith, length-append, append_assoc}
+use Rattle.std.specs.List.{list_all}
+use Rattle.std.proofs.lemmas.Bool.{and_parts, ltb-true}
+use Rattle.std.proofs.lemmas.List.Folds.{list_all-append}
+use Rattle.src_ast.specs.declared.lexeme.Name.{Name}
+use Rattle.src_ast.specs.declared.lexeme.Place.{Place}
+use Rattle.src_ast.specs.declared.lexeme.Lexeme.{Lexeme}
+use Rattle.src_ast.specs.declared.lexeme.Shape.TheVariants.{Word, Mark}
+use Rattle.src_ast.specs.declared.lexeme.Shape.TheVariants as shape
+use Rattle.src_ast.specs.declared.lexeme.Mark.TheVariants as mark
+use Rattle.src_ast.specs.declared.lexeme.Mark.TheVariants.{LParen, RParen, LBrace, RBrace, LSquare, RSquare, Comma, Semi}
+use Rattle.src_ast.specs.Lexemes.{KeepLimits, Lex}
+use Rattle.src_ast.specs.Grammar.{Is, IsName, Spelled, Listed, SpelledName, SpelledStatement, SpelledStatements, SpelledBlock, SpelledElse, assign, store, print, read, give, take, call, called, choice, while, block, no_else, with_else, nothing, first_then, SpelledEnding, no_ending, ending, SpelledVars, no_vars, vars, SpelledItem, array, proc, Tree, no_items, items}
+use Rattle.src_ast.specs.Syntax.{Expression, Statement, Assign, Store, Read, Give, Take, Call, Statements, Last, Procedure, Part, Array, Proc}
+use Rattle.src_ast.specs.declared.fault.RefusalKind.TheVariants.{Main}
+use Rattle.src_ast.specs.Rules.{Rule, Declared, variable, variables, is_visible, declared_by, has_main, is_main, procs_in, statements_in, size_of_all, parameter_rules, variable_rules, body_rules, ending_rules, part_rules, rules_behind, IsAccepted}
+use Rattle.src_ast.specs.Written.{AreGoodNames, IsGood, width, names_width, IsFit, AreFit, IsFitEnding, IsFitProcedure, IsFitPart, IsWritten}
+use Rattle.src_ast.proofs.Limits.{AllSound, sound_here, sound_behind, sound_front, sound_back, leads_sound, AllPlain, no_plain, plain, plain_append, plain_word, plain_number, plain_mark, row_limits, open_limits, close_limits, line_limits}
+use Rattle.src_ast.proofs.Readable.{name_good, number_good, expression_good, expression_plain, width_least, arguments_plain, arguments_good, arguments_width, some_names_plain, names_plain, some_names_good, names_good, names_fit}
+
+-- a statement that is read fits, and the limits go on behind it
+abbrev FitsBefore : ℕ → Statement → List Lexeme → Type 0
+FitsBefore braces s rest = IsFit braces s × KeepLimits braces 0 rest
+
+-- an expression, its lexeme at the end, and others
+split : (ls : List Lexeme) (last : Lexeme) (rest : List Lexeme) → (ls ++ last ∷ []) ++ rest ≡ ls ++ last ∷ rest
+split ls last rest = append_assoc ls (last ∷ []) rest
+
+assign_fits : (ks : List Lexeme) (l equals last : Lexeme) (ls : List Lexeme) (x : Name) (e : Expression)
+    → ks ≡ l ∷ equals ∷ (ls ++ last ∷ []) → IsName x l → Is mark.Assign equals → Spelled 0 ls e → Is Semi last
+    → AllSound ks → (braces : ℕ) (rest : List Lexeme) → KeepLimits braces 0 (ks ++ rest) → FitsBefore braces (Assign x.place x e) rest
+assign_fits ks l equals last ls x e eq is q s c h braces rest k =
+    let hs = subst AllSound eq h in
+    let all : ks ++ rest ≡ (l ∷ equals ∷ ls) ++ last ∷ rest = ap (λ t. t ++ rest) eq ∙ ap (λ t. l ∷ equals ∷ t) (split ls last rest) in
+    let row : AllPlain (l ∷ equals ∷ ls) = plain (plain_word l x.text is.word) (plain (plain_mark equals mark.Assign refl q) (expression_plain s)) in
+    let w = line_limits last rest braces row c (subst (KeepLimits braces 0) all k) in
+    let small = w.0 in
+    ((name_good is (sound_here hs), expression_good s (sound_front ls (last ∷ []) (sound_behind (sound_behind hs))), omega (arith, small, width_least s)), w.1)
+
+store_fits : (ks : List Lexeme) (l first last equals semi : Lexeme) (is es : List Lexeme) (a : Name) (i e : Expression)
+    → ks ≡ l ∷ first ∷ (is ++ last ∷ equals ∷ (es ++ semi ∷ []))
+    → IsName a l → Is LSquare first → Spelled 0 is i → Is RSquare last → Is mark.Assign equals → Spelled 0 es e → Is Semi semi
+    → AllSound ks → (braces : ℕ) (rest : List Lexeme) → KeepLimits braces 0 (ks ++ rest) → FitsBefore braces (Store a.place a i e) rest
+store_fits ks l first last equals semi is es a i e eq na o si c q se d h braces rest k =
+    let hs = subst AllSound eq h in
+    let inside = sound_behind (sound_behind hs) in
+    let back = sound_back is (last ∷ equals ∷ (es ++ semi ∷ [])) inside in
+    let row : List Lexeme = l ∷ first ∷ (is ++ last ∷ equals ∷ es) in
+    let all : ks ++ rest ≡ row ++ semi ∷ rest = ap (λ t. t ++ rest) eq ∙ simp append_assoc in
+    let flat : AllPlain row = plain (plain_word l a.text na.word) (plain (plain_mark first LSquare refl o)
+    (plain_append (expression_plain si) (plain (plain_mark last RSquare refl c) (plain (plain_mark equals mark.Assign refl q) (expression_plain se))))) in
+    let w = line_limits semi rest braces flat d (subst (KeepLimits braces 0) all k) in
+    let small = w.0 in (
+      (
+        name_good na (sound_here hs),
+        expression_good si (sound_front is (last ∷ equals ∷ (es ++ semi ∷ [])) inside),
+        expression_good se (sound_front es (semi ∷ []) (sound_behind (sound_behind back))),
+        omega (arith, small, width_least si, width_least se, length-append is (last ∷ equals ∷ es)),
+      ),
+      w.1,
+    )
+
+print_fits : (ks : List Lexeme) (l last : Lexeme) (ls : List Lexeme) (e : Expression) (w : List ℕ)
+    → ks ≡ l ∷ (ls ++ last ∷ []) → l.shape ≡ Word w → Spelled 0 ls e → Is Semi last
+    → AllSound ks → (braces : ℕ) (rest : List Lexeme) → KeepLimits braces 0 (ks ++ rest) → IsGood e × (width e + 1 ≤ 256) × KeepLimits braces 0 rest
+print_fits ks l last ls e word eq is s c h braces rest k =
+    let hs = subst AllSound eq h in
+    let all : ks ++ rest ≡ (l ∷ ls) ++ last ∷ rest = ap (λ t. t ++ rest) eq ∙ ap (λ t. l ∷ t) (split ls last rest) in
+    let row : AllPlain (l ∷ ls) = plain (plain_word l word is) (expression_plain s) in
+    let w = line_limits last rest braces row c (subst (KeepLimits braces 0) all k) in
+    let small = w.0 in
+    (expression_good s (sound_front ls (last ∷ []) (sound_behind hs)), omega (arith, small, width_least s), w.1)
+
+read_fits : (ks : List Lexeme) (l name last : Lexeme) (x : Name)
+    → ks ≡ l ∷ name ∷ last ∷ [] → l.shape ≡ Word (codes "read") → IsName x name → Is Semi last
+    → AllSound ks → (braces : ℕ) (rest : List Lexeme) → KeepLimits braces 0 (ks ++ rest) → FitsBefore braces (Read l.place x) rest
+read_fits ks l name last x eq is nx c h braces rest k =
+    let hs = subst AllSound eq h in
+    let row : AllPlain (l ∷ name ∷ []) = plain (plain_word l (codes "read") is) (plain (plain_word name x.text nx.word) no_plain) in
+    let w = line_limits last rest braces row c (subst (λ t. KeepLimits braces 0 (t ++ rest)) eq k) in
+    (name_good nx (sound_here (sound_behind hs)), w.1)
+
+give_fits : (ks : List Lexeme) (l port comma name last : Lexeme) (n : ℕ) (x : Name)
+    → ks ≡ l ∷ port ∷ comma ∷ name ∷ last ∷ [] → l.shape ≡ Word (codes "give") → port.shape ≡ shape.Number n → Is Comma comma → IsName x name → Is Semi last
+    → AllSound ks → (braces : ℕ) (rest : List Lexeme) → KeepLimits braces 0 (ks ++ rest) → FitsBefore braces (Give l.place n port.place x) rest
+give_fits ks l port comma name last n x eq is np q nx c h braces rest k =
+    let hs = subst AllSound eq h in
+    let row : AllPlain (l ∷ port ∷ comma ∷ name ∷ []) = plain (plain_word l (codes "give") is) (plain (plain_number port n np) (plain (plain_mark comma Comma refl q) (plain (plain_word name x.text nx.word) no_plain))) in
+    let w = line_limits last rest braces row c (subst (λ t. KeepLimits braces 0 (t ++ rest)) eq k) in
+    ((number_good port np (sound_here (sound_behind hs)), name_good nx (sound_here (sound_behind (sound_behind (sound_behind hs))))), w.1)
+
+take_fits : (ks : List Lexeme) (l port comma last : Lexeme) (ls : List Lexeme) (n : ℕ) (e : Expression)
+    → ks ≡ l ∷ port ∷ comma ∷ (ls ++ last ∷ []) → l.shape ≡ Word (codes "take") → port.shape ≡ shape.Number n → Is Comma comma → Spelled 0 ls e → Is Semi last
+    → AllSound ks → (braces : ℕ) (rest : List Lexeme) → KeepLimits braces 0 (ks ++ rest) → FitsBefore braces (Take l.place n port.place e) rest
+take_fits ks l port comma last ls n e eq is np q s c h braces rest k =
+    let hs = subst AllSound eq h in
+    let all : ks ++ rest ≡ (l ∷ port ∷ comma ∷ ls) ++ last ∷ rest = ap (λ t. t ++ rest) eq ∙ ap (λ t. l ∷ port ∷ comma ∷ t) (split ls last rest) in
+    let row : AllPlain (l ∷ port ∷ comma ∷ ls) = plain (plain_word l (codes "take") is) (plain (plain_number port n np) (plain (plain_mark comma Comma refl q) (expression_plain s))) in
+    let w = line_limits last rest braces row c (subst (KeepLimits braces 0) all k) in
+    let small = w.0 in (
+      (
+        number_good port np (sound_here (sound_behind hs)),
+        expression_good s (sound_front ls (last ∷ []) (sound_behind (sound_behind (sound_behind hs)))),
+        omega (arith, small, width_least s),
+      ),
+      w.1,
+    )
+
+call_fits : (ks : List Lexeme) (name first last semi : Lexeme) (ls : List Lexeme) (f : Name) (es : List Expression)
+    → ks ≡ name ∷ first ∷ (ls ++ last ∷ semi ∷ []) → IsName f name → Is LParen first → Listed (Spelled 0) ls es → Is RParen last → Is Semi semi
+    → AllSound ks → (braces : ℕ) (rest : List Lexeme) → KeepLimits braces 0 (ks ++ rest) → FitsBefore braces (Call f.place None f es) rest
+call_fits ks name first last semi ls f es eq nf o s c d h braces rest k =
+    let hs = subst AllSound eq h in
+    let row : List Lexeme = name ∷ first ∷ (ls ++ last ∷ []) in
+    let all : ks ++ rest ≡ row ++ semi ∷ rest = ap (λ t. t ++ rest) eq ∙ simp append_assoc in
+    let flat : AllPlain row = plain (plain_word name f.text nf.word) (plain (plain_mark first LParen refl o)
+    (plain_append (arguments_plain s) (plain (plain_mark last RParen refl c) no_plain))) in
+    let w = line_limits semi rest braces flat d (subst (KeepLimits braces 0) all k) in
+    let small = w.0 in (
+      (
+        name_good nf (sound_here hs),
+        arguments_good s (sound_front ls (last ∷ semi ∷ []) (sound_behind (sound_behind hs))),
+        omega (arith, small, arguments_width s, length-append ls (last ∷ [])),
+      ),
+      w.1,
+    )
+
+called_fits : (ks : List Lexeme) (l equals name first last semi : Lexeme) (ls : List Lexeme) (x f : Name) (es : List Expression)
+    → ks ≡ l ∷ equals ∷ name ∷ first ∷ (ls ++ last ∷ semi ∷ [])
+    → IsName x l → Is mark.Assign equals → IsName f name → Is LParen first → Listed (Spelled 0) ls es → Is RParen last → Is Semi semi
+    → AllSound ks → (braces : ℕ) (rest : List Lexeme) → KeepLimits braces 0 (ks ++ rest) → FitsBefore braces (Call x.place (Some x) f es) rest
+called_fits ks l equals name first last semi ls x f es eq nx q nf o s c d h braces rest k =
+    let hs = subst AllSound eq h in
+    let row : List Lexeme = l ∷ equals ∷ name ∷ first ∷ (ls ++ last ∷ []) in
+    let all : ks ++ rest ≡ row ++ semi ∷ rest = ap (λ t. t ++ rest) eq ∙ simp append_assoc in
+    let flat : AllPlain row = plain (plain_word l x.text nx.word) (plain (plain_mark equals mark.Assign refl q) (plain (plain_word name f.text nf.word) (plain (plain_mark first LParen refl o)
+    (plain_append (arguments_plain s) (plain (plain_mark last RParen refl c) no_plain))))) in
+    let w = line_limits semi rest braces flat d (subst (KeepLimits braces 0) all k) in
+    let small = w.0 in (
+      (
+        name_good nx (sound_here hs),
+        name_good nf (sound_here (sound_behind (sound_behind hs))),
+        arguments_good s (sound_front ls (last ∷ semi ∷ []) (sound_behind (sound_behind (sound_behind (sound_behind hs))))),
+        omega (arith, small, arguments_width s, length-append ls (last ∷ [])),
+      ),
+      w.1,
+    )
+
+-- the test of an `if` or a `while`
+record TestFits (braces : ℕ) (e : Expression) (ls behind rest : List Lexeme) : Type 0 where
+  row : ℕ
+  good : IsGood e
+  short : width e + 3 ≤ 256
+  inside : AllSound behind
+  kept : KeepLimits braces row (behind ++ rest)
+
+test_fits : (ks : List Lexeme) (l first last : Lexeme) (ls behind : List Lexeme) (e : Expression) (w : List ℕ)
+    → ks ≡ l ∷ first ∷ (ls ++ last ∷ behind) → l.shape ≡ Word w → Is LParen first → Spelled 0 ls e → Is RParen last
+    → AllSound ks → (braces : ℕ) (rest : List Lexeme) → KeepLimits braces 0 (ks ++ rest) → TestFits braces e ls behind rest
+test_fits ks l first last ls behind e w eq is o s c h braces rest k =
+    let hs = subst AllSound eq h in
+    let row : List Lexeme = l ∷ first ∷ (ls ++ last ∷ []) in
+    let all : ks ++ rest ≡ row ++ (behind ++ rest) = ap (λ t. t ++ rest) eq ∙ simp append_assoc in
+    let flat : AllPlain row = plain (plain_word l w is) (plain (plain_mark first LParen refl o) (plain_append (expression_plain s) (plain (plain_mark last RParen refl c) no_plain))) in
+    let within = row_limits (behind ++ rest) braces flat (subst (KeepLimits braces 0) all k) in
+    let small = within.short in
+    let inside = sound_behind (sound_behind hs) in
+    record {
+      row = length row;
+      good = expression_good s (sound_front ls (last ∷ behind) inside);
+      short = omega (arith, small, width_least s, length-append ls (last ∷ []));
+      inside = sound_behind (sound_back ls (last ∷ behind) inside);
+      kept = within.kept;
+    }
+
+mutual
+  pub statement_fits : {ks : List Lexeme} {s : Statement} → SpelledStatement ks s → AllSound ks → (braces : ℕ) (rest : List Lexeme)
+      → KeepLimits braces 0 (ks ++ rest) → FitsBefore braces s rest
+  statement_fits (assign {ks = ks} l equals last ls x e eq is q s c) h braces rest k = assign_fits ks l equals last ls x e eq is q s c h braces rest k
+  statement_fits (store {ks = ks} l first last equals semi is es a i e eq na o si c q se d) h braces rest k =
+      store_fits ks l first last equals semi is es a i e eq na o si c q se d h braces rest k
+  statement_fits (print {ks = ks} l last ls e eq is s c) h braces rest k =
+      let f = print_fits ks l last ls e (codes "print") eq is s c h braces rest k in ((f.0, f.1), f.2)
+  statement_fits (read {ks = ks} l name last x eq is nx c) h braces rest k = read_fits ks l name last x eq is nx c h braces rest k
+  statement_fits (give {ks = ks} l port comma name last n x eq is np q nx c) h braces rest k =
+      give_fits ks l port comma name last n x eq is np q nx c h braces rest k
+  statement_fits (take {ks = ks} l port comma last ls n e eq is np q s c) h braces rest k =
+      take_fits ks l port comma last ls n e eq is np q s c h braces rest k
+  statement_fits (call {ks = ks} name first last semi ls f es eq nf o s c d) h braces rest k =
+      call_fits ks name first last semi ls f es eq nf o s c d h braces rest k
+  statement_fits (called {ks = ks} l equals name first last semi ls x f es eq nx q nf o s c d) h braces rest k =
+      called_fits ks l equals name first last semi ls x f es eq nx q nf o s c d h braces rest k
+  statement_fits (choice {ks = ks} l first last ls xs ys e a b eq is o s c sa sb) h braces rest k =
+      let t = test_fits ks l first last ls (xs ++ ys) e (codes "if") eq is o s c h braces rest k in
+      let x = block_fits sa (sound_front xs ys t.inside) braces t.row (ys ++ rest) (subst (KeepLimits braces t.row) (append_assoc xs ys rest) t.kept) in
+      let y = else_fits sb (sound_back xs ys t.inside) braces rest x.0 x.2 in
+      ((t.good, t.short, x.0, x.1, y.0), y.1)
+  statement_fits (while {ks = ks} l first last ls bs e a eq is o s c sa) h braces rest k =
+      let t = test_fits ks l first last ls bs e (codes "while") eq is o s c h braces rest k in
+      let x = block_fits sa t.inside braces t.row rest t.kept in
+      ((t.good, t.short, x.0, x.1), x.2)
+
+  pub block_fits : {ks : List Lexeme} {b : Statements} → SpelledBlock ks b → AllSound ks → (braces row : ℕ) (rest : List Lexeme)
+      → KeepLimits braces row (ks ++ rest) → (suc braces ≤ 32) × AreFit (suc braces) b × KeepLimits braces 0 rest
+  block_fits (block {ks = ks} first last ls b eq o s c) h braces row rest k =
+      let hs = subst AllSound eq h in
+      let all : ks ++ rest ≡ first ∷ (ls ++ last ∷ rest) = ap (λ t. t ++ rest) eq ∙ ap (λ t. first ∷ t) (split ls last rest) in
+      let x = open_limits braces row first (ls ++ last ∷ rest) o (subst (KeepLimits braces row) all k) in
+      let y = statements_fit s (sound_front ls (last ∷ []) (sound_behind hs)) (suc braces) (last ∷ rest) x.1 in
+      (x.0, y.0, close_limits braces 0 last rest c y.1)
+
+  pub else_fits : {ks : List Lexeme} {b : Statements} → SpelledElse ks b → AllSound ks → (braces : ℕ) (rest : List Lexeme) → suc braces ≤ 32
+      → KeepLimits braces 0 (ks ++ rest) → AreFit (suc braces) b × KeepLimits braces 0 rest
+  else_fits no_else h braces rest d k = (tt, k)
+  else_fits (with_else l ls b is s) h braces rest d k =
+      let row : AllPlain (l ∷ []) = plain (plain_word l (codes "else") is) no_plain in
+      let w = row_limits (ls ++ rest) braces row k in
+      let x = block_fits s (sound_behind h) braces 1 rest w.kept in
+      (x.1, x.2)
+
+  pub statements_fit : {ks : List Lexeme} {b : Statements} → SpelledStatements ks b → AllSound ks → (braces : ℕ) (rest : List Lexeme)
+      → KeepLimits braces 0 (ks ++ rest) → AreFit braces b × KeepLimits braces 0 rest
+  statements_fit nothing h braces rest k = (tt, k)
+  statements_fit (first_then {ks = ks} ls rs s b eq ss sb) h braces rest k =
+      let hs = subst AllSound eq h in
+      let all : ks ++ rest ≡ ls ++ (rs ++ rest) = ap (λ t. t ++ rest) eq ∙ append_assoc ls rs rest in
+      let x = statement_fits ss (sound_front ls rs hs) braces (rs ++ rest) (subst (KeepLimits braces 0) all k) in
+      let y = statements_fit sb (sound_back ls rs hs) braces rest x.1 in
+      ((x.0, y.0), y.1)
+
+ending_fits : {ks : List Lexeme} {e : Option Last} → SpelledEnding ks e → AllSound ks → (braces : ℕ) (rest : List Lexeme)
+    → KeepLimits braces 0 (ks ++ rest) → IsFitEnding e × KeepLimits braces 0 rest
+ending_fits no_ending h braces rest k = (tt, k)
+ending_fits (ending {ks = ks} l semi ls e eq is s c) h braces rest k =
+    let f = print_fits ks l semi ls e (codes "return") eq is s c h braces rest k in ((f.0, f.1), f.2)
+
+names_append : (xs ys : List Name) → AreGoodNames xs → AreGoodNames ys → AreGoodNames (xs ++ ys)
+names_append [] ys h k = k
+names_append (x ∷ xs) ys h k = (h.0, names_append xs ys h.1 k)
+
+vars_fit : {ks : List Lexeme} {xs : List Name} → SpelledVars ks xs → AllSound ks → (braces : ℕ) (rest : List Lexeme)
+    → KeepLimits braces 0 (ks ++ rest) → AreGoodNames xs × KeepLimits braces 0 rest
+vars_fit no_vars h braces rest k = (tt, k)
+vars_fit (vars {ks = ks} l semi ls rs xs ys eq zs is s c more) h braces rest k =
+    let hs = subst AllSound eq h in
+    let inside = sound_behind hs in
+    let all : ks ++ rest ≡ (l ∷ ls) ++ semi ∷ (rs ++ rest) = ap (λ t. t ++ rest) eq ∙ simp append_assoc in
+    let row : AllPlain (l ∷ ls) = plain (plain_word l (codes "var") is) (some_names_plain s) in
+    let w = line_limits semi (rs ++ rest) braces row c (subst (KeepLimits braces 0) all k) in
+    let t = vars_fit more (sound_behind (sound_back ls (semi ∷ rs) inside)) braces rest w.1 in
+    (subst AreGoodNames (sym zs) (names_append xs ys (some_names_good s (sound_front ls (semi ∷ rs) inside)) t.0), t.1)
+
+names_few : (xs : List Name) → names_width xs ≤ 2 * length xs
+names_few [] = omega arith
+names_few (x ∷ []) = omega arith
+names_few (x ∷ y ∷ xs) = omega (arith, names_few (y ∷ xs))
+
+array_fits : (ks : List Lexeme) (l name first size last semi : Lexeme) (x : Name) (n : ℕ)
+    → ks ≡ l ∷ name ∷ first ∷ size ∷ last ∷ semi ∷ []
+    → l.shape ≡ Word (codes "array") → IsName x name → Is LSquare first → size.shape ≡ shape.Number n → Is RSquare last → Is Semi semi
+    → AllSound ks → (rest : List Lexeme) → KeepLimits 0 0 (ks ++ rest) → IsFitPart (Array x n size.place) × KeepLimits 0 0 rest
+array_fits ks l name first size last semi x n eq is nx o v c d h rest k =
+    let hs = subst AllSound eq h in
+    let row : AllPlain (l ∷ name ∷ first ∷ size ∷ last ∷ []) =
+    plain (plain_word l (codes "array") is) (plain (plain_word name x.text nx.word) (plain (plain_mark first LSquare refl o)
+    (plain (plain_number size n v) (plain (plain_mark last RSquare refl c) no_plain)))) in
+    let w = line_limits semi rest 0 row d (subst (λ t. KeepLimits 0 0 (t ++ rest)) eq k) in
+    ((name_good nx (sound_here (sound_behind hs)), number_good size v (sound_here (sound_behind (sound_behind (sound_behind hs))))), w.1)
+
+-- each procedure has at most 32 variables
+abbrev HaveFew : List Part → Type 0
+HaveFew [] = Unit {0}
+HaveFew (Array x n at ∷ parts) = HaveFew parts
+HaveFew (Proc p ∷ parts) = (length p.vars ≤ 32) × HaveFew parts
+
+procedure_fits : (ks : List Lexeme) (l name first last open' close : Lexeme) (ps vs bs es : List Lexeme) (x : Name) (params vs' : List Name) (b : Statements) (e : Option Last)
+    → ks ≡ l ∷ name ∷ first ∷ (ps ++ last ∷ open' ∷ (vs ++ (bs ++ (es ++ close ∷ []))))
+    → l.shape ≡ Word (codes "proc") → IsName x name → Is LParen first → Listed SpelledName ps params → Is RParen last → Is LBrace open'
+    → SpelledVars vs vs' → SpelledStatements bs b → SpelledEnding es e → Is RBrace close → length vs' ≤ 32
+    → AllSound ks → (rest : List Lexeme) → KeepLimits 0 0 (ks ++ rest)
+    → IsFitProcedure (record { name = x; params = params; vars = vs'; body = b; ending = e }) × KeepLimits 0 0 rest
+procedure_fits ks l name first last open' close ps vs bs es x params vs' b e eq is nx o sp c d sv sb se f few h rest k =
+    let hs = subst AllSound eq h in
+    let endings = es ++ close ∷ [] in
+    let bodies = bs ++ endings in
+    let inside = sound_behind (sound_behind (sound_behind hs)) in
+    let heard = sound_behind (sound_behind (sound_back ps (last ∷ open' ∷ (vs ++ bodies)) inside)) in
+    let body_heard = sound_back vs bodies heard in
+    let ending_heard = sound_back bs endings body_heard in
+    let row : List Lexeme = l ∷ name ∷ first ∷ (ps ++ last ∷ []) in
+    let behind : List Lexeme = vs ++ (bs ++ (es ++ close ∷ rest)) in
+    let all : ks ++ rest ≡ row ++ open' ∷ behind = ap (λ t. t ++ rest) eq ∙ simp append_assoc in
+    let flat : AllPlain row = plain (plain_word l (codes "proc") is) (plain (plain_word name x.text nx.word) (plain (plain_mark first LParen refl o)
+    (plain_append (names_plain sp) (plain (plain_mark last RParen refl c) no_plain)))) in
+    let head = row_limits (open' ∷ behind) 0 flat (subst (KeepLimits 0 0) all k) in
+    let short = head.short in
+    let opened = open_limits 0 (length row) open' behind d head.kept in
+    let v = vars_fit sv (sound_front vs bodies heard) 1 (bs ++ (es ++ close ∷ rest)) opened.1 in
+    let s = statements_fit sb (sound_front bs endings body_heard) 1 (es ++ close ∷ rest) v.1 in
+    let r = ending_fits se (sound_front es (close ∷ []) ending_heard) 1 (close ∷ rest) s.1 in (
+      record {
+        name = name_good nx (sound_here (sound_behind hs));
+        params = names_good sp (sound_front ps (last ∷ open' ∷ (vs ++ bodies)) inside);
+        params_row = omega (arith, short, names_fit sp, length-append ps (last ∷ []));
+        vars = v.0;
+        vars_row = omega (arith, few, names_few vs');
+        body = s.0;
+        ending = r.0;
+      },
+      close_limits 0 0 close rest f r.1,
+    )
+
+item_fits : {ks : List Lexeme} {a : Part} → SpelledItem ks a → HaveFew (a ∷ []) → AllSound ks → (rest : List Lexeme) → KeepLimits 0 0 (ks ++ rest)
+    → IsFitPart a × KeepLimits 0 0 rest
+item_fits (array {ks = ks} l name first size last semi x n eq is nx o v c d) few h rest k = array_fits ks l name first size last semi x n eq is nx o v c d h rest k
+item_fits (proc {ks = ks} l name first last open' close ps vs bs es x params vs' b e eq is nx o sp c d sv sb se f) few h rest k =
+    procedure_fits ks l name first last open' close ps vs bs es x params vs' b e eq is nx o sp c d sv sb se f few.0 h rest k
+
+few_here : (a : Part) (all : List Part) → HaveFew (a ∷ all) → HaveFew (a ∷ [])
+few_here (Array x n at) all h = tt
+few_here (Proc p) all h = (h.0, tt)
+
+few_behind : (a : Part) (all : List Part) → HaveFew (a ∷ all) → HaveFew all
+few_behind (Array x n at) all h = h
+few_behind (Proc p) all h = h.1
+
+pub tree_written : {ks : List Lexeme} {all : List Part} → Tree ks all → HaveFew all → AllSound ks → KeepLimits 0 0 ks → IsWritten all
+tree_written no_items few h k = tt
+tree_written (items ls rs a all eq s more) few h k =
+    let hs = subst AllSound eq h in
+    let x = item_fits s (few_here a all few) (sound_front ls rs hs) rs (subst (KeepLimits 0 0) eq k) in
+    (x.0, tree_written more (few_behind a all few) (sound_back ls rs hs) x.1)
+
+-- a variable behind 32 others is refused
+few_vars : (visible : List Declared) (k : ℕ) (xs : List Name) → k ≤ 32 → list_all (λ r. r.kept) (variable_rules visible k xs) ≡ true → k + length xs ≤ 32
+few_vars visible k [] h e = omega (arith, h)
+few_vars visible k (x ∷ xs) h e =
+    let front = and_parts (not (is_visible visible x.text)) _ e in
+    let next = and_parts (nat_lt k 32) _ front.1 in
+    let below = ltb-true k 32 next.0 in
+    omega (arith, few_vars (record { text = x.text; sort = variable } ∷ visible) (suc k) xs (omega (arith, below)) next.1)
+
+few_of : (visible : List Declared) (k : ℕ) (xs : List Name) → list_all (λ r. r.kept) (variable_rules visible k xs) ≡ true → length xs ≤ 32
+few_of visible k [] e = omega arith
+few_of visible k (x ∷ xs) e =
+    let front = and_parts (not (is_visible visible x.text)) _ e in
+    let next = and_parts (nat_lt k 32) _ front.1 in
+    let below = ltb-true k 32 next.0 in
+    omega (arith, few_vars (record { text = x.text; sort = variable } ∷ visible) (suc k) xs (omega (arith, below)) next.1)
+
+procedure_few : (before : List Part) (p : Procedure) → list_all (λ r. r.kept) (part_rules before (Proc p)) ≡ true → length p.vars ≤ 32
+procedure_few before p e =
+    let kept : Rule → Bool = λ r. r.kept in
+    let params = parameter_rules (is_main p) (declared_by before) 0 p.params in
+    let vs = variable_rules (variables p.params ++ declared_by before) (length p.params) p.vars in
+    let visible = variables (p.params ++ p.vars) ++ declared_by before in
+    let k = statements_in before in
+    let behind = body_rules visible k p.body ++ ending_rules visible (k + size_of_all p.body) p.ending in
+    let a = (and_parts (not (has_main before)) _ e).1 in
+    let b = (and_parts (not (is_visible (declared_by before) p.name.text)) _ a).1 in
+    let c = (and_parts (nat_lt (procs_in before) 64) (list_all kept (params ++ (vs ++ behind))) b).1 in
+    let d = (and_parts (list_all kept params) (list_all kept (vs ++ behind)) (sym (list_all-append kept params (vs ++ behind)) ∙ c)).1 in
+    few_of (variables p.params ++ declared_by before) (length p.params) p.vars
+    (and_parts (list_all kept vs) (list_all kept behind) (sym (list_all-append kept vs behind) ∙ d)).0
+
+few_from : (before all : List Part) → list_all (λ r. r.kept) (rules_behind before all) ≡ true → HaveFew all
+few_from before [] e = tt
+few_from before (Array x n at ∷ all) e =
+    let kept : Rule → Bool = λ r. r.kept in
+    let here = part_rules before (Array x n at) in
+    let behind = rules_behind (before ++ Array x n at ∷ []) all in
+    few_from (before ++ Array x n at ∷ []) all (and_parts (list_all kept here) (list_all kept behind) (sym (list_all-append kept here behind) ∙ e)).1
+few_from before (Proc p ∷ all) e =
+    let kept : Rule → Bool = λ r. r.kept in
+    let here = part_rules before (Proc p) in
+    let behind = rules_behind (before ++ Proc p ∷ []) all in
+    let both = and_parts (list_all kept here) (list_all kept behind) (sym (list_all-append kept here behind) ∙ e) in
+    (procedure_few before p both.0, few_from (before ++ Proc p ∷ []) all both.1)
+
+few_accepted : (all : List Part) (finish : Place) → IsAccepted all finish → HaveFew all
+few_accepted all finish e =
+    let kept : Rule → Bool = λ r. r.kept in
+    let front = rules_behind [] all in
+    let last : List Rule = record { place = finish; kind = Main; kept = has_main all } ∷ [] in
+    few_from [] all (and_parts (list_all kept front) (list_all kept last) (sym (list_all-append kept front last) ∙ e)).0
+
+pub read_is_written : (text : List ℕ) (ls : List Lexeme) (finish : Place) (all : List Part) → Lex text ls finish → KeepLimits 0 0 ls → Tree ls all
+    → IsAccepted all finish → IsWritten all
+read_is_written text ls finish all lex k tree accepted = tree_written tree (few_accepted all finish accepted) (leads_sound 0 0 lex.leads k) k

@@ -1,0 +1,111 @@
+-- When what follows a lexeme can't be part of it.
+use Rattle.std.proofs.Common.{◌≡◌, ℕ, ◌+◌, ◌-◌, ◌*◌, ◌%◌, ◌^◌, ◌<◌, ◌≤◌, Bool, true, false, ◌||◌, ◌==◌, nat_le, IsTrue, List, [], ◌∷◌, ◌++◌, length, refl, sym, ap, ◌∙◌, decimal, arith, length-append}
+use Rattle.std.specs.List.{list_all}
+use Rattle.std.proofs.lemmas.Bool.{and_parts, and_from, or_parts, or_from, not-true, not_from_false, true≢false, le-leb, ne_eqb}
+use Rattle.std.proofs.lemmas.List.Folds.{list_all-append}
+use Rattle.std.proofs.lemmas.Fmt.{decimal_by_steps}
+use Rattle.ws_words.specs.Digits.{is_digit, is_number, value_from, value_of}
+use Rattle.src_ast.specs.declared.lexeme.Shape.TheVariants as shape
+use Rattle.src_ast.specs.declared.lexeme.Mark.{Mark}
+use Rattle.src_ast.specs.declared.lexeme.Mark.TheVariants.{LParen, LessEq, MoreEq, Same, Differs, ShiftLeft, ShiftRight}
+use Rattle.src_ast.specs.Lexemes.{spelling, starts_without, is_letter, is_word, is_word_byte, IsLongest, Spells, word, number, mark}
+
+-- the second bytes of marks: `<`, `=` and `>`
+abbrev pub is_second : ℕ → Bool
+is_second b = (b == 60) || (b == 61) || (b == 62)
+
+-- no mark and no word goes on into this text
+pub record Breaks (text : List ℕ) : Type 0 where
+  pub word : IsTrue (starts_without is_word_byte text)
+  pub mark : IsTrue (starts_without is_second text)
+
+-- no mark has three bytes
+at_most_two : (m : Mark) → length (spelling m) ≤ 2
+at_most_two LParen = omega arith
+at_most_two m = omega arith
+
+clash : (b c b' d : ℕ) (behind more : List ℕ) → is_second c ≡ false → is_second d ≡ true → b ∷ c ∷ behind ≡ b' ∷ d ∷ more → ⊥
+clash b c b' d behind more h k e = let same : c ≡ d = cc in true≢false (sym k ∙ ap is_second (sym same) ∙ h)
+
+-- a mark of two bytes has one of three as its second
+second : (other : Mark) (b c : ℕ) (behind more : List ℕ) → is_second c ≡ false → b ∷ c ∷ behind ≡ spelling other ++ more → length (spelling other) ≤ 1
+second LessEq b c behind more h e = absurd (clash b c 60 61 behind more h refl e)
+second MoreEq b c behind more h e = absurd (clash b c 62 61 behind more h refl e)
+second Same b c behind more h e = absurd (clash b c 61 61 behind more h refl e)
+second Differs b c behind more h e = absurd (clash b c 33 61 behind more h refl e)
+second ShiftLeft b c behind more h e = absurd (clash b c 60 60 behind more h refl e)
+second ShiftRight b c behind more h e = absurd (clash b c 62 62 behind more h refl e)
+second other b c behind more h e = omega arith
+
+one_byte : (other : Mark) (b : ℕ) (text more : List ℕ) → IsTrue (starts_without is_second text) → b ∷ text ≡ spelling other ++ more → length (spelling other) ≤ 1
+one_byte other b [] more h e = omega (arith, ap length e, length-append (spelling other) more)
+one_byte other b (c ∷ behind) more h e = second other b c behind more (not-true (is_second c) h) e
+
+longest : (m : Mark) (text : List ℕ) → IsTrue (starts_without is_second text) → IsLongest (spelling m) (spelling m ++ text)
+longest LessEq text h = λ other more e. at_most_two other
+longest MoreEq text h = λ other more e. at_most_two other
+longest Same text h = λ other more e. at_most_two other
+longest Differs text h = λ other more e. at_most_two other
+longest ShiftLeft text h = λ other more e. at_most_two other
+longest ShiftRight text h = λ other more e. at_most_two other
+longest m text h = λ other more e. one_byte other _ text more h e
+
+pub spells_mark : (m : Mark) (text : List ℕ) → IsTrue (starts_without is_second text) → Spells (shape.Mark m) (spelling m) text
+spells_mark m text h = mark m refl (longest m text h)
+
+pub spells_word : (w text : List ℕ) → IsTrue (is_word w) → IsTrue (starts_without is_word_byte text) → Spells (shape.Word w) w text
+spells_word w text h k = word h k
+
+value_from-append : (n : ℕ) (xs ys : List ℕ) → value_from n (xs ++ ys) ≡ value_from (value_from n xs) ys
+value_from-append n [] ys = refl
+value_from-append n (x ∷ xs) ys = value_from-append (10 * n + (x - 48)) xs ys
+
+is_digit_of : (n : ℕ) → n < 10 → is_digit (48 + n) ≡ true
+is_digit_of n h = and_from (nat_le 48 (48 + n)) (nat_le (48 + n) 57) (le-leb 48 (48 + n) (omega arith)) (le-leb (48 + n) 57 (omega arith))
+
+more_digits : (ds : List ℕ) (n : ℕ) → n < 10 → is_number ds ≡ true → is_number (ds ++ (48 + n) ∷ []) ≡ true
+more_digits [] n h k = absurd (true≢false (sym k))
+more_digits (b ∷ bytes) n h k =
+    let parts = and_parts (is_digit b) (list_all is_digit bytes) k in
+    let all = list_all-append is_digit bytes ((48 + n) ∷ []) in
+    and_from (is_digit b) (list_all is_digit (bytes ++ (48 + n) ∷ [])) parts.0
+    (all ∙ and_from (list_all is_digit bytes) (list_all is_digit ((48 + n) ∷ [])) parts.1 (and_from (is_digit (48 + n)) true (is_digit_of n h) refl))
+
+record Digits (n : ℕ) (ds : List ℕ) : Type 0 where
+  digits : is_number ds ≡ true
+  value : n ≡ value_of ds
+
+decimal_digits : (n : ℕ) → n < 2 ^ 64 → Digits n (decimal n)
+decimal_digits =
+    decimal_by_steps Digits
+    (λ n h. record { digits = and_from (is_digit (48 + n)) true (is_digit_of n h) refl; value = omega arith })
+    (λ n ds h d. record {
+      digits = more_digits ds (n % 10) (omega arith) d.digits;
+      value = omega (arith, d.value, value_from-append 0 ds ((48 + n % 10) ∷ []));
+    })
+
+no_digit : (text : List ℕ) → IsTrue (starts_without is_word_byte text) → IsTrue (starts_without is_digit text)
+no_digit [] h = refl
+no_digit (b ∷ bytes) h = not_from_false (is_digit b) (or_parts (is_letter b) (is_digit b) (not-true (is_word_byte b) h)).1
+
+pub spells_number : (n : ℕ) (text : List ℕ) → n < 2 ^ 64 → IsTrue (starts_without is_word_byte text) → Spells (shape.Number n) (decimal n) text
+spells_number n text h k =
+    let d = decimal_digits n h in
+    number n d.digits (no_digit text k) d.value h
+
+-- the first bytes of words and numbers go on no mark
+no_second : (p : ℕ → Bool) → p 60 ≡ false → p 61 ≡ false → p 62 ≡ false → (b : ℕ) → p b ≡ true → is_second b ≡ false
+no_second p k l m b h =
+    let other = λ (n : ℕ) (f : p n ≡ false). ne_eqb b n (λ e. true≢false (sym h ∙ ap p e ∙ f)) in
+    or_from ((b == 60) || (b == 61)) (b == 62) (or_from (b == 60) (b == 61) (other 60 k) (other 61 l)) (other 62 m)
+
+pub word_starts : (w text : List ℕ) → IsTrue (is_word w) → IsTrue (starts_without is_second (w ++ text))
+word_starts [] text h = absurd (true≢false (sym h))
+word_starts (b ∷ bytes) text h = not_from_false (is_second b) (no_second is_letter refl refl refl b (and_parts (is_letter b) (list_all is_word_byte bytes) h).0)
+
+number_starts : (ds text : List ℕ) → is_number ds ≡ true → IsTrue (starts_without is_second (ds ++ text))
+number_starts [] text h = absurd (true≢false (sym h))
+number_starts (b ∷ bytes) text h = not_from_false (is_second b) (no_second is_digit refl refl refl b (and_parts (is_digit b) (list_all is_digit bytes) h).0)
+
+pub decimal_starts : (n : ℕ) (text : List ℕ) → n < 2 ^ 64 → IsTrue (starts_without is_second (decimal n ++ text))
+decimal_starts n text h = number_starts (decimal n) text (decimal_digits n h).digits

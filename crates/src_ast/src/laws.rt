@@ -1,0 +1,22 @@
+//! Laws of the printed form.
+
+ghost use Rattle.std.specs.Prelude.{ℕ, List};
+ghost use Rattle.src_ast.specs.declared.lexeme.Lexeme.{Lexeme};
+ghost use Rattle.src_ast.specs.declared.lexeme.Place.{Place};
+ghost use Rattle.src_ast.specs.Syntax.{Part};
+ghost use Rattle.src_ast.specs.Lexemes.{Lex, KeepLimits};
+ghost use Rattle.src_ast.specs.Grammar.{Tree};
+ghost use Rattle.src_ast.specs.Rules.{IsAccepted};
+ghost use Rattle.src_ast.specs.Written.{IsWritten, ReadsTheSame};
+
+/// A program that is read from a text and accepted has a printed form that can be read.
+pub fn read_is_written()
+    ensures { (text : List ℕ) (ls : List Lexeme) (finish : Place) (parts : List Part)
+        → Lex text ls finish → KeepLimits 0 0 ls → Tree ls parts → IsAccepted parts finish → IsWritten parts }
+{}
+
+/// The printed form of a program reads as the same program, places aside.
+#[tactic(auto, using(crate::proofs::Again::reads_the_same))]
+pub fn printed_reads_the_same()
+    ensures { (parts : List Part) → IsWritten parts → ReadsTheSame parts }
+{}

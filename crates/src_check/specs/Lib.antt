@@ -1,0 +1,4 @@
+pub mod Names
+pub mod Rule
+pub mod Walk
+pub mod Behind

@@ -1,0 +1,162 @@
+-- The words of an input section: how they are read, and that they are the only ones.
+use Rattle.std.specs.Prelude.{◌≡◌, ℕ, zero, suc, ◌+◌, ◌==◌, ◌^◌, ◌<◌, ◌≤◌, Bool, true, false, not, ◌&&◌, IsTrue, List, [], ◌∷◌, ◌++◌, length, take, drop, cond, refl}
+use Rattle.std.proofs.Common.{sym, ap, ◌∙◌, subst, arith, append_assoc, append-nil, length-append}
+use Rattle.std.specs.List.{list_all, prefix_len}
+use Rattle.std.proofs.lemmas.List.{nil_from_length}
+use Rattle.std.proofs.lemmas.Bool.{eqb-true}
+use Rattle.ws_words.specs.Digits.{is_number, value_of}
+use Rattle.src_ast.specs.declared.lexeme.Place.{Place}
+use Rattle.src_ast.specs.Lexemes.{after, is_blank, starts_without}
+use Rattle.wsc_top.specs.Sections.{IsItem, IsWordText, Items, stop, next, InputWords, InputFault}
+
+abbrev is_dense : ℕ → Bool
+is_dense b = not (is_blank b)
+
+left_true : (a b : Bool) → IsTrue (a && b) → IsTrue a
+left_true true b h = refl
+left_true false b h = cc
+
+right_true : (a b : Bool) → IsTrue (a && b) → IsTrue b
+right_true true b h = h
+right_true false b h = cc
+
+-- a run and what stands behind it are the longest run
+pub record Same (a b x y : List ℕ) : Type 0 where
+  pub run : a ≡ b
+  pub rest : x ≡ y
+
+same_more : (p : ℕ) (a b x y : List ℕ) → Same a b x y → Same (p ∷ a) (p ∷ b) x y
+same_more p a b x y s = record { run = ap (λ v. p ∷ v) s.run; rest = s.rest }
+
+stops_at : (p : ℕ → Bool) (b : ℕ) (bytes x : List ℕ) → IsTrue (starts_without p x) → x ≡ b ∷ bytes → IsTrue (p b) → ⊥
+stops_at p b bytes x s e h = let k = subst (λ v. IsTrue (starts_without p v)) e s in let n : not true ≡ true = subst (λ t. not t ≡ true) h k in cc
+
+run_same : (p : ℕ → Bool) (a b x y : List ℕ) → IsTrue (list_all p a) → IsTrue (list_all p b) → IsTrue (starts_without p x) → IsTrue (starts_without p y) → a ++ x ≡ b ++ y → Same a b x y
+run_same p [] [] x y ha hb sx sy e = record { run = refl; rest = e }
+run_same p [] (c ∷ b) x y ha hb sx sy e = absurd (stops_at p c (b ++ y) x sx e (left_true (p c) (list_all p b) hb))
+run_same p (c ∷ a) [] x y ha hb sx sy e = absurd (stops_at p c (a ++ x) y sy (sym e) (left_true (p c) (list_all p a) ha))
+run_same p (c ∷ a) (d ∷ b) x y ha hb sx sy e =
+    let one : c ≡ d = cc in
+    let more : a ++ x ≡ b ++ y = cc in
+    let s = run_same p a b x y (right_true (p c) (list_all p a) ha) (right_true (p d) (list_all p b) hb) sx sy more in
+    record { run = ap (λ v. c ∷ v) s.run ∙ ap (λ n. n ∷ b) one; rest = s.rest }
+
+-- an item begins with no blank
+item_starts : (bytes rest : List ℕ) → IsItem bytes rest → IsTrue (starts_without is_blank (bytes ++ rest))
+item_starts [] rest h = absurd (h.some refl)
+item_starts (b ∷ bytes) rest h = left_true (not (is_blank b)) (list_all is_dense bytes) h.dense
+
+no_item : (bytes rest : List ℕ) → IsItem bytes rest → bytes ++ rest ≡ [] → ⊥
+no_item [] rest h e = h.some refl
+no_item (b ∷ bytes) rest h e = cc
+
+word_same : (a b : List ℕ) (v w : ℕ) → a ≡ b → IsWordText a v → IsWordText b w → v ≡ w
+word_same a b v w e h k = sym h.1 ∙ (ap value_of e ∙ k.1)
+
+-- two readings of a text have the same words, where the first comes to its end
+same_words : (at : Place) (text ws vs : List ℕ) (p q : Place) (r s : List ℕ) → Items at text ws p r → Items at text vs q s → r ≡ [] → s ≡ [] → ws ≡ vs
+same_words at text ws vs p q r s (stop a e h n o) (stop b f k m u) x y = refl
+same_words at text ws vs p q r s (stop a e h n o) (next w b bytes behind f k i t more) x y =
+    let same = run_same is_blank a b r (bytes ++ behind) h k n (item_starts bytes behind i) (sym e ∙ f) in
+    absurd (no_item bytes behind i (sym same.rest ∙ x))
+same_words at text ws vs p q r s (next w b bytes behind f k i t more) (stop a e h n o) x y =
+    let same = run_same is_blank a b s (bytes ++ behind) h k n (item_starts bytes behind i) (sym e ∙ f) in
+    absurd (no_item bytes behind i (sym same.rest ∙ y))
+same_words at text ws vs p q r s (next {words = us} w b bytes behind f k i t more) (next {words = zs} v c others far g l j u rest) x y =
+    let same = run_same is_blank b c (bytes ++ behind) (others ++ far) k l (item_starts bytes behind i) (item_starts others far j) (sym f ∙ g) in
+    let items = run_same is_dense bytes others behind far i.dense j.dense i.longest j.longest same.rest in
+    let again : Items (after (after at b) bytes) behind zs q s = subst (λ z. Items (after (after at z) bytes) behind zs q s) (sym same.run)
+    (subst (λ z. Items (after (after at c) z) behind zs q s) (sym items.run) (subst (λ z. Items (after (after at c) others) z zs q s) (sym items.rest) rest)) in
+    ap (λ n. n ∷ us) (word_same bytes others w v items.run t u) ∙ ap (λ z. v ∷ z) (same_words _ behind us zs p q r s more again x y)
+
+-- a text of words has no item that is none
+no_fault : (at : Place) (text ws vs : List ℕ) (p q : Place) (r s bad far : List ℕ) → Items at text ws p r → Items at text vs q s → r ≡ [] → s ≡ bad ++ far → IsItem bad far → ((w : ℕ) → IsWordText bad w → ⊥) → ⊥
+no_fault at text ws vs p q r s bad far (stop a e h n o) (stop b f k m u) x y item wrong =
+    let same = run_same is_blank a b r s h k n m (sym e ∙ f) in
+    no_item bad far item (sym y ∙ sym same.rest ∙ x)
+no_fault at text ws vs p q r s bad far (stop a e h n o) (next w b bytes behind f k i t more) x y item wrong =
+    let same = run_same is_blank a b r (bytes ++ behind) h k n (item_starts bytes behind i) (sym e ∙ f) in
+    no_item bytes behind i (sym same.rest ∙ x)
+no_fault at text ws vs p q r s bad far (next w b bytes behind f k i t more) (stop a e h n o) x y item wrong =
+    let same = run_same is_blank b a (bytes ++ behind) s k h (item_starts bytes behind i) n (sym f ∙ e) in
+    let items = run_same is_dense bytes bad behind far i.dense item.dense i.longest item.longest (same.rest ∙ y) in
+    wrong w (subst (λ z. IsWordText z w) items.run t)
+no_fault at text ws vs p q r s bad far (next {words = us} w b bytes behind f k i t more) (next {words = zs} v c others away g l j u rest) x y item wrong =
+    let same = run_same is_blank b c (bytes ++ behind) (others ++ away) k l (item_starts bytes behind i) (item_starts others away j) (sym f ∙ g) in
+    let items = run_same is_dense bytes others behind away i.dense j.dense i.longest j.longest same.rest in
+    let again : Items (after (after at b) bytes) behind zs q s = subst (λ z. Items (after (after at z) bytes) behind zs q s) (sym same.run)
+    (subst (λ z. Items (after (after at c) z) behind zs q s) (sym items.run) (subst (λ z. Items (after (after at c) others) z zs q s) (sym items.rest) rest)) in
+    no_fault _ behind us zs p q r s bad far more again x y item wrong
+
+pub one_list : (at : Place) (text ws vs : List ℕ) → InputWords at text ws → InputWords at text vs → ws ≡ vs
+one_list at text ws vs a b = same_words at text ws vs a.place b.place [] [] a.items b.items refl refl
+
+pub no_fault_in_words : (at : Place) (text ws : List ℕ) (p : Place) → InputWords at text ws → InputFault at text p → ⊥
+no_fault_in_words at text ws p a b = no_fault at text ws b.words a.place p [] (b.bytes ++ b.behind) b.bytes b.behind a.items b.items refl refl b.item b.wrong
+
+-- Whatever the rest leads to, the whole does.
+pub record Reading (at : Place) (text words : List ℕ) (place : Place) (rest : List ℕ) : Type 0 where
+  pub leads : (more : List ℕ) (p : Place) (r : List ℕ) → Items place rest more p r → Items at text (words ++ more) p r
+
+pub reads_none : (at : Place) (text : List ℕ) → Reading at text [] at text
+reads_none at text = record { leads = λ more p r h. h }
+
+one_more : (n : ℕ) → 1 + n ≡ suc n
+one_more n = omega arith
+
+prefix_all : (p : ℕ → Bool) (xs : List ℕ) → IsTrue (list_all p (take (prefix_len p xs) xs))
+prefix_all p [] = refl
+prefix_all p (x ∷ xs) =
+    (elim (p x) as (λ b. p x ≡ b → IsTrue (list_all p (take (cond b (1 + prefix_len p xs) 0) (x ∷ xs)))) [ true ↦ λ e. rw (one_more (prefix_len p xs), e) (prefix_all p xs) | false ↦ λ e. refl ]) refl
+
+prefix_stops : (p : ℕ → Bool) (xs : List ℕ) → IsTrue (starts_without p (drop (prefix_len p xs) xs))
+prefix_stops p [] = refl
+prefix_stops p (x ∷ xs) =
+    (elim (p x) as (λ b. p x ≡ b → IsTrue (starts_without p (drop (cond b (1 + prefix_len p xs) 0) (x ∷ xs)))) [ true ↦ λ e. rw (one_more (prefix_len p xs)) (prefix_stops p xs) | false ↦ λ e. rw e refl ]) refl
+
+-- a run of blanks that is as long as possible
+pub blank_run : (text run rest : List ℕ) (n : ℕ) → n ≡ prefix_len is_blank text → run ≡ take n text → rest ≡ drop n text → IsTrue (list_all is_blank run) × IsTrue (starts_without is_blank rest)
+blank_run text run rest n e f g = (rw (f, e) (prefix_all is_blank text), rw (g, e) (prefix_stops is_blank text))
+
+-- an item, which has at least its first byte
+pub item_run : (text run rest : List ℕ) (n : ℕ) → 0 < length text → IsTrue (starts_without is_blank text) → n ≡ prefix_len is_dense text → run ≡ take n text → rest ≡ drop n text → (0 < length run) × IsItem run rest
+item_run [] run rest n h s e f g = absurd (omega arith)
+item_run (b ∷ text) run rest n h s e f g =
+    let first : n ≡ 1 + prefix_len is_dense text = e ∙ ap (λ (t : Bool). cond t (1 + prefix_len is_dense text) 0) s in
+    let some : run ≡ b ∷ take (prefix_len is_dense text) text = f ∙ ap (λ m. take m (b ∷ text)) (first ∙ one_more (prefix_len is_dense text)) in (
+      subst (λ r. 0 < length r) (sym some) (omega arith),
+      record { some = λ none. let bad : b ∷ take (prefix_len is_dense text) text ≡ [] = sym some ∙ none in cc; dense = rw (f, e) (prefix_all is_dense (b ∷ text)); longest = rw (g, e) (prefix_stops is_dense (b ∷ text)) },
+    )
+
+-- blanks to the end
+pub reads_end : (at place : Place) (text words rest blanks front : List ℕ) → Reading at text words place rest → rest ≡ blanks ++ front → IsTrue (list_all is_blank blanks) → front ≡ [] → InputWords at text words
+reads_end at place text words rest blanks front r e h n = record {
+  place = after place blanks;
+  items = subst (λ ws. Items at text ws (after place blanks) []) (append-nil words) (r.leads [] (after place blanks) [] (stop blanks (e ∙ ap (λ x. blanks ++ x) n) h refl refl));
+}
+
+-- an item that is no word
+pub reads_fault : (at place behind_blanks : Place) (text words rest blanks front bytes behind : List ℕ) → Reading at text words place rest → rest ≡ blanks ++ front → IsTrue (list_all is_blank blanks)
+    → IsTrue (starts_without is_blank front) → behind_blanks ≡ after place blanks → front ≡ bytes ++ behind → IsItem bytes behind → ((word : ℕ) → IsWordText bytes word → ⊥) → InputFault at text behind_blanks
+reads_fault at place behind_blanks text words rest blanks front bytes behind r e h s p f i wrong = record {
+  words = words;
+  bytes = bytes;
+  behind = behind;
+  items = subst (λ ws. Items at text ws behind_blanks (bytes ++ behind)) (append-nil words)
+      (r.leads [] behind_blanks (bytes ++ behind) (stop blanks (e ∙ ap (λ x. blanks ++ x) f) h (subst (λ x. IsTrue (starts_without is_blank x)) f s) p));
+  item = i;
+  wrong = wrong;
+}
+
+-- one more word
+pub reads_word : (at place behind_blanks behind_item : Place) (text words more rest blanks front bytes behind : List ℕ) (word : ℕ) → Reading at text words place rest → rest ≡ blanks ++ front → IsTrue (list_all is_blank blanks)
+    → behind_blanks ≡ after place blanks → front ≡ bytes ++ behind → IsItem bytes behind → IsWordText bytes word → behind_item ≡ after behind_blanks bytes → more ≡ words ++ word ∷ []
+    → Reading at text more behind_item behind
+reads_word at place behind_blanks behind_item text words more rest blanks front bytes behind word r e h p f i t q m = record {
+  leads = λ others far x items.
+      subst (λ ws. Items at text ws far x) (sym (append_assoc words (word ∷ []) others) ∙ ap (λ z. z ++ others) (sym m))
+      (r.leads (word ∷ others) far x (next word blanks bytes behind (e ∙ ap (λ z. blanks ++ z) f) h i t (subst (λ z. Items z behind others far x) (q ∙ ap (λ z. after z bytes) p) items)));
+}
+
+pub empty_is : (xs : List ℕ) (b : Bool) → b ≡ (length xs == 0) → b ≡ true → xs ≡ []
+empty_is xs b e h = nil_from_length xs (eqb-true (length xs) 0 (sym e ∙ h))

@@ -1,0 +1,48 @@
+-- A line for each array, item by item.
+use Rattle.std.specs.Prelude.{◌≡◌, ℕ, zero, suc, ◌+◌, ◌<◌, List, [], ◌∷◌, ◌++◌, length, slice_get, slice_index_or, refl}
+use Rattle.std.proofs.Common.{sym, ap, ◌∙◌, drop, arith, append_assoc}
+use Rattle.std.proofs.Math.Seq.{drop-cons}
+use Rattle.src_ast.specs.declared.lexeme.Name.{Name}
+use Rattle.src_ast.specs.declared.lexeme.Place.{Place}
+use Rattle.src_ast.specs.declared.tree.Item.{Item}
+use Rattle.src_ast.specs.declared.tree.Item.TheVariants.{Array, Proc}
+use Rattle.src_ast.specs.View as view
+use Rattle.src_ast.specs.Meaning.{arrays_of}
+use Rattle.wsc_top.specs.Texts.{maybe_line, array_lines}
+
+-- the line of the next array, and the lines of the others
+lines_more : (n : Name) (ns : List Name) (rows : List (List ℕ)) (k : ℕ) → array_lines (n ∷ ns) (drop k rows) ≡ maybe_line n.text (slice_get rows k) ++ array_lines ns (drop (suc k) rows)
+lines_more n [] [] zero = refl
+lines_more n (m ∷ ns) [] zero = refl
+lines_more n [] [] (suc k) = refl
+lines_more n (m ∷ ns) [] (suc k) = refl
+lines_more n ns (row ∷ rows) zero = refl
+lines_more n ns (row ∷ rows) (suc k) = lines_more n ns rows k
+
+items_more : (items : List Item) (i : ℕ) (x : Item) → i < length items → x ≡ slice_index_or items i x → drop i items ≡ x ∷ drop (i + 1) items
+items_more items i x lt is =
+    drop-cons items i x lt ∙ ap (λ y. y ∷ drop (suc i) items) (sym is) ∙ ap (λ j. x ∷ drop j items) (let e : suc i ≡ i + 1 = omega arith in e)
+
+module _ (items : List Item) (rows : List (List ℕ)) (i k : ℕ) (x : Item) (text whole : List ℕ) (lt : i < length items) (is : x ≡ slice_index_or items i x)
+    (so : text ++ array_lines (arrays_of (view.parts (drop i items))) (drop k rows) ≡ whole) where
+  next : text ++ array_lines (arrays_of (view.parts (x ∷ drop (i + 1) items))) (drop k rows) ≡ whole
+  next = ap (λ rest. text ++ array_lines (arrays_of (view.parts rest)) (drop k rows)) (sym (items_more items i x lt is)) ∙ so
+
+  -- behind the line of an array
+  pub behind_array : (name : Name) (n : ℕ) (at : Place) (now : List ℕ) → x ≡ Array name n at → now ≡ text ++ maybe_line name.text (slice_get rows k)
+      → now ++ array_lines (arrays_of (view.parts (drop (i + 1) items))) (drop (k + 1) rows) ≡ whole
+  behind_array name n at now e h =
+      let rest = arrays_of (view.parts (drop (i + 1) items)) in
+      ap (λ t. t ++ array_lines rest (drop (k + 1) rows)) h
+      ∙ append_assoc text (maybe_line name.text (slice_get rows k)) (array_lines rest (drop (k + 1) rows))
+      ∙ ap (λ j. text ++ (maybe_line name.text (slice_get rows k) ++ array_lines rest (drop j rows))) (let e : k + 1 ≡ suc k = omega arith in e)
+      ∙ ap (λ t. text ++ t) (sym (lines_more name rest rows k))
+      ∙ ap (λ y. text ++ array_lines (arrays_of (view.part y ∷ view.parts (drop (i + 1) items))) (drop k rows)) (sym e)
+      ∙ next
+
+-- behind a procedure
+pub behind_procedure : (items : List Item) (rows : List (List ℕ)) (i k : ℕ) (x : Item) (text whole : List ℕ) → i < length items → x ≡ slice_index_or items i x
+    → text ++ array_lines (arrays_of (view.parts (drop i items))) (drop k rows) ≡ whole → ((name : Name) (n : ℕ) (at : Place) → x ≡ Array name n at → ⊥)
+    → text ++ array_lines (arrays_of (view.parts (drop (i + 1) items))) (drop k rows) ≡ whole
+behind_procedure items rows i k (Array name n at) text whole lt is so none = absurd (none name n at refl)
+behind_procedure items rows i k (Proc name params vars body ending) text whole lt is so none = next items rows i k (Proc name params vars body ending) text whole lt is so

@@ -1,0 +1,107 @@
+//! What comes of the commands.
+
+ghost use Rattle.std.specs.Prelude.{◌≡◌, ℕ, List, [], IfOk};
+ghost use Rattle.ws_words.specs.Plain as given;
+ghost use Rattle.src_ast.specs.View as view;
+ghost use Rattle.src_ast.specs.Written.{IsWritten};
+ghost use Rattle.wsc_top.specs.Numbers.{unbuilt_places};
+ghost use Rattle.wsc_top.specs.Job.{world_of};
+ghost use Rattle.wsc_top.specs.Answers.{unfit_for, Yields, EndsSo};
+ghost use Rattle.wsc_top.specs.declared.line.Command.{Command as Asked};
+ghost use Rattle.wsc_top.specs.declared.status.Status.{Status as End};
+
+use crate::line::Command;
+use crate::options::PlainOptions;
+use crate::pieces::straight;
+use crate::plain_texts::{ended, going};
+use crate::status::Status;
+use crate::texts;
+use df_core::{Core, built_is_straight};
+use seq_run::run_plain;
+use src_ast::{print_program, printed_reads_the_same};
+use src_check::Accepted;
+use std::alloc::Global;
+use ws_words::{Bytes, Cells, NoMemory, Plain, Words, World};
+
+// What a run of this program prints: its words, a line each, and `halt`.
+#[tactic(auto, using(crate::proofs::Outcomes::pieces_are_straight, crate::proofs::Outcomes::run_yields))]
+fn run(alloc: Global, accepted: &Accepted) -> Result<Bytes, NoMemory>
+    requires { unbuilt_places (view.parts accepted.now.program.items.items) ≡ [] }
+    ensures { IfOk result (λ out. (input : List ℕ) → Yields Asked.Run (view.parts accepted.now.program.items.items) input End.Done out) }
+{
+    built_is_straight();
+    let straight = straight(alloc, accepted)?;
+    let mut core = Core::begin(alloc, &straight)?;
+    core.run();
+    texts::done(alloc, core.printed())
+}
+
+// What a sequential run is given: these words, and nothing left in any port.
+fn world(alloc: Global, input: Words) -> Result<World, NoMemory>
+    ensures { IfOk result (λ world. given.world_of world ≡ world_of input) }
+{
+    let mut left = Cells::empty(alloc);
+    for _ in 0..7u8 {
+        left.push(Words::empty(alloc))?;
+    }
+    Ok(World { input, left })
+}
+
+// What comes of the sequential run of this program on these words.
+fn plainly(
+    alloc: Global,
+    options: PlainOptions,
+    accepted: &Accepted,
+    input: Words,
+) -> Result<(Status, Bytes), NoMemory>
+    ensures yields { IfOk result (λ y. Yields (Asked.Plain options) (view.parts accepted.now.program.items.items) input y.0 y.1) }
+    ensures ends { IfOk result (λ y. EndsSo (Asked.Plain options) (view.parts accepted.now.program.items.items) input y.0) }
+{
+    let PlainOptions {
+        turns,
+        memory,
+        stats,
+    } = options;
+    let world = world(alloc, input)?;
+    match run_plain(alloc, accepted, &world, turns)? {
+        Plain::Ended {
+            printed,
+            arrays,
+            took: _,
+            turns,
+        } => {
+            let text = ended(
+                alloc,
+                memory,
+                stats,
+                &accepted.program,
+                &printed,
+                &arrays,
+                turns,
+            )?;
+            Ok((Status::Done, text))
+        }
+        Plain::Going { printed } => Ok((Status::Budget, going(alloc, &printed)?)),
+    }
+}
+
+/// The status and the text of what comes of a command to a program that it takes.
+#[tactic(auto, using(crate::proofs::Outcomes::format_yields))]
+pub fn yielded(
+    alloc: Global,
+    command: Command,
+    accepted: &Accepted,
+    input: Words,
+) -> Result<(Status, Bytes), NoMemory>
+    requires fit { unfit_for command (view.parts accepted.now.program.items.items) ≡ [] }
+    requires written { IsWritten (view.parts accepted.now.program.items.items) }
+    ensures yields { IfOk result (λ y. Yields command (view.parts accepted.now.program.items.items) input y.0 y.1) }
+    ensures ends { IfOk result (λ y. EndsSo command (view.parts accepted.now.program.items.items) input y.0) }
+{
+    printed_reads_the_same();
+    match command {
+        Command::Run => Ok((Status::Done, run(alloc, accepted)?)),
+        Command::Format => Ok((Status::Done, print_program(alloc, &accepted.program)?)),
+        Command::Plain(options) => plainly(alloc, options, accepted, input),
+    }
+}
