@@ -4,7 +4,8 @@ use Rattle.ws_words.specs.Outside.{Outside, State, zeros, World, opening_out}
 use Rattle.src_ast.specs.Turns.{Outcome, Ended, Out, and_then, turn, CallEnd, Returned, Stopped, with_result, back_in, ending, loop}
 use Rattle.src_ast.specs.Meaning.{Calls, empty_cells}
 use Rattle.seq_run.specs.Resolved.{Term, Step, Do, Call, If, While, Steps, Nothing, Then, Proc, Program, value_of, values_of, run_one, run_all, finish, run_proc, calls_below, nth_proc, run, run_at}
-use Rattle.seq_run.proofs.TurnsLeft.{AtMost, all_most, calls_most, CallsAtMost}
+use Rattle.seq_run.specs.TurnsLeft.{AtMost}
+use Rattle.seq_run.proofs.TurnsLeft.{all_most, calls_most, CallsAtMost}
 
 pub record Cost (h : ℕ → Outcome) (u : State) (j k : ℕ) : Type 0 where
   pub cost : ℕ

@@ -34,7 +34,7 @@ map_append f (x ∷ xs) ys = ap (λ (ps : List Part). f x ∷ ps) (map_append f 
 pub parts_more : (xs : List Item) (i : ℕ) (x : Item) → i < length xs → x ≡ slice_index_or xs i x → ast.parts (take (i + 1) xs) ≡ ast.parts (take i xs) ++ ast.part x ∷ []
 parts_more xs i x lt is = ap ast.parts (taken_more xs i x lt is) ∙ map_append ast.part (take i xs) (x ∷ [])
 
-arrays_append : (xs ys : List Part) → arrays_of (xs ++ ys) ≡ arrays_of xs ++ arrays_of ys
+pub arrays_append : (xs ys : List Part) → arrays_of (xs ++ ys) ≡ arrays_of xs ++ arrays_of ys
 arrays_append [] ys = refl
 arrays_append (Array x n at ∷ xs) ys = ap (λ (ns : List Name). x ∷ ns) (arrays_append xs ys)
 arrays_append (Proc p ∷ xs) ys = arrays_append xs ys
@@ -44,12 +44,12 @@ lengths_append [] ys = refl
 lengths_append (Array x n at ∷ xs) ys = ap (λ (ns : List ℕ). n ∷ ns) (lengths_append xs ys)
 lengths_append (Proc p ∷ xs) ys = lengths_append xs ys
 
-procs_append : (xs ys : List Part) → procs_of (xs ++ ys) ≡ procs_of xs ++ procs_of ys
+pub procs_append : (xs ys : List Part) → procs_of (xs ++ ys) ≡ procs_of xs ++ procs_of ys
 procs_append [] ys = refl
 procs_append (Array x n at ∷ xs) ys = procs_append xs ys
 procs_append (Proc p ∷ xs) ys = ap (λ (ps : List Procedure). p ∷ ps) (procs_append xs ys)
 
-names_append : (xs ys : List Procedure) → names_of (xs ++ ys) ≡ names_of xs ++ names_of ys
+pub names_append : (xs ys : List Procedure) → names_of (xs ++ ys) ≡ names_of xs ++ names_of ys
 names_append [] ys = refl
 names_append (p ∷ xs) ys = ap (λ (ns : List Name). p.name ∷ ns) (names_append xs ys)
 

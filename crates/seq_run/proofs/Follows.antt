@@ -22,7 +22,7 @@ use Rattle.seq_run.specs.declared.tree.Proc.{Proc as CodeProc}
 use Rattle.seq_run.specs.declared.machine.Machine.{Machine}
 use Rattle.seq_run.specs.declared.run.Flow.{Flow}
 use Rattle.seq_run.specs.declared.run.Flow.TheVariants as flows
-use Rattle.seq_run.proofs.TurnsLeft.{AtMost}
+use Rattle.seq_run.specs.TurnsLeft.{AtMost}
 use Rattle.seq_run.proofs.Acts.{Silent, silent_append, silent_load, silent_none, silent_printed, silent_took}
 
 quiet : (t : Term) (vars : List ℕ) (cells : List (List ℕ)) → Silent (loads_of t vars cells)

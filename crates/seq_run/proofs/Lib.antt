@@ -8,3 +8,7 @@ pub mod Tables
 pub mod Resolves
 pub mod Declares
 pub mod Whole
+pub mod Visible
+pub mod InBodies
+pub mod PartRules
+pub mod InPrograms

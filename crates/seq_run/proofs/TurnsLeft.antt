@@ -4,10 +4,7 @@ use Rattle.ws_words.specs.Outside.{Outside, State, zeros}
 use Rattle.src_ast.specs.Turns.{Outcome, Ended, Out, and_then, turn, CallEnd, Returned, Stopped, back_in, ending, loop}
 use Rattle.src_ast.specs.Meaning.{Calls}
 use Rattle.seq_run.specs.Resolved.{Term, Step, Do, Call, If, While, Steps, Nothing, Then, Proc, value_of, run_one, run_all, finish, run_proc, calls_below, nth_proc}
-
-abbrev pub AtMost : ℕ → Outcome → Type 0
-AtMost k (Ended s j) = j ≤ k
-AtMost k (Out o) = Unit {0}
+use Rattle.seq_run.specs.TurnsLeft.{AtMost}
 
 abbrev pub CallAtMost : ℕ → CallEnd → Type 0
 CallAtMost k (Returned v o j) = j ≤ k

@@ -82,7 +82,7 @@ says_going (Returned w o k) left turns m h = absurd h
 says_going (Stopped o) left turns m h = sym h.printed
 
 -- an accepted program has a procedure
-list_all_end : (xs : List Rule) (x : Rule) → list_all (λ r. r.kept) (xs ++ x ∷ []) ≡ true → x.kept ≡ true
+pub list_all_end : (xs : List Rule) (x : Rule) → list_all (λ r. r.kept) (xs ++ x ∷ []) ≡ true → x.kept ≡ true
 list_all_end [] x h = by_flag x.kept h
   where
     by_flag : (b : Bool) → (b && true) ≡ true → b ≡ true
@@ -94,7 +94,7 @@ list_all_end (y ∷ xs) x h = by_flag y.kept (list_all (λ r. r.kept) (xs ++ x �
     by_flag true c h f = f h
     by_flag false c h f = absurd (cc)
 
-some_proc : (parts : List Part) → has_main parts ≡ true → 0 < length (procs_of parts)
+pub some_proc : (parts : List Part) → has_main parts ≡ true → 0 < length (procs_of parts)
 some_proc [] h = absurd (cc)
 some_proc (Array x n at ∷ parts) h = some_proc parts h
 some_proc (Proc p ∷ parts) h = omega arith

@@ -5,3 +5,5 @@ pub mod Shows
 pub mod Weight
 pub mod Tables
 pub mod Answer
+pub mod InRange
+pub mod TurnsLeft

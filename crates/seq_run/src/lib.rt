@@ -2,12 +2,13 @@
 #![tactic(auto)]
 
 ghost use Rattle.std.specs.Prelude.{◌≡◌, ◌+◌, ℕ, List};
-ghost use Rattle.ws_words.specs.Outside.{World, Outside};
+ghost use Rattle.ws_words.specs.Outside.{World, Outside, State};
 ghost use Rattle.src_ast.specs.Syntax.{Part};
 ghost use Rattle.src_ast.specs.Turns.{Returned};
 ghost use Rattle.src_ast.specs.Meaning as meaning;
-ghost use Rattle.seq_run.specs.Resolved.{Program, run};
+ghost use Rattle.seq_run.specs.Resolved.{Steps as StepsOf, Proc as ProcOf, Program, calls_below, run_all, run};
 ghost use Rattle.seq_run.specs.Resolving as resolving;
+ghost use Rattle.seq_run.specs.TurnsLeft.{AtMost};
 
 mod machine;
 mod make;
@@ -36,4 +37,9 @@ pub fn names_are_places()
 pub fn turns_are_exact()
     ensures fewer { (program : Program) (world : World) (k v : ℕ) (o : Outside) (j : ℕ) → run program world k ≡ Returned v o j → (n : ℕ) × (k ≡ j + n) × (run program world n ≡ Returned v o 0) }
     ensures more { (program : Program) (world : World) (k v : ℕ) (o : Outside) (j : ℕ) → run program world k ≡ Returned v o 0 → run program world (j + k) ≡ Returned v o j }
+{}
+
+/// Steps never leave more turns than they were given.
+pub fn turns_never_grow()
+    ensures { (procs : List ProcOf) (below : ℕ) (steps : StepsOf) (s : State) (turns : ℕ) → AtMost turns (run_all (calls_below below procs) steps s turns) }
 {}

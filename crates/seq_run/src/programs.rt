@@ -7,6 +7,7 @@ ghost use Rattle.src_ast.specs.View as ast;
 ghost use Rattle.src_ast.specs.Meaning.{Scope, scope_of, arrays_of, lengths_of, procs_of, names_of};
 ghost use Rattle.seq_run.specs.Resolving as resolving;
 ghost use Rattle.seq_run.specs.Resolving.{texts};
+ghost use Rattle.seq_run.specs.InRange.{ProgramIn};
 ghost use Rattle.seq_run.specs.Tables.{IsTable, AreNames};
 ghost use Rattle.seq_run.specs.View as view;
 
@@ -140,9 +141,10 @@ pub(crate) fn numbered(alloc: Global, items: &[Item]) -> Result<Resolved, NoMemo
     Ok(Resolved { arrays, procs })
 }
 
-/// The program with numbers for names.
+/// The program with numbers for names, each of which names something.
 pub fn resolve(alloc: Global, accepted: &Accepted) -> Result<Resolved, NoMemory>
-    ensures { IfOk result (λ resolved. view.program resolved ≡ resolving.program (ast.parts accepted.now.program.items.items)) }
+    ensures resolves { IfOk result (λ resolved. view.program resolved ≡ resolving.program (ast.parts accepted.now.program.items.items)) }
+    ensures in_range { IfOk result (λ resolved. ProgramIn (view.program resolved)) }
 {
     let resolved = numbered(alloc, &accepted.program().items)?;
     Ok(resolved)
