@@ -12,3 +12,5 @@ pub mod Turns
 pub mod Rank
 pub mod Total
 pub mod Cost
+pub mod ArraysThere
+pub mod AllShown

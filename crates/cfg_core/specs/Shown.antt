@@ -74,3 +74,11 @@ pub record StaysInside (g : Graph) (world : World) : Type 0 where
 pub record SameArrays (g h : Graph) : Type 0 where
   pub shown : shown_arrays g.arrays ≡ shown_arrays h.arrays
   pub inside : (world : World) → StaysInside g world → StaysInside h world
+
+abbrev pub NoneHidden : List GraphArray → Type 0
+NoneHidden arrays = AllByRecursion (λ a. has_name a ≡ true) arrays
+
+-- what is outside is shown as it is
+pub record ShowsAll (g : Graph) (o : Outside) : Type 0 where
+  pub acts : shown_acts g.arrays o.acts ≡ o.acts
+  pub cells : shown_cells g.arrays o.cells ≡ o.cells

@@ -5,6 +5,7 @@ ghost use Rattle.ws_words.specs.Outside.{State, World, Outside};
 ghost use Rattle.cfg_core.specs.Graph.{Graph};
 ghost use Rattle.cfg_core.specs.Walk.{Frame, walk, IsOver, starts, Ends, EndsWith, Goes};
 ghost use Rattle.cfg_core.specs.Rules.{IsGraph};
+ghost use Rattle.cfg_core.specs.Shown.{NoneHidden, ShowsAll, StaysInside};
 
 /// A walk of any number of turns comes to an answer.
 pub fn walks_answer()
@@ -18,4 +19,12 @@ pub fn turns_are_exact()
     ensures more { (graph : Graph) (world : World) (n left : ℕ) (o : Outside) → Ends graph world n o → EndsWith graph world (left + n) o left }
     ensures one_end { (graph : Graph) (world : World) (n m : ℕ) (o p : Outside) → Ends graph world n o → Ends graph world m p → (n ≡ m) × (o ≡ p) }
     ensures not_both { (graph : Graph) (world : World) (n turns : ℕ) (o p : Outside) → n ≤ turns → Ends graph world n o → Goes graph world turns p → ⊥ }
+{}
+
+/// A walk of a graph without hidden arrays shows all that it does and leaves, and loads and stores
+/// no hidden array past its end.
+pub fn nothing_hidden()
+    ensures ends { (graph : Graph) → IsGraph graph → NoneHidden graph.arrays → (world : World) (turns : ℕ) (o : Outside) → Ends graph world turns o → ShowsAll graph o }
+    ensures goes { (graph : Graph) → IsGraph graph → NoneHidden graph.arrays → (world : World) (turns : ℕ) (o : Outside) → Goes graph world turns o → ShowsAll graph o }
+    ensures inside { (graph : Graph) → IsGraph graph → NoneHidden graph.arrays → (world : World) → StaysInside graph world }
 {}

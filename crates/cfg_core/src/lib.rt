@@ -17,7 +17,7 @@ pub use blocks::{
     Graph, GraphArray, GraphArrays, GraphBlock, GraphBlocks, GraphOp, GraphOps, GraphProc,
     GraphProcs, Leave, Numbers, Term, Terms,
 };
-pub use laws::{turns_are_exact, walks_answer};
+pub use laws::{nothing_hidden, turns_are_exact, walks_answer};
 pub use run::run_graph;
 
 #[cfg(test)]

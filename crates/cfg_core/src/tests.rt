@@ -8,7 +8,7 @@ use crate::blocks::{
     Graph, GraphArray, GraphArrays, GraphBlock, GraphBlocks, GraphOp, GraphOps, GraphProc,
     GraphProcs, Leave, Numbers, Term,
 };
-use crate::laws::{turns_are_exact, walks_answer};
+use crate::laws::{nothing_hidden, turns_are_exact, walks_answer};
 use crate::run::run_graph;
 use std::alloc::Global;
 use std::process::Abort;
@@ -275,4 +275,5 @@ fn lands_at_the_address(rt: HostRuntime) -> Result<(), Fail> {
 fn laws_hold() {
     walks_answer();
     turns_are_exact();
+    nothing_hidden();
 }

@@ -1,0 +1,82 @@
+-- Where no array is hidden, all acts on arrays that are there and all cells are shown as they are.
+use Rattle.std.proofs.Common.{ℕ, zero, suc, ◌-◌, ◌≡◌, ◌<◌, ◌≤◌, Bool, true, false, List, [], ◌∷◌, ◌++◌, length, if◌then◌else◌, refl, ap, ◌∙◌, arith}
+use Rattle.ws_words.specs.Operators.{flag}
+use Rattle.ws_words.specs.Outside.{Act, loads, stores, reads, prints, gives, takes, Outside, World}
+use Rattle.cfg_core.specs.Graph.{GraphArray, Graph, nth}
+use Rattle.cfg_core.specs.Walk.{Ends, Goes}
+use Rattle.cfg_core.specs.Rules.{IsArray, IsGraph}
+use Rattle.cfg_core.specs.Shown.{has_name, shown_cells, shown_among, hidden, is_hidden, shown_act, shown_acts, IsInside, AllInside, StaysInside, NoneHidden, ShowsAll}
+use Rattle.cfg_core.proofs.ArraysThere.{ActIn, ActsIn, OutIn, ended_in, going_in}
+
+named_at : (arrays : List GraphArray) → NoneHidden arrays → (k : ℕ) → k < length arrays → hidden (nth arrays k) ≡ false
+named_at [] h k lt = absurd (omega arith)
+named_at (a ∷ arrays) h zero lt = ap (λ (b : Bool). if b then false else true) h.0
+named_at (a ∷ arrays) h (suc k) lt = named_at arrays h.1 k (omega arith)
+
+counted : (arrays : List GraphArray) → NoneHidden arrays → (n : ℕ) → n ≤ length arrays → shown_among n arrays ≡ n
+counted arrays h zero le = refl
+counted [] h (suc n) le = absurd (omega arith)
+counted (a ∷ arrays) h (suc n) le =
+    let e : flag (has_name a) ≡ 1 = ap flag h.0 in
+    let r : shown_among n arrays ≡ n = counted arrays h.1 n (omega arith) in
+    omega (arith, e, r)
+
+cells_shown : (arrays : List GraphArray) → NoneHidden arrays → (cells : List (List ℕ)) → length cells ≡ length arrays → shown_cells arrays cells ≡ cells
+cells_shown [] h [] e = refl
+cells_shown [] h (r ∷ cells) e = absurd (omega arith)
+cells_shown (a ∷ arrays) h [] e = refl
+cells_shown (a ∷ arrays) h (r ∷ cells) e =
+    ap (λ (b : Bool). if b then r ∷ shown_cells arrays cells else shown_cells arrays cells) h.0
+    ∙ ap (λ (rs : List (List ℕ)). r ∷ rs) (cells_shown arrays h.1 cells (omega arith))
+
+module _ (g : Graph) (none : NoneHidden g.arrays) where
+  not_hidden : (a : ℕ) → IsArray g a → is_hidden g.arrays a ≡ false
+  not_hidden a h = named_at g.arrays none (a - 1) (omega arith)
+
+  act_shown : (act : Act) → ActIn g act → shown_act g.arrays act ≡ act ∷ []
+  act_shown (loads a i) h =
+      ap (λ (b : Bool). if b then [] else loads (shown_among a g.arrays) i ∷ []) (not_hidden a h)
+      ∙ ap (λ n. loads n i ∷ []) (counted g.arrays none a h.1)
+  act_shown (stores a i w) h =
+      ap (λ (b : Bool). if b then [] else stores (shown_among a g.arrays) i w ∷ []) (not_hidden a h)
+      ∙ ap (λ n. stores n i w ∷ []) (counted g.arrays none a h.1)
+  act_shown reads h = refl
+  act_shown (prints w) h = refl
+  act_shown (gives p) h = refl
+  act_shown (takes p w) h = refl
+
+  acts_shown : (acts : List Act) → ActsIn g acts → shown_acts g.arrays acts ≡ acts
+  acts_shown [] h = refl
+  acts_shown (act ∷ acts) h =
+      ap (λ (xs : List Act). xs ++ shown_acts g.arrays acts) (act_shown act h.0)
+      ∙ ap (λ (xs : List Act). act ∷ xs) (acts_shown acts h.1)
+
+  both_ways : (b : Bool) → b ≡ true → b ≡ false → ⊥
+  both_ways b e d = absurd (cc)
+
+  act_inside : (act : Act) → ActIn g act → IsInside g.arrays act
+  act_inside (loads a i) h = λ e. absurd (both_ways (is_hidden g.arrays a) e (not_hidden a h))
+  act_inside (stores a i w) h = λ e. absurd (both_ways (is_hidden g.arrays a) e (not_hidden a h))
+  act_inside reads h = tt
+  act_inside (prints w) h = tt
+  act_inside (gives p) h = tt
+  act_inside (takes p w) h = tt
+
+  acts_inside : (acts : List Act) → ActsIn g acts → AllInside g.arrays acts
+  acts_inside [] h = tt
+  acts_inside (act ∷ acts) h = (act_inside act h.0, acts_inside acts h.1)
+
+  all_shown : (o : Outside) → OutIn g o → ShowsAll g o
+  all_shown o h = record { acts = acts_shown o.acts h.acts; cells = cells_shown g.arrays none o.cells h.cells }
+
+pub ended_shown : (g : Graph) → IsGraph g → NoneHidden g.arrays → (world : World) (turns : ℕ) (o : Outside) → Ends g world turns o → ShowsAll g o
+ended_shown g rules none world turns o e = all_shown g none o (ended_in g rules.numbers world turns o e)
+
+pub going_shown : (g : Graph) → IsGraph g → NoneHidden g.arrays → (world : World) (turns : ℕ) (o : Outside) → Goes g world turns o → ShowsAll g o
+going_shown g rules none world turns o e = all_shown g none o (going_in g rules.numbers world turns o e)
+
+pub stays_inside : (g : Graph) → IsGraph g → NoneHidden g.arrays → (world : World) → StaysInside g world
+stays_inside g rules none world = record {
+  ends = λ turns o e. acts_inside g none o.acts (ended_in g rules.numbers world turns o e).acts;
+  goes = λ turns o e. acts_inside g none o.acts (going_in g rules.numbers world turns o e).acts;
+}
