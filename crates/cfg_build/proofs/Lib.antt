@@ -1,0 +1,20 @@
+mod Rows
+pub mod CodeSteps
+pub mod Lists
+pub mod Emitted
+pub mod Drafted
+pub mod Bounds
+pub mod CodeProcs
+pub mod Stand
+pub mod Values
+pub mod Simulation
+pub mod Kept
+pub mod Places
+pub mod Labels
+pub mod Edges
+pub mod Spots
+pub mod Shaped
+pub mod InRange
+pub mod Rules
+pub mod ShownArrays
+pub mod OfPrograms

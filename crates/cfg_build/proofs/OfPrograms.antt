@@ -1,0 +1,56 @@
+-- What the graph of a program has, where it is the lowered graph of the program with numbers for names.
+use Rattle.std.proofs.Common.{◌≡◌, List, sym, ap, ◌∙◌, subst}
+use Rattle.ws_words.specs.Outside.{World, Outside}
+use Rattle.src_ast.specs.Syntax.{Part}
+use Rattle.seq_run.specs.Resolved.{Program}
+use Rattle.seq_run.specs.Resolving as resolving
+use Rattle.seq_run.specs.InRange.{ProgramIn}
+use Rattle.cfg_core.specs.Graph.{Graph, GraphArray}
+use Rattle.cfg_core.specs.Walk.{Ends, Goes}
+use Rattle.cfg_core.specs.Rules.{IsGraph}
+use Rattle.cfg_core.specs.Shown.{NoneHidden, ShowsAll, StaysInside}
+use Rattle.cfg_build.specs.Lowered.{lowered}
+use Rattle.cfg_build.specs.Keeps.{KeepsRun, ShowsRun, arrays_of, IsFirstForm}
+use Rattle.cfg_build.specs.Shape.{IsShaped}
+use Rattle.cfg_build.proofs.Kept.{TurnsNeverGrow, NamesArePlaces, lowered_keeps_run}
+use Rattle.cfg_build.proofs.Rules.{is_graph}
+use Rattle.cfg_build.proofs.Shaped.{is_shaped, is_first_form}
+use Rattle.cfg_build.proofs.ShownArrays.{arrays_are, none_hidden}
+
+-- graphs without hidden arrays show the whole of their walks
+abbrev pub ShowsEnds : Type 0
+ShowsEnds = (graph : Graph) → IsGraph graph → NoneHidden graph.arrays → (world : World) (turns : _) (o : Outside) → Ends graph world turns o → ShowsAll graph o
+
+abbrev pub ShowsGoes : Type 0
+ShowsGoes = (graph : Graph) → IsGraph graph → NoneHidden graph.arrays → (world : World) (turns : _) (o : Outside) → Goes graph world turns o → ShowsAll graph o
+
+abbrev pub AllStayInside : Type 0
+AllStayInside = (graph : Graph) → IsGraph graph → NoneHidden graph.arrays → (world : World) → StaysInside graph world
+
+module _ (parts : List Part) (program : Program) (g : Graph) (same : program ≡ resolving.program parts) (made : g ≡ lowered program) (fit : ProgramIn program) where
+  is_lowered : g ≡ lowered (resolving.program parts)
+  is_lowered = made ∙ ap lowered same
+
+  pub run_kept : TurnsNeverGrow → NamesArePlaces → KeepsRun parts g
+  run_kept grow places = subst (λ (h : Graph). KeepsRun parts h) (sym is_lowered) (lowered_keeps_run grow places parts (subst (λ (p : Program). ProgramIn p) same fit))
+
+  pub arrays_kept : g.arrays ≡ arrays_of parts
+  arrays_kept = ap (λ (h : Graph). h.arrays) is_lowered ∙ arrays_are parts
+
+  pub rules_kept : IsGraph g
+  rules_kept = subst (λ (h : Graph). IsGraph h) (sym made) (is_graph program fit)
+
+  pub form_kept : IsFirstForm g
+  form_kept = subst (λ (h : Graph). IsFirstForm h) (sym made) (is_first_form program)
+
+  pub shape_kept : IsShaped g
+  shape_kept = subst (λ (h : Graph). IsShaped h) (sym made) (is_shaped program)
+
+  none : NoneHidden g.arrays
+  none = subst (λ (xs : List GraphArray). NoneHidden xs) (sym arrays_kept) (none_hidden parts)
+
+  pub all_shown : ShowsEnds → ShowsGoes → ShowsRun g
+  all_shown ends goes = record { ends = ends g rules_kept none; goes = goes g rules_kept none }
+
+  pub stays_inside : AllStayInside → (world : World) → StaysInside g world
+  stays_inside inside = inside g rules_kept none

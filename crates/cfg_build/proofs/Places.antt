@@ -1,0 +1,64 @@
+-- Items at their places in a list.
+use Rattle.std.proofs.Common.{ℕ, zero, suc, ◌+◌, ◌≡◌, ◌<◌, List, [], ◌∷◌, ◌++◌, length, refl, sym, ap, ◌∙◌, subst, arith}
+use Rattle.std.proofs.lemmas.List.{append_assoc, length-append}
+use Rattle.std.specs.List.{AllByRecursion}
+use Rattle.cfg_core.specs.Graph.{nth, or_else}
+
+-- these items stand in the list from this place on
+abbrev pub StandAt : {A : Type 0} → List A → A → ℕ → List A → Type 0
+StandAt all none b [] = Unit {0}
+StandAt all none b (x ∷ xs) = (b < length all) × (or_else (nth all b) none ≡ x) × StandAt all none (suc b) xs
+
+nth_behind : {A : Type 0} (before : List A) (x : A) (xs : List A) (none : A) → or_else (nth (before ++ x ∷ xs) (length before)) none ≡ x
+nth_behind [] x xs none = refl
+nth_behind (y ∷ before) x xs none = nth_behind before x xs none
+
+-- the last items of a list stand behind those before them
+pub stand_behind : {A : Type 0} (all before xs : List A) (none : A) → all ≡ before ++ xs → StandAt all none (length before) xs
+stand_behind all before [] none e = tt
+stand_behind all before (x ∷ xs) none e =
+    let e2 : all ≡ (before ++ x ∷ []) ++ xs = e ∙ sym (append_assoc before (x ∷ []) xs) in
+    let n : length (before ++ x ∷ []) ≡ suc (length before) = omega (arith, length-append before (x ∷ [])) in (
+      omega (arith, ap length e, length-append before (x ∷ xs)),
+      ap (λ ys. or_else (nth ys (length before)) none) e ∙ nth_behind before x xs none,
+      subst (λ m. StandAt all none m xs) n (stand_behind all (before ++ x ∷ []) xs none e2),
+    )
+
+pub stand_all : {A : Type 0} (all : List A) (none : A) → StandAt all none 0 all
+stand_all all none = stand_behind all [] all none refl
+
+pub stand_front : {A : Type 0} (all : List A) (none : A) (b : ℕ) (xs ys : List A) → StandAt all none b (xs ++ ys) → StandAt all none b xs
+stand_front all none b [] ys h = tt
+stand_front all none b (x ∷ xs) ys h = (h.0, h.1, stand_front all none (suc b) xs ys h.2)
+
+pub stand_back : {A : Type 0} (all : List A) (none : A) (b c : ℕ) (xs ys : List A) → b + length xs ≡ c → StandAt all none b (xs ++ ys) → StandAt all none c ys
+stand_back all none b c [] ys e h = subst (λ n. StandAt all none n ys) (omega (arith, e)) h
+stand_back all none b c (x ∷ xs) ys e h = stand_back all none (suc b) c xs ys (omega (arith, e)) h.2
+
+-- P holds of each item and its number, the first of which is this
+abbrev pub Each : {A : Type 0} → (ℕ → A → Type 0) → ℕ → List A → Type 0
+Each P b [] = Unit {0}
+Each P b (x ∷ xs) = P b x × Each P (suc b) xs
+
+pub each_both : {A : Type 0} (P : ℕ → A → Type 0) (b c : ℕ) (xs ys : List A) → b + length xs ≡ c → Each P b xs → Each P c ys → Each P b (xs ++ ys)
+each_both P b c [] ys e h i = subst (λ n. Each P n ys) (omega (arith, e)) i
+each_both P b c (x ∷ xs) ys e h i = (h.0, each_both P (suc b) c xs ys (omega (arith, e)) h.1 i)
+
+-- what holds of each item, and of the one past the end, holds at each place
+pub each_nth : {A : Type 0} (P : ℕ → A → Type 0) (none : A) → ((n : ℕ) → P n none) → (xs : List A) (b k c : ℕ) → c ≡ k + b → Each P b xs → P c (or_else (nth xs k) none)
+each_nth P none past [] b k c e h = past c
+each_nth P none past (x ∷ xs) b zero c e h = let z : b ≡ c = omega (arith, e) in subst (λ n. P n x) z h.0
+each_nth P none past (x ∷ xs) b (suc k) c e h = each_nth P none past xs (suc b) k c (omega (arith, e)) h.1
+
+-- what each item has, whatever its number
+pub each_all : {A : Type 0} (P : ℕ → A → Type 0) (Q : A → Type 0) → ((n : ℕ) (x : A) → P n x → Q x) → (b : ℕ) (xs : List A) → Each P b xs → AllByRecursion Q xs
+each_all P Q f b [] h = tt
+each_all P Q f b (x ∷ xs) h = (f b x h.0, each_all P Q f (suc b) xs h.1)
+
+pub all_both : {A : Type 0} (P : A → Type 0) (xs ys : List A) → AllByRecursion P xs → AllByRecursion P ys → AllByRecursion P (xs ++ ys)
+all_both P [] ys h i = i
+all_both P (x ∷ xs) ys h i = (h.0, all_both P xs ys h.1 i)
+
+pub all_have : {A : Type 0} (P Q : A → Type 0) → ((x : A) → P x → Q x) → (xs : List A) → AllByRecursion P xs → AllByRecursion Q xs
+all_have P Q f [] h = tt
+all_have P Q f (x ∷ xs) h = (f x h.0, all_have P Q f xs h.1)

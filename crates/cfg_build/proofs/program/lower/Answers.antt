@@ -1,0 +1,26 @@
+use Rattle.src_ast.specs.View as ast
+use Rattle.seq_run.specs.View as source
+use Rattle.cfg_core.specs.View as view
+use Rattle.cfg_build.proofs.OfPrograms.{run_kept, arrays_kept, rules_kept, form_kept, shape_kept, all_shown, stays_inside}
+use Rattle.cfg_build.proofs.program.lower.Goals as goal
+
+pub returns-clause-run : goal.returns-clause-run
+returns-clause-run c = run_kept (ast.parts c.args.accepted.now.program.items.items) (source.program c.in_ok-resolved.resolved) (view.graph c.in_ok-graph.graph) c.in_ok-resolved.ensures.resolves c.in_ok-graph.ensures c.in_ok-resolved.ensures.in_range c.turns_never_grow.ensures c.names_are_places.ensures
+
+pub returns-clause-shown : goal.returns-clause-shown
+returns-clause-shown c = all_shown (ast.parts c.args.accepted.now.program.items.items) (source.program c.in_ok-resolved.resolved) (view.graph c.in_ok-graph.graph) c.in_ok-resolved.ensures.resolves c.in_ok-graph.ensures c.in_ok-resolved.ensures.in_range c.nothing_hidden.ensures.ends c.nothing_hidden.ensures.goes
+
+pub returns-clause-arrays : goal.returns-clause-arrays
+returns-clause-arrays c = arrays_kept (ast.parts c.args.accepted.now.program.items.items) (source.program c.in_ok-resolved.resolved) (view.graph c.in_ok-graph.graph) c.in_ok-resolved.ensures.resolves c.in_ok-graph.ensures c.in_ok-resolved.ensures.in_range
+
+pub returns-clause-inside : goal.returns-clause-inside
+returns-clause-inside c = stays_inside (ast.parts c.args.accepted.now.program.items.items) (source.program c.in_ok-resolved.resolved) (view.graph c.in_ok-graph.graph) c.in_ok-resolved.ensures.resolves c.in_ok-graph.ensures c.in_ok-resolved.ensures.in_range c.nothing_hidden.ensures.inside
+
+pub returns-clause-rules : goal.returns-clause-rules
+returns-clause-rules c = rules_kept (ast.parts c.args.accepted.now.program.items.items) (source.program c.in_ok-resolved.resolved) (view.graph c.in_ok-graph.graph) c.in_ok-resolved.ensures.resolves c.in_ok-graph.ensures c.in_ok-resolved.ensures.in_range
+
+pub returns-clause-form : goal.returns-clause-form
+returns-clause-form c = form_kept (ast.parts c.args.accepted.now.program.items.items) (source.program c.in_ok-resolved.resolved) (view.graph c.in_ok-graph.graph) c.in_ok-resolved.ensures.resolves c.in_ok-graph.ensures c.in_ok-resolved.ensures.in_range
+
+pub returns-clause-shape : goal.returns-clause-shape
+returns-clause-shape c = shape_kept (ast.parts c.args.accepted.now.program.items.items) (source.program c.in_ok-resolved.resolved) (view.graph c.in_ok-graph.graph) c.in_ok-resolved.ensures.resolves c.in_ok-graph.ensures c.in_ok-resolved.ensures.in_range

@@ -1,0 +1,105 @@
+-- The graph of a program: the blocks of its steps, in the order of the text.
+use Rattle.std.specs.Prelude.{ℕ, suc, ◌+◌, List, [], ◌∷◌, ◌++◌, map, Option, Some, None}
+use Rattle.src_ast.specs.declared.tree.Unary.{Unary}
+use Rattle.src_ast.specs.declared.tree.Unary.TheVariants.{Flip, Not, Neg}
+use Rattle.seq_run.specs.Resolved as resolved
+use Rattle.seq_run.specs.Resolved.{Number, Var, Cell, Signed, Binary, Action, Assign, Store, Print, Read, Give, Take, Step, Do, Call, If, While, Steps, Nothing, Then, Proc}
+use Rattle.cfg_core.specs.Graph as graph
+use Rattle.cfg_core.specs.Graph.{Op, Tick, Exit, Goto, Branch, Return, Block, GraphProc, GraphArray, Graph}
+
+abbrev pub signed : Unary → graph.Term → graph.Term
+signed Flip t = graph.Flip t
+signed Not t = graph.Not t
+signed Neg t = graph.Neg t
+
+abbrev pub term : resolved.Term → graph.Term
+term (Number n) = graph.Number n
+term (Var x) = graph.Var x
+term (Cell a t) = graph.Cell a (term t)
+term (Signed s t) = signed s (term t)
+term (Binary op a b) = graph.Binary op (term a) (term b)
+
+abbrev pub op : Action → Op
+op (Assign x t) = graph.Assign x (term t)
+op (Store a t u) = graph.Store a (term t) (term u)
+op (Print t) = graph.Print (term t)
+op (Read x) = graph.Read x
+op (Give p x) = graph.Give p x
+op (Take p t) = graph.Take p (term t)
+
+-- what is left of a block: a place in the graph
+pub record Part : Type 0 where
+  pub ops : List Op
+  pub exit : Exit
+
+-- an operation behind a turn, then what is left
+abbrev pub ticked : Op → Part → Part
+ticked o p = record { ops = Tick 1 ∷ o ∷ p.ops; exit = p.exit }
+
+-- an exit behind a turn
+abbrev pub leaves : Exit → Part
+leaves exit = record { ops = Tick 1 ∷ []; exit = exit }
+
+abbrev pub goes_to : ℕ → Part
+goes_to b = record { ops = []; exit = Goto b }
+
+-- the last part of a procedure: without a `return` the result is 0
+abbrev pub last_part : Option resolved.Term → Part
+last_part None = record { ops = []; exit = Return (graph.Number 0) }
+last_part (Some t) = leaves (Return (term t))
+
+-- How many blocks begin inside steps: a call's return block; of an `if` each arm's first block and the join; of a `while` its header, the first block of its body, and the one behind it.
+abbrev pub begun : Steps → ℕ
+begun Nothing = 0
+begun (Then (Do a) rest) = begun rest
+begun (Then (Call x f ts) rest) = suc (begun rest)
+begun (Then (If t a b) rest) = suc (begun a + suc (begun b + suc (begun rest)))
+begun (Then (While t body) rest) = suc (suc (begun body + suc (begun rest)))
+
+abbrev pub block : Part → Block
+block p = record { named = []; ops = p.ops; exit = p.exit }
+
+-- the part with which steps begin in the block at hand, and the blocks after that one
+pub record Made : Type 0 where
+  pub front : Part
+  pub blocks : List Block
+
+abbrev pub behind : Op → Made → Made
+behind o m = record { front = ticked o m.front; blocks = m.blocks }
+
+-- the block that begins with the front, and those after it
+abbrev pub whole : Made → List Block
+whole m = block m.front ∷ m.blocks
+
+-- steps that begin in the block with this number, where `rest` follows them
+abbrev pub made : Steps → ℕ → Part → Made
+made Nothing c rest = record { front = rest; blocks = [] }
+made (Then (Do a) more) c rest = behind (op a) (made more c rest)
+made (Then (Call x f ts) more) c rest = record { front = leaves (graph.Call x f (map term ts) (suc c)); blocks = whole (made more (suc c) rest) }
+made (Then (If t a b) more) c rest =
+    let second = suc (suc c + begun a) in let join = suc (second + begun b) in
+    record { front = leaves (Branch (term t) (suc c) second); blocks = whole (made a (suc c) (goes_to join)) ++ (whole (made b second (goes_to join)) ++ whole (made more join rest)) }
+made (Then (While t body) more) c rest =
+    let inside = suc (suc c) in let after = suc (inside + begun body) in
+    record { front = goes_to (suc c); blocks = block (leaves (Branch (term t) inside after)) ∷ (whole (made body inside (goes_to (suc c))) ++ whole (made more after rest)) }
+
+-- the blocks of a procedure, the first of which has this number
+abbrev pub proc_blocks : Proc → ℕ → List Block
+proc_blocks p c = whole (made p.body c (last_part p.result))
+
+abbrev pub proc : Proc → ℕ → GraphProc
+proc p c = record { params = p.params; vars = p.params + p.locals; blocks = proc_blocks p c }
+
+-- procedures, the first of which begins at this block
+abbrev pub procs : List Proc → ℕ → List GraphProc
+procs [] c = []
+procs (p ∷ ps) c = proc p c ∷ procs ps (suc (c + begun p.body))
+
+-- arrays by their names and lengths
+abbrev pub arrays : List (List ℕ) → List ℕ → List GraphArray
+arrays [] lengths = []
+arrays (name ∷ names) [] = []
+arrays (name ∷ names) (n ∷ lengths) = record { name = Some name; length = n } ∷ arrays names lengths
+
+abbrev pub lowered : resolved.Program → Graph
+lowered program = record { arrays = arrays program.names program.lengths; procs = procs program.procs 0 }

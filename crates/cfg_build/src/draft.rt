@@ -1,0 +1,94 @@
+//! The blocks of a procedure as they are made.
+
+ghost use Rattle.std.specs.Prelude.{◌≡◌, ◌<◌, ◌^◌, [], map, IfOk, OnOk};
+ghost use Rattle.seq_run.specs.View as source;
+ghost use Rattle.cfg_core.specs.Graph.{Tick};
+ghost use Rattle.cfg_core.specs.View as view;
+ghost use Rattle.cfg_build.specs.Lowered.{last_part};
+ghost use Rattle.cfg_build.specs.Drafts.{number, closed, with_op, ended};
+
+use crate::terms::term;
+use cfg_core::{GraphBlock, GraphBlocks, GraphOp, GraphOps, Leave, Term as GraphTerm};
+use seq_run::Term;
+use std::alloc::Global;
+use std::mem;
+use ws_words::NoMemory;
+
+/// The finished blocks, the first of which has the number `first` in the graph, and the operations
+/// of the block at hand.
+#[derive(Drop)]
+pub struct Draft {
+    pub first: u32,
+    pub done: GraphBlocks,
+    pub ops: GraphOps,
+}
+
+impl Draft {
+    ghost use Rattle.cfg_build.specs.Views.{draft};
+
+    /// Begins the block with this number.
+    pub(crate) fn at(alloc: Global, first: u32) -> Draft
+        ensures { draft result ≡ record { first = first; done = []; ops = [] } }
+    {
+        Draft {
+            first,
+            done: Vec::new(alloc),
+            ops: Vec::new(alloc),
+        }
+    }
+
+    /// The number of the block at hand.
+    pub(crate) fn number(&self) -> u32
+        requires { number (draft self.now) < 2 ^ 32 }
+        ensures { result ≡ number (draft self.now) }
+    {
+        self.first + self.done.len() as u32
+    }
+
+    pub(crate) fn push(&mut self, op: GraphOp) -> Result<(), NoMemory>
+        ensures { OnOk result (draft self.new ≡ with_op (view.op op) (draft self.old)) }
+    {
+        self.ops.push(op)?;
+        Ok(())
+    }
+
+    /// A turn.
+    pub(crate) fn tick(&mut self) -> Result<(), NoMemory>
+        ensures { OnOk result (draft self.new ≡ with_op (Tick 1) (draft self.old)) }
+    {
+        self.push(GraphOp::Tick(1))
+    }
+
+    /// Finishes the block at hand.
+    pub(crate) fn close(&mut self, alloc: Global, exit: Leave) -> Result<(), NoMemory>
+        ensures { OnOk result (draft self.new ≡ closed (view.exit exit) (draft self.old)) }
+    {
+        let ops = mem::replace(&mut self.ops, Vec::new(alloc));
+        let block = GraphBlock {
+            named: Vec::new(alloc),
+            ops,
+            exit,
+        };
+        self.done.push(block)?;
+        Ok(())
+    }
+
+    /// The blocks of a procedure with this result, which is 0 where nothing is said.
+    pub(crate) fn finish(
+        mut self,
+        alloc: Global,
+        value: &Option<Term>,
+    ) -> Result<GraphBlocks, NoMemory>
+        ensures { IfOk result (λ blocks. map view.block blocks.items ≡ ended (draft self) (last_part (source.result value.now))) }
+    {
+        match value {
+            None => self.close(alloc, Leave::Return(GraphTerm::Number(0)))?,
+            Some(t) => {
+                let value = term(alloc, t)?;
+                self.tick()?;
+                self.close(alloc, Leave::Return(value))?;
+            }
+        }
+        Ok(self.done)
+    }
+}

@@ -1,0 +1,55 @@
+//! The control graph of a program.
+
+ghost use Rattle.std.specs.Prelude.{◌≡◌, ℕ, IfOk};
+ghost use Rattle.ws_words.specs.Outside.{World, Outside};
+ghost use Rattle.src_ast.specs.View as ast;
+ghost use Rattle.seq_run.specs.InRange.{ProgramIn};
+ghost use Rattle.seq_run.specs.View as source;
+ghost use Rattle.cfg_core.specs.View as view;
+ghost use Rattle.cfg_core.specs.Rules.{IsGraph};
+ghost use Rattle.cfg_core.specs.Shown.{StaysInside};
+ghost use Rattle.cfg_build.specs.Lowered.{lowered};
+ghost use Rattle.cfg_build.specs.Keeps.{KeepsRun, ShowsRun, arrays_of, IsFirstForm};
+ghost use Rattle.cfg_build.specs.Shape.{IsShaped};
+
+use crate::arrays::arrays;
+use crate::procs::lower_procs;
+use cfg_core::{Graph, nothing_hidden};
+use seq_run::{Resolved, names_are_places, resolve, turns_never_grow};
+use src_check::Accepted;
+use std::alloc::Global;
+use ws_words::NoMemory;
+
+/// The graph of a program with numbers for names.
+fn graph_of(alloc: Global, resolved: &Resolved) -> Result<Graph, NoMemory>
+    requires { ProgramIn (source.program resolved.now) }
+    ensures { IfOk result (λ graph. view.graph graph ≡ lowered (source.program resolved.now)) }
+{
+    let arrays = arrays(alloc, &resolved.arrays)?;
+    let procs = lower_procs(alloc, &resolved.procs)?;
+    Ok(Graph { arrays, procs })
+}
+
+/// The control graph of an accepted program. Its walk does turn by turn what the sequential run
+/// does, in every world; its blocks stand in the order of the text.
+pub fn lower(alloc: Global, accepted: &Accepted) -> Result<Graph, NoMemory>
+    // the walk is the run, and shows all of it
+    ensures run { IfOk result (λ graph. KeepsRun (ast.parts accepted.now.program.items.items) (view.graph graph)) }
+    ensures shown { IfOk result (λ graph. ShowsRun (view.graph graph)) }
+
+    // the arrays are the program's, and none is hidden
+    ensures arrays { IfOk result (λ graph. (view.graph graph).arrays ≡ arrays_of (ast.parts accepted.now.program.items.items)) }
+    ensures inside { IfOk result (λ graph. (world : World) → StaysInside (view.graph graph) world) }
+
+    // what later passes rest on
+    ensures rules { IfOk result (λ graph. IsGraph (view.graph graph)) }
+    ensures form { IfOk result (λ graph. IsFirstForm (view.graph graph)) }
+    ensures shape { IfOk result (λ graph. IsShaped (view.graph graph)) }
+{
+    names_are_places();
+    turns_never_grow();
+    nothing_hidden();
+    let resolved = resolve(alloc, accepted)?;
+    let graph = graph_of(alloc, &resolved)?;
+    Ok(graph)
+}
