@@ -1,8 +1,5 @@
 -- Statements and programs that are read from lexemes within the limits are written.
-use Rattle.std.proofs.Common.{◌≡◌, ℕ, suc, ◌+◌, ◌*◌, ◌≤◌, nat_lt, Bool, true, not, length, List, [], ◌∷◌, ◌++◌, Option, Some, None, codes, refl, sym, ap, ◌∙◌, subst, arith, length-append, append_assoc}
-use Rattle.std.specs.List.{list_all}
-use Rattle.std.proofs.lemmas.Bool.{and_parts, ltb-true}
-use Rattle.std.proofs.lemmas.List.Folds.{list_all-append}
+use Rattle.std.proofs.Common.{◌≡◌, ℕ, suc, ◌+◌, ◌*◌, ◌≤◌, length, List, [], ◌∷◌, ◌++◌, Option, Some, None, codes, refl, sym, ap, ◌∙◌, subst, arith, length-append, append_assoc}
 use Rattle.src_ast.specs.declared.lexeme.Name.{Name}
 use Rattle.src_ast.specs.declared.lexeme.Place.{Place}
 use Rattle.src_ast.specs.declared.lexeme.Lexeme.{Lexeme}
@@ -12,10 +9,11 @@ use Rattle.src_ast.specs.declared.lexeme.Mark.TheVariants as mark
 use Rattle.src_ast.specs.declared.lexeme.Mark.TheVariants.{LParen, RParen, LBrace, RBrace, LSquare, RSquare, Comma, Semi}
 use Rattle.src_ast.specs.Lexemes.{KeepLimits, Lex}
 use Rattle.src_ast.specs.Grammar.{Is, IsName, Spelled, Listed, SpelledName, SpelledStatement, SpelledStatements, SpelledBlock, SpelledElse, assign, store, print, read, give, take, call, called, choice, while, block, no_else, with_else, nothing, first_then, SpelledEnding, no_ending, ending, SpelledVars, no_vars, vars, SpelledItem, array, proc, Tree, no_items, items}
-use Rattle.src_ast.specs.Syntax.{Expression, Statement, Assign, Store, Read, Give, Take, Call, Statements, Last, Procedure, Part, Array, Proc}
-use Rattle.src_ast.specs.declared.fault.RefusalKind.TheVariants.{Main}
-use Rattle.src_ast.specs.Rules.{Rule, Declared, variable, variables, is_visible, declared_by, has_main, is_main, procs_in, statements_in, size_of_all, parameter_rules, variable_rules, body_rules, ending_rules, part_rules, rules_behind, IsAccepted}
+use Rattle.src_ast.specs.Syntax.{Expression, Statement, Assign, Store, Read, Give, Take, Call, Statements, Last, Part, Array, Proc}
+use Rattle.src_ast.specs.Rules.{IsAccepted}
+use Rattle.src_ast.specs.Bound.{most_variables}
 use Rattle.src_ast.specs.Written.{AreGoodNames, IsGood, width, names_width, IsFit, AreFit, IsFitEnding, IsFitProcedure, IsFitPart, IsWritten}
+use Rattle.src_ast.proofs.Narrow.{accepted_few}
 use Rattle.src_ast.proofs.Limits.{AllSound, sound_here, sound_behind, sound_front, sound_back, leads_sound, AllPlain, no_plain, plain, plain_append, plain_word, plain_number, plain_mark, row_limits, open_limits, close_limits, line_limits}
 use Rattle.src_ast.proofs.Readable.{name_good, number_good, expression_good, expression_plain, width_least, arguments_plain, arguments_good, arguments_width, some_names_plain, names_plain, some_names_good, names_good, names_fit}
 
@@ -332,59 +330,11 @@ tree_written (items ls rs a all eq s more) few h k =
     let x = item_fits s (few_here a all few) (sound_front ls rs hs) rs (subst (KeepLimits 0 0) eq k) in
     (x.0, tree_written more (few_behind a all few) (sound_back ls rs hs) x.1)
 
--- a variable behind 32 others is refused
-few_vars : (visible : List Declared) (k : ℕ) (xs : List Name) → k ≤ 32 → list_all (λ r. r.kept) (variable_rules visible k xs) ≡ true → k + length xs ≤ 32
-few_vars visible k [] h e = omega (arith, h)
-few_vars visible k (x ∷ xs) h e =
-    let front = and_parts (not (is_visible visible x.text)) _ e in
-    let next = and_parts (nat_lt k 32) _ front.1 in
-    let below = ltb-true k 32 next.0 in
-    omega (arith, few_vars (record { text = x.text; sort = variable } ∷ visible) (suc k) xs (omega (arith, below)) next.1)
-
-few_of : (visible : List Declared) (k : ℕ) (xs : List Name) → list_all (λ r. r.kept) (variable_rules visible k xs) ≡ true → length xs ≤ 32
-few_of visible k [] e = omega arith
-few_of visible k (x ∷ xs) e =
-    let front = and_parts (not (is_visible visible x.text)) _ e in
-    let next = and_parts (nat_lt k 32) _ front.1 in
-    let below = ltb-true k 32 next.0 in
-    omega (arith, few_vars (record { text = x.text; sort = variable } ∷ visible) (suc k) xs (omega (arith, below)) next.1)
-
-procedure_few : (before : List Part) (p : Procedure) → list_all (λ r. r.kept) (part_rules before (Proc p)) ≡ true → length p.vars ≤ 32
-procedure_few before p e =
-    let kept : Rule → Bool = λ r. r.kept in
-    let params = parameter_rules (is_main p) (declared_by before) 0 p.params in
-    let vs = variable_rules (variables p.params ++ declared_by before) (length p.params) p.vars in
-    let visible = variables (p.params ++ p.vars) ++ declared_by before in
-    let k = statements_in before in
-    let behind = body_rules visible k p.body ++ ending_rules visible (k + size_of_all p.body) p.ending in
-    let a = (and_parts (not (has_main before)) _ e).1 in
-    let b = (and_parts (not (is_visible (declared_by before) p.name.text)) _ a).1 in
-    let c = (and_parts (nat_lt (procs_in before) 64) (list_all kept (params ++ (vs ++ behind))) b).1 in
-    let d = (and_parts (list_all kept params) (list_all kept (vs ++ behind)) (sym (list_all-append kept params (vs ++ behind)) ∙ c)).1 in
-    few_of (variables p.params ++ declared_by before) (length p.params) p.vars
-    (and_parts (list_all kept vs) (list_all kept behind) (sym (list_all-append kept vs behind) ∙ d)).0
-
-few_from : (before all : List Part) → list_all (λ r. r.kept) (rules_behind before all) ≡ true → HaveFew all
-few_from before [] e = tt
-few_from before (Array x n at ∷ all) e =
-    let kept : Rule → Bool = λ r. r.kept in
-    let here = part_rules before (Array x n at) in
-    let behind = rules_behind (before ++ Array x n at ∷ []) all in
-    few_from (before ++ Array x n at ∷ []) all (and_parts (list_all kept here) (list_all kept behind) (sym (list_all-append kept here behind) ∙ e)).1
-few_from before (Proc p ∷ all) e =
-    let kept : Rule → Bool = λ r. r.kept in
-    let here = part_rules before (Proc p) in
-    let behind = rules_behind (before ++ Proc p ∷ []) all in
-    let both = and_parts (list_all kept here) (list_all kept behind) (sym (list_all-append kept here behind) ∙ e) in
-    (procedure_few before p both.0, few_from (before ++ Proc p ∷ []) all both.1)
-
-few_accepted : (all : List Part) (finish : Place) → IsAccepted all finish → HaveFew all
-few_accepted all finish e =
-    let kept : Rule → Bool = λ r. r.kept in
-    let front = rules_behind [] all in
-    let last : List Rule = record { place = finish; kind = Main; kept = has_main all } ∷ [] in
-    few_from [] all (and_parts (list_all kept front) (list_all kept last) (sym (list_all-append kept front last) ∙ e)).0
+have_few : (all : List Part) → most_variables all ≤ 32 → HaveFew all
+have_few [] h = tt
+have_few (Array x n at ∷ all) h = have_few all h
+have_few (Proc p ∷ all) h = (omega (arith, h), have_few all (omega (arith, h)))
 
 pub read_is_written : (text : List ℕ) (ls : List Lexeme) (finish : Place) (all : List Part) → Lex text ls finish → KeepLimits 0 0 ls → Tree ls all
     → IsAccepted all finish → IsWritten all
-read_is_written text ls finish all lex k tree accepted = tree_written tree (few_accepted all finish accepted) (leads_sound 0 0 lex.leads k) k
+read_is_written text ls finish all lex k tree accepted = tree_written tree (have_few all (accepted_few all finish accepted)) (leads_sound 0 0 lex.leads k) k

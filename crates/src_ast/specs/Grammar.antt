@@ -79,7 +79,7 @@ pub record IsName (x : Name) (l : Lexeme) : Type 0 where
 abbrev pub IsNumber : ℕ → Lexeme → Type 0
 IsNumber n l = l.shape ≡ shape.Number n
 
--- These lexemes spell the expression where an operator of this level or tighter may stand: 8 is a signed expression, 9 a primary.
+-- These lexemes spell the expression where an operator of this level or tighter may stand: 8 is a signed expression.
 pub data Spelled : ℕ → List Lexeme → Expression → Type 0 where
   number : {n : ℕ} (l : Lexeme) (v : ℕ) → IsNumber v l → Spelled n (l ∷ []) (Number v)
   variable : {n : ℕ} (l : Lexeme) (x : Name) → IsName x l → Spelled n (l ∷ []) (Variable x)

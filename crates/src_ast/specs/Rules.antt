@@ -1,5 +1,5 @@
 -- The rules on names, kinds, counts and limits, each at its place, in the order of the text.
-use Rattle.std.specs.Prelude.{◌≡◌, ℕ, zero, suc, ◌+◌, ◌==◌, nat_lt, nat_le, nat_eq, Bool, true, false, not, ◌&&◌, ◌||◌, IsTrue, List, [], ◌∷◌, ◌++◌, length, Option, Some, None, codes}
+use Rattle.std.specs.Prelude.{◌≡◌, ℕ, suc, ◌+◌, ◌==◌, nat_lt, nat_le, nat_eq, Bool, true, false, not, ◌&&◌, ◌||◌, IsTrue, List, [], ◌∷◌, ◌++◌, length, Option, Some, None, codes}
 use Rattle.std.specs.List.{list_all, list_any}
 use lib.Pointwise.{pointwise}
 use Rattle.src_ast.specs.declared.lexeme.Place.{Place}
@@ -18,7 +18,7 @@ pub record Rule : Type 0 where
   pub kind : RefusalKind
   pub kept : Bool
 
-abbrev rule : Place → RefusalKind → Bool → Rule
+abbrev pub rule : Place → RefusalKind → Bool → Rule
 rule place kind kept = record { place = place; kind = kind; kept = kept }
 
 -- what a name stands for

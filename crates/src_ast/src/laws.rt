@@ -1,11 +1,12 @@
-//! Laws of the printed form.
+//! Laws of the printed form and of the bound.
 
-ghost use Rattle.std.specs.Prelude.{ℕ, List};
+ghost use Rattle.std.specs.Prelude.{ℕ, List, ◌≤◌};
 ghost use Rattle.src_ast.specs.declared.lexeme.Lexeme.{Lexeme};
 ghost use Rattle.src_ast.specs.declared.lexeme.Place.{Place};
 ghost use Rattle.src_ast.specs.Syntax.{Part};
 ghost use Rattle.src_ast.specs.Lexemes.{Lex, KeepLimits};
 ghost use Rattle.src_ast.specs.Grammar.{Tree};
+ghost use Rattle.src_ast.specs.Bound.{widest, most_variables};
 ghost use Rattle.src_ast.specs.Rules.{IsAccepted};
 ghost use Rattle.src_ast.specs.Written.{IsWritten, ReadsTheSame};
 
@@ -19,4 +20,16 @@ pub fn read_is_written()
 #[tactic(auto, using(crate::proofs::Again::reads_the_same))]
 pub fn printed_reads_the_same()
     ensures { (parts : List Part) → IsWritten parts → ReadsTheSame parts }
+{}
+
+/// No statement of a written program has more than 255 expression nodes.
+#[tactic(auto, using(crate::proofs::Narrow::written_narrow))]
+pub fn written_is_narrow()
+    ensures { (parts : List Part) → IsWritten parts → widest parts ≤ 255 }
+{}
+
+/// No procedure of an accepted program has more than 32 parameters and variables.
+#[tactic(auto, using(crate::proofs::Narrow::accepted_few))]
+pub fn accepted_has_few_variables()
+    ensures { (parts : List Part) (finish : Place) → IsAccepted parts finish → most_variables parts ≤ 32 }
 {}

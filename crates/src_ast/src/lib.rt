@@ -15,7 +15,9 @@ pub mod tree;
 
 pub use bound::bound_of;
 pub use fault::{Quantity, Refusal, RefusalKind, TextFault};
-pub use laws::{printed_reads_the_same, read_is_written};
+pub use laws::{
+    accepted_has_few_variables, printed_reads_the_same, read_is_written, written_is_narrow,
+};
 pub use lexeme::{Lexeme, Lexemes, Mark, Name, Place, Shape};
 pub use print::print_program;
 pub use tree::{Ending, Expr, Exprs, Form, Item, Items, Names, Program, Stmt, Stmts, Unary};

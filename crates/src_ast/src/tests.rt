@@ -1,9 +1,14 @@
 ghost use Rattle.std.specs.Prelude.{◌≡◌, ◌+◌, ◌≤◌, length, suc, IfOk};
 ghost use Rattle.src_ast.specs.View as view;
 ghost use Rattle.src_ast.specs.Bound as spec;
+ghost use Rattle.src_ast.specs.Rules.{IsAccepted};
+ghost use Rattle.src_ast.specs.Written.{IsWritten};
 
 use crate::make::{if_stmt, while_stmt};
-use crate::{Expr, Form, Item, Name, Place, Program, Stmt, bound_of, print_program};
+use crate::{
+    Expr, Form, Item, Name, Place, Program, Stmt, accepted_has_few_variables, bound_of,
+    print_program, written_is_narrow,
+};
 use std::alloc::Global;
 use std::test::Fail;
 use ws_words::{Alu, Bytes, NoMemory};
@@ -120,5 +125,44 @@ fn arms_are_printed(rt: HostRuntime) -> Result<(), Fail> {
     let wanted =
         b"proc main() {\n  if (b) {\n    print (a + b) * c;\n  } else {\n    if (a) {\n    }\n  }\n}\n";
     assert_eq!(rt; text.as_slice(), wanted.as_slice());
+    Ok(())
+}
+
+// A written and accepted program has a bound, by the laws.
+fn bound_by_laws(program: &Program) -> u64
+    requires written { IsWritten (view.parts program.now.items.items) }
+    requires accepted { IsAccepted (view.parts program.now.items.items) program.now.finish }
+    ensures { result ≡ spec.bound (view.parts program.now.items.items) }
+{
+    written_is_narrow();
+    accepted_has_few_variables();
+    bound_of(program)
+}
+
+// proc main() { }
+fn empty(alloc: Global) -> Result<Program, NoMemory>
+    ensures written { IfOk result (λ p. IsWritten (view.parts p.items.items)) }
+    ensures accepted { IfOk result (λ p. IsAccepted (view.parts p.items.items) p.finish) }
+{
+    let main = Item::Proc {
+        name: Name {
+            text: Bytes::from_slice(alloc, b"main")?,
+            place: START,
+        },
+        params: Vec::new(alloc),
+        vars: Vec::new(alloc),
+        body: Vec::new(alloc),
+        ending: None,
+    };
+    Ok(Program {
+        items: vec![in alloc; main]?,
+        finish: START,
+    })
+}
+
+#[test]
+fn empty_has_a_bound_by_the_laws(rt: HostRuntime) -> Result<(), Fail> {
+    let program = empty(rt.alloc())?;
+    assert_eq!(rt; bound_by_laws(&program), 128);
     Ok(())
 }

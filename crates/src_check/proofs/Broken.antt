@@ -9,11 +9,11 @@ use Rattle.src_ast.specs.declared.lexeme.Place.{Place}
 use Rattle.src_ast.specs.declared.fault.RefusalKind.{RefusalKind}
 use Rattle.src_ast.specs.declared.fault.Refusal.{Refusal}
 use Rattle.src_ast.specs.declared.fault.RefusalKind.TheVariants.{Unknown, Kind, Count}
-use Rattle.src_ast.specs.Rules.{Rule, Sort, Declared, same_kind, same_sort, is_visible, use_rules}
+use Rattle.src_ast.specs.Rules.{Rule, rule, Sort, Declared, same_kind, same_sort, is_visible, use_rules}
 use Rattle.src_check.specs.declared.stop.Stop.{Stop}
 use Rattle.src_check.specs.declared.stop.Stop.TheVariants.{Memory, Broken}
 use Rattle.src_check.specs.Names.{StandsFor, passes}
-use Rattle.src_check.specs.Rule.{rule, first_broken}
+use Rattle.src_check.specs.Rule.{first_broken}
 use Rattle.src_check.specs.Walk.{Keeps, StopsAt, KeepsInMemory}
 
 abbrev fault : Rule → Refusal

@@ -6,9 +6,8 @@ use Rattle.src_ast.specs.declared.lexeme.Name.{Name}
 use Rattle.src_ast.specs.declared.fault.RefusalKind.TheVariants.{Main, Twice, Limit}
 use Rattle.src_ast.specs.declared.fault.Quantity.TheVariants.{Arrays, Length, CellSum, Procs}
 use Rattle.src_ast.specs.Syntax.{Part, Array, Proc, Procedure}
-use Rattle.src_ast.specs.Rules.{array, procedure, variables, is_visible, declared_by, arrays_in, procs_in, cells_in, statements_in, has_main, is_main, size_of_all, size_of_ending, part_rules, parameter_rules, variable_rules, body_rules, ending_rules}
+use Rattle.src_ast.specs.Rules.{array, procedure, variables, is_visible, declared_by, arrays_in, procs_in, cells_in, statements_in, has_main, is_main, size_of_all, size_of_ending, part_rules, parameter_rules, variable_rules, body_rules, ending_rules, rule}
 use Rattle.src_check.specs.Names.{found, passes, StandsFor}
-use Rattle.src_check.specs.Rule.{rule}
 use Rattle.src_check.specs.Behind.{IsBehind}
 use Rattle.src_check.specs.declared.walk.Walk.{Walk}
 use Rattle.src_check.proofs.Stands.{stands_with, stands_moved}

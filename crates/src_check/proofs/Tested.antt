@@ -3,8 +3,7 @@ use Rattle.std.proofs.Common.{◌≡◌, ℕ, List, [], ◌∷◌, Bool, not, �
 use Rattle.src_ast.specs.declared.lexeme.Name.{Name}
 use Rattle.src_ast.specs.declared.fault.RefusalKind.TheVariants.{Main, Twice, Limit}
 use Rattle.src_ast.specs.declared.fault.Quantity.TheVariants.{Params, Vars}
-use Rattle.src_ast.specs.Rules.{Declared, is_visible, parameter_rules, variable_rules}
-use Rattle.src_check.specs.Rule.{rule}
+use Rattle.src_ast.specs.Rules.{Declared, is_visible, parameter_rules, variable_rules, rule}
 
 module _ (visible : List Declared) (k : ℕ) (x : Name) (known : Bool) (is_known : known ≡ is_visible visible x.text) where
   pub parameter_rules_as : (main barred : Bool) → barred ≡ (main && (k == 0))

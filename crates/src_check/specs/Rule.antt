@@ -1,13 +1,7 @@
 -- The first of a list of rules that isn't kept.
-use Rattle.std.specs.Prelude.{List, [], ◌∷◌, Option, Some, None, Bool, if◌then◌else◌}
-use Rattle.src_ast.specs.declared.lexeme.Place.{Place}
+use Rattle.std.specs.Prelude.{List, [], ◌∷◌, Option, Some, None, if◌then◌else◌}
 use Rattle.src_ast.specs.declared.fault.Refusal.{Refusal}
-use Rattle.src_ast.specs.declared.fault.RefusalKind.{RefusalKind}
 use Rattle.src_ast.specs.Rules.{Rule}
-
--- a rule at a place of the text, and whether it is kept there
-abbrev pub rule : Place → RefusalKind → Bool → Rule
-rule place kind kept = record { place = place; kind = kind; kept = kept }
 
 -- the first rule that isn't kept
 unfoldable pub first_broken : List Rule → Option Refusal

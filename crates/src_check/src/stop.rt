@@ -1,7 +1,7 @@
 //! Why a walk stops, and the test of one rule.
 
 ghost use Rattle.std.specs.Prelude.{◌≡◌, [], ◌∷◌, IsTrue, OnOk};
-ghost use Rattle.src_check.specs.Rule.{rule};
+ghost use Rattle.src_ast.specs.Rules.{rule};
 ghost use Rattle.src_check.specs.Walk.{Keeps};
 
 use src_ast::{Place, Refusal, RefusalKind};

@@ -62,9 +62,9 @@ fn place_at(lexemes: &[Lexeme], finish: Place) -> Place
 
 /// The tree that a text's lexemes spell.
 ///
-/// Its recursion goes down expressions and blocks alone, so it is as deep as the limits of the
-/// lexemes let it be: 256 lexemes in a row, and 32 braces. Lists, statements and items are loops.
-/// The time is linear in the number of lexemes.
+/// Its recursion goes down expressions and blocks alone. Where the lexemes keep their limits, it is
+/// as deep as those let it be: 256 lexemes in a row, and 32 braces. Lists, statements and items are
+/// loops.
 #[tactic(auto, using(crate::proofs::Laws::parse_found, crate::proofs::Laws::parse_same, crate::proofs::Laws::parse_never, crate::proofs::Laws::parse_fault))]
 pub fn parse(alloc: Global, lexemes: &Lexemes) -> Result<Program, TextFault>
     // What is answered is spelled so.

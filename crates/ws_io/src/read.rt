@@ -1,6 +1,6 @@
 //! Reading a whole text.
 
-ghost use Rattle.std.specs.Prelude.{◌≡◌, ℕ, ◌+◌, ◌^◌, ◌<◌, ◌≤◌, List, length, IfOk, IsErrOf};
+ghost use Rattle.std.specs.Prelude.{◌≡◌, ℕ, ◌+◌, ◌≤◌, List, length, IfOk, IsErrOf};
 ghost use Rattle.ws_io.specs.Streams.{Rose, Takes, TakesAll};
 ghost use Rattle.ws_io.specs.declared.read.ReadEnd.{ReadEnd};
 
@@ -42,7 +42,6 @@ const PIECE: usize = 4096;
 /// Reads a whole text of at most `limit` bytes. It reads at most `limit + 1` bytes: where one more
 /// than the limit comes, the text is too long.
 pub fn read_all<S: Source>(alloc: Global, source: &mut S, limit: usize) -> Result<Bytes, ReadEnd>
-    requires { limit < 2 ^ 63 }
     ensures ok { IfOk result (λ text. TakesAll (S.left source.old) text (S.left source.new)) }
     ensures within { IfOk result (λ text. length text ≤ limit) }
     ensures long { IsErrOf result ReadEnd.TooLong → (bytes : List ℕ)
@@ -61,7 +60,7 @@ pub fn read_all<S: Source>(alloc: Global, source: &mut S, limit: usize) -> Resul
     let mut text = Bytes::empty(alloc);
     let mut buffer = [0u8; PIECE];
     'pieces: loop {
-        let room = limit + 1 - text.len();
+        let room = (limit - text.len()).saturating_add(1);
         let count = source.read(&mut buffer[..room.min(PIECE)])?;
         if count == 0 {
             return Ok(text);

@@ -1,5 +1,5 @@
 -- What a run has outside its variables, and its acts. The source and every form that it is compiled to share these.
-use Rattle.std.specs.Prelude.{ℕ, zero, suc, ◌-◌, List, [], ◌∷◌, ◌++◌, slice_index, slice_set}
+use Rattle.std.specs.Prelude.{ℕ, zero, suc, ◌-◌, List, [], ◌∷◌, ◌++◌, slice_set}
 
 -- What a run does outside its variables. Arrays are by number from 1, hidden ones too; ports are from 1 to 7.
 pub data Act : Type 0 where
@@ -46,9 +46,6 @@ head_or_zero (x ∷ xs) = x
 abbrev pub rest_of : List ℕ → List ℕ
 rest_of [] = []
 rest_of (x ∷ xs) = xs
-
-abbrev pub var : State → ℕ → ℕ
-var s x = slice_index s.vars x
 
 abbrev pub write : State → ℕ → ℕ → State
 write s x v = record { vars = slice_set s.vars x v; out = s.out }

@@ -2,7 +2,8 @@ use Rattle.std.proofs.Common.{◌∙◌, sym, ap, true, [], ◌∷◌, refl}
 use Rattle.std.specs.Option.{option_map}
 use Rattle.src_ast.specs.declared.fault.RefusalKind.TheVariants.{Unknown, Kind}
 use Rattle.src_check.specs.Names.{sort_of, seen}
-use Rattle.src_check.specs.Rule.{rule, first_broken}
+use Rattle.src_ast.specs.Rules.{rule}
+use Rattle.src_check.specs.Rule.{first_broken}
 use Rattle.src_check.proofs.Broken.{before_broken, behind_kept, answers_behind, leaves, keeps_as, rule_kept, use_where_none, use_where_some}
 use Rattle.src_check.proofs.expressions.name_use.Goals as goal
 

@@ -1,7 +1,8 @@
 use Rattle.std.proofs.Common.{◌≡◌, ◌∙◌, refl, [], ◌∷◌, ◌&&◌, not, true, ◌==◌, sym, ap}
 use Rattle.src_ast.specs.declared.fault.RefusalKind.TheVariants.{Main, Twice}
 use Rattle.src_check.specs.Names.{seen, passes}
-use Rattle.src_check.specs.Rule.{rule, first_broken}
+use Rattle.src_ast.specs.Rules.{rule}
+use Rattle.src_check.specs.Rule.{first_broken}
 use Rattle.src_check.proofs.Broken.{before_broken, behind_kept, leaves_in_memory, visible_where_found}
 use Rattle.src_check.proofs.Tested.{parameter_rules_as}
 use Rattle.src_check.proofs.locals.parameter.Goals as goal

@@ -5,9 +5,9 @@ use Rattle.src_ast.specs.View as view
 use Rattle.src_ast.specs.declared.tree.Item.{Item}
 use Rattle.src_ast.specs.declared.fault.RefusalKind.TheVariants.{Main}
 use Rattle.src_ast.specs.Syntax.{Part}
-use Rattle.src_ast.specs.Rules.{part_rules, rules_behind, has_main}
+use Rattle.src_ast.specs.Rules.{part_rules, rules_behind, has_main, rule}
 use Rattle.src_check.specs.Behind.{IsBehind}
-use Rattle.src_check.specs.Rule.{rule, first_broken}
+use Rattle.src_check.specs.Rule.{first_broken}
 use Rattle.src_check.proofs.Broken.{none_broken, behind_kept, leaves_in_memory, passes_on, stop_as, stop_before}
 use Rattle.src_check.proofs.Steps.{drop_next, map-take_next}
 use Rattle.src_check.proofs.walk.keeps_rules.Goals as goal

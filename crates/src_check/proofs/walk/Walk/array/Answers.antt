@@ -2,7 +2,8 @@ use Rattle.std.proofs.Common.{◌∙◌, refl, [], ◌∷◌, not, true, nat_lt,
 use Rattle.src_ast.specs.declared.fault.RefusalKind.TheVariants.{Twice, Limit}
 use Rattle.src_ast.specs.declared.fault.Quantity.TheVariants.{Arrays, Length}
 use Rattle.src_check.specs.Names.{found, passes}
-use Rattle.src_check.specs.Rule.{rule, first_broken}
+use Rattle.src_ast.specs.Rules.{rule}
+use Rattle.src_check.specs.Rule.{first_broken}
 use Rattle.src_check.proofs.Broken.{before_broken, behind_kept, leaves_in_memory, visible_where_found}
 use Rattle.src_check.proofs.Parts.{array_rules_as, behind_array, not_true}
 use Rattle.src_check.proofs.walk.Walk.array.Goals as goal

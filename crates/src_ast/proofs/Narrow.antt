@@ -1,0 +1,116 @@
+-- A written program has narrow statements, and the procedures of an accepted one have few parameters and variables.
+use Rattle.std.proofs.Common.{◌≡◌, ℕ, suc, ◌+◌, ◌≤◌, nat_lt, ◌==◌, Bool, true, false, not, ◌&&◌, length, List, [], ◌∷◌, ◌++◌, Option, Some, None, sym, ◌∙◌, arith}
+use Rattle.std.specs.List.{list_all}
+use Rattle.std.proofs.lemmas.Bool.{and_parts, ltb-true}
+use Rattle.std.proofs.lemmas.List.Folds.{list_all-append}
+use Rattle.src_ast.specs.declared.lexeme.Name.{Name}
+use Rattle.src_ast.specs.declared.lexeme.Place.{Place}
+use Rattle.src_ast.specs.declared.fault.RefusalKind.TheVariants.{Main}
+use Rattle.src_ast.specs.Syntax.{Expression, Number, Variable, Cell, Signed, Binary, Statement, Assign, Store, Print, Read, Give, Take, Call, If, While, Statements, Nothing, Then, Last, Procedure, Part, Array, Proc}
+use Rattle.src_ast.specs.Grammar.{level_of}
+use Rattle.src_ast.specs.Printed.{is_looser, is_no_tighter, is_binary}
+use Rattle.src_ast.specs.Written.{rounded, width, list_width, IsFit, AreFit, IsFitEnding, IsWritten}
+use Rattle.src_ast.specs.Bound.{nodes, nodes_of, most_nodes, most_nodes_of, ending_nodes, widest, most_variables}
+use Rattle.src_ast.specs.Rules.{Rule, Declared, variable, variables, is_visible, declared_by, has_main, is_main, procs_in, statements_in, size_of_all, parameter_rules, variable_rules, body_rules, ending_rules, part_rules, rules_behind, IsAccepted}
+
+-- parentheses only add
+rounded_least : (needed : Bool) (n : ℕ) → n ≤ rounded needed n
+rounded_least true n = omega arith
+rounded_least false n = omega arith
+
+-- each node of an expression is a lexeme of its printed form
+nodes_width : (e : Expression) → nodes e ≤ width e
+nodes_width (Number n) = omega arith
+nodes_width (Variable x) = omega arith
+nodes_width (Cell a e) = omega (arith, nodes_width e)
+nodes_width (Signed s e) = omega (arith, nodes_width e, rounded_least (is_binary e) (width e))
+nodes_width (Binary op a b) =
+    omega (arith, nodes_width a, nodes_width b, rounded_least (is_looser a (level_of op)) (width a), rounded_least (is_no_tighter b (level_of op)) (width b))
+
+nodes_list_width : (es : List Expression) → nodes_of es ≤ list_width es
+nodes_list_width [] = omega arith
+nodes_list_width (e ∷ []) = omega (arith, nodes_width e)
+nodes_list_width (e ∷ f ∷ es) = omega (arith, nodes_width e, nodes_list_width (f ∷ es))
+
+mutual
+  fit_narrow : (braces : ℕ) (s : Statement) → IsFit braces s → most_nodes s ≤ 255
+  fit_narrow braces (Assign at x e) h = omega (arith, h.2, nodes_width e)
+  fit_narrow braces (Store at a i e) h = omega (arith, h.3, nodes_width i, nodes_width e)
+  fit_narrow braces (Print at e) h = omega (arith, h.1, nodes_width e)
+  fit_narrow braces (Read at x) h = omega arith
+  fit_narrow braces (Give at n p x) h = omega arith
+  fit_narrow braces (Take at n p e) h = omega (arith, h.2, nodes_width e)
+  fit_narrow braces (Call at None f es) h = omega (arith, h.2, nodes_list_width es)
+  fit_narrow braces (Call at (Some x) f es) h = omega (arith, h.3, nodes_list_width es)
+  fit_narrow braces (If at e a b) h = omega (arith, h.1, nodes_width e, all_narrow (suc braces) a h.3, all_narrow (suc braces) b h.4)
+  fit_narrow braces (While at e body) h = omega (arith, h.1, nodes_width e, all_narrow (suc braces) body h.3)
+
+  all_narrow : (braces : ℕ) (b : Statements) → AreFit braces b → most_nodes_of b ≤ 255
+  all_narrow braces Nothing h = omega arith
+  all_narrow braces (Then s rest) h = omega (arith, fit_narrow braces s h.0, all_narrow braces rest h.1)
+
+ending_narrow : (e : Option Last) → IsFitEnding e → ending_nodes e ≤ 255
+ending_narrow None h = omega arith
+ending_narrow (Some last) h = omega (arith, h.1, nodes_width last.value)
+
+pub written_narrow : (all : List Part) → IsWritten all → widest all ≤ 255
+written_narrow [] h = omega arith
+written_narrow (Array x n at ∷ all) h = written_narrow all h.1
+written_narrow (Proc p ∷ all) h = omega (arith, all_narrow 1 p.body h.0.body, ending_narrow p.ending h.0.ending, written_narrow all h.1)
+
+-- a parameter behind 8 others is refused
+few_params : (main : Bool) (visible : List Declared) (k : ℕ) (xs : List Name) → k ≤ 8 → list_all (λ r. r.kept) (parameter_rules main visible k xs) ≡ true
+    → k + length xs ≤ 8
+few_params main visible k [] h e = omega (arith, h)
+few_params main visible k (x ∷ xs) h e =
+    let first = and_parts (not (main && (k == 0))) _ e in
+    let second = and_parts (not (is_visible visible x.text)) _ first.1 in
+    let third = and_parts (nat_lt k 8) _ second.1 in
+    let below = ltb-true k 8 third.0 in
+    omega (arith, few_params main (record { text = x.text; sort = variable } ∷ visible) (suc k) xs (omega (arith, below)) third.1)
+
+-- a variable behind 32 parameters and variables is refused
+few_vars : (visible : List Declared) (k : ℕ) (xs : List Name) → k ≤ 32 → list_all (λ r. r.kept) (variable_rules visible k xs) ≡ true → k + length xs ≤ 32
+few_vars visible k [] h e = omega (arith, h)
+few_vars visible k (x ∷ xs) h e =
+    let first = and_parts (not (is_visible visible x.text)) _ e in
+    let second = and_parts (nat_lt k 32) _ first.1 in
+    let below = ltb-true k 32 second.0 in
+    omega (arith, few_vars (record { text = x.text; sort = variable } ∷ visible) (suc k) xs (omega (arith, below)) second.1)
+
+procedure_few : (before : List Part) (p : Procedure) → list_all (λ r. r.kept) (part_rules before (Proc p)) ≡ true → length p.params + length p.vars ≤ 32
+procedure_few before p e =
+    let kept : Rule → Bool = λ r. r.kept in
+    let params = parameter_rules (is_main p) (declared_by before) 0 p.params in
+    let vs = variable_rules (variables p.params ++ declared_by before) (length p.params) p.vars in
+    let visible = variables (p.params ++ p.vars) ++ declared_by before in
+    let k = statements_in before in
+    let behind = body_rules visible k p.body ++ ending_rules visible (k + size_of_all p.body) p.ending in
+    let a = (and_parts (not (has_main before)) _ e).1 in
+    let b = (and_parts (not (is_visible (declared_by before) p.name.text)) _ a).1 in
+    let c = (and_parts (nat_lt (procs_in before) 64) (list_all kept (params ++ (vs ++ behind))) b).1 in
+    let d = and_parts (list_all kept params) (list_all kept (vs ++ behind)) (sym (list_all-append kept params (vs ++ behind)) ∙ c) in
+    let few = few_params (is_main p) (declared_by before) 0 p.params (omega arith) d.0 in
+    let both = and_parts (list_all kept vs) (list_all kept behind) (sym (list_all-append kept vs behind) ∙ d.1) in
+    few_vars (variables p.params ++ declared_by before) (length p.params) p.vars (omega (arith, few)) both.0
+
+few_from : (before all : List Part) → list_all (λ r. r.kept) (rules_behind before all) ≡ true → most_variables all ≤ 32
+few_from before [] e = omega arith
+few_from before (Array x n at ∷ all) e =
+    let kept : Rule → Bool = λ r. r.kept in
+    let here = part_rules before (Array x n at) in
+    let behind = rules_behind (before ++ Array x n at ∷ []) all in
+    few_from (before ++ Array x n at ∷ []) all (and_parts (list_all kept here) (list_all kept behind) (sym (list_all-append kept here behind) ∙ e)).1
+few_from before (Proc p ∷ all) e =
+    let kept : Rule → Bool = λ r. r.kept in
+    let here = part_rules before (Proc p) in
+    let behind = rules_behind (before ++ Proc p ∷ []) all in
+    let both = and_parts (list_all kept here) (list_all kept behind) (sym (list_all-append kept here behind) ∙ e) in
+    omega (arith, procedure_few before p both.0, few_from (before ++ Proc p ∷ []) all both.1)
+
+pub accepted_few : (all : List Part) (finish : Place) → IsAccepted all finish → most_variables all ≤ 32
+accepted_few all finish e =
+    let kept : Rule → Bool = λ r. r.kept in
+    let front = rules_behind [] all in
+    let last : List Rule = record { place = finish; kind = Main; kept = has_main all } ∷ [] in
+    few_from [] all (and_parts (list_all kept front) (list_all kept last) (sym (list_all-append kept front last) ∙ e)).0
