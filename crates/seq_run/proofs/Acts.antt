@@ -1,12 +1,10 @@
 -- What acts print and ports take, and what ports have left.
-use Rattle.std.proofs.Common.{◌≡◌, ℕ, zero, suc, ◌+◌, ◌-◌, ◌<◌, ◌≤◌, ◌==◌, Bool, true, false, List, [], ◌∷◌, ◌++◌, Option, Some, None, length, drop, slice_get, slice_index, slice_set, if◌then◌else◌, refl, sym, ap, ◌∙◌, subst, arith}
+use Rattle.std.proofs.Common.{◌≡◌, ℕ, zero, suc, ◌+◌, ◌-◌, ◌<◌, ◌≤◌, ◌==◌, Bool, true, false, List, [], ◌∷◌, ◌++◌, Some, None, length, drop, slice_get, slice_index, slice_set, if◌then◌else◌, refl, sym, ap, ◌∙◌, arith}
 use Rattle.std.proofs.lemmas.List.{append-nil}
-use Rattle.std.proofs.lemmas.Bool.{eqb-true}
 use Rattle.std.proofs.lemmas.Bool.Decides.{nat_tests}
-use Rattle.ws_words.specs.Outside.{Act, loads, stores, reads, prints, gives, takes, Outside, row, with_row, head_or_zero, rest_of, printed_words}
+use Rattle.ws_words.specs.Outside.{Act, loads, stores, reads, prints, gives, takes, row, with_row, head_or_zero, rest_of, printed_words}
 use Rattle.ws_words.specs.Plain.{took_words, took_from, took_by_ports}
-use Rattle.seq_run.specs.Shows.{rests, Shows}
-use Rattle.seq_run.specs.declared.machine.Machine.{Machine}
+use Rattle.seq_run.specs.Shows.{rests}
 
 pub printed_append : (xs ys : List Act) → printed_words (xs ++ ys) ≡ printed_words xs ++ printed_words ys
 printed_append [] ys = refl

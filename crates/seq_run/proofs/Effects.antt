@@ -1,10 +1,9 @@
 -- What the code does outside the variables is what the run does.
 use Rattle.std.proofs.Common.{◌≡◌, ℕ, zero, suc, ◌+◌, ◌-◌, ◌<◌, ◌≤◌, List, [], ◌∷◌, ◌++◌, length, drop, slice_index, slice_set, refl, sym, ap, ◌∙◌, subst, arith}
-use Rattle.ws_words.specs.Outside.{Act, loads, stores, reads, prints, gives, takes, Outside, State, row, with_row, head_or_zero, rest_of, zeros, stored, printed, taken, has_read, given, printed_words}
-use Rattle.ws_words.specs.Plain.{took_by_ports}
+use Rattle.ws_words.specs.Outside.{stores, reads, prints, gives, State, row, with_row, head_or_zero, rest_of, zeros, stored, printed, taken, has_read, given}
 use Rattle.seq_run.specs.Shows.{rests, Shows}
 use Rattle.seq_run.specs.declared.machine.Machine.{Machine}
-use Rattle.seq_run.proofs.Acts.{silent_printed, silent_took, silent_store, silent_read, silent_give, printed_append, prints_took, takes_printed, takes_took, takes_nowhere, rest_drop, rest_past, head_drop, gives_word, gives_more, gives_none, length_set}
+use Rattle.seq_run.proofs.Acts.{silent_printed, silent_took, silent_store, silent_read, silent_give, printed_append, prints_took, takes_printed, takes_took, takes_nowhere, rest_drop, rest_past, gives_word, gives_more, gives_none, length_set}
 
 pub store_shows : (s : State) (m : Machine) (a i v place : ℕ) (cells : List (List ℕ)) → Shows s.out m → place ≡ a - 1 → cells ≡ with_row m.cells place (slice_set (row m.cells place) i v) → Shows (stored s a i v).out (record m { cells = cells })
 store_shows s m a i v place cells sh at e = record {

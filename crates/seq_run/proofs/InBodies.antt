@@ -1,12 +1,12 @@
 -- Where the rules are kept, each number in the body of a procedure names something.
-use Rattle.std.proofs.Common.{◌≡◌, ℕ, zero, suc, ◌+◌, ◌-◌, ◌<◌, ◌≤◌, nat_lt, nat_le, Bool, true, false, ◌&&◌, List, [], ◌∷◌, ◌++◌, Option, Some, None, length, refl, sym, ap, ◌∙◌, arith}
+use Rattle.std.proofs.Common.{◌≡◌, ℕ, suc, ◌+◌, ◌<◌, ◌≤◌, nat_le, Bool, true, false, ◌&&◌, List, [], ◌∷◌, ◌++◌, Option, Some, None, length, refl, sym, ap, ◌∙◌, arith}
 use Rattle.std.proofs.lemmas.List.Folds.{list_all-append}
 use Rattle.std.proofs.lemmas.Bool.{ltb-true, leb-true}
 use Rattle.std.specs.List.{list_all, AllByRecursion}
 use Rattle.src_ast.specs.declared.lexeme.Name.{Name}
 use Rattle.src_ast.specs.Syntax.{Expression, Number, Variable, Cell, Signed, Binary, Statement, Assign, Store, Print, Read, Give, Take, Call, If, While, Statements, Nothing, Then, Last}
 use Rattle.src_ast.specs.Rules.{Rule, Sort, variable, array, procedure, Declared, is_visible, has_kind, has_sort, use_rules, expression_rules, argument_rules, statement_rule, port_rule, statement_rules, body_rules, ending_rules, size_of, size_of_all, size_of_ending}
-use Rattle.src_ast.specs.Meaning.{Scope, place_of, var_number, array_number, proc_number, target}
+use Rattle.src_ast.specs.Meaning.{Scope, place_of, var_number, array_number, proc_number}
 use Rattle.seq_run.specs.Resolved.{Proc, nth_proc}
 use Rattle.seq_run.specs.Resolving.{term, terms, one, all, result}
 use Rattle.seq_run.specs.InRange.{IsArray, IsPort, TermIn, ResultIn, StepIn, StepsIn, size, size_all}

@@ -4,19 +4,19 @@ use Rattle.std.specs.List.{AllByRecursion}
 use Rattle.src_ast.specs.declared.lexeme.Place.{Place}
 use Rattle.src_ast.specs.declared.lexeme.Name.{Name}
 use Rattle.src_ast.specs.Syntax.{Part, Array, Proc, Procedure}
-use Rattle.src_ast.specs.Rules.{Declared, variable, array, procedure, declared_by, variables, has_sort, is_main, has_main, procs_in, statements_in, size_of_all, size_of_ending, parameter_rules, part_rules, rules_behind, IsAccepted}
-use Rattle.src_ast.specs.Meaning.{Scope, place_of, scope_of, arrays_of, lengths_of, procs_of, names_of, nth_procedure}
+use Rattle.src_ast.specs.Rules.{Declared, variable, array, procedure, declared_by, variables, has_sort, is_main, has_main, procs_in, statements_in, size_of_all, parameter_rules, part_rules, rules_behind, IsAccepted}
+use Rattle.src_ast.specs.Meaning.{Scope, scope_of, arrays_of, lengths_of, procs_of, names_of, nth_procedure}
 use Rattle.seq_run.specs.Resolved.{nth_proc}
 use Rattle.seq_run.specs.Resolved as resolved
 use Rattle.seq_run.specs.Resolving as resolving
 use Rattle.seq_run.specs.Resolving.{texts}
-use Rattle.seq_run.specs.InRange.{ProcIn, ProgramIn, size_all, steps_in}
+use Rattle.seq_run.specs.InRange.{ProcIn, ProgramIn, steps_in}
 use Rattle.seq_run.proofs.Declares.{procs_append}
 use Rattle.seq_run.proofs.Places.{length_procs}
 use Rattle.seq_run.proofs.Whole.{some_proc, accepted_has_proc, list_all_end}
 use Rattle.seq_run.proofs.Visible.{in_front_or_behind, variable_place, no_variable, only_variables, array_place, procedure_place, proc_place, array_stays, proc_stays, nth_stays, Known, known_none, known_array, known_procedure, clash}
 use Rattle.seq_run.proofs.InBodies.{Kept, kept_front, kept_behind, Seen, all_in, result_in, body_size, body_few, ending_few}
-use Rattle.seq_run.proofs.PartRules.{ProcKept, proc_kept, array_kept, params_few, vars_few, no_params}
+use Rattle.seq_run.proofs.PartRules.{proc_kept, array_kept, params_few, vars_few, no_params}
 
 lengths_more : (ps qs : List Part) → length (arrays_of ps) ≤ length (lengths_of (ps ++ qs))
 lengths_more [] qs = omega arith
@@ -87,6 +87,7 @@ module _ (before rest : List Part) (p : Procedure) (known : Known before) where
       record {
         body = all_in (scope_in whole p) (visible_in before p) (length (lengths_of whole)) (resolving.program whole).procs (length (procs_of before)) (length p.params + length p.vars) seen (statements_in before) p.body kept.body;
         result = result_in (scope_in whole p) (visible_in before p) (length (lengths_of whole)) (resolving.program whole).procs (length (procs_of before)) (length p.params + length p.vars) seen (statements_in before + size_of_all p.body) p.ending kept.ending;
+        few_params = omega (arith, few);
         few_vars = few_vars;
       }
 

@@ -1,8 +1,6 @@
 -- Tables of names give the places of names.
-use Rattle.std.proofs.Common.{◌≡◌, ℕ, zero, suc, ◌+◌, nat_eq, Bool, true, false, cond, List, [], ◌∷◌, ◌++◌, length, Option, Some, None, is_some, unwrap_or, if◌then◌else◌, refl, sym, ap, ◌∙◌, subst, Bor, SomeIff, ◌<◌, ◌^◌, arith}
-use Rattle.std.specs.HashMap as hash
+use Rattle.std.proofs.Common.{◌≡◌, ℕ, suc, ◌+◌, nat_eq, Bool, true, false, cond, List, [], ◌∷◌, ◌++◌, length, Option, Some, None, is_some, unwrap_or, if◌then◌else◌, refl, sym, ap, ◌∙◌, Bor, SomeIff, ◌<◌, ◌^◌, arith}
 use Rattle.std.specs.HashMap.{HashMap, get_by}
-use Rattle.std.specs.Map.{update}
 use Rattle.std.specs.Str.{bytes_eq}
 use Rattle.std.proofs.lemmas.Slice.Eq.{bytes_eq-Decides}
 use lib.Pointwise.{pointwise}

@@ -1,11 +1,11 @@
 -- A whole run.
-use Rattle.std.proofs.Common.{◌≡◌, ℕ, zero, suc, ◌+◌, ◌-◌, ◌<◌, ◌≤◌, ◌⊎◌, inl, inr, Bool, true, false, ◌&&◌, IsTrue, List, [], ◌∷◌, ◌++◌, Option, Some, None, length, take, drop, slice_index_or, refl, sym, ap, ◌∙◌, subst, arith}
+use Rattle.std.proofs.Common.{◌≡◌, ℕ, zero, suc, ◌+◌, ◌-◌, ◌<◌, ◌≤◌, ◌⊎◌, inl, inr, Bool, true, false, ◌&&◌, List, [], ◌∷◌, ◌++◌, Option, Some, None, length, take, drop, slice_index_or, refl, sym, ap, ◌∙◌, subst, arith}
 use Rattle.std.specs.List.{list_all}
 use Rattle.ws_words.specs.declared.plain.Plain.{Plain}
 use Rattle.ws_words.specs.declared.plain.Plain.TheVariants as plains
 use Rattle.ws_words.specs.declared.plain.World.{World as CodeWorld}
-use Rattle.ws_words.specs.Outside.{Outside, World, Act, zeros, opening_out, printed_words}
-use Rattle.ws_words.specs.Plain.{took_words, took_from, took_by_ports}
+use Rattle.ws_words.specs.Outside.{Outside, World, zeros, opening_out}
+use Rattle.ws_words.specs.Plain.{took_from, took_by_ports}
 use Rattle.src_ast.specs.declared.lexeme.Place.{Place}
 use Rattle.src_ast.specs.Syntax.{Part, Array, Proc}
 use Rattle.src_ast.specs.Rules.{Rule, IsAccepted, has_main, rules_behind}

@@ -1,4 +1,4 @@
--- Programs with numbers for names in which each number names something, within the limits of the language.
+-- Programs with numbers for names in which each number names something, and of which there are few enough procedures, parameters, variables, cells and steps.
 use Rattle.std.specs.Prelude.{◌≡◌, ℕ, suc, ◌+◌, ◌-◌, ◌<◌, ◌≤◌, List, [], ◌∷◌, length, Option, Some, None}
 use Rattle.std.specs.List.{AllByRecursion}
 use Rattle.seq_run.specs.Resolved.{Term, Number, Var, Cell, Signed, Binary, Action, Assign, Store, Print, Read, Give, Take, Step, Do, Call, If, While, Steps, Nothing, Then, Proc, nth_proc, Program}
@@ -50,6 +50,7 @@ abbrev mutual
 pub record ProcIn (arrays : ℕ) (procs : List Proc) (home : ℕ) (p : Proc) : Type 0 where
   pub body : StepsIn arrays procs home (p.params + p.locals) p.body
   pub result : ResultIn arrays (p.params + p.locals) p.result
+  pub few_params : p.params ≤ 8
   pub few_vars : p.params + p.locals ≤ 32
 
 abbrev mutual

@@ -141,7 +141,8 @@ pub(crate) fn numbered(alloc: Global, items: &[Item]) -> Result<Resolved, NoMemo
     Ok(Resolved { arrays, procs })
 }
 
-/// The program with numbers for names, each of which names something.
+/// The program with numbers for names. Each number names something, and the language's limits on
+/// procedures, parameters, variables, lengths and statements are said of it too.
 pub fn resolve(alloc: Global, accepted: &Accepted) -> Result<Resolved, NoMemory>
     ensures resolves { IfOk result (λ resolved. view.program resolved ≡ resolving.program (ast.parts accepted.now.program.items.items)) }
     ensures in_range { IfOk result (λ resolved. ProgramIn (view.program resolved)) }

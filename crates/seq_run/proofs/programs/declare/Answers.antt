@@ -1,4 +1,4 @@
-use Rattle.std.proofs.Common.{List, ◌++◌, take, subst, ap, arith}
+use Rattle.std.proofs.Common.{List, ◌++◌, take, subst}
 use Rattle.src_ast.specs.declared.lexeme.Name.{Name}
 use Rattle.seq_run.specs.Tables.{IsTable}
 use Rattle.seq_run.proofs.Declares.{declared_more, take_whole}

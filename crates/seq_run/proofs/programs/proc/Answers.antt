@@ -2,7 +2,7 @@ use Rattle.std.proofs.Common.{◌++◌, [], length}
 use Rattle.src_ast.specs.View as ast
 use Rattle.src_ast.specs.Meaning.{Scope}
 use Rattle.seq_run.specs.Resolving as resolving
-use Rattle.seq_run.specs.Tables.{IsTable, AreNames}
+use Rattle.seq_run.specs.Tables.{AreNames}
 use Rattle.seq_run.specs.View as view
 use Rattle.seq_run.proofs.Declares.{same_proc, count_front, front_at_most, count_back}
 use Rattle.seq_run.proofs.programs.proc.Goals as goal

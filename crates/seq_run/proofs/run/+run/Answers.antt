@@ -1,17 +1,13 @@
-use Rattle.std.proofs.Common.{◌≡◌, ◌≤◌, ◌<◌, ◌+◌, ◌-◌, ◌==◌, suc, length, Some, None, Option, ℕ, true, false, List, arith, refl, sym, ap, ◌∙◌, subst, Bor}
+use Rattle.std.proofs.Common.{◌≡◌, ◌≤◌, ◌<◌, ◌+◌, ◌-◌, suc, length, Some, None, true, false, List, arith, refl, sym, ap, ◌∙◌, subst, Bor}
 use Rattle.src_ast.specs.Turns.{CallEnd}
-use Rattle.seq_run.specs.Resolved.{value as value_on, value_of, values as values_on, calls_below, run_all}
+use Rattle.seq_run.specs.Resolved.{value as value_on, value_of, calls_below, run_all}
 use Rattle.seq_run.specs.View as view
 use Rattle.seq_run.specs.Shows.{ReplyIs}
-use Rattle.seq_run.specs.declared.run.Flow.TheVariants as flows
 use Rattle.seq_run.specs.Weight.{weight, heft, weight_below}
-use Rattle.std.specs.Prelude.{Vec}
-use Rattle.std.specs.declared.alloc.Global.{Global}
-use Rattle.seq_run.specs.declared.tree.Term.{Term as CodeTerm}
 use Rattle.seq_run.specs.declared.tree.Step.{Step}
 use Rattle.seq_run.specs.declared.tree.Step.TheVariants as code
 use Rattle.seq_run.proofs.TurnsLeft.{all_most, calls_most}
-use Rattle.seq_run.proofs.Follows.{stepped, if_is, call_is, call_out, loaded_holds, stopped_at, weight_lt, is_ended, is_out, loop_zero, loop_next, loop_out, calls_past, call_ended, call_stopped, result_is, result_stops, from_step, if_step, while_step, call_step, if_weight, while_weight, heft_of, call_weight, as_steps, zero_flag, other_flag, as_reply, as_result}
+use Rattle.seq_run.proofs.Follows.{if_is, call_is, call_out, loaded_holds, stopped_at, weight_lt, is_ended, is_out, loop_zero, loop_next, loop_out, calls_past, call_ended, call_stopped, result_is, result_stops, from_step, if_step, while_step, call_step, if_weight, while_weight, heft_of, call_weight, as_steps, zero_flag, other_flag, as_reply, as_result}
 use Rattle.seq_run.proofs.run.+run.Goals as goal
 use Rattle.seq_run.proofs.run.+run.Goals.{run_if-then-quick-eq0, run_if-else-quick-eq0}
 

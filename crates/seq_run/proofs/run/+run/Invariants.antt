@@ -1,4 +1,4 @@
-use Rattle.std.proofs.Common.{◌≡◌, ◌≤◌, ◌+◌, suc, drop}
+use Rattle.std.proofs.Common.{◌≤◌, ◌+◌, suc, drop}
 use Rattle.ws_words.specs.Outside.{State}
 use Rattle.src_ast.specs.Turns.{loop}
 use Rattle.seq_run.specs.Resolved.{value_of, calls_below, run_all}

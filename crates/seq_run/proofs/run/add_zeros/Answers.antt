@@ -1,4 +1,4 @@
-use Rattle.std.proofs.Common.{◌≡◌, ◌+◌, [], ◌∷◌, ◌++◌, List, ℕ, suc, sym, ap, ◌∙◌, append_assoc, arith}
+use Rattle.std.proofs.Common.{◌+◌, [], ◌∷◌, ◌++◌, List, ℕ, ap, ◌∙◌, append_assoc, arith}
 use Rattle.ws_words.specs.Outside.{zeros}
 use Rattle.seq_run.proofs.Effects.{zeros_more}
 use Rattle.seq_run.proofs.run.add_zeros.Goals as goal

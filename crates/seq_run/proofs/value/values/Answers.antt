@@ -1,4 +1,4 @@
-use Rattle.std.proofs.Common.{◌≡◌, [], ◌∷◌, ◌++◌, ℕ, ap, ◌∙◌}
+use Rattle.std.proofs.Common.{[], ◌∷◌, ◌++◌, ℕ, ap, ◌∙◌}
 use Rattle.seq_run.proofs.Follows.{values_more}
 use Rattle.seq_run.proofs.value.values.Goals as goal
 
