@@ -1,10 +1,10 @@
 -- A program within the limits of the language has few blocks, and its ports fit into bytes.
-use Rattle.std.proofs.Common.{ℕ, zero, suc, ◌+◌, ◌*◌, ◌<◌, ◌≤◌, ◌^◌, List, [], ◌∷◌, length, arith}
+use Rattle.std.proofs.Common.{ℕ, suc, ◌+◌, ◌*◌, ◌<◌, ◌≤◌, ◌^◌, List, [], ◌∷◌, length, arith}
 use Rattle.std.specs.List.{AllByRecursion}
-use Rattle.seq_run.specs.Resolved.{Action, Assign, Store, Print, Read, Give, Take, Step, Do, Call, If, While, Steps, Nothing, Then, Proc, nth_proc, Program}
-use Rattle.seq_run.specs.InRange.{ActionIn, StepIn, StepsIn, ProcIn, ProgramIn, size_all, steps_in}
+use Rattle.seq_run.specs.Resolved.{Action, Assign, Store, Print, Read, Give, Take, Do, Call, If, While, Steps, Nothing, Then, Proc, nth_proc, Program}
+use Rattle.seq_run.specs.InRange.{ActionIn, StepsIn, ProgramIn, size_all, steps_in}
 use Rattle.cfg_build.specs.Lowered.{begun}
-use Rattle.cfg_build.specs.Drafts.{ActionFits, StepFits, StepsFit, ProcFits, blocks_of}
+use Rattle.cfg_build.specs.Drafts.{ActionFits, StepsFit, ProcFits, blocks_of}
 
 begun_few : (st : Steps) → begun st ≤ 3 * size_all st
 begun_few Nothing = omega arith

@@ -1,5 +1,5 @@
 -- Procedures that the code makes, one after another.
-use Rattle.std.proofs.Common.{◌≡◌, ℕ, suc, ◌+◌, ◌<◌, List, [], ◌∷◌, ◌++◌, length, map, drop, slice_index_or, refl, sym, ap, ◌∙◌, subst, append_assoc, arith}
+use Rattle.std.proofs.Common.{◌≡◌, ℕ, suc, ◌+◌, ◌<◌, List, [], ◌∷◌, length, map, drop, slice_index_or, sym, ap, ◌∙◌, subst, arith}
 use Rattle.std.proofs.lemmas.List.{drop_more, length-map}
 use Rattle.std.specs.List.{AllByRecursion}
 use Rattle.seq_run.specs.Resolved as resolved
@@ -8,13 +8,11 @@ use Rattle.seq_run.specs.declared.tree.Proc.{Proc}
 use Rattle.cfg_core.specs.Graph as graph
 use Rattle.cfg_core.specs.Graph.{Block}
 use Rattle.cfg_core.specs.View as view
-use Rattle.cfg_core.specs.declared.blocks.GraphBlock.{GraphBlock}
 use Rattle.cfg_core.specs.declared.blocks.GraphProc.{GraphProc}
 use Rattle.cfg_build.specs.Lowered as lowered
 use Rattle.cfg_build.specs.Lowered.{begun, last_part, made, whole}
 use Rattle.cfg_build.specs.Drafts.{Draft, emit, ended, ProcFits, blocks_of}
-use Rattle.cfg_build.proofs.Lists.{map_more}
-use Rattle.cfg_build.proofs.Stand.{length_made}
+use Rattle.cfg_build.proofs.Stand.{proc_end}
 use Rattle.cfg_build.proofs.Emitted.{emit_made}
 
 -- what is emitted from the beginning is the blocks of a procedure
@@ -28,11 +26,11 @@ emitted_blocks body result first begin d blocks eb ed e =
 next_proc : (ps : List Proc) (i : ℕ) (p : Proc) → i < length ps → p ≡ slice_index_or ps i p → source.procs (drop i ps) ≡ source.proc p ∷ source.procs (drop (i + 1) ps)
 next_proc ps i p lt is = ap source.procs (drop_more ps i p lt) ∙ ap (λ (q : Proc). source.proc q ∷ source.procs (drop (i + 1) ps)) (sym is)
 
--- its blocks
-pub count_blocks : (p : Proc) (first len : ℕ) (made : GraphProc) → view.proc made ≡ lowered.proc (source.proc p) first → len ≡ length made.blocks.items → len ≡ suc (begun (source.proc p).body)
-count_blocks p first len made same e =
+-- how many blocks it has
+pub count_made : (p : Proc) (first len : ℕ) (made : GraphProc) → view.proc made ≡ lowered.proc (source.proc p) first → len ≡ length made.blocks.items → len ≡ suc (begun (source.proc p).body)
+count_made p first len made same e =
     let n : length (map view.block made.blocks.items) ≡ length (lowered.proc_blocks (source.proc p) first) = ap (λ (q : graph.GraphProc). length q.blocks) same in
-    omega (arith, e, n, length-map made.blocks.items view.block, length_made (source.proc p).body first (last_part (source.proc p).result))
+    omega (arith, e, n, length-map made.blocks.items view.block, proc_end (source.proc p) first)
 
 module _ (ps : List Proc) (i : ℕ) (p : Proc) (lt : i < length ps) (is : p ≡ slice_index_or ps i p) where
   pub fit_now : AllByRecursion ProcFits (source.procs (drop i ps)) → ProcFits (source.proc p) × AllByRecursion ProcFits (source.procs (drop (i + 1) ps))
@@ -41,13 +39,7 @@ module _ (ps : List Proc) (i : ℕ) (p : Proc) (lt : i < length ps) (is : p ≡ 
   pub count_now : blocks_of (source.procs (drop i ps)) ≡ suc (begun (source.proc p).body + blocks_of (source.procs (drop (i + 1) ps)))
   count_now = ap blocks_of (next_proc ps i p lt is)
 
-  pub made_next : (first next : ℕ) (list now : List GraphProc) (made : GraphProc) (all : List graph.GraphProc) → next ≡ suc (first + begun (source.proc p).body) → view.proc made ≡ lowered.proc (source.proc p) first → now ≡ list ++ made ∷ [] → map view.proc list ++ lowered.procs (source.procs (drop i ps)) first ≡ all → map view.proc now ++ lowered.procs (source.procs (drop (i + 1) ps)) next ≡ all
-  made_next first next list now made all en same em h =
+  pub next_made : (first next : ℕ) (made : GraphProc) → next ≡ suc (first + begun (source.proc p).body) → view.proc made ≡ lowered.proc (source.proc p) first → lowered.procs (source.procs (drop i ps)) first ≡ view.proc made ∷ lowered.procs (source.procs (drop (i + 1) ps)) next
+  next_made first next made en same =
       let rest = lowered.procs (source.procs (drop (i + 1) ps)) in
-      ap (λ (xs : List GraphProc). map view.proc xs ++ rest next) em
-      ∙ ap (λ (xs : List graph.GraphProc). xs ++ rest next) (map_more view.proc list made)
-      ∙ append_assoc (map view.proc list) (view.proc made ∷ []) (rest next)
-      ∙ ap (λ (q : graph.GraphProc). map view.proc list ++ q ∷ rest next) same
-      ∙ ap (λ n. map view.proc list ++ lowered.proc (source.proc p) first ∷ rest n) en
-      ∙ ap (λ (qs : List resolved.Proc). map view.proc list ++ lowered.procs qs first) (sym (next_proc ps i p lt is))
-      ∙ h
+      ap (λ (qs : List resolved.Proc). lowered.procs qs first) (next_proc ps i p lt is) ∙ ap (λ n. lowered.proc (source.proc p) first ∷ rest n) (sym en) ∙ ap (λ (q : graph.GraphProc). q ∷ rest next) (sym same)

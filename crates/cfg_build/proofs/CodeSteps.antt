@@ -1,6 +1,6 @@
--- Steps of the code, one after another and with steps inside.
-use Rattle.std.proofs.Common.{rules, ◌≡◌, ℕ, ◌+◌, ◌<◌, ◌≤◌, zero, suc, List, [], ◌∷◌, length, drop, slice_index_or, refl, sym, ap, ◌∙◌, arith}
-use Rattle.std.proofs.lemmas.List.{drop_more, drop_all}
+-- Steps of the code, one after another and with steps inside, and what each adds to a draft.
+use Rattle.std.proofs.Common.{rules, ◌≡◌, ℕ, ◌+◌, ◌<◌, ◌^◌, zero, suc, List, [], ◌∷◌, length, drop, slice_index_or, sym, ap, ◌∙◌, subst, arith}
+use Rattle.std.proofs.lemmas.List.{drop_more}
 use Rattle.std.specs.Prelude.{Vec}
 use Rattle.std.specs.declared.alloc.Global.{Global}
 use Rattle.seq_run.specs.Resolved.{Do, Call, If, While, Steps, Nothing, Then}
@@ -12,19 +12,19 @@ use Rattle.seq_run.specs.declared.tree.Term.{Term}
 use Rattle.seq_run.specs.declared.tree.Step.{Step}
 use Rattle.seq_run.specs.declared.tree.Step.TheVariants as code
 use Rattle.seq_run.specs.declared.tree.Step.TheViews.{the_lemmas}
+use Rattle.cfg_core.specs.Graph.{Op, Exit}
 use Rattle.cfg_build.specs.Lowered.{begun}
+use Rattle.cfg_build.specs.Drafts.{Draft, number, closed, with_op, emit_one, emit, StepFits, StepsFit}
+use Rattle.cfg_build.proofs.Emitted.{number_closed, number_emit}
 
 -- the next step, and those behind it
-pub next_step : (ss : List Step) (i : ℕ) (x : Step) → i < length ss → x ≡ slice_index_or ss i x → source.steps (drop i ss) ≡ Then (source.step x) (source.steps (drop (i + 1) ss))
+next_step : (ss : List Step) (i : ℕ) (x : Step) → i < length ss → x ≡ slice_index_or ss i x → source.steps (drop i ss) ≡ Then (source.step x) (source.steps (drop (i + 1) ss))
 next_step ss i x lt is = ap source.steps (drop_more ss i x lt) ∙ ap (λ (y : Step). Then (source.step y) (source.steps (drop (i + 1) ss))) (sym is)
 
-pub no_step : (ss : List Step) (i : ℕ) → length ss ≤ i → source.steps (drop i ss) ≡ Nothing
-no_step ss i le = ap source.steps (drop_all i ss le)
-
-pub if_view : (t : Term) (a b : Vec Step Global) → source.step (code.If t a b) ≡ If (source.term t) (source.steps a.items) (source.steps b.items)
+if_view : (t : Term) (a b : Vec Step Global) → source.step (code.If t a b) ≡ If (source.term t) (source.steps a.items) (source.steps b.items)
 if_view t a b = search (rules, the_lemmas, row_list)
 
-pub while_view : (t : Term) (a : Vec Step Global) → source.step (code.While t a) ≡ While (source.term t) (source.steps a.items)
+while_view : (t : Term) (a : Vec Step Global) → source.step (code.While t a) ≡ While (source.term t) (source.steps a.items)
 while_view t a = search (rules, the_lemmas, row_list)
 
 -- the step of the code is an `if` with these arms
@@ -35,7 +35,7 @@ if_is st t a b xs ys is ex ey =
 pub while_is : (st : Step) (t : Term) (a : Vec Step Global) (xs : List Step) → st ≡ code.While t a → xs ≡ a.items → source.step st ≡ While (source.term t) (source.steps xs)
 while_is st t a xs is ex = ap source.step is ∙ while_view t a ∙ ap (λ (zs : List Step). While (source.term t) (source.steps zs)) (sym ex)
 
-pub begun_then : (s : resolved.Step) (rest : Steps) → begun (Then s rest) ≡ begun (Then s Nothing) + begun rest
+begun_then : (s : resolved.Step) (rest : Steps) → begun (Then s rest) ≡ begun (Then s Nothing) + begun rest
 begun_then (Do a) rest = omega arith
 begun_then (Call x f ts) rest = omega arith
 begun_then (If t a b) rest = omega arith
@@ -55,25 +55,29 @@ step_lighter (y ∷ ss) (suc i) x lt is = let h = step_lighter ss i x (omega ari
 pub begun_next : (ss : List Step) (i : ℕ) (x : Step) → i < length ss → x ≡ slice_index_or ss i x → begun (source.steps (drop i ss)) ≡ begun (Then (source.step x) Nothing) + begun (source.steps (drop (i + 1) ss))
 begun_next ss i x lt is = ap begun (next_step ss i x lt is) ∙ begun_then (source.step x) (source.steps (drop (i + 1) ss))
 
-pub begun_no : (ss : List Step) (i : ℕ) → length ss ≤ i → begun (source.steps (drop i ss)) ≡ 0
-begun_no ss i le = ap begun (no_step ss i le)
+-- the number of the block at hand after an operation, the end of a block, a step, and steps
+pub after_op : (o : Op) (d e : Draft) → e ≡ with_op o d → number e ≡ number d
+after_op o d e is = ap number is
 
--- the same steps weigh the same, and begin as many blocks
-pub heft_same : (xs ys : List Step) → xs ≡ ys → heft (source.steps xs) ≡ heft (source.steps ys)
-heft_same xs ys e = ap (λ (ss : List Step). heft (source.steps ss)) e
+pub after_exit : (exit : Exit) (d e : Draft) → e ≡ closed exit d → number e ≡ suc (number d)
+after_exit exit d e is = ap number is ∙ number_closed exit d
 
-pub begun_same : (xs ys : List Step) → xs ≡ ys → begun (source.steps xs) ≡ begun (source.steps ys)
-begun_same xs ys e = ap (λ (ss : List Step). begun (source.steps ss)) e
+after_step : (s : resolved.Step) (d e : Draft) → e ≡ emit_one s d → number e ≡ number d + begun (Then s Nothing)
+after_step s d e is = ap number is ∙ number_emit (Then s Nothing) d
 
--- what a step with steps inside weighs, and how many blocks begin in it
-pub if_weight : (st : Step) (t : Term) (a b : Vec Step Global) → st ≡ code.If t a b → weight (source.step st) ≡ 2 + heft (source.steps a.items) + heft (source.steps b.items)
-if_weight st t a b is = let e : weight (source.step st) ≡ weight (If (source.term t) (source.steps a.items) (source.steps b.items)) = ap (λ (x : Step). weight (source.step x)) is ∙ ap weight (if_view t a b) in omega (arith, e)
+pub after_steps : (st : Steps) (d e : Draft) → e ≡ emit st d → number e ≡ number d + begun st
+after_steps st d e is = ap number is ∙ number_emit st d
 
-pub if_begun : (st : Step) (t : Term) (a b : Vec Step Global) → st ≡ code.If t a b → begun (Then (source.step st) Nothing) ≡ 3 + begun (source.steps a.items) + begun (source.steps b.items)
-if_begun st t a b is = let e : begun (Then (source.step st) Nothing) ≡ begun (Then (If (source.term t) (source.steps a.items) (source.steps b.items)) Nothing) = ap (λ (x : Step). begun (Then (source.step x) Nothing)) is ∙ ap (λ (u : resolved.Step). begun (Then u Nothing)) (if_view t a b) in omega (arith, e)
+-- the next step is added
+module _ (ss : List Step) (i : ℕ) (x : Step) (lt : i < length ss) (is : x ≡ slice_index_or ss i x) where
+  pub emitted_next : (d e whole : Draft) → e ≡ emit_one (source.step x) d → emit (source.steps (drop i ss)) d ≡ whole → emit (source.steps (drop (i + 1) ss)) e ≡ whole
+  emitted_next d e whole made all = ap (emit (source.steps (drop (i + 1) ss))) made ∙ ap (λ (st : Steps). emit st d) (sym (next_step ss i x lt is)) ∙ all
 
-pub while_weight : (st : Step) (t : Term) (a : Vec Step Global) → st ≡ code.While t a → weight (source.step st) ≡ 3 + heft (source.steps a.items)
-while_weight st t a is = let e : weight (source.step st) ≡ weight (While (source.term t) (source.steps a.items)) = ap (λ (x : Step). weight (source.step x)) is ∙ ap weight (while_view t a) in omega (arith, e)
+  pub room_here : (n : ℕ) → n + begun (source.steps (drop i ss)) < 2 ^ 32 → n + begun (Then (source.step x) Nothing) < 2 ^ 32
+  room_here n room = let b = begun_next ss i x lt is in omega (arith, b, room)
 
-pub while_begun : (st : Step) (t : Term) (a : Vec Step Global) → st ≡ code.While t a → begun (Then (source.step st) Nothing) ≡ 3 + begun (source.steps a.items)
-while_begun st t a is = let e : begun (Then (source.step st) Nothing) ≡ begun (Then (While (source.term t) (source.steps a.items)) Nothing) = ap (λ (x : Step). begun (Then (source.step x) Nothing)) is ∙ ap (λ (u : resolved.Step). begun (Then u Nothing)) (while_view t a) in omega (arith, e)
+  pub room_next : (d e : Draft) → e ≡ emit_one (source.step x) d → number d + begun (source.steps (drop i ss)) < 2 ^ 32 → number e + begun (source.steps (drop (i + 1) ss)) < 2 ^ 32
+  room_next d e made room = let b = begun_next ss i x lt is in let n = after_step (source.step x) d e made in omega (arith, b, n, room)
+
+  pub fit_here : StepsFit (source.steps (drop i ss)) → StepFits (source.step x) × StepsFit (source.steps (drop (i + 1) ss))
+  fit_here fit = subst (λ (st : Steps). StepsFit st) (next_step ss i x lt is) fit

@@ -1,5 +1,5 @@
--- Each edge of a lowered block leads on to a later block or back to a loop's header, and enters a block with a label from the block of that label alone.
-use Rattle.std.proofs.Common.{ℕ, suc, ◌+◌, ◌≡◌, ◌≢◌, ◌<◌, ◌⊎◌, true, List, ◌++◌, map, Option, Some, None, refl, sym, ap, subst, inl, inr, arith}
+-- Each edge of a lowered block leads on to a later block or back to one that tests in a turn, and enters a block with a label from the block of that label alone.
+use Rattle.std.proofs.Common.{ℕ, suc, ◌+◌, ◌≡◌, ◌≢◌, ◌<◌, ◌⊎◌, true, List, [], ◌++◌, map, Option, Some, None, refl, sym, ap, subst, inl, inr, arith}
 use Rattle.std.specs.List.{AllByRecursion}
 use Rattle.seq_run.specs.Resolved as resolved
 use Rattle.seq_run.specs.Resolved.{Action, Assign, Store, Print, Read, Give, Take, Do, Call, If, While, Steps, Nothing, Then}
@@ -7,7 +7,7 @@ use Rattle.cfg_core.specs.Graph as graph
 use Rattle.cfg_core.specs.Graph.{Term, Goto, Branch, Block, Graph, Spot}
 use Rattle.cfg_core.specs.Rules.{Leads, calls, has_tick}
 use Rattle.cfg_build.specs.Lowered.{term, op, Part, leaves, goes_to, last_part, begun, block, Made, behind, whole, made}
-use Rattle.cfg_build.specs.Shape.{IsHeader, branches}
+use Rattle.cfg_build.specs.Shape.{is_branch, TestsInATurn}
 use Rattle.cfg_build.specs.Keeps.{IsFirstOp, IsFirstExit}
 use Rattle.cfg_build.proofs.Stand.{HasAt, front, next_at, length_made}
 use Rattle.cfg_build.proofs.Places.{Each, each_both}
@@ -24,11 +24,12 @@ first_op (Take p t) = tt
 -- in this graph, whose blocks have these labels
 module _ (g : Graph) (all : List (Option ℕ)) where
   pub record Fine (b : ℕ) (x : Block) : Type 0 where
-    pub on : (d : ℕ) → Leads x.exit d → (b < d) ⊎ ((x.exit ≡ Goto d) × IsHeader g d)
+    pub on : (d : ℕ) → Leads x.exit d → (b < d) ⊎ ((x.exit ≡ Goto d) × TestsInATurn g d)
     pub kept : (d : ℕ) → Leads x.exit d → (label_in all d ≡ None) ⊎ (label_in all d ≡ Some b)
     pub apart : (t : Term) (c d : ℕ) → x.exit ≡ Branch t c d → (c ≢ d) × (label_in all c ≡ Some b) × (label_in all d ≡ Some b)
     pub ops : AllByRecursion IsFirstOp x.ops
     pub exit : IsFirstExit x.exit
+    pub named : x.named ≡ []
     pub ticks : calls x.exit ≡ true → has_tick x.ops ≡ true
 
   abbrev pub FineAll : ℕ → List Block → Type 0
@@ -41,16 +42,18 @@ module _ (g : Graph) (all : List (Option ℕ)) where
     apart = λ t m n e. absurd (cc);
     ops = tt;
     exit = tt;
+    named = refl;
     ticks = λ e. absurd (cc);
   }
 
-  goes_back : (b c : ℕ) → IsHeader g c → label_in all c ≡ None → Fine b (block (goes_to c))
+  goes_back : (b c : ℕ) → TestsInATurn g c → label_in all c ≡ None → Fine b (block (goes_to c))
   goes_back b c head h = record {
-    on = λ d l. inr (ap Goto (sym l), subst (λ n. IsHeader g n) (sym l) head);
+    on = λ d l. inr (ap Goto (sym l), subst (λ n. TestsInATurn g n) (sym l) head);
     kept = λ d l. inl (subst (λ n. label_in all n ≡ None) (sym l) h);
     apart = λ t m n e. absurd (cc);
     ops = tt;
     exit = tt;
+    named = refl;
     ticks = λ e. absurd (cc);
   }
 
@@ -61,8 +64,9 @@ module _ (g : Graph) (all : List (Option ℕ)) where
     apart = λ u m n e.
         let em : c ≡ m = cc in let en : d ≡ n = cc in
         (λ same. omega (arith, same, em, en), subst (λ k. label_in all k ≡ Some b) em h, subst (λ k. label_in all k ≡ Some b) en i);
-    ops = (tt, tt);
+    ops = (refl, tt);
     exit = tt;
+    named = refl;
     ticks = λ e. refl;
   }
 
@@ -71,17 +75,18 @@ module _ (g : Graph) (all : List (Option ℕ)) where
     on = λ d l. inl (omega (arith, l));
     kept = λ d l. inl (subst (λ n. label_in all n ≡ None) (sym l) h);
     apart = λ t m n e. absurd (cc);
-    ops = (tt, tt);
+    ops = (refl, tt);
     exit = tt;
+    named = refl;
     ticks = λ e. refl;
   }
 
   pub last_fine : (r : Option resolved.Term) (b : ℕ) → Fine b (block (last_part r))
-  last_fine None b = record { on = λ d l. absurd l; kept = λ d l. absurd l; apart = λ t m n e. absurd (cc); ops = tt; exit = tt; ticks = λ e. absurd (cc) }
-  last_fine (Some t) b = record { on = λ d l. absurd l; kept = λ d l. absurd l; apart = λ t m n e. absurd (cc); ops = (tt, tt); exit = tt; ticks = λ e. absurd (cc) }
+  last_fine None b = record { on = λ d l. absurd l; kept = λ d l. absurd l; apart = λ t m n e. absurd (cc); ops = tt; exit = tt; named = refl; ticks = λ e. absurd (cc) }
+  last_fine (Some t) b = record { on = λ d l. absurd l; kept = λ d l. absurd l; apart = λ t m n e. absurd (cc); ops = (refl, tt); exit = tt; named = refl; ticks = λ e. absurd (cc) }
 
   behind_fine : (b : ℕ) (a : Action) (m : Made) → FineAll b (whole m) → FineAll b (whole (behind (op a) m))
-  behind_fine b a m h = (record { on = h.0.on; kept = h.0.kept; apart = h.0.apart; ops = (tt, (first_op a, h.0.ops)); exit = h.0.exit; ticks = λ e. refl }, h.1)
+  behind_fine b a m h = (record { on = h.0.on; kept = h.0.kept; apart = h.0.apart; ops = (refl, (first_op a, h.0.ops)); exit = h.0.exit; named = refl; ticks = λ e. refl }, h.1)
 
   then_blocks : (st : Steps) (c : ℕ) (rest : Part) (ys : List Block) → FineAll c (whole (made st c rest)) → FineAll (suc (c + begun st)) ys → FineAll c (whole (made st c rest) ++ ys)
   then_blocks st c rest ys h i = each_both Fine c (suc (c + begun st)) (whole (made st c rest)) ys (omega (arith, length_made st c rest)) h i
@@ -120,7 +125,7 @@ module _ (g : Graph) (all : List (Option ℕ)) where
       let ib : LabelsAt all inside lb = labels_front all body inside (Some (suc c)) lm i.2.2 in
       let im : LabelsAt all after lm = labels_back all body inside (Some (suc c)) lm i.2.2 in
       let e : c + suc (suc (begun body + suc (begun more))) ≡ after + begun more = omega arith in
-      let head : IsHeader g (suc c) = record { ticks = ap (λ (s : Spot). has_tick s.block.ops) h.1; tests = ap (λ (s : Spot). branches s.block.exit) h.1 } in (
+      let head : TestsInATurn g (suc c) = record { ticks = ap (λ (s : Spot). has_tick s.block.ops) h.1; tests = ap (λ (s : Spot). is_branch s.block.exit) h.1 } in (
         goes_on c (suc c) (omega arith) i.2.1,
         (
           tests (term t) (suc c) inside after (omega arith) (omega arith) (first_label all body inside (Some (suc c)) ib) (first_label all more after (Some (suc c)) im),

@@ -1,11 +1,11 @@
 -- What steps add to a draft is their blocks.
-use Rattle.std.proofs.Common.{ℕ, suc, ◌+◌, ◌≡◌, List, [], ◌∷◌, ◌++◌, length, map, refl, sym, ap, ◌∙◌, append_assoc, length-append, arith}
+use Rattle.std.proofs.Common.{suc, ◌+◌, ◌≡◌, List, [], ◌∷◌, ◌++◌, map, refl, sym, ap, ◌∙◌, append_assoc, length-append, arith}
 use Rattle.std.proofs.lemmas.List.{append-nil}
-use Rattle.seq_run.specs.Resolved.{Step, Do, Call, If, While, Steps, Nothing, Then, Term}
+use Rattle.seq_run.specs.Resolved.{Do, Call, If, While, Steps, Nothing, Then}
 use Rattle.cfg_core.specs.Graph as graph
 use Rattle.cfg_core.specs.Graph.{Op, Exit, Block, Tick, Goto, Branch}
 use Rattle.cfg_build.specs.Lowered.{Part, goes_to, term, op, begun, Made, whole, made}
-use Rattle.cfg_build.specs.Drafts.{Draft, number, closed, with_op, emit_one, emit, ended}
+use Rattle.cfg_build.specs.Drafts.{Draft, number, closed, with_op, emit, ended}
 
 -- the finished blocks, then the steps' blocks, the first of which begins with the operations at hand
 abbrev pub behind_draft : Draft → Made → List Block

@@ -7,13 +7,13 @@ use Rattle.src_ast.specs.Syntax.{Part}
 use Rattle.src_ast.specs.Turns.{CallEnd, Returned, Stopped}
 use Rattle.src_ast.specs.Meaning as meaning
 use Rattle.src_ast.specs.Meaning.{empty_cells}
-use Rattle.seq_run.specs.Resolved.{Steps, Proc, Program, run_all, run_proc, run_at, run, nth_proc, calls_below}
+use Rattle.seq_run.specs.Resolved.{Steps, Proc, Program, run_all, run_proc, run, nth_proc, calls_below}
 use Rattle.seq_run.specs.Resolving as resolving
-use Rattle.seq_run.specs.InRange.{ProcIn, ProgramIn}
+use Rattle.seq_run.specs.InRange.{ProgramIn}
 use Rattle.seq_run.specs.TurnsLeft.{AtMost}
 use Rattle.cfg_core.specs.Graph.{Graph, GraphProc, proc_at, entry_of}
 use Rattle.cfg_core.specs.Walk.{Frame, Config, At, Over, Going, IsOver, entered, step, walk, opening, cells_of}
-use Rattle.cfg_build.specs.Lowered.{last_part, made, proc, proc_blocks, procs, arrays, lowered}
+use Rattle.cfg_build.specs.Lowered.{last_part, made, proc_blocks, arrays, lowered}
 use Rattle.cfg_build.specs.Keeps.{KeepsRun}
 use Rattle.cfg_build.proofs.Stand.{HasAt, has_blocks, proc_is, count_procs}
 use Rattle.cfg_build.proofs.Simulation.{Reaches, FollowsCall, CallsFollow, at_whole, follow, finished}

@@ -42,7 +42,7 @@ label_in all b = or_else (nth all b) None
 module _ (all : List (Option ℕ)) where
   -- these are the labels from this block on
   abbrev pub LabelsAt : ℕ → List (Option ℕ) → Type 0
-  LabelsAt b ls = StandAt all None b ls
+  LabelsAt b ls = StandAt (label_in all) (length all) b ls
 
   pub first_label : (st : Steps) (c : ℕ) (l : Option ℕ) → LabelsAt c (labels st c l) → label_in all c ≡ l
   first_label Nothing c l h = h.1
@@ -52,7 +52,7 @@ module _ (all : List (Option ℕ)) where
   first_label (Then (While t body) more) c l h = h.1
 
   pub labels_front : (st : Steps) (c : ℕ) (l : Option ℕ) (ls : List (Option ℕ)) → LabelsAt c (labels st c l ++ ls) → LabelsAt c (labels st c l)
-  labels_front st c l ls h = stand_front all None c (labels st c l) ls h
+  labels_front st c l ls h = stand_front (label_in all) (length all) c (labels st c l) ls h
 
   pub labels_back : (st : Steps) (c : ℕ) (l : Option ℕ) (ls : List (Option ℕ)) → LabelsAt c (labels st c l ++ ls) → LabelsAt (suc (c + begun st)) ls
-  labels_back st c l ls h = stand_back all None c (suc (c + begun st)) (labels st c l) ls (omega (arith, length_labels st c l)) h
+  labels_back st c l ls h = stand_back (label_in all) (length all) c (suc (c + begun st)) (labels st c l) ls (omega (arith, length_labels st c l)) h

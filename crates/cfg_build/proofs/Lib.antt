@@ -2,7 +2,6 @@ mod Rows
 pub mod CodeSteps
 pub mod Lists
 pub mod Emitted
-pub mod Drafted
 pub mod Bounds
 pub mod CodeProcs
 pub mod Stand
@@ -12,9 +11,7 @@ pub mod Kept
 pub mod Places
 pub mod Labels
 pub mod Edges
-pub mod Spots
 pub mod Shaped
 pub mod InRange
 pub mod Rules
-pub mod ShownArrays
 pub mod OfPrograms

@@ -1,21 +1,37 @@
 -- What the graph of a program has, where it is the lowered graph of the program with numbers for names.
-use Rattle.std.proofs.Common.{◌≡◌, List, sym, ap, ◌∙◌, subst}
+use Rattle.std.proofs.Common.{◌≡◌, ℕ, suc, ◌+◌, length, true, List, [], ◌∷◌, Some, refl, sym, ap, ◌∙◌, subst}
+use Rattle.std.specs.List.{AllByRecursion}
 use Rattle.ws_words.specs.Outside.{World, Outside}
-use Rattle.src_ast.specs.Syntax.{Part}
+use Rattle.src_ast.specs.declared.lexeme.Name.{Name}
+use Rattle.src_ast.specs.Syntax.{Procedure, Part, Array, Proc}
+use Rattle.src_ast.specs.Meaning.{scope_of, arrays_of as names_of_arrays, procs_of, names_of}
 use Rattle.seq_run.specs.Resolved.{Program}
 use Rattle.seq_run.specs.Resolving as resolving
 use Rattle.seq_run.specs.InRange.{ProgramIn}
 use Rattle.cfg_core.specs.Graph.{Graph, GraphArray}
 use Rattle.cfg_core.specs.Walk.{Ends, Goes}
 use Rattle.cfg_core.specs.Rules.{IsGraph}
-use Rattle.cfg_core.specs.Shown.{NoneHidden, ShowsAll, StaysInside}
-use Rattle.cfg_build.specs.Lowered.{lowered}
-use Rattle.cfg_build.specs.Keeps.{KeepsRun, ShowsRun, arrays_of, IsFirstForm}
+use Rattle.cfg_core.specs.Shown.{has_name, NoneHidden, ShowsAll, StaysInside}
+use Rattle.cfg_build.specs.Lowered.{begun, procs, lowered}
+use Rattle.cfg_build.specs.Keeps.{KeepsRun, ShowsRun, arrays_of, Room, rooms_of, rooms_in, IsFirstForm}
 use Rattle.cfg_build.specs.Shape.{IsShaped}
 use Rattle.cfg_build.proofs.Kept.{TurnsNeverGrow, NamesArePlaces, lowered_keeps_run}
 use Rattle.cfg_build.proofs.Rules.{is_graph}
 use Rattle.cfg_build.proofs.Shaped.{is_shaped, is_first_form}
-use Rattle.cfg_build.proofs.ShownArrays.{arrays_are, none_hidden}
+
+arrays_are : (parts : List Part) → (lowered (resolving.program parts)).arrays ≡ arrays_of parts
+arrays_are [] = refl
+arrays_are (Array name size at ∷ parts) = ap (λ xs. record { name = Some name.text; length = size } ∷ xs) (arrays_are parts)
+arrays_are (Proc p ∷ parts) = arrays_are parts
+
+none_hidden : (parts : List Part) → AllByRecursion (λ a. has_name a ≡ true) (arrays_of parts)
+none_hidden [] = tt
+none_hidden (Array name size at ∷ parts) = (refl, none_hidden parts)
+none_hidden (Proc p ∷ parts) = none_hidden parts
+
+rooms_are : (arrays names : List Name) (ps : List Procedure) (c : ℕ) → rooms_in (procs (resolving.procs arrays names ps) c) ≡ rooms_of ps
+rooms_are arrays names [] c = refl
+rooms_are arrays names (p ∷ ps) c = ap (λ (rs : List Room). record { params = length p.params; vars = length p.params + length p.vars } ∷ rs) (rooms_are arrays names ps (suc (c + begun (resolving.proc (scope_of arrays names p) p).body)))
 
 -- graphs without hidden arrays show the whole of their walks
 abbrev pub ShowsEnds : Type 0
@@ -36,6 +52,9 @@ module _ (parts : List Part) (program : Program) (g : Graph) (same : program ≡
 
   pub arrays_kept : g.arrays ≡ arrays_of parts
   arrays_kept = ap (λ (h : Graph). h.arrays) is_lowered ∙ arrays_are parts
+
+  pub rooms_kept : rooms_in g.procs ≡ rooms_of (procs_of parts)
+  rooms_kept = ap (λ (h : Graph). rooms_in h.procs) is_lowered ∙ rooms_are (names_of_arrays parts) (names_of (procs_of parts)) (procs_of parts) 0
 
   pub rules_kept : IsGraph g
   rules_kept = subst (λ (h : Graph). IsGraph h) (sym made) (is_graph program fit)

@@ -4,36 +4,36 @@ use Rattle.std.proofs.lemmas.List.{append_assoc, length-append}
 use Rattle.std.specs.List.{AllByRecursion}
 use Rattle.cfg_core.specs.Graph.{nth, or_else}
 
--- these items stand in the list from this place on
-abbrev pub StandAt : {A : Type 0} → List A → A → ℕ → List A → Type 0
-StandAt all none b [] = Unit {0}
-StandAt all none b (x ∷ xs) = (b < length all) × (or_else (nth all b) none ≡ x) × StandAt all none (suc b) xs
+-- these items stand from this place on, among so many places with these items
+abbrev pub StandAt : {A : Type 0} → (ℕ → A) → ℕ → ℕ → List A → Type 0
+StandAt item many b [] = Unit {0}
+StandAt item many b (x ∷ xs) = (b < many) × (item b ≡ x) × StandAt item many (suc b) xs
 
 nth_behind : {A : Type 0} (before : List A) (x : A) (xs : List A) (none : A) → or_else (nth (before ++ x ∷ xs) (length before)) none ≡ x
 nth_behind [] x xs none = refl
 nth_behind (y ∷ before) x xs none = nth_behind before x xs none
 
 -- the last items of a list stand behind those before them
-pub stand_behind : {A : Type 0} (all before xs : List A) (none : A) → all ≡ before ++ xs → StandAt all none (length before) xs
+stand_behind : {A : Type 0} (all before xs : List A) (none : A) → all ≡ before ++ xs → StandAt (λ n. or_else (nth all n) none) (length all) (length before) xs
 stand_behind all before [] none e = tt
 stand_behind all before (x ∷ xs) none e =
     let e2 : all ≡ (before ++ x ∷ []) ++ xs = e ∙ sym (append_assoc before (x ∷ []) xs) in
     let n : length (before ++ x ∷ []) ≡ suc (length before) = omega (arith, length-append before (x ∷ [])) in (
       omega (arith, ap length e, length-append before (x ∷ xs)),
       ap (λ ys. or_else (nth ys (length before)) none) e ∙ nth_behind before x xs none,
-      subst (λ m. StandAt all none m xs) n (stand_behind all (before ++ x ∷ []) xs none e2),
+      subst (λ m. StandAt (λ n. or_else (nth all n) none) (length all) m xs) n (stand_behind all (before ++ x ∷ []) xs none e2),
     )
 
-pub stand_all : {A : Type 0} (all : List A) (none : A) → StandAt all none 0 all
+pub stand_all : {A : Type 0} (all : List A) (none : A) → StandAt (λ n. or_else (nth all n) none) (length all) 0 all
 stand_all all none = stand_behind all [] all none refl
 
-pub stand_front : {A : Type 0} (all : List A) (none : A) (b : ℕ) (xs ys : List A) → StandAt all none b (xs ++ ys) → StandAt all none b xs
-stand_front all none b [] ys h = tt
-stand_front all none b (x ∷ xs) ys h = (h.0, h.1, stand_front all none (suc b) xs ys h.2)
+pub stand_front : {A : Type 0} (item : ℕ → A) (many b : ℕ) (xs ys : List A) → StandAt item many b (xs ++ ys) → StandAt item many b xs
+stand_front item many b [] ys h = tt
+stand_front item many b (x ∷ xs) ys h = (h.0, h.1, stand_front item many (suc b) xs ys h.2)
 
-pub stand_back : {A : Type 0} (all : List A) (none : A) (b c : ℕ) (xs ys : List A) → b + length xs ≡ c → StandAt all none b (xs ++ ys) → StandAt all none c ys
-stand_back all none b c [] ys e h = subst (λ n. StandAt all none n ys) (omega (arith, e)) h
-stand_back all none b c (x ∷ xs) ys e h = stand_back all none (suc b) c xs ys (omega (arith, e)) h.2
+pub stand_back : {A : Type 0} (item : ℕ → A) (many b c : ℕ) (xs ys : List A) → b + length xs ≡ c → StandAt item many b (xs ++ ys) → StandAt item many c ys
+stand_back item many b c [] ys e h = subst (λ n. StandAt item many n ys) (omega (arith, e)) h
+stand_back item many b c (x ∷ xs) ys e h = stand_back item many (suc b) c xs ys (omega (arith, e)) h.2
 
 -- P holds of each item and its number, the first of which is this
 abbrev pub Each : {A : Type 0} → (ℕ → A → Type 0) → ℕ → List A → Type 0

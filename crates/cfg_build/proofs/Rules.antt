@@ -7,9 +7,8 @@ use Rattle.cfg_core.specs.Graph.{Op, Assign, Store, Print, Read, Give, Take, Cho
 use Rattle.cfg_core.specs.Rules.{Leads, Lands, ChoosesBare, CallsEarlier, calls, is_tick, has_tick, takes_turn, has_turn, Quiet, one, more, ProcNumbers, BlockNumbers, Apart, IsGraph}
 use Rattle.cfg_build.specs.Lowered.{begun, last_part, proc_blocks, arrays, procs, lowered}
 use Rattle.cfg_build.specs.Keeps.{IsFirstOp, IsFirstExit}
-use Rattle.cfg_build.proofs.Stand.{proc_is, count_procs}
+use Rattle.cfg_build.proofs.Stand.{proc_is, count_procs, proc_spots, SpotsAt, proc_at_front, procs_behind, all_spots_at}
 use Rattle.cfg_build.proofs.Places.{each_all, all_both, all_have}
-use Rattle.cfg_build.proofs.Spots.{proc_spots, SpotsAt, proc_at_front, procs_behind, all_spots_at}
 use Rattle.cfg_build.proofs.Edges.{Fine}
 use Rattle.cfg_build.proofs.Shaped.{labels_of, each_fine, fine_at}
 use Rattle.cfg_build.proofs.InRange.{BlockIn, made_in, last_in}

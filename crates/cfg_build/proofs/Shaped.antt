@@ -1,5 +1,5 @@
 -- The shape of lowered graphs.
-use Rattle.std.proofs.Common.{ℕ, suc, ◌+◌, ◌≡◌, List, [], ◌∷◌, Option, Some, None, inl, inr, arith}
+use Rattle.std.proofs.Common.{ℕ, suc, ◌+◌, ◌≡◌, List, [], ◌∷◌, Option, Some, None, refl, inl, inr, arith}
 use Rattle.std.specs.List.{AllByRecursion}
 use Rattle.seq_run.specs.Resolved.{Proc, Program}
 use Rattle.cfg_core.specs.Graph.{Graph, spots, spot_at, block_at, no_spot}
@@ -8,7 +8,7 @@ use Rattle.cfg_build.specs.Shape.{OnlyFrom, IsShaped}
 use Rattle.cfg_build.specs.Keeps.{IsFirstOp, IsFirstExit, IsFirstForm}
 use Rattle.cfg_build.proofs.Places.{Each, each_nth, each_all, stand_all}
 use Rattle.cfg_build.proofs.Labels.{all_labels, label_in, LabelsAt, labels_front, labels_back}
-use Rattle.cfg_build.proofs.Spots.{proc_spots, SpotsAt, proc_at_front, procs_behind, all_spots_at, then_procs}
+use Rattle.cfg_build.proofs.Stand.{proc_spots, SpotsAt, proc_at_front, procs_behind, all_spots_at, then_procs}
 use Rattle.cfg_build.proofs.Edges.{Fine, made_fine, last_fine}
 
 -- the procedures, of which the first has this number and begins at this block
@@ -29,7 +29,7 @@ each_fine program = procs_fine (lowered program) (labels_of program) 0 program.p
 
 no_spot_fine : (g : Graph) (all : List (Option ℕ)) (n : ℕ) → Fine g all n no_spot.block
 unfolding no_spot
-no_spot_fine g all n = record { on = λ d l. absurd l; kept = λ d l. absurd l; apart = λ t m k e. absurd (cc); ops = tt; exit = tt; ticks = λ e. absurd (cc) }
+no_spot_fine g all n = record { on = λ d l. absurd l; kept = λ d l. absurd l; apart = λ t m k e. absurd (cc); ops = tt; exit = tt; named = refl; ticks = λ e. absurd (cc) }
 
 pub fine_at : (program : Program) (b : ℕ) → Fine (lowered program) (labels_of program) b (block_at (lowered program) b)
 unfolding spot_at
@@ -42,7 +42,8 @@ only_from program b c h = λ other edge. elim ((fine_at program other).kept c ed
 
 pub is_shaped : (program : Program) → IsShaped (lowered program)
 is_shaped program = record {
-  forward = λ b c edge. (fine_at program b).on c edge;
+  headers = λ c h. elim ((fine_at program h.0).on c h.2) [ inl lt ↦ absurd (omega (arith, lt, h.1)) | inr back ↦ back.1 ];
+  backward = λ b c edge le. elim ((fine_at program b).on c edge) [ inl lt ↦ absurd (omega (arith, lt, le)) | inr back ↦ back.0 ];
   branches = λ a t b c e. let f = (fine_at program a).apart t b c e in record { differ = f.0; first = only_from program a b f.1; second = only_from program a c f.2 };
 }
 
@@ -51,4 +52,5 @@ is_first_form program =
     let g = lowered program in let all = labels_of program in record {
       ops = each_all (λ n s. Fine g all n s.block) (λ s. AllByRecursion IsFirstOp s.block.ops) (λ n s f. f.ops) 0 (spots g) (each_fine program);
       exits = each_all (λ n s. Fine g all n s.block) (λ s. IsFirstExit s.block.exit) (λ n s f. f.exit) 0 (spots g) (each_fine program);
+      named = each_all (λ n s. Fine g all n s.block) (λ s. s.block.named ≡ []) (λ n s f. f.named) 0 (spots g) (each_fine program);
     }

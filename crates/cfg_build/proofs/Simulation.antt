@@ -1,5 +1,5 @@
 -- The blocks of steps do what the steps do, turn by turn.
-use Rattle.std.proofs.Common.{ℕ, zero, suc, ◌+◌, ◌≡◌, ◌<◌, ◌≤◌, ◌==◌, Bool, true, false, List, [], ◌∷◌, ◌++◌, map, Option, Some, None, if◌then◌else◌, refl, sym, ap, ◌∙◌, subst, arith}
+use Rattle.std.proofs.Common.{ℕ, zero, suc, ◌+◌, ◌≡◌, ◌<◌, ◌≤◌, ◌==◌, Bool, true, false, List, [], ◌∷◌, ◌++◌, map, Option, Some, None, if◌then◌else◌, refl, sym, subst, arith}
 use Rattle.std.proofs.lemmas.List.{append-nil}
 use Rattle.ws_words.specs.Outside.{Act, Outside, State}
 use Rattle.src_ast.specs.Turns.{Outcome, Ended, Out, and_then, turn, CallEnd, Returned, Stopped, with_result, back_in, ending, loop}
@@ -11,7 +11,7 @@ use Rattle.cfg_core.specs.Graph as graph
 use Rattle.cfg_core.specs.Graph.{Op, Tick, Exit, Goto, Branch, Return, Graph, Spot, spot_at, proc_at, entry_of}
 use Rattle.cfg_core.specs.Walk as walks
 use Rattle.cfg_core.specs.Walk.{Frame, Config, At, Over, Going, Done, run_ops, entered, returned, leave, passed, step, walk}
-use Rattle.cfg_build.specs.Lowered.{Part, Made, term, op, ticked, leaves, goes_to, last_part, begun, block, whole, made}
+use Rattle.cfg_build.specs.Lowered.{Part, Made, term, op, ticked, leaves, goes_to, last_part, begun, whole, made}
 use Rattle.cfg_build.proofs.Values.{value_of_same, values_of_same, action_same, result_same}
 use Rattle.cfg_build.proofs.Stand.{HasAt, front, next_at}
 
@@ -119,47 +119,49 @@ module _ (g : Graph) where
       (again (body v.1 j) j (loop fuel (value_of t) body) (At inside v.1 fs j) head (goes_to next) fs (most v.1 j) (f v.1 j)
       (λ u i le. looped t body head inside next fs e most f fuel u i (omega arith)))))
 
-  -- steps that begin with the front of what is made of them
-  pub follow : (arrays : ℕ) (procs : List Proc) (home vars : ℕ) (calls : Calls) → CallsFollow home calls → ((st : Steps) (s : State) (k : ℕ) → AtMost k (run_all calls st s k))
-      → (st : Steps) (c : ℕ) (rest : Part) → StepsIn arrays procs home vars st → HasAt g home vars (suc c) (made st c rest).blocks
-      → (s : State) (k : ℕ) (fs : List Frame) → Follows (run_all calls st s k) (from_part (made st c rest).front s fs k) rest fs
-  follow arrays procs home vars calls cf most Nothing c rest fit at s k fs = (0, refl)
-  follow arrays procs home vars calls cf most (Then (Do a) more) c rest fit at s k fs =
-      acted a (made more c rest).front rest (run_all calls more) fs s (λ j. follow arrays procs home vars calls cf most more c rest fit.1 at (done a s) j fs) k
-  follow arrays procs home vars calls cf most (Then (Call x f ts) more) c rest fit at s k fs =
-      left (graph.Call x f (map term ts) (suc c)) rest _ (run_all calls more) fs s
-      (called home calls cf x f fit.0.1 ts (suc c) (run_all calls more) rest fs
-      (λ u i. at_whole home vars (suc c) (made more (suc c) rest) at (run_all calls more u i) u i rest fs (follow arrays procs home vars calls cf most more (suc c) rest fit.1 at.2 u i fs)) s) k
-  follow arrays procs home vars calls cf most (Then (If t a b) more) c rest fit at s k fs =
-      let second = suc (suc c + begun a) in let join = suc (second + begun b) in
-      let ma = made a (suc c) (goes_to join) in let mb = made b second (goes_to join) in let mc = made more join rest in
-      let ys = whole mb ++ whole mc in
-      let ha : HasAt g home vars (suc c) (whole ma) = front g home vars (suc c) (whole ma) ys at in
-      let hy : HasAt g home vars second ys = next_at g home vars a (suc c) (goes_to join) ys at in
-      let hb : HasAt g home vars second (whole mb) = front g home vars second (whole mb) (whole mc) hy in
-      let hc : HasAt g home vars join (whole mc) = next_at g home vars b second (goes_to join) (whole mc) hy in
-      let v = value_of t s in
-      let go : (u : State) (i : ℕ) → Follows (run_all calls more u i) (At join u fs i) rest fs =
-      λ u i. at_whole home vars join mc hc (run_all calls more u i) u i rest fs (follow arrays procs home vars calls cf most more join rest fit.1 hc.2 u i fs) in
-      left (Branch (term t) (suc c) second) rest _ (run_all calls more) fs s
-      (λ j. branched t (suc c) second s j _ rest fs
-      (choice_then (v.0 == 0) (run_all calls b v.1 j) (run_all calls a v.1 j) (run_all calls more) (At second v.1 fs j) (At (suc c) v.1 fs j) rest fs
-      (both (run_all calls b v.1 j) (run_all calls more) (At second v.1 fs j) join rest fs
-      (at_whole home vars second mb hb (run_all calls b v.1 j) v.1 j (goes_to join) fs (follow arrays procs home vars calls cf most b second (goes_to join) fit.0.2 hb.2 v.1 j fs)) go)
-      (both (run_all calls a v.1 j) (run_all calls more) (At (suc c) v.1 fs j) join rest fs
-      (at_whole home vars (suc c) ma ha (run_all calls a v.1 j) v.1 j (goes_to join) fs (follow arrays procs home vars calls cf most a (suc c) (goes_to join) fit.0.1 ha.2 v.1 j fs)) go))) k
-  follow arrays procs home vars calls cf most (Then (While t body) more) c rest fit at s k fs =
-      let inside = suc (suc c) in let next = suc (inside + begun body) in
-      let mb = made body inside (goes_to (suc c)) in let mc = made more next rest in
-      let hb : HasAt g home vars inside (whole mb) = front g home vars inside (whole mb) (whole mc) at.2 in
-      let hc : HasAt g home vars next (whole mc) = next_at g home vars body inside (goes_to (suc c)) (whole mc) at.2 in
-      both (loop (suc k) (value_of t) (run_all calls body) s k) (run_all calls more) (At (suc c) s fs k) next rest fs
-      (looped t (run_all calls body) (suc c) inside next fs
-      (λ o u i. at_whole home vars (suc c) (record { front = leaves (Branch (term t) inside next); blocks = [] }) (at.0, at.1, tt) o u i (goes_to next) fs)
-      (most body)
-      (λ u i. at_whole home vars inside mb hb (run_all calls body u i) u i (goes_to (suc c)) fs (follow arrays procs home vars calls cf most body inside (goes_to (suc c)) fit.0.1 hb.2 u i fs))
-      (suc k) s k (omega arith))
-      (λ u i. at_whole home vars next mc hc (run_all calls more u i) u i rest fs (follow arrays procs home vars calls cf most more next rest fit.1 hc.2 u i fs))
+  module _ (arrays : ℕ) (procs : List Proc) (home vars : ℕ) (calls : Calls) (cf : CallsFollow home calls) (most : (st : Steps) (s : State) (k : ℕ) → AtMost k (run_all calls st s k)) where
+    -- steps from the block that begins with them, where they are followed from what is left of it
+    from_block : (st : Steps) (b : ℕ) (rest : Part) → HasAt g home vars b (whole (made st b rest))
+        → ((s : State) (k : ℕ) (fs : List Frame) → Follows (run_all calls st s k) (from_part (made st b rest).front s fs k) rest fs)
+        → (s : State) (k : ℕ) (fs : List Frame) → Follows (run_all calls st s k) (At b s fs k) rest fs
+    from_block st b rest at f s k fs = at_whole home vars b (made st b rest) at (run_all calls st s k) s k rest fs (f s k fs)
+
+    -- steps that begin with the front of what is made of them
+    pub follow : (st : Steps) (c : ℕ) (rest : Part) → StepsIn arrays procs home vars st → HasAt g home vars (suc c) (made st c rest).blocks
+        → (s : State) (k : ℕ) (fs : List Frame) → Follows (run_all calls st s k) (from_part (made st c rest).front s fs k) rest fs
+    follow Nothing c rest fit at s k fs = (0, refl)
+    follow (Then (Do a) more) c rest fit at s k fs = acted a (made more c rest).front rest (run_all calls more) fs s (λ j. follow more c rest fit.1 at (done a s) j fs) k
+    follow (Then (Call x f ts) more) c rest fit at s k fs =
+        left (graph.Call x f (map term ts) (suc c)) rest _ (run_all calls more) fs s
+        (called home calls cf x f fit.0.1 ts (suc c) (run_all calls more) rest fs
+        (λ u i. from_block more (suc c) rest at (follow more (suc c) rest fit.1 at.2) u i fs) s) k
+    follow (Then (If t a b) more) c rest fit at s k fs =
+        let second = suc (suc c + begun a) in let join = suc (second + begun b) in
+        let wa = whole (made a (suc c) (goes_to join)) in let wb = whole (made b second (goes_to join)) in let wm = whole (made more join rest) in
+        let ha : HasAt g home vars (suc c) wa = front g home vars (suc c) wa (wb ++ wm) at in
+        let hbm : HasAt g home vars second (wb ++ wm) = next_at g home vars a (suc c) (goes_to join) (wb ++ wm) at in
+        let hb : HasAt g home vars second wb = front g home vars second wb wm hbm in
+        let hm : HasAt g home vars join wm = next_at g home vars b second (goes_to join) wm hbm in
+        let v = value_of t s in
+        let go : (u : State) (i : ℕ) → Follows (run_all calls more u i) (At join u fs i) rest fs =
+        λ u i. from_block more join rest hm (follow more join rest fit.1 hm.2) u i fs in
+        left (Branch (term t) (suc c) second) rest _ (run_all calls more) fs s
+        (λ j. branched t (suc c) second s j _ rest fs
+        (choice_then (v.0 == 0) (run_all calls b v.1 j) (run_all calls a v.1 j) (run_all calls more) (At second v.1 fs j) (At (suc c) v.1 fs j) rest fs
+        (both (run_all calls b v.1 j) (run_all calls more) (At second v.1 fs j) join rest fs (from_block b second (goes_to join) hb (follow b second (goes_to join) fit.0.2 hb.2) v.1 j fs) go)
+        (both (run_all calls a v.1 j) (run_all calls more) (At (suc c) v.1 fs j) join rest fs (from_block a (suc c) (goes_to join) ha (follow a (suc c) (goes_to join) fit.0.1 ha.2) v.1 j fs) go))) k
+    follow (Then (While t body) more) c rest fit at s k fs =
+        let inside = suc (suc c) in let next = suc (inside + begun body) in
+        let wb = whole (made body inside (goes_to (suc c))) in let wm = whole (made more next rest) in
+        let hb : HasAt g home vars inside wb = front g home vars inside wb wm at.2 in
+        let hm : HasAt g home vars next wm = next_at g home vars body inside (goes_to (suc c)) wm at.2 in
+        both (loop (suc k) (value_of t) (run_all calls body) s k) (run_all calls more) (At (suc c) s fs k) next rest fs
+        (looped t (run_all calls body) (suc c) inside next fs
+        (λ o u i. at_whole home vars (suc c) (record { front = leaves (Branch (term t) inside next); blocks = [] }) (at.0, at.1, tt) o u i (goes_to next) fs)
+        (most body)
+        (λ u i. from_block body inside (goes_to (suc c)) hb (follow body inside (goes_to (suc c)) fit.0.1 hb.2) u i fs)
+        (suc k) s k (omega arith))
+        (λ u i. from_block more next rest hm (follow more next rest fit.1 hm.2) u i fs)
 
   -- the result of a procedure
   pub finished : (o : Outcome) (r : Option Term) (c : Config) (fs : List Frame) → Follows o c (last_part r) fs → FollowsCall (ending o (finish r)) c fs

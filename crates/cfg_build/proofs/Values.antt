@@ -1,8 +1,7 @@
 -- Terms and actions have the same values, loads and effects in the graph as in the run.
-use Rattle.std.proofs.Common.{ℕ, ◌≡◌, ◌-◌, ◌^◌, ◌==◌, List, [], ◌∷◌, ◌++◌, map, Option, Some, None, refl, ap, ◌∙◌, slice_index}
-use Rattle.ws_words.specs.Operators.{applied, flag}
-use Rattle.ws_words.specs.declared.alu.Alu.TheVariants.{Sub}
-use Rattle.ws_words.specs.Outside.{State, Act, loads, row, with_acts, write, stored, printed, taken}
+use Rattle.std.proofs.Common.{ℕ, ◌≡◌, ◌-◌, List, [], ◌∷◌, ◌++◌, map, Option, Some, None, refl, ap, ◌∙◌, slice_index}
+use Rattle.ws_words.specs.Operators.{applied}
+use Rattle.ws_words.specs.Outside.{State, loads, row, with_acts, write, stored, printed, taken}
 use Rattle.src_ast.specs.declared.tree.Unary.{Unary}
 use Rattle.src_ast.specs.declared.tree.Unary.TheVariants.{Flip, Not, Neg}
 use Rattle.src_ast.specs.Turns as turns

@@ -1,4 +1,4 @@
--- The blocks of a procedure as they are made: the finished ones in order, and the operations of the one at hand.
+-- The blocks of a procedure as they are made: the finished ones in order, and the operations of the one at hand. Then what fits into the numbers that the code has.
 use Rattle.std.specs.Prelude.{ℕ, suc, ◌+◌, ◌≤◌, List, [], ◌∷◌, ◌++◌, map, length}
 use Rattle.seq_run.specs.Resolved.{Action, Give, Take, Step, Do, Call, If, While, Steps, Nothing, Then, Proc}
 use Rattle.cfg_core.specs.Graph as graph

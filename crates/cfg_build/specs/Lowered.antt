@@ -71,7 +71,7 @@ behind o m = record { front = ticked o m.front; blocks = m.blocks }
 abbrev pub whole : Made → List Block
 whole m = block m.front ∷ m.blocks
 
--- steps that begin in the block with this number, where `rest` follows them
+-- Steps that begin in the block with this number, where `rest` follows them. Of an `if`, the blocks of its first arm come before those of its second, and the join after both; of a `while`, its header comes first, then the blocks of its body, then the block behind it.
 abbrev pub made : Steps → ℕ → Part → Made
 made Nothing c rest = record { front = rest; blocks = [] }
 made (Then (Do a) more) c rest = behind (op a) (made more c rest)

@@ -1,24 +1,17 @@
--- The order of blocks and the edges into them, on which the cut into waves rests.
-use Rattle.std.specs.Prelude.{◌≡◌, ◌≢◌, ℕ, ◌<◌, ◌⊎◌, Bool, true, false}
+-- The order of blocks and the edges into them.
+use Rattle.std.specs.Prelude.{◌≡◌, ◌≢◌, ℕ, ◌≤◌, Bool, true, false}
 use Rattle.cfg_core.specs.Graph.{Term, Exit, Goto, Branch, Graph, block_at}
-use Rattle.cfg_core.specs.Rules.{Leads, has_tick}
+use Rattle.cfg_core.specs.Rules.{has_tick}
+use Rattle.cfg_core.specs.Edges.{Edge, IsHeader}
 
--- an edge leads from the first block to the second
-abbrev pub Edge : Graph → ℕ → ℕ → Type 0
-Edge g b c = Leads (block_at g b).exit c
+abbrev pub is_branch : Exit → Bool
+is_branch (Branch t a b) = true
+is_branch _ = false
 
-abbrev pub branches : Exit → Bool
-branches (Branch t a b) = true
-branches _ = false
-
--- a loop's header takes a turn, tests, and branches
-pub record IsHeader (g : Graph) (b : ℕ) : Type 0 where
+-- a block takes a turn, tests and branches
+pub record TestsInATurn (g : Graph) (b : ℕ) : Type 0 where
   pub ticks : has_tick (block_at g b).ops ≡ true
-  pub tests : branches (block_at g b).exit ≡ true
-
--- each edge from this block leads to a later one, or goes back to a loop's header
-abbrev pub LeadsOn : Graph → ℕ → Type 0
-LeadsOn g b = (c : ℕ) → Edge g b c → (b < c) ⊎ (((block_at g b).exit ≡ Goto c) × IsHeader g c)
+  pub tests : is_branch (block_at g b).exit ≡ true
 
 -- no edge but from the first block leads to the second
 abbrev pub OnlyFrom : Graph → ℕ → ℕ → Type 0
@@ -30,6 +23,8 @@ pub record BranchesApart (g : Graph) (a b c : ℕ) : Type 0 where
   pub first : OnlyFrom g a b
   pub second : OnlyFrom g a c
 
+-- Edges lead to later blocks, but for a Goto back to a loop's header, which tests in a turn; and each branch leads to two blocks of its own.
 pub record IsShaped (g : Graph) : Type 0 where
-  pub forward : (b : ℕ) → LeadsOn g b
+  pub headers : (c : ℕ) → IsHeader g c → TestsInATurn g c
+  pub backward : (b c : ℕ) → Edge g b c → c ≤ b → (block_at g b).exit ≡ Goto c
   pub branches : (a : ℕ) (t : Term) (b c : ℕ) → (block_at g a).exit ≡ Branch t b c → BranchesApart g a b c

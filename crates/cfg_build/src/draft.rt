@@ -26,7 +26,7 @@ pub struct Draft {
 impl Draft {
     ghost use Rattle.cfg_build.specs.Views.{draft};
 
-    /// Begins the block with this number.
+    /// An empty draft, whose first block gets this number.
     pub(crate) fn at(alloc: Global, first: u32) -> Draft
         ensures { draft result ≡ record { first = first; done = []; ops = [] } }
     {
@@ -45,6 +45,7 @@ impl Draft {
         self.first + self.done.len() as u32
     }
 
+    /// Adds an operation to the block at hand.
     pub(crate) fn push(&mut self, op: GraphOp) -> Result<(), NoMemory>
         ensures { OnOk result (draft self.new ≡ with_op (view.op op) (draft self.old)) }
     {
@@ -52,7 +53,7 @@ impl Draft {
         Ok(())
     }
 
-    /// A turn.
+    /// Adds a turn.
     pub(crate) fn tick(&mut self) -> Result<(), NoMemory>
         ensures { OnOk result (draft self.new ≡ with_op (Tick 1) (draft self.old)) }
     {
@@ -73,7 +74,7 @@ impl Draft {
         Ok(())
     }
 
-    /// The blocks of a procedure with this result, which is 0 where nothing is said.
+    /// The blocks, of which the last one returns this value behind its turn, or 0 where there is none.
     pub(crate) fn finish(
         mut self,
         alloc: Global,

@@ -2,6 +2,7 @@
 
 ghost use Rattle.std.specs.Prelude.{◌≡◌, ℕ, IfOk};
 ghost use Rattle.ws_words.specs.Outside.{World, Outside};
+ghost use Rattle.src_ast.specs.Meaning.{procs_of};
 ghost use Rattle.src_ast.specs.View as ast;
 ghost use Rattle.seq_run.specs.InRange.{ProgramIn};
 ghost use Rattle.seq_run.specs.View as source;
@@ -9,7 +10,7 @@ ghost use Rattle.cfg_core.specs.View as view;
 ghost use Rattle.cfg_core.specs.Rules.{IsGraph};
 ghost use Rattle.cfg_core.specs.Shown.{StaysInside};
 ghost use Rattle.cfg_build.specs.Lowered.{lowered};
-ghost use Rattle.cfg_build.specs.Keeps.{KeepsRun, ShowsRun, arrays_of, IsFirstForm};
+ghost use Rattle.cfg_build.specs.Keeps.{KeepsRun, ShowsRun, arrays_of, rooms_of, rooms_in, IsFirstForm};
 ghost use Rattle.cfg_build.specs.Shape.{IsShaped};
 
 use crate::arrays::arrays;
@@ -31,21 +32,23 @@ fn graph_of(alloc: Global, resolved: &Resolved) -> Result<Graph, NoMemory>
 }
 
 /// The control graph of an accepted program. Its walk does turn by turn what the sequential run
-/// does, in every world; its blocks stand in the order of the text.
+/// does, in every world.
 pub fn lower(alloc: Global, accepted: &Accepted) -> Result<Graph, NoMemory>
     // the walk is the run, and shows all of it
     ensures run { IfOk result (λ graph. KeepsRun (ast.parts accepted.now.program.items.items) (view.graph graph)) }
     ensures shown { IfOk result (λ graph. ShowsRun (view.graph graph)) }
 
-    // the arrays are the program's, and none is hidden
+    // the arrays are the program's and none is hidden, so nothing goes past the end of a hidden one
     ensures arrays { IfOk result (λ graph. (view.graph graph).arrays ≡ arrays_of (ast.parts accepted.now.program.items.items)) }
     ensures inside { IfOk result (λ graph. (world : World) → StaysInside (view.graph graph) world) }
 
     // what later passes rest on
+    ensures procs { IfOk result (λ graph. rooms_in (view.graph graph).procs ≡ rooms_of (procs_of (ast.parts accepted.now.program.items.items))) }
     ensures rules { IfOk result (λ graph. IsGraph (view.graph graph)) }
     ensures form { IfOk result (λ graph. IsFirstForm (view.graph graph)) }
     ensures shape { IfOk result (λ graph. IsShaped (view.graph graph)) }
 {
+    // laws that the contract rests on
     names_are_places();
     turns_never_grow();
     nothing_hidden();

@@ -1,6 +1,7 @@
 pub mod Graph
 pub mod Walk
 pub mod Rules
+pub mod Edges
 pub mod Shown
 pub mod View
 pub mod Shows

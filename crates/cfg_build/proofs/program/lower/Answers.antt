@@ -1,7 +1,7 @@
 use Rattle.src_ast.specs.View as ast
 use Rattle.seq_run.specs.View as source
 use Rattle.cfg_core.specs.View as view
-use Rattle.cfg_build.proofs.OfPrograms.{run_kept, arrays_kept, rules_kept, form_kept, shape_kept, all_shown, stays_inside}
+use Rattle.cfg_build.proofs.OfPrograms.{run_kept, arrays_kept, rooms_kept, rules_kept, form_kept, shape_kept, all_shown, stays_inside}
 use Rattle.cfg_build.proofs.program.lower.Goals as goal
 
 pub returns-clause-run : goal.returns-clause-run
@@ -24,3 +24,6 @@ returns-clause-form c = form_kept (ast.parts c.args.accepted.now.program.items.i
 
 pub returns-clause-shape : goal.returns-clause-shape
 returns-clause-shape c = shape_kept (ast.parts c.args.accepted.now.program.items.items) (source.program c.in_ok-resolved.resolved) (view.graph c.in_ok-graph.graph) c.in_ok-resolved.ensures.resolves c.in_ok-graph.ensures c.in_ok-resolved.ensures.in_range
+
+pub returns-clause-procs : goal.returns-clause-procs
+returns-clause-procs c = rooms_kept (ast.parts c.args.accepted.now.program.items.items) (source.program c.in_ok-resolved.resolved) (view.graph c.in_ok-graph.graph) c.in_ok-resolved.ensures.resolves c.in_ok-graph.ensures c.in_ok-resolved.ensures.in_range

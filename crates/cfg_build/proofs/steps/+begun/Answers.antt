@@ -1,9 +1,10 @@
-use Rattle.std.proofs.Common.{◌≡◌, ◌+◌, ◌<◌, ◌^◌, suc, arith}
+use Rattle.std.proofs.Common.{◌<◌, ◌^◌, suc, refl, ap, arith}
 use Rattle.seq_run.specs.Resolved.{Nothing, Then}
+use Rattle.seq_run.specs.Resolved as resolved
 use Rattle.seq_run.specs.View as source
 use Rattle.seq_run.specs.Weight.{weight, heft}
 use Rattle.cfg_build.specs.Lowered.{begun as begun_in}
-use Rattle.cfg_build.proofs.CodeSteps.{begun_next, step_lighter, begun_same, heft_same, if_weight, if_begun, while_weight, while_begun}
+use Rattle.cfg_build.proofs.CodeSteps.{begun_next, step_lighter, if_is, while_is}
 use Rattle.cfg_build.proofs.steps.+begun.Goals as goal
 
 pub begun-begun_by-count-requires : goal.begun-begun_by-count-requires
@@ -16,62 +17,54 @@ begun-begun_by-count-requires t c =
 
 pub begun_by-begun-requires : goal.begun_by-begun-requires
 begun_by-begun-requires t c =
-    let w = if_weight c.args.step.now c.in-If.field-0 c.in-If.first c.in-If.second c.in-If.is in
-    let b = if_begun c.args.step.now c.in-If.field-0 c.in-If.first c.in-If.second c.in-If.is in
-    let h = heft_same c.deref.result.now c.in-If.first.items c.deref.ensures.value in
-    let n = begun_same c.deref.result.now c.in-If.first.items c.deref.ensures.value in
-    let r : heft (source.steps c.deref.result.now) < t = omega (arith, c.decreases) in
-    let few : begun_in (source.steps c.deref.result.now) < 2 ^ 32 = omega (arith, c.requires) in
+    let is = if_is c.args.step.now c.in-If.field-0 c.in-If.first c.in-If.second c.deref.result.now c.in-If.second.items c.in-If.is c.deref.ensures.value refl in
+    let w = ap weight is in let b = ap (λ (s : resolved.Step). begun_in (Then s Nothing)) is in
+    let r : heft (source.steps c.deref.result.now) < t = omega (arith, c.decreases, w) in
+    let few : begun_in (source.steps c.deref.result.now) < 2 ^ 32 = omega (arith, c.requires, b) in
     (r, few)
 
 pub begun_by-overflow_add-result : goal.begun_by-overflow_add-result
 begun_by-overflow_add-result t c =
-    let b = if_begun c.args.step.now c.in-If.field-0 c.in-If.first c.in-If.second c.in-If.is in
-    let n = begun_same c.deref.result.now c.in-If.first.items c.deref.ensures.value in
-    omega (arith, c.requires, c.begun.ensures)
+    let is = if_is c.args.step.now c.in-If.field-0 c.in-If.first c.in-If.second c.deref.result.now c.in-If.second.items c.in-If.is c.deref.ensures.value refl in
+    let b = ap (λ (s : resolved.Step). begun_in (Then s Nothing)) is in
+    omega (arith, c.requires, c.begun.ensures, b)
 
 pub begun_by-begun-requires-in-If : goal.begun_by-begun-requires-in-If
 begun_by-begun-requires-in-If t c =
-    let w = if_weight c.args.step.now c.in-If.field-0 c.in-If.first c.in-If.second c.in-If.is in
-    let b = if_begun c.args.step.now c.in-If.field-0 c.in-If.first c.in-If.second c.in-If.is in
-    let h = heft_same c.deref-in-If.result.now c.in-If.second.items c.deref-in-If.ensures.value in
-    let n = begun_same c.deref-in-If.result.now c.in-If.second.items c.deref-in-If.ensures.value in
-    let r : heft (source.steps c.deref-in-If.result.now) < t = omega (arith, c.decreases) in
-    let few : begun_in (source.steps c.deref-in-If.result.now) < 2 ^ 32 = omega (arith, c.requires) in
+    let is = if_is c.args.step.now c.in-If.field-0 c.in-If.first c.in-If.second c.deref.result.now c.deref-in-If.result.now c.in-If.is c.deref.ensures.value c.deref-in-If.ensures.value in
+    let w = ap weight is in let b = ap (λ (s : resolved.Step). begun_in (Then s Nothing)) is in
+    let r : heft (source.steps c.deref-in-If.result.now) < t = omega (arith, c.decreases, w) in
+    let few : begun_in (source.steps c.deref-in-If.result.now) < 2 ^ 32 = omega (arith, c.requires, b) in
     (r, few)
 
 pub begun_by-overflow_add-result-in-If : goal.begun_by-overflow_add-result-in-If
 begun_by-overflow_add-result-in-If t c =
-    let b = if_begun c.args.step.now c.in-If.field-0 c.in-If.first c.in-If.second c.in-If.is in
-    let n = begun_same c.deref.result.now c.in-If.first.items c.deref.ensures.value in
-    let m = begun_same c.deref-in-If.result.now c.in-If.second.items c.deref-in-If.ensures.value in
-    omega (arith, c.requires, c.begun.ensures, c.begun-in-If.ensures)
+    let is = if_is c.args.step.now c.in-If.field-0 c.in-If.first c.in-If.second c.deref.result.now c.deref-in-If.result.now c.in-If.is c.deref.ensures.value c.deref-in-If.ensures.value in
+    let b = ap (λ (s : resolved.Step). begun_in (Then s Nothing)) is in
+    omega (arith, c.requires, c.begun.ensures, c.begun-in-If.ensures, b)
 
 pub begun_by-returns-in-If : goal.begun_by-returns-in-If
 begun_by-returns-in-If t c =
-    let b = if_begun c.args.step.now c.in-If.field-0 c.in-If.first c.in-If.second c.in-If.is in
-    let n = begun_same c.deref.result.now c.in-If.first.items c.deref.ensures.value in
-    let m = begun_same c.deref-in-If.result.now c.in-If.second.items c.deref-in-If.ensures.value in
-    omega (arith, c.begun.ensures, c.begun-in-If.ensures)
+    let is = if_is c.args.step.now c.in-If.field-0 c.in-If.first c.in-If.second c.deref.result.now c.deref-in-If.result.now c.in-If.is c.deref.ensures.value c.deref-in-If.ensures.value in
+    let b = ap (λ (s : resolved.Step). begun_in (Then s Nothing)) is in
+    omega (arith, c.begun.ensures, c.begun-in-If.ensures, b)
 
 pub begun_by-begun-requires-in-While : goal.begun_by-begun-requires-in-While
 begun_by-begun-requires-in-While t c =
-    let w = while_weight c.args.step.now c.in-While.field-0 c.in-While.body c.in-While.is in
-    let b = while_begun c.args.step.now c.in-While.field-0 c.in-While.body c.in-While.is in
-    let h = heft_same c.deref-in-While.result.now c.in-While.body.items c.deref-in-While.ensures.value in
-    let n = begun_same c.deref-in-While.result.now c.in-While.body.items c.deref-in-While.ensures.value in
-    let r : heft (source.steps c.deref-in-While.result.now) < t = omega (arith, c.decreases) in
-    let few : begun_in (source.steps c.deref-in-While.result.now) < 2 ^ 32 = omega (arith, c.requires) in
+    let is = while_is c.args.step.now c.in-While.field-0 c.in-While.body c.deref-in-While.result.now c.in-While.is c.deref-in-While.ensures.value in
+    let w = ap weight is in let b = ap (λ (s : resolved.Step). begun_in (Then s Nothing)) is in
+    let r : heft (source.steps c.deref-in-While.result.now) < t = omega (arith, c.decreases, w) in
+    let few : begun_in (source.steps c.deref-in-While.result.now) < 2 ^ 32 = omega (arith, c.requires, b) in
     (r, few)
 
 pub begun_by-overflow_add-result-in-While : goal.begun_by-overflow_add-result-in-While
 begun_by-overflow_add-result-in-While t c =
-    let b = while_begun c.args.step.now c.in-While.field-0 c.in-While.body c.in-While.is in
-    let n = begun_same c.deref-in-While.result.now c.in-While.body.items c.deref-in-While.ensures.value in
-    omega (arith, c.requires, c.begun-in-While.ensures)
+    let is = while_is c.args.step.now c.in-While.field-0 c.in-While.body c.deref-in-While.result.now c.in-While.is c.deref-in-While.ensures.value in
+    let b = ap (λ (s : resolved.Step). begun_in (Then s Nothing)) is in
+    omega (arith, c.requires, c.begun-in-While.ensures, b)
 
 pub begun_by-returns-in-While : goal.begun_by-returns-in-While
 begun_by-returns-in-While t c =
-    let b = while_begun c.args.step.now c.in-While.field-0 c.in-While.body c.in-While.is in
-    let n = begun_same c.deref-in-While.result.now c.in-While.body.items c.deref-in-While.ensures.value in
-    omega (arith, c.begun-in-While.ensures)
+    let is = while_is c.args.step.now c.in-While.field-0 c.in-While.body c.deref-in-While.result.now c.in-While.is c.deref-in-While.ensures.value in
+    let b = ap (λ (s : resolved.Step). begun_in (Then s Nothing)) is in
+    omega (arith, c.begun-in-While.ensures, b)

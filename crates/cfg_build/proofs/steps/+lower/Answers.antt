@@ -4,12 +4,11 @@ use Rattle.seq_run.specs.Resolved.{If, While, Nothing, Then}
 use Rattle.seq_run.specs.Resolved as resolved
 use Rattle.seq_run.specs.View as source
 use Rattle.seq_run.specs.Weight.{weight, heft}
-use Rattle.cfg_core.specs.Graph.{Tick, Branch, Goto}
-use Rattle.cfg_build.specs.Lowered.{term, begun as begun_in}
-use Rattle.cfg_build.specs.Drafts.{number, emit_one, StepFits, StepsFit}
+use Rattle.cfg_core.specs.Graph.{Tick}
+use Rattle.cfg_build.specs.Lowered.{begun as begun_in}
+use Rattle.cfg_build.specs.Drafts.{number, emit_one, StepFits}
 use Rattle.cfg_build.specs.Views.{draft as draft_of}
-use Rattle.cfg_build.proofs.CodeSteps.{step_lighter, if_is, while_is}
-use Rattle.cfg_build.proofs.Drafted.{after_op, after_exit, after_steps, emitted_next, room_here, room_next, fit_here}
+use Rattle.cfg_build.proofs.CodeSteps.{step_lighter, if_is, while_is, after_op, after_exit, after_steps, emitted_next, room_here, room_next, fit_here}
 use Rattle.cfg_build.proofs.steps.+lower.Goals as goal
 
 pub lower_steps-lower_step-requires : goal.lower_steps-lower_step-requires
