@@ -3,6 +3,8 @@
 ghost use Rattle.std.specs.Prelude.{◌<◌};
 
 mod expressions;
+mod graphs;
+mod lowering;
 mod printed;
 mod refusals;
 mod sequential;

@@ -1,5 +1,6 @@
 //! Command lines, programs and what is printed, a row in a line: a bar stands for a line feed, and `$` between
-//! the three. What is printed was computed independently.
+//! the three. What is printed was worked out by hand, and for Fibonacci numbers, Collatz steps and
+//! matrices by a few lines of Python.
 
 /// The sequential run of programs.
 pub const SEQUENTIAL: &str = "\
