@@ -1,0 +1,289 @@
+#!/usr/bin/env python3
+"""Times lowering on programs as large as the limits allow, and the walk of a control graph beside the
+sequential run.
+
+No command of `wsc` lowers a program, so a small program that does is proved and built in a temporary
+folder, over the libraries of the repository. It reads a program and does one thing to it so many times.
+The processor time of a process counts, the fastest of five, less that of one that does it no times. What
+is printed has to be as expected.
+"""
+
+import os
+import pathlib
+import shutil
+import subprocess
+import sys
+import tempfile
+
+# Nothing is left beside the scripts.
+sys.dont_write_bytecode = True
+import plain
+
+ROOT = pathlib.Path(__file__).resolve().parent.parent
+USES = "ws_words ws_io src_ast src_lex src_parse src_check seq_run cfg_core cfg_build"
+RUNS = 5
+
+# 3,999,998 turns, of which 1,333,332 are calls.
+CALLS = """proc next(i) {
+  return i + 1;
+}
+proc main() {
+  var i;
+  while (i < 1333332) {
+    i = next(i);
+  }
+  print i;
+}
+"""
+
+MAIN = """//! Lowers, walks or runs a program, so many times.
+#![tactic(auto)]
+
+ghost use Rattle.std.specs.Prelude.{◌≡◌, ◌<◌, ◌^◌, ◌-◌, length, IfOk};
+ghost use Rattle.cfg_core.specs.View as view;
+ghost use Rattle.cfg_core.specs.Rules.{IsGraph};
+
+use cfg_build::lower;
+use cfg_core::{Graph, run_graph};
+use seq_run::run_plain;
+use src_check::{Accepted, check};
+use src_lex::lex;
+use src_parse::parse;
+use std::alloc::Global;
+use std::env;
+use std::env::Env;
+use std::process::ExitCode;
+use ws_io::{StdSource, decimal, read_all};
+use ws_words::{Cells, NoMemory, Plain, Words, World};
+
+// More than any run here takes.
+const TURNS: u64 = 4_000_000;
+
+// The accepted program of a text.
+fn read(alloc: Global, text: &[u8]) -> Option<Accepted>
+    requires { length text.now < 2 ^ 32 - 1 }
+{
+    let lexemes = lex(alloc, text).ok()?;
+    let tree = parse(alloc, &lexemes).ok()?;
+    check(alloc, tree).ok()
+}
+
+fn blocks_of(graph: &Graph) -> u64 {
+    let mut count = 0u64;
+    for proc in &graph.procs {
+        count = count.wrapping_add(proc.blocks.len() as u64);
+    }
+    count
+}
+
+// The first word printed by a run that ended, or none.
+fn printed(plain: &Plain) -> u64 {
+    match plain {
+        Plain::Ended {
+            printed,
+            arrays: _,
+            took: _,
+            turns: _,
+        } => printed.word(0),
+        Plain::Going { printed: _ } => 0,
+    }
+}
+
+fn nothing(alloc: Global) -> World {
+    World {
+        input: Words::empty(alloc),
+        left: Cells::empty(alloc),
+    }
+}
+
+fn lowered(alloc: Global, accepted: &Accepted, times: u64) -> Result<u64, NoMemory> {
+    let mut sum = 0u64;
+    for _ in 0..times {
+        let graph = lower(alloc, accepted)?;
+        sum = sum.wrapping_add(blocks_of(&graph));
+    }
+    Ok(sum)
+}
+
+fn walked(alloc: Global, accepted: &Accepted, times: u64) -> Result<u64, NoMemory> {
+    let graph = lower(alloc, accepted)?;
+    let world = nothing(alloc);
+    let mut sum = 0u64;
+    for _ in 0..times {
+        let plain = run_graph(alloc, &graph, &world, TURNS)?;
+        sum = sum.wrapping_add(printed(&plain));
+    }
+    Ok(sum)
+}
+
+fn ran(alloc: Global, accepted: &Accepted, times: u64) -> Result<u64, NoMemory> {
+    let world = nothing(alloc);
+    let mut sum = 0u64;
+    for _ in 0..times {
+        let plain = run_plain(alloc, accepted, &world, TURNS)?;
+        sum = sum.wrapping_add(printed(&plain));
+    }
+    Ok(sum)
+}
+
+// What the words of the command line ask for, as a sum over all times.
+fn asked<R: Env + AllocGlobal>(rt: &R, accepted: &Accepted) -> Option<u64> {
+    let alloc = rt.alloc();
+    let mut words = env::args(rt).ok()?.skip(1);
+    let what = words.next()?;
+    let times = decimal(words.next()?.as_bytes())?;
+    match what.as_str() {
+        "lower" => lowered(alloc, accepted, times).ok(),
+        "walk" => walked(alloc, accepted, times).ok(),
+        "run" => ran(alloc, accepted, times).ok(),
+        _ => None,
+    }
+}
+
+fn main(rt: HostRuntime) -> ExitCode {
+    let alloc = rt.alloc();
+    let mut source = StdSource::new(rt.stdin());
+    let Ok(text) = read_all(alloc, &mut source, 1_048_576) else {
+        return ExitCode::FAILURE;
+    };
+    let Some(accepted) = read(alloc, text.as_slice()) else {
+        return ExitCode::FAILURE;
+    };
+    let Some(sum) = asked(&rt, &accepted) else {
+        return ExitCode::FAILURE;
+    };
+    match println!(rt; "{sum}") {
+        Ok(()) => ExitCode::SUCCESS,
+        Err(_) => ExitCode::FAILURE,
+    }
+}
+"""
+
+NAMES = ("left", "right", "sum", "v", "w")
+OPERATORS = "+ - * / % & | ^ == != < <= > >= << >>".split()
+
+
+def expression(seed, lexemes, size):
+    """A row of operands, of cells, variables and numbers in turn, within so many lexemes and bytes."""
+    text, count = "sum", 1
+    for i in range(seed, seed + lexemes):
+        name = NAMES[i % 5]
+        operand = (f"a[{name}]", name, str(i * 7919 + 10**12), str(i * 104729 + 10**17))[i % 4]
+        more = OPERATORS[i * 5 % 16] + operand
+        taken = 5 if i % 4 == 0 else 2
+        if count + taken > lexemes or len(text) + len(more) > size:
+            break
+        text, count = text + more, count + taken
+    return text
+
+
+def straight(count):
+    """So many assignments in one procedure, each of nearly 256 lexemes and 1,000 bytes."""
+    rows = "".join(f"sum={expression(i, 253, 1000)};\n" for i in range(count))
+    return "array a[8];proc main(){var left,right,sum,v,w;\n" + rows + "}\n"
+
+
+def nests(count):
+    """So many statements with long tests in one procedure: nests of 31, of `while` and `if` in turn."""
+    rows = []
+    for i in range(count):
+        word = ("while", "if")[i % 2]
+        rows.append(f"{word}({expression(i, 251, 1000)}){{\n")
+        if i % 31 == 30:
+            rows.append("}" * 31 + "\n")
+    rows.append("}" * (count % 31))
+    return "array a[8];proc main(){var left,right,sum,v,w;\n" + "".join(rows) + "}\n"
+
+
+def calls(count):
+    """So many statements in 64 procedures: calls of the procedures before, with eight long arguments."""
+    each = count // 64
+    rows = ["array a[8];\n"]
+    for p in range(64):
+        head = "main(){var left,right,sum,v,w,x,y,z;" if p == 63 else f"p{p}(left,right,sum,v,w,x,y,z){{"
+        rows.append("proc " + head + "\n")
+        for i in range(each):
+            if p == 0:
+                rows.append(f"sum={expression(i, 253, 1000)};\n")
+            else:
+                values = ",".join(expression(i + j, 30, 123) for j in range(8))
+                rows.append(f"sum=p{(p * 31 + i * 7) % p}({values});\n")
+        rows.append("}\n")
+    return "".join(rows)
+
+
+def rt(word, folder):
+    """Runs rt in a folder, and gives what it says."""
+    run = subprocess.run(
+        ["rt", word], cwd=folder, stdin=subprocess.DEVNULL, stdout=subprocess.PIPE, stderr=subprocess.STDOUT, check=False
+    )
+    return run.stdout.decode()
+
+
+def build(folder):
+    """Proves and builds the program in this folder, and gives its path."""
+    print("lowering: proving and building, which takes some minutes", file=sys.stderr)
+    # The libraries are proved where they stand, so that a second run finds them proved.
+    said = rt("lib", ROOT / "crates" / "cfg_build")
+    uses = USES.split()
+    for crate in uses:
+        for part in ("src", "specs", "proofs", "out/rlib"):
+            if (ROOT / "crates" / crate / part).is_dir():
+                shutil.copytree(ROOT / "crates" / crate / part, folder / "crates" / crate / part)
+    rows = [row for row in (ROOT / "crates.txt").read_text().splitlines() if row.split(":")[0] in uses]
+    (folder / "crates.txt").write_text("\n".join([*rows, "lowering: " + USES]) + "\n")
+    crate = folder / "crates" / "lowering"
+    (crate / "src").mkdir(parents=True)
+    (crate / "src" / "main.rt").write_text(MAIN)
+    # rt run also runs the program, without words, which it answers with a failure.
+    said += rt("run", crate)
+    program = crate / "out" / "lowering"
+    if not program.is_file():
+        sys.exit(said + "lowering: not built")
+    return program
+
+
+def once(command, file):
+    """The processor time of a process, and what it prints."""
+    with open(file, "rb") as text:
+        process = subprocess.Popen(command, stdin=text, stdout=subprocess.PIPE)
+        out = process.stdout.read().decode()
+        _, status, used = os.wait4(process.pid, 0)
+    process.returncode = status
+    if status:
+        sys.exit(f"{command}: status {status}")
+    return used.ru_utime + used.ru_stime, int(out)
+
+
+def each(program, file, what, times):
+    """The seconds of one time, and what it adds to the sum."""
+    idle = min(once([program, what, "0"], file)[0] for _ in range(RUNS))
+    runs = [once([program, what, str(times)], file) for _ in range(RUNS)]
+    total = runs[0][1]
+    if total % times or any(out != total for _, out in runs):
+        sys.exit(f"{what}: not the same each time")
+    return (min(took for took, _ in runs) - idle) / times, total // times
+
+
+def main():
+    with tempfile.TemporaryDirectory() as name:
+        folder = pathlib.Path(name)
+        program = build(folder)
+        file = folder / "program.txt"
+        for kind, make in (("straight", straight), ("nests", nests), ("calls", calls)):
+            for count in (256, 512, 1024):
+                text = make(count)
+                file.write_text(text)
+                took, blocks = each(program, file, "lower", 20)
+                print(f"lower {kind}, {count} statements, {len(text)} bytes, {blocks} blocks: {took:.5f} s", flush=True)
+        for kind, text in (("loop", plain.LOOP), ("calls", CALLS), ("sieve", plain.SIEVE)):
+            file.write_text(text)
+            took, out = each(program, file, "walk", 10)
+            theirs, other = each(program, file, "run", 10)
+            if out == 0 or out != other:
+                sys.exit(f"{kind}: the walk prints something else")
+            print(f"{kind}: run_graph {took:.4f} s, run_plain {theirs:.4f} s, {took / theirs:.2f} times as long")
+
+
+if __name__ == "__main__":
+    main()
