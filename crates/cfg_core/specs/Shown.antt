@@ -49,12 +49,19 @@ abbrev pub shown_acts : List GraphArray → List Act → List Act
 shown_acts arrays [] = []
 shown_acts arrays (act ∷ acts) = shown_act arrays act ++ shown_acts arrays acts
 
--- the walks of both end or are both going, with the same shown acts, in every world and after every number of turns
-pub record SameActs (g h : Graph) : Type 0 where
-  pub ends : (world : World) (turns : ℕ) (o : Outside) → Ends g world turns o → (p : Outside) × Ends h world turns p × (shown_acts g.arrays o.acts ≡ shown_acts h.arrays p.acts)
-  pub ends_only : (world : World) (turns : ℕ) (p : Outside) → Ends h world turns p → (o : Outside) × Ends g world turns o × (shown_acts g.arrays o.acts ≡ shown_acts h.arrays p.acts)
-  pub goes : (world : World) (turns : ℕ) (o : Outside) → Goes g world turns o → (p : Outside) × Goes h world turns p × (shown_acts g.arrays o.acts ≡ shown_acts h.arrays p.acts)
-  pub goes_only : (world : World) (turns : ℕ) (p : Outside) → Goes h world turns p → (o : Outside) × Goes g world turns o × (shown_acts g.arrays o.acts ≡ shown_acts h.arrays p.acts)
+-- the same is shown of both: acts, cells of shown arrays, and the words left in the input and in ports
+pub record SameShown (g h : Graph) (o p : Outside) : Type 0 where
+  pub acts : shown_acts g.arrays o.acts ≡ shown_acts h.arrays p.acts
+  pub cells : shown_cells g.arrays o.cells ≡ shown_cells h.arrays p.cells
+  pub input : o.input ≡ p.input
+  pub left : o.left ≡ p.left
+
+-- in every world and after every number of turns the walks of both end or are both going, and the same is shown of them
+pub record SameWalks (g h : Graph) : Type 0 where
+  pub ends : (world : World) (turns : ℕ) (o : Outside) → Ends g world turns o → (p : Outside) × Ends h world turns p × SameShown g h o p
+  pub ends_only : (world : World) (turns : ℕ) (p : Outside) → Ends h world turns p → (o : Outside) × Ends g world turns o × SameShown g h o p
+  pub goes : (world : World) (turns : ℕ) (o : Outside) → Goes g world turns o → (p : Outside) × Goes h world turns p × SameShown g h o p
+  pub goes_only : (world : World) (turns : ℕ) (p : Outside) → Goes h world turns p → (o : Outside) × Goes g world turns o × SameShown g h o p
 
 -- no load and no store of a hidden array past its end
 abbrev pub IsInside : List GraphArray → Act → Type 0
