@@ -3,7 +3,7 @@ use Rattle.std.specs.Prelude.{◌≡◌, ℕ, ◌+◌, List, [], ◌∷◌, leng
 use Rattle.std.specs.List.{AllByRecursion}
 use Rattle.ws_words.specs.Outside.{Outside, World}
 use Rattle.src_ast.specs.Syntax.{Procedure, Part, Array, Proc}
-use Rattle.src_ast.specs.Meaning.{Runs, Goes}
+use Rattle.src_ast.specs.Meaning.{Passes, Flows}
 use Rattle.cfg_core.specs.Graph.{Op, Choose, Tick, TickBy, Exit, Send, GraphArray, GraphProc, Graph, spots}
 use Rattle.cfg_core.specs.Walk as walks
 use Rattle.cfg_core.specs.Walk.{Ends}
@@ -11,10 +11,10 @@ use Rattle.cfg_core.specs.Shown.{ShowsAll}
 
 -- In each world and after each number of turns the walk has ended exactly where the run has, or is going exactly where the run is, with the same cells, input words and words of ports left, and the same acts.
 pub record KeepsRun (parts : List Part) (g : Graph) : Type 0 where
-  pub ends : (world : World) (turns : ℕ) (o : Outside) → Runs parts world turns o → Ends g world turns o
-  pub ends_only : (world : World) (turns : ℕ) (o : Outside) → Ends g world turns o → Runs parts world turns o
-  pub goes : (world : World) (turns : ℕ) (o : Outside) → Goes parts world turns o → walks.Goes g world turns o
-  pub goes_only : (world : World) (turns : ℕ) (o : Outside) → walks.Goes g world turns o → Goes parts world turns o
+  pub ends : (world : World) (turns : ℕ) (o : Outside) → Passes parts world turns o → Ends g world turns o
+  pub ends_only : (world : World) (turns : ℕ) (o : Outside) → Ends g world turns o → Passes parts world turns o
+  pub goes : (world : World) (turns : ℕ) (o : Outside) → Flows parts world turns o → walks.Goes g world turns o
+  pub goes_only : (world : World) (turns : ℕ) (o : Outside) → walks.Goes g world turns o → Flows parts world turns o
 
 -- Wherever the walk ends or is going, its shown acts and shown cells are all its acts and cells.
 pub record ShowsRun (g : Graph) : Type 0 where

@@ -11,7 +11,7 @@ use Rattle.src_ast.specs.Syntax.{Part, Array, Proc}
 use Rattle.src_ast.specs.Rules.{Rule, IsAccepted, has_main, rules_behind}
 use Rattle.src_ast.specs.Turns.{CallEnd, Returned, Stopped}
 use Rattle.src_ast.specs.Meaning as meaning
-use Rattle.src_ast.specs.Meaning.{Runs, Goes, procs_of, arrays_of, names_of, empty_cells}
+use Rattle.src_ast.specs.Meaning.{Passes, Flows, procs_of, arrays_of, names_of, empty_cells}
 use Rattle.seq_run.specs.Resolved as resolved
 use Rattle.seq_run.specs.Resolved.{run, calls_below}
 use Rattle.seq_run.specs.Resolving as resolving
@@ -114,20 +114,20 @@ module _ (r : Resolved) (parts : List Part) (world : World) (turns : ℕ) (plain
   says_names = subst (λ (c : CallEnd). ReplySays c turns plain) (ap (λ (p : resolved.Program). run p world turns) e ∙ sym (run_same parts world turns)) says
 
   -- more turns than it takes
-  in_time : (n : ℕ) (end : Outside) → Runs parts world n end → n ≤ turns → (v : ℕ) × (meaning.run parts world turns ≡ Returned v end (turns - n))
+  in_time : (n : ℕ) (end : Outside) → Passes parts world n end → n ≤ turns → (v : ℕ) × (meaning.run parts world turns ≡ Returned v end (turns - n))
   in_time n end runs le =
       let m = more_turns (resolving.program parts) world n runs.0 end (turns - n) (sym (run_same parts world n) ∙ runs.1) in
       let z : (turns - n) + n ≡ turns = omega (arith, le) in
       (runs.0, run_same parts world turns ∙ ap (λ (k : ℕ). run (resolving.program parts) world k) (sym z) ∙ m)
 
-  pub ends : (n : ℕ) (end : Outside) → Runs parts world n end → n ≤ turns → SaysEnded n end plain
+  pub ends : (n : ℕ) (end : Outside) → Passes parts world n end → n ≤ turns → SaysEnded n end plain
   ends n end runs le = let t = in_time n end runs le in by_plain plain (subst (λ (c : CallEnd). ReplySays c turns plain) t.1 says_names) le
     where
       by_plain : (p : Plain) → ReplySays (Returned (in_time n end runs le).0 end (turns - n)) turns p → n ≤ turns → SaysEnded n end p
       by_plain (plains.Ended printed arrays took k) h l = let z : turns - (turns - n) ≡ n = omega (arith, l) in (h.1.0 ∙ z, h.1.1, h.1.2, h.1.3)
       by_plain (plains.Going printed) h l = absurd h
 
-  pub goes : (now : Outside) → Goes parts world turns now → SaysGoing now plain
+  pub goes : (now : Outside) → Flows parts world turns now → SaysGoing now plain
   goes now g = subst (λ (c : CallEnd). ReplySays c turns plain) g says_names
 
   pub one_of : HasEnded parts world turns plain ⊎ IsGoing parts world turns plain

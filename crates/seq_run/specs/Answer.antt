@@ -6,7 +6,7 @@ use Rattle.ws_words.specs.Outside.{Outside, World, printed_words}
 use Rattle.ws_words.specs.Plain.{took_by_ports}
 use Rattle.src_ast.specs.Syntax.{Part}
 use Rattle.src_ast.specs.Turns.{CallEnd, Returned, Stopped}
-use Rattle.src_ast.specs.Meaning.{Runs, Goes}
+use Rattle.src_ast.specs.Meaning.{Passes, Flows}
 
 -- the run ended after so many turns and left this
 abbrev pub SaysEnded : ℕ → Outside → Plain → Type 0
@@ -22,14 +22,14 @@ SaysGoing now (Going printed) = printed ≡ printed_words now.acts
 pub record HasEnded (parts : List Part) (world : World) (turns : ℕ) (plain : Plain) : Type 0 where
   pub taken : ℕ
   pub end : Outside
-  pub runs : Runs parts world taken end
+  pub runs : Passes parts world taken end
   pub within : taken ≤ turns
   pub says : SaysEnded taken end plain
 
 -- the run wants more than so many turns, and the answer says what it printed until then
 pub record IsGoing (parts : List Part) (world : World) (turns : ℕ) (plain : Plain) : Type 0 where
   pub now : Outside
-  pub goes : Goes parts world turns now
+  pub goes : Flows parts world turns now
   pub says : SaysGoing now plain
 
 -- how a run of so many turns went

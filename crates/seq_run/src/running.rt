@@ -2,7 +2,7 @@
 
 ghost use Rattle.std.specs.Prelude.{◌≡◌, ◌<◌, ◌≤◌, ◌⊎◌, ℕ, length, IfOk};
 ghost use Rattle.ws_words.specs.Outside.{Outside};
-ghost use Rattle.src_ast.specs.Meaning.{Runs, Goes};
+ghost use Rattle.src_ast.specs.Meaning.{Passes, Flows};
 ghost use Rattle.src_ast.specs.View as ast;
 ghost use Rattle.seq_run.specs.Answer.{SaysEnded, SaysGoing, HasEnded, IsGoing, ReplySays};
 ghost use Rattle.ws_words.specs.Plain.{world_of};
@@ -71,8 +71,8 @@ pub fn run_plain(
     ensures answer { IfOk result (λ plain. HasEnded (ast.parts accepted.now.program.items.items) (world_of world.now) turns plain ⊎ IsGoing (ast.parts accepted.now.program.items.items) (world_of world.now) turns plain) }
 
     // and each cause has its answer
-    ensures ended { (n : ℕ) (end : Outside) → Runs (ast.parts accepted.now.program.items.items) (world_of world.now) n end → n ≤ turns → IfOk result (SaysEnded n end) }
-    ensures going { (now : Outside) → Goes (ast.parts accepted.now.program.items.items) (world_of world.now) turns now → IfOk result (SaysGoing now) }
+    ensures ended { (n : ℕ) (end : Outside) → Passes (ast.parts accepted.now.program.items.items) (world_of world.now) n end → n ≤ turns → IfOk result (SaysEnded n end) }
+    ensures going { (now : Outside) → Flows (ast.parts accepted.now.program.items.items) (world_of world.now) turns now → IfOk result (SaysGoing now) }
 {
     let resolved = resolve(alloc, accepted)?;
     let plain = run_resolved(alloc, &resolved, world, turns)?;

@@ -1,7 +1,8 @@
 -- Worked runs: what the sequential meaning gives for small programs, by computing.
-use Rattle.std.proofs.Common.{◌≡◌, ℕ, List, [], ◌∷◌, codes, refl, Some, None, Option, if◌then◌else◌}
+use Rattle.std.proofs.Common.{◌≡◌, ℕ, zero, suc, ◌<◌, List, [], ◌∷◌, codes, refl, Some, None, Option, if◌then◌else◌, arith}
 use Rattle.ws_words.specs.declared.alu.Alu.TheVariants.{Add, Sub, Mul, Div, Rem, Shl, Le}
-use Rattle.ws_words.specs.Outside.{World, Act, prints, loads, stores, reads}
+use Rattle.ws_words.specs.Outside.{World, Outside, Act, prints, loads, stores, reads}
+use Rattle.ws_words.specs.Past.{AreWithin}
 use Rattle.src_ast.specs.declared.lexeme.Place.{Place}
 use Rattle.src_ast.specs.declared.lexeme.Name.{Name}
 use Rattle.src_ast.specs.Lexemes.{start}
@@ -13,7 +14,8 @@ use Rattle.src_ast.specs.Rules.{Rule, rules_of}
 use Rattle.src_ast.specs.Bound.{bound}
 use Rattle.src_ast.specs.Printed.{printed_form}
 use Rattle.src_ast.specs.Turns.{CallEnd, Returned, Stopped}
-use Rattle.src_ast.specs.Meaning.{run}
+use Rattle.src_ast.specs.Meaning.{run, lengths_of}
+use Rattle.src_ast.specs.Runs.{Goes, Faults, acts_in}
 
 abbrev name : List ℕ → Name
 name t = record { text = t; place = start }
@@ -160,3 +162,53 @@ bound_of_sums = refl
 pub printed_program : printed_form (main [] (Then (Print start (Binary Mul (Binary Add (var (codes "a")) (var (codes "b"))) (var (codes "c")))) (Then (If start (var (codes "a")) Nothing Nothing) Nothing)) ∷ [])
     ≡ codes "proc main() {\n  print (a + b) * c;\n  if (a) {\n  }\n}\n"
 printed_program = refl
+
+-- two cells, and a load past them in the second of three turns
+abbrev reads_past : List Part
+reads_past =
+    Array (name (codes "a")) 2 start
+    ∷ main []
+    (Then (Print start (Number 1))
+    (Then (Print start (Cell (name (codes "a")) (Number 2)))
+    (Then (Print start (Number 3)) Nothing)))
+    ∷ []
+
+abbrev before_the_load : Outside
+before_the_load = record { cells = (0 ∷ 0 ∷ []) ∷ []; input = []; left = []; acts = prints 1 ∷ [] }
+
+pub load_past_is_a_fault : Faults reads_past (world []) 2 1 before_the_load
+load_past_is_a_fault = record {
+  first = record { within = (tt, tt); act = loads 1 2; past = (refl, omega arith); after = prints 0 ∷ []; split = refl };
+  sooner = not_sooner;
+  left = refl;
+}
+  where
+    not_sooner : (m : ℕ) → m < 2 → AreWithin (lengths_of reads_past) (acts_in reads_past (world []) m)
+    not_sooner zero lt = tt
+    not_sooner (suc zero) lt = (tt, tt)
+    not_sooner (suc (suc m)) lt = absurd (omega arith)
+
+-- one turn is not enough for it
+pub one_turn_goes : Goes reads_past (world []) 1 before_the_load
+one_turn_goes = record { flows = refl; within = (tt, tt) }
+
+-- the last cell, and a store past the end after its index and its value
+abbrev stores_past : List Part
+stores_past =
+    Array (name (codes "a")) 1 start
+    ∷ main [] (Then (Store start (name (codes "a")) (Number 1) (Cell (name (codes "a")) (Number 0))) Nothing)
+    ∷ []
+
+abbrev before_the_store : Outside
+before_the_store = record { cells = (0 ∷ []) ∷ []; input = []; left = []; acts = loads 1 0 ∷ [] }
+
+pub store_past_is_a_fault : Faults stores_past (world []) 1 1 before_the_store
+store_past_is_a_fault = record {
+  first = record { within = (omega arith, tt); act = stores 1 1 0; past = (refl, omega arith); after = []; split = refl };
+  sooner = not_sooner;
+  left = refl;
+}
+  where
+    not_sooner : (m : ℕ) → m < 1 → AreWithin (lengths_of stores_past) (acts_in stores_past (world []) m)
+    not_sooner zero lt = tt
+    not_sooner (suc m) lt = absurd (omega arith)

@@ -10,5 +10,6 @@ pub mod Printed
 pub mod Same
 pub mod Turns
 pub mod Meaning
+pub mod Runs
 pub mod Commas
 pub mod Written

@@ -157,10 +157,11 @@ run_at main parts world k = run_number parts (calls_below main parts) main [] (o
 abbrev pub run : List Part → World → ℕ → CallEnd
 run parts world k = run_at (length (procs_of parts) - 1) parts world k
 
--- the run takes exactly n turns and leaves this
-abbrev pub Runs : List Part → World → ℕ → Outside → Type 0
-Runs parts world n end = (v : ℕ) × (run parts world n ≡ Returned v end 0)
+-- The passing run: a load past the end of its array gives 0, a store past it changes nothing, and the run goes on.
+-- It takes exactly n turns and leaves this
+abbrev pub Passes : List Part → World → ℕ → Outside → Type 0
+Passes parts world n end = (v : ℕ) × (run parts world n ≡ Returned v end 0)
 
--- after n turns, at this, the run wants a further one
-abbrev pub Goes : List Part → World → ℕ → Outside → Type 0
-Goes parts world n now = run parts world n ≡ Stopped now
+-- after n turns, at this, it wants a further one
+abbrev pub Flows : List Part → World → ℕ → Outside → Type 0
+Flows parts world n now = run parts world n ≡ Stopped now

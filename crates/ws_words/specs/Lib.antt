@@ -2,3 +2,4 @@ pub mod Operators
 pub mod Digits
 pub mod Outside
 pub mod Plain
+pub mod Past

@@ -5,7 +5,7 @@ use Rattle.ws_words.specs.Outside.{Outside, World, printed_words}
 use Rattle.ws_words.specs.declared.plain.Plain.{Plain as Reply}
 use Rattle.ws_words.specs.declared.plain.Plain.TheVariants as replies
 use Rattle.src_ast.specs.Syntax.{Part}
-use Rattle.src_ast.specs.Meaning.{Runs, Goes, arrays_of}
+use Rattle.src_ast.specs.Meaning.{Passes, Flows, arrays_of}
 use Rattle.src_ast.specs.Written.{ReadsTheSame}
 use Rattle.src_ast.specs.Printed.{printed_form}
 use Rattle.df_core.specs.declared.piece.Piece.{Piece}
@@ -66,14 +66,14 @@ ended_yields options parts input world printed arrays took turns out w r e =
     ap (λ n. ended_text options.memory options.stats (arrays_of parts) printed arrays n) h.says.0
     ∙ ap (λ ws. ended_text options.memory options.stats (arrays_of parts) ws arrays h.taken) h.says.1
     ∙ ap (λ cells. ended_text options.memory options.stats (arrays_of parts) (printed_words h.end.acts) cells h.taken) h.says.2 in
-    subst (λ o. Yields (Plain options) parts input Done o) (sym (e ∙ text)) (ended h.taken h.end (subst (λ x. Runs parts x h.taken h.end) w h.runs) h.within)
+    subst (λ o. Yields (Plain options) parts input Done o) (sym (e ∙ text)) (ended h.taken h.end (subst (λ x. Passes parts x h.taken h.end) w h.runs) h.within)
 
 pub going_yields : (options : PlainOptions) (parts : List Part) (input : List ℕ) (world : World) (printed : List ℕ) (out : List ℕ) → world ≡ world_of input
     → HasEnded parts world options.turns (replies.Going printed) ⊎ IsGoing parts world options.turns (replies.Going printed)
     → out ≡ going_text printed → Yields (Plain options) parts input Budget out
 going_yields options parts input world printed out w r e =
     let h = going_run parts world options.turns printed r in
-    subst (λ o. Yields (Plain options) parts input Budget o) (sym (e ∙ ap going_text h.says)) (going h.now (subst (λ x. Goes parts x options.turns h.now) w h.goes))
+    subst (λ o. Yields (Plain options) parts input Budget o) (sym (e ∙ ap going_text h.says)) (going h.now (subst (λ x. Flows parts x options.turns h.now) w h.goes))
 
 -- a run that ended comes to its end in time
 pub ended_so : (options : PlainOptions) (parts : List Part) (input : List ℕ) (world : World) (printed : List ℕ) (arrays took : List (List ℕ)) (turns : ℕ)
@@ -82,10 +82,10 @@ pub ended_so : (options : PlainOptions) (parts : List Part) (input : List ℕ) (
     → EndsSo (Plain options) parts input Done
 ended_so options parts input world printed arrays took turns w r =
     let h = ended_run parts world options.turns printed arrays took turns r in
-    (λ _. refl, λ none. absurd (none (h.taken, h.end, subst (λ x. Runs parts x h.taken h.end) w h.runs, h.within)))
+    (λ _. refl, λ none. absurd (none (h.taken, h.end, subst (λ x. Passes parts x h.taken h.end) w h.runs, h.within)))
 
 -- and one that is going doesn't
 pub going_so : (options : PlainOptions) (parts : List Part) (input : List ℕ) (world : World) (printed : List ℕ) → world ≡ world_of input
-    → ((n : ℕ) (end : Outside) → Runs parts world n end → n ≤ options.turns → SaysEnded n end (replies.Going printed)) → EndsSo (Plain options) parts input Budget
+    → ((n : ℕ) (end : Outside) → Passes parts world n end → n ≤ options.turns → SaysEnded n end (replies.Going printed)) → EndsSo (Plain options) parts input Budget
 going_so options parts input world printed w h =
-    (λ e. absurd (h e.0 e.1 (subst (λ x. Runs parts x e.0 e.1) (sym w) e.2) e.3), λ _. refl)
+    (λ e. absurd (h e.0 e.1 (subst (λ x. Passes parts x e.0 e.1) (sym w) e.2) e.3), λ _. refl)

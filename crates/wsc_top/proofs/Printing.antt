@@ -6,7 +6,7 @@ use Rattle.ws_words.specs.Outside.{Outside, State, Act, World, prints, printed_w
 use Rattle.src_ast.specs.declared.lexeme.Name.{Name}
 use Rattle.src_ast.specs.Syntax.{Expression, Number, Variable, Cell, Signed, Binary, Statement, Assign, Store, Print, Read, Give, Take, Call, If, While, Statements, Nothing, Then, Procedure, Part, Proc}
 use Rattle.src_ast.specs.Turns.{Outcome, Ended, and_then, CallEnd, Returned, ending}
-use Rattle.src_ast.specs.Meaning.{Scope, Calls, value, loads_of, signed_value, run_one, run_all, finish, scope_of, calls_below, run, Runs}
+use Rattle.src_ast.specs.Meaning.{Scope, Calls, value, loads_of, signed_value, run_one, run_all, finish, scope_of, calls_below, run, Passes}
 use Rattle.wsc_top.specs.Numbers.{is_closed, is_print, only_prints, closed_value, word_of, words_of}
 use Rattle.wsc_top.specs.Pieces.{IsMainAlone}
 
@@ -80,7 +80,7 @@ words_printed (w ∷ ws) = ap (λ vs. w ∷ vs) (words_printed ws)
 pub record RunPrints (parts : List Part) (world : World) (ws : List ℕ) : Type 0 where
   pub turns : ℕ
   pub end : Outside
-  pub runs : Runs parts world turns end
+  pub runs : Passes parts world turns end
   pub words : printed_words end.acts ≡ ws
 
 abbrev scope_in : Procedure → Scope

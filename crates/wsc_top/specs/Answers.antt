@@ -4,7 +4,7 @@ use Rattle.ws_io.specs.Streams.{Takes, TakesAll}
 use Rattle.ws_words.specs.Outside.{Outside, printed_words}
 use Rattle.src_ast.specs.declared.fault.Refusal.{Refusal}
 use Rattle.src_ast.specs.Syntax.{Part}
-use Rattle.src_ast.specs.Meaning.{Runs, Goes, arrays_of}
+use Rattle.src_ast.specs.Meaning.{Passes, Flows, arrays_of}
 use Rattle.src_ast.specs.Printed.{printed_form}
 use Rattle.src_ast.specs.Written.{ReadsTheSame}
 use Rattle.wsc_top.specs.declared.status.Status.{Status}
@@ -31,19 +31,19 @@ unfit_for (Plain options) = λ _. []
 -- run prints in as many turns as it takes; `format` the printed form, which reads as the same program; the sequential run itself
 -- at most so many turns.
 pub data Yields : Command → List Part → List ℕ → Status → List ℕ → Type 0 where
-  ran : {parts : List Part} {input : List ℕ} (n : ℕ) (end : Outside) → Runs parts (world_of input) n end
+  ran : {parts : List Part} {input : List ℕ} (n : ℕ) (end : Outside) → Passes parts (world_of input) n end
       → Yields Run parts input Done (done_text (printed_words end.acts))
   formatted : {parts : List Part} {input : List ℕ} → ReadsTheSame parts → Yields Format parts input Done (printed_form parts)
-  ended : {options : PlainOptions} {parts : List Part} {input : List ℕ} (n : ℕ) (end : Outside) → Runs parts (world_of input) n end → n ≤ options.turns
+  ended : {options : PlainOptions} {parts : List Part} {input : List ℕ} (n : ℕ) (end : Outside) → Passes parts (world_of input) n end → n ≤ options.turns
       → Yields (Plain options) parts input Done (ended_text options.memory options.stats (arrays_of parts) (printed_words end.acts) end.cells n)
-  going : {options : PlainOptions} {parts : List Part} {input : List ℕ} (now : Outside) → Goes parts (world_of input) options.turns now
+  going : {options : PlainOptions} {parts : List Part} {input : List ℕ} (now : Outside) → Flows parts (world_of input) options.turns now
       → Yields (Plain options) parts input Budget (going_text (printed_words now.acts))
 
 -- a command comes to its end: the sequential run only where it takes no more turns than it may
 abbrev pub Ends : Command → List Part → List ℕ → Type 0
 Ends Run parts input = Unit {0}
 Ends Format parts input = Unit {0}
-Ends (Plain options) parts input = (n : ℕ) × (end : Outside) × Runs parts (world_of input) n end × (n ≤ options.turns)
+Ends (Plain options) parts input = (n : ℕ) × (end : Outside) × Passes parts (world_of input) n end × (n ≤ options.turns)
 
 -- the status is Done exactly where the command comes to its end, and else Budget
 abbrev pub EndsSo : Command → List Part → List ℕ → Status → Type 0
