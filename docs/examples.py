@@ -1,8 +1,8 @@
 #!/usr/bin/env python3
 """Gives each text of LANGUAGE.md to the program, and compares what it answers.
 
-Each text stands in a block; behind it a line says the command, and another block what is answered.
-`examples/` are printed by `format` as they stand.
+Each text stands in a block; after it a line says the command, and another block what is answered.
+Each job of `examples/` answers what stands beside it, and is printed by `format` as it stands.
 """
 
 import pathlib
@@ -31,6 +31,10 @@ def main():
     jobs = sorted((ROOT / "examples").glob("*.job"))
     for job in jobs:
         text = job.read_text()
+        printed = answer(["plain"], text)
+        if printed != job.with_suffix(".out").read_text():
+            wrong += 1
+            print(f"{job.name} answers\n{printed}")
         program = text.split("%input\n")[0]
         found = answer(["format"], text)
         if answer(["format"], found) != found or "#" not in program and found != program:

@@ -2,9 +2,10 @@
 use Rattle.std.proofs.Common.{ℕ, suc, ◌+◌, ◌*◌, ◌<◌, ◌≤◌, ◌^◌, List, [], ◌∷◌, length, arith}
 use Rattle.std.specs.List.{AllByRecursion}
 use Rattle.seq_run.specs.Resolved.{Action, Assign, Store, Print, Read, Give, Take, Do, Call, If, While, Steps, Nothing, Then, Proc, nth_proc, Program}
+use Rattle.src_ast.specs.LanguageLimits.{most_array_cells}
 use Rattle.seq_run.specs.InRange.{ActionIn, StepsIn, ProgramIn, size_all, steps_in}
 use Rattle.cfg_build.specs.Lowered.{begun}
-use Rattle.cfg_build.specs.Drafts.{ActionFits, StepsFit, ProcFits, blocks_of}
+use Rattle.cfg_build.specs.Building.{LengthFits, ActionFits, StepsFit, ProcFits, blocks_of}
 
 begun_few : (st : Steps) → begun st ≤ 3 * size_all st
 begun_few Nothing = omega arith
@@ -42,4 +43,12 @@ all_fit (p ∷ ps) f = (f 0 (omega arith), all_fit ps (λ n lt. f (suc n) (omega
 pub procs_fit : (program : Program) → ProgramIn program → AllByRecursion ProcFits program.procs
 procs_fit program h = all_fit program.procs (λ n lt.
     let p = h.procs n lt in
-    record { vars = p.few_vars; body = steps_fit (length program.lengths) program.procs n _ (nth_proc program.procs n).body p.body })
+    record { vars = omega (arith, p.few_vars); body = steps_fit (length program.lengths) program.procs n _ (nth_proc program.procs n).body p.body })
+
+all_lengths_fit : (ns : List ℕ) → AllByRecursion (λ n. n ≤ most_array_cells) ns → AllByRecursion LengthFits ns
+all_lengths_fit [] h = tt
+all_lengths_fit (n ∷ ns) h = (omega (arith, h.0), all_lengths_fit ns h.1)
+
+-- the lengths of arrays fit
+pub lengths_fit : (program : Program) → ProgramIn program → AllByRecursion LengthFits program.lengths
+lengths_fit program h = all_lengths_fit program.lengths h.lengths

@@ -11,18 +11,18 @@ use Rattle.cfg_core.specs.View as view
 use Rattle.cfg_core.specs.declared.blocks.GraphProc.{GraphProc}
 use Rattle.cfg_build.specs.Lowered as lowered
 use Rattle.cfg_build.specs.Lowered.{begun, last_part, made, whole}
-use Rattle.cfg_build.specs.Drafts.{Draft, emit, ended, ProcFits, blocks_of}
+use Rattle.cfg_build.specs.Building.{Builder, emit, ended, ProcFits, blocks_of}
 use Rattle.cfg_build.proofs.Stand.{proc_end}
 use Rattle.cfg_build.proofs.Emitted.{emit_made}
 
 -- what is emitted from the beginning is the blocks of a procedure
-pub emitted_blocks : (body : resolved.Steps) (result : _) (first : ℕ) (begin d : Draft) (blocks : List Block) → begin ≡ record { first = first; done = []; ops = [] } → d ≡ emit body begin → blocks ≡ ended d (last_part result) → blocks ≡ whole (made body first (last_part result))
+pub emitted_blocks : (body : resolved.Steps) (result : _) (first : ℕ) (begin d : Builder) (blocks : List Block) → begin ≡ record { first = first; done = []; ops = [] } → d ≡ emit body begin → blocks ≡ ended d (last_part result) → blocks ≡ whole (made body first (last_part result))
 emitted_blocks body result first begin d blocks eb ed e =
-    let start : Draft = record { first = first; done = []; ops = [] } in
+    let start : Builder = record { first = first; done = []; ops = [] } in
     let z : first + 0 ≡ first = omega arith in
-    e ∙ ap (λ (x : Draft). ended x (last_part result)) (ed ∙ ap (emit body) eb) ∙ emit_made body start (last_part result) ∙ ap (λ n. whole (made body n (last_part result))) z
+    e ∙ ap (λ (x : Builder). ended x (last_part result)) (ed ∙ ap (emit body) eb) ∙ emit_made body start (last_part result) ∙ ap (λ n. whole (made body n (last_part result))) z
 
--- the next procedure, and those behind it
+-- the next procedure, and those after it
 next_proc : (ps : List Proc) (i : ℕ) (p : Proc) → i < length ps → p ≡ slice_index_or ps i p → source.procs (drop i ps) ≡ source.proc p ∷ source.procs (drop (i + 1) ps)
 next_proc ps i p lt is = ap source.procs (drop_more ps i p lt) ∙ ap (λ (q : Proc). source.proc q ∷ source.procs (drop (i + 1) ps)) (sym is)
 

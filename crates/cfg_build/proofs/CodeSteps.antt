@@ -1,4 +1,4 @@
--- Steps of the code, one after another and with steps inside, and what each adds to a draft.
+-- Steps of the code, one after another and with steps inside, and what each adds to a builder.
 use Rattle.std.proofs.Common.{rules, ◌≡◌, ℕ, ◌+◌, ◌<◌, ◌^◌, zero, suc, List, [], ◌∷◌, length, drop, slice_index_or, sym, ap, ◌∙◌, subst, arith}
 use Rattle.std.proofs.lemmas.List.{drop_more}
 use Rattle.std.specs.Prelude.{Vec}
@@ -8,32 +8,33 @@ use Rattle.seq_run.specs.Resolved as resolved
 use Rattle.seq_run.specs.View as source
 use Rattle.seq_run.specs.View.{row_list}
 use Rattle.seq_run.specs.Weight.{weight, heft}
-use Rattle.seq_run.specs.declared.tree.Term.{Term}
+use Rattle.cfg_core.specs.View as view
+use Rattle.cfg_core.specs.declared.blocks.Term.{Term}
 use Rattle.seq_run.specs.declared.tree.Step.{Step}
 use Rattle.seq_run.specs.declared.tree.Step.TheVariants as code
 use Rattle.seq_run.specs.declared.tree.Step.TheViews.{the_lemmas}
 use Rattle.cfg_core.specs.Graph.{Op, Exit}
 use Rattle.cfg_build.specs.Lowered.{begun}
-use Rattle.cfg_build.specs.Drafts.{Draft, number, closed, with_op, emit_one, emit, StepFits, StepsFit}
+use Rattle.cfg_build.specs.Building.{Builder, number, closed, with_op, emit_one, emit, StepFits, StepsFit}
 use Rattle.cfg_build.proofs.Emitted.{number_closed, number_emit}
 
--- the next step, and those behind it
+-- the next step, and those after it
 next_step : (ss : List Step) (i : ℕ) (x : Step) → i < length ss → x ≡ slice_index_or ss i x → source.steps (drop i ss) ≡ Then (source.step x) (source.steps (drop (i + 1) ss))
 next_step ss i x lt is = ap source.steps (drop_more ss i x lt) ∙ ap (λ (y : Step). Then (source.step y) (source.steps (drop (i + 1) ss))) (sym is)
 
-if_view : (t : Term) (a b : Vec Step Global) → source.step (code.If t a b) ≡ If (source.term t) (source.steps a.items) (source.steps b.items)
+if_view : (t : Term) (a b : Vec Step Global) → source.step (code.If t a b) ≡ If (view.term t) (source.steps a.items) (source.steps b.items)
 if_view t a b = search (rules, the_lemmas, row_list)
 
-while_view : (t : Term) (a : Vec Step Global) → source.step (code.While t a) ≡ While (source.term t) (source.steps a.items)
+while_view : (t : Term) (a : Vec Step Global) → source.step (code.While t a) ≡ While (view.term t) (source.steps a.items)
 while_view t a = search (rules, the_lemmas, row_list)
 
 -- the step of the code is an `if` with these arms
-pub if_is : (st : Step) (t : Term) (a b : Vec Step Global) (xs ys : List Step) → st ≡ code.If t a b → xs ≡ a.items → ys ≡ b.items → source.step st ≡ If (source.term t) (source.steps xs) (source.steps ys)
+pub if_is : (st : Step) (t : Term) (a b : Vec Step Global) (xs ys : List Step) → st ≡ code.If t a b → xs ≡ a.items → ys ≡ b.items → source.step st ≡ If (view.term t) (source.steps xs) (source.steps ys)
 if_is st t a b xs ys is ex ey =
-    ap source.step is ∙ if_view t a b ∙ ap (λ (zs : List Step). If (source.term t) (source.steps zs) (source.steps b.items)) (sym ex) ∙ ap (λ (zs : List Step). If (source.term t) (source.steps xs) (source.steps zs)) (sym ey)
+    ap source.step is ∙ if_view t a b ∙ ap (λ (zs : List Step). If (view.term t) (source.steps zs) (source.steps b.items)) (sym ex) ∙ ap (λ (zs : List Step). If (view.term t) (source.steps xs) (source.steps zs)) (sym ey)
 
-pub while_is : (st : Step) (t : Term) (a : Vec Step Global) (xs : List Step) → st ≡ code.While t a → xs ≡ a.items → source.step st ≡ While (source.term t) (source.steps xs)
-while_is st t a xs is ex = ap source.step is ∙ while_view t a ∙ ap (λ (zs : List Step). While (source.term t) (source.steps zs)) (sym ex)
+pub while_is : (st : Step) (t : Term) (a : Vec Step Global) (xs : List Step) → st ≡ code.While t a → xs ≡ a.items → source.step st ≡ While (view.term t) (source.steps xs)
+while_is st t a xs is ex = ap source.step is ∙ while_view t a ∙ ap (λ (zs : List Step). While (view.term t) (source.steps zs)) (sym ex)
 
 begun_then : (s : resolved.Step) (rest : Steps) → begun (Then s rest) ≡ begun (Then s Nothing) + begun rest
 begun_then (Do a) rest = omega arith
@@ -56,27 +57,27 @@ pub begun_next : (ss : List Step) (i : ℕ) (x : Step) → i < length ss → x �
 begun_next ss i x lt is = ap begun (next_step ss i x lt is) ∙ begun_then (source.step x) (source.steps (drop (i + 1) ss))
 
 -- the number of the block at hand after an operation, the end of a block, a step, and steps
-pub after_op : (o : Op) (d e : Draft) → e ≡ with_op o d → number e ≡ number d
+pub after_op : (o : Op) (d e : Builder) → e ≡ with_op o d → number e ≡ number d
 after_op o d e is = ap number is
 
-pub after_exit : (exit : Exit) (d e : Draft) → e ≡ closed exit d → number e ≡ suc (number d)
+pub after_exit : (exit : Exit) (d e : Builder) → e ≡ closed exit d → number e ≡ suc (number d)
 after_exit exit d e is = ap number is ∙ number_closed exit d
 
-after_step : (s : resolved.Step) (d e : Draft) → e ≡ emit_one s d → number e ≡ number d + begun (Then s Nothing)
+after_step : (s : resolved.Step) (d e : Builder) → e ≡ emit_one s d → number e ≡ number d + begun (Then s Nothing)
 after_step s d e is = ap number is ∙ number_emit (Then s Nothing) d
 
-pub after_steps : (st : Steps) (d e : Draft) → e ≡ emit st d → number e ≡ number d + begun st
+pub after_steps : (st : Steps) (d e : Builder) → e ≡ emit st d → number e ≡ number d + begun st
 after_steps st d e is = ap number is ∙ number_emit st d
 
 -- the next step is added
 module _ (ss : List Step) (i : ℕ) (x : Step) (lt : i < length ss) (is : x ≡ slice_index_or ss i x) where
-  pub emitted_next : (d e whole : Draft) → e ≡ emit_one (source.step x) d → emit (source.steps (drop i ss)) d ≡ whole → emit (source.steps (drop (i + 1) ss)) e ≡ whole
+  pub emitted_next : (d e whole : Builder) → e ≡ emit_one (source.step x) d → emit (source.steps (drop i ss)) d ≡ whole → emit (source.steps (drop (i + 1) ss)) e ≡ whole
   emitted_next d e whole made all = ap (emit (source.steps (drop (i + 1) ss))) made ∙ ap (λ (st : Steps). emit st d) (sym (next_step ss i x lt is)) ∙ all
 
   pub room_here : (n : ℕ) → n + begun (source.steps (drop i ss)) < 2 ^ 32 → n + begun (Then (source.step x) Nothing) < 2 ^ 32
   room_here n room = let b = begun_next ss i x lt is in omega (arith, b, room)
 
-  pub room_next : (d e : Draft) → e ≡ emit_one (source.step x) d → number d + begun (source.steps (drop i ss)) < 2 ^ 32 → number e + begun (source.steps (drop (i + 1) ss)) < 2 ^ 32
+  pub room_next : (d e : Builder) → e ≡ emit_one (source.step x) d → number d + begun (source.steps (drop i ss)) < 2 ^ 32 → number e + begun (source.steps (drop (i + 1) ss)) < 2 ^ 32
   room_next d e made room = let b = begun_next ss i x lt is in let n = after_step (source.step x) d e made in omega (arith, b, n, room)
 
   pub fit_here : StepsFit (source.steps (drop i ss)) → StepFits (source.step x) × StepsFit (source.steps (drop (i + 1) ss))

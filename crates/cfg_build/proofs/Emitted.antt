@@ -1,36 +1,36 @@
--- What steps add to a draft is their blocks.
+-- What steps add to a builder is their blocks.
 use Rattle.std.proofs.Common.{suc, ◌+◌, ◌≡◌, List, [], ◌∷◌, ◌++◌, map, refl, sym, ap, ◌∙◌, append_assoc, length-append, arith}
 use Rattle.std.proofs.lemmas.List.{append-nil}
 use Rattle.seq_run.specs.Resolved.{Do, Call, If, While, Steps, Nothing, Then}
 use Rattle.cfg_core.specs.Graph as graph
 use Rattle.cfg_core.specs.Graph.{Op, Exit, Block, Tick, Goto, Branch}
-use Rattle.cfg_build.specs.Lowered.{Part, goes_to, term, op, begun, Made, whole, made}
-use Rattle.cfg_build.specs.Drafts.{Draft, number, closed, with_op, emit, ended}
+use Rattle.cfg_build.specs.Lowered.{Part, goes_to, op, begun, Made, whole, made}
+use Rattle.cfg_build.specs.Building.{Builder, number, closed, with_op, emit, ended}
 
 -- the finished blocks, then the steps' blocks, the first of which begins with the operations at hand
-abbrev pub behind_draft : Draft → Made → List Block
-behind_draft d m = d.done ++ record { named = []; ops = d.ops ++ m.front.ops; exit = m.front.exit } ∷ m.blocks
+abbrev pub added_to : Builder → Made → List Block
+added_to d m = d.done ++ record { named = []; ops = d.ops ++ m.front.ops; exit = m.front.exit } ∷ m.blocks
 
-pub number_closed : (exit : Exit) (d : Draft) → number (closed exit d) ≡ suc (number d)
+pub number_closed : (exit : Exit) (d : Builder) → number (closed exit d) ≡ suc (number d)
 number_closed exit d = let h = length-append d.done (record { named = []; ops = d.ops; exit = exit } ∷ []) in omega (arith, h)
 
-pub number_emit : (st : Steps) (d : Draft) → number (emit st d) ≡ number d + begun st
+pub number_emit : (st : Steps) (d : Builder) → number (emit st d) ≡ number d + begun st
 number_emit Nothing d = omega arith
 number_emit (Then (Do a) rest) d = number_emit rest _
 number_emit (Then (Call x f ts) rest) d =
-    let call = graph.Call x f (map term ts) (suc (number d)) in
+    let call = graph.Call x f ts (suc (number d)) in
     let e = number_emit rest (closed call (with_op (Tick 1) d)) in
     let s = number_closed call (with_op (Tick 1) d) in
     omega (arith, e, s)
 number_emit (Then (If t a b) rest) d =
     let c = number d in
     let second = suc (suc c + begun a) in let join = suc (second + begun b) in
-    let d1 : Draft = closed (Branch (term t) (suc c) second) (with_op (Tick 1) d) in
-    let d2 : Draft = emit a d1 in
-    let d3 : Draft = closed (Goto join) d2 in
-    let d4 : Draft = emit b d3 in
-    let d5 : Draft = closed (Goto join) d4 in
-    let e1 : number d1 ≡ suc c = number_closed (Branch (term t) (suc c) second) (with_op (Tick 1) d) in
+    let d1 : Builder = closed (Branch t (suc c) second) (with_op (Tick 1) d) in
+    let d2 : Builder = emit a d1 in
+    let d3 : Builder = closed (Goto join) d2 in
+    let d4 : Builder = emit b d3 in
+    let d5 : Builder = closed (Goto join) d4 in
+    let e1 : number d1 ≡ suc c = number_closed (Branch t (suc c) second) (with_op (Tick 1) d) in
     let e2 : number d2 ≡ number d1 + begun a = number_emit a d1 in
     let e3 : number d3 ≡ suc (number d2) = number_closed (Goto join) d2 in
     let e4 : number d4 ≡ number d3 + begun b = number_emit b d3 in
@@ -40,43 +40,43 @@ number_emit (Then (If t a b) rest) d =
 number_emit (Then (While t body) rest) d =
     let c = number d in
     let inside = suc (suc c) in let after = suc (inside + begun body) in
-    let d1 : Draft = closed (Goto (suc c)) d in
-    let d2 : Draft = closed (Branch (term t) inside after) (with_op (Tick 1) d1) in
-    let d3 : Draft = emit body d2 in
-    let d4 : Draft = closed (Goto (suc c)) d3 in
+    let d1 : Builder = closed (Goto (suc c)) d in
+    let d2 : Builder = closed (Branch t inside after) (with_op (Tick 1) d1) in
+    let d3 : Builder = emit body d2 in
+    let d4 : Builder = closed (Goto (suc c)) d3 in
     let e1 : number d1 ≡ suc c = number_closed (Goto (suc c)) d in
-    let e2 : number d2 ≡ suc (number d1) = number_closed (Branch (term t) inside after) (with_op (Tick 1) d1) in
+    let e2 : number d2 ≡ suc (number d1) = number_closed (Branch t inside after) (with_op (Tick 1) d1) in
     let e3 : number d3 ≡ number d2 + begun body = number_emit body d2 in
     let e4 : number d4 ≡ suc (number d3) = number_closed (Goto (suc c)) d3 in
     let e5 : number (emit rest d4) ≡ number d4 + begun rest = number_emit rest d4 in
     omega (arith, e1, e2, e3, e4, e5)
 
 -- a block closed by an exit is one that a part without operations ends
-closed_is : (d : Draft) (exit : Exit) → (closed exit d).done ≡ ended d (record { ops = []; exit = exit })
+closed_is : (d : Builder) (exit : Exit) → (closed exit d).done ≡ ended d (record { ops = []; exit = exit })
 closed_is d exit = ap (λ (ops : List Op). d.done ++ record { named = []; ops = ops; exit = exit } ∷ []) (sym (append-nil d.ops))
 
-pub emit_made : (st : Steps) (d : Draft) (rest : Part) → ended (emit st d) rest ≡ behind_draft d (made st (number d) rest)
+pub emit_made : (st : Steps) (d : Builder) (rest : Part) → ended (emit st d) rest ≡ added_to d (made st (number d) rest)
 emit_made Nothing d rest = refl
 emit_made (Then (Do a) next) d rest =
     emit_made next _ rest
     ∙ ap (λ (ops : List Op). d.done ++ record { named = []; ops = ops; exit = (made next (number d) rest).front.exit } ∷ (made next (number d) rest).blocks)
     (append_assoc (d.ops ++ Tick 1 ∷ []) (op a ∷ []) (made next (number d) rest).front.ops ∙ append_assoc d.ops (Tick 1 ∷ []) _)
 emit_made (Then (Call x f ts) next) d rest =
-    let call = graph.Call x f (map term ts) (suc (number d)) in
-    let d1 : Draft = closed call (with_op (Tick 1) d) in
+    let call = graph.Call x f ts (suc (number d)) in
+    let d1 : Builder = closed call (with_op (Tick 1) d) in
     let e1 : number d1 ≡ suc (number d) = number_closed call (with_op (Tick 1) d) in
     emit_made next d1 rest
-    ∙ ap (λ n. behind_draft d1 (made next n rest)) e1
+    ∙ ap (λ n. added_to d1 (made next n rest)) e1
     ∙ append_assoc d.done (record { named = []; ops = d.ops ++ Tick 1 ∷ []; exit = call } ∷ []) (whole (made next (suc (number d)) rest))
 emit_made (Then (If t a b) next) d rest =
     let c = number d in
     let second = suc (suc c + begun a) in let join = suc (second + begun b) in
-    let fork = Branch (term t) (suc c) second in
-    let d1 : Draft = closed fork (with_op (Tick 1) d) in
-    let d2 : Draft = emit a d1 in
-    let d3 : Draft = closed (Goto join) d2 in
-    let d4 : Draft = emit b d3 in
-    let d5 : Draft = closed (Goto join) d4 in
+    let fork = Branch t (suc c) second in
+    let d1 : Builder = closed fork (with_op (Tick 1) d) in
+    let d2 : Builder = emit a d1 in
+    let d3 : Builder = closed (Goto join) d2 in
+    let d4 : Builder = emit b d3 in
+    let d5 : Builder = closed (Goto join) d4 in
     let e1 : number d1 ≡ suc c = number_closed fork (with_op (Tick 1) d) in
     let e2 : number d2 ≡ number d1 + begun a = number_emit a d1 in
     let e3 : number d3 ≡ suc (number d2) = number_closed (Goto join) d2 in
@@ -96,11 +96,11 @@ emit_made (Then (If t a b) next) d rest =
 emit_made (Then (While t body) next) d rest =
     let c = number d in
     let inside = suc (suc c) in let after = suc (inside + begun body) in
-    let fork = Branch (term t) inside after in
-    let d1 : Draft = closed (Goto (suc c)) d in
-    let d2 : Draft = closed fork (with_op (Tick 1) d1) in
-    let d3 : Draft = emit body d2 in
-    let d4 : Draft = closed (Goto (suc c)) d3 in
+    let fork = Branch t inside after in
+    let d1 : Builder = closed (Goto (suc c)) d in
+    let d2 : Builder = closed fork (with_op (Tick 1) d1) in
+    let d3 : Builder = emit body d2 in
+    let d4 : Builder = closed (Goto (suc c)) d3 in
     let e1 : number d1 ≡ suc c = number_closed (Goto (suc c)) d in
     let e2 : number d2 ≡ suc (number d1) = number_closed fork (with_op (Tick 1) d1) in
     let e3 : number d3 ≡ number d2 + begun body = number_emit body d2 in

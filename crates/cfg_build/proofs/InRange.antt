@@ -1,34 +1,28 @@
 -- Each number in a lowered block names something of the graph.
 use Rattle.std.proofs.Common.{ℕ, suc, ◌+◌, ◌≡◌, ◌<◌, List, [], ◌∷◌, ◌++◌, length, map, Option, Some, None, refl, sym, ap, ◌∙◌, arith}
-use Rattle.std.proofs.lemmas.List.{length-map}
 use Rattle.std.specs.List.{AllByRecursion}
-use Rattle.src_ast.specs.declared.tree.Unary.{Unary}
-use Rattle.src_ast.specs.declared.tree.Unary.TheVariants.{Flip, Not, Neg}
-use Rattle.seq_run.specs.Resolved as resolved
-use Rattle.seq_run.specs.Resolved.{Number, Var, Cell, Signed, Binary, Action, Assign, Store, Print, Read, Give, Take, Do, Call, If, While, Steps, Nothing, Then, Proc, nth_proc}
+use Rattle.seq_run.specs.Resolved.{Action, Assign, Store, Print, Read, Give, Take, Do, Call, If, While, Steps, Nothing, Then, Proc, nth_proc}
 use Rattle.seq_run.specs.InRange as source
 use Rattle.seq_run.specs.InRange.{StepsIn}
 use Rattle.cfg_core.specs.Graph as graph
-use Rattle.cfg_core.specs.Graph.{Block, Graph, Spot, proc_at}
+use Rattle.cfg_core.specs.Graph.{Term, Number, Var, Cell, Flip, Not, Neg, Binary, Block, Graph, Spot, proc_at}
 use Rattle.cfg_core.specs.Rules.{TermIn, OpIn, StaysIn, ResultIn, ExitIn, CallsEarlier}
-use Rattle.cfg_build.specs.Lowered.{signed, term, op, Part, leaves, goes_to, last_part, begun, block, Made, behind, whole, made}
+use Rattle.cfg_build.specs.Lowered.{op, Part, leaves, goes_to, last_part, begun, block, Made, led_by, whole, made}
 use Rattle.cfg_build.proofs.Stand.{HasAt, front, next_at}
 use Rattle.cfg_build.proofs.Places.{all_both}
 
 module _ (g : Graph) (arrays : ℕ) (same : length g.arrays ≡ arrays) where
-  signed_in : (vars : ℕ) (s : Unary) (t : graph.Term) → TermIn g vars t → TermIn g vars (signed s t)
-  signed_in vars Flip t h = h
-  signed_in vars Not t h = h
-  signed_in vars Neg t h = h
-
-  pub term_in : (vars : ℕ) (t : resolved.Term) → source.TermIn arrays vars t → TermIn g vars (term t)
+  -- a term of the program names arrays and variables of the graph
+  pub term_in : (vars : ℕ) (t : Term) → source.TermIn arrays vars t → TermIn g vars t
   term_in vars (Number n) h = tt
   term_in vars (Var x) h = h
   term_in vars (Cell a t) h = ((h.0.0, omega (arith, h.0.1, same)), term_in vars t h.1)
-  term_in vars (Signed s t) h = signed_in vars s (term t) (term_in vars t h)
+  term_in vars (Flip t) h = term_in vars t h
+  term_in vars (Not t) h = term_in vars t h
+  term_in vars (Neg t) h = term_in vars t h
   term_in vars (Binary o a b) h = (term_in vars a h.0, term_in vars b h.1)
 
-  terms_in : (vars : ℕ) (ts : List resolved.Term) → AllByRecursion (source.TermIn arrays vars) ts → AllByRecursion (TermIn g vars) (map term ts)
+  terms_in : (vars : ℕ) (ts : List Term) → AllByRecursion (source.TermIn arrays vars) ts → AllByRecursion (TermIn g vars) ts
   terms_in vars [] h = tt
   terms_in vars (t ∷ ts) h = (term_in vars t h.0, terms_in vars ts h.1)
 
@@ -60,22 +54,22 @@ module _ (g : Graph) (arrays : ℕ) (same : length g.arrays ≡ arrays) where
   goes_in : (home vars b : ℕ) → StaysIn g home b → BlockIn home vars (block (goes_to b))
   goes_in home vars b h = record { ops = tt; exit = h; earlier = tt; named = refl }
 
-  tests_in : (home vars : ℕ) (t : resolved.Term) (b c : ℕ) → source.TermIn arrays vars t → StaysIn g home b → StaysIn g home c → BlockIn home vars (block (leaves (graph.Branch (term t) b c)))
+  tests_in : (home vars : ℕ) (t : Term) (b c : ℕ) → source.TermIn arrays vars t → StaysIn g home b → StaysIn g home c → BlockIn home vars (block (leaves (graph.Branch t b c)))
   tests_in home vars t b c h i j = record { ops = (tt, tt); exit = (term_in vars t h, i, j); earlier = tt; named = refl }
 
-  pub last_in : (home vars : ℕ) (r : Option resolved.Term) → source.ResultIn arrays vars r → BlockIn home vars (block (last_part r))
+  pub last_in : (home vars : ℕ) (r : Option Term) → source.ResultIn arrays vars r → BlockIn home vars (block (last_part r))
   last_in home vars None h = record { ops = tt; exit = tt; earlier = tt; named = refl }
   last_in home vars (Some t) h = record { ops = (tt, tt); exit = term_in vars t h; earlier = tt; named = refl }
 
-  behind_in : (home vars : ℕ) (a : Action) (m : Made) → source.ActionIn arrays vars a → BlocksIn home vars (whole m) → BlocksIn home vars (whole (behind (op a) m))
-  behind_in home vars a m i h = (record { ops = (tt, (op_in vars a i, h.0.ops)); exit = h.0.exit; earlier = h.0.earlier; named = refl }, h.1)
+  led_in : (home vars : ℕ) (a : Action) (m : Made) → source.ActionIn arrays vars a → BlocksIn home vars (whole m) → BlocksIn home vars (whole (led_by (op a) m))
+  led_in home vars a m i h = (record { ops = (tt, (op_in vars a i, h.0.ops)); exit = h.0.exit; earlier = h.0.earlier; named = refl }, h.1)
 
   -- where earlier procedures of the graph have the parameters that calls want
   module _ (home : ℕ) (ps : List Proc) (few : home < length g.procs) (params : (f : ℕ) → f < home → (proc_at g f).params ≡ (nth_proc ps f).params) where
-    calls_in : (vars : ℕ) (x : Option ℕ) (f : ℕ) (ts : List resolved.Term) (b : ℕ) → source.StepIn arrays ps home vars (Call x f ts) → StaysIn g home b → BlockIn home vars (block (leaves (graph.Call x f (map term ts) b)))
+    calls_in : (vars : ℕ) (x : Option ℕ) (f : ℕ) (ts : List Term) (b : ℕ) → source.StepIn arrays ps home vars (Call x f ts) → StaysIn g home b → BlockIn home vars (block (leaves (graph.Call x f ts b)))
     calls_in vars x f ts b h i = record {
       ops = (tt, tt);
-      exit = (target_in vars x h.0, omega (arith, h.1, few), length-map ts term ∙ (h.2 ∙ sym (params f h.1)), terms_in vars ts h.3, i);
+      exit = (target_in vars x h.0, omega (arith, h.1, few), h.2 ∙ sym (params f h.1), terms_in vars ts h.3, i);
       earlier = h.1;
       named = refl;
     }
@@ -83,7 +77,7 @@ module _ (g : Graph) (arrays : ℕ) (same : length g.arrays ≡ arrays) where
     -- the blocks of steps, of which the last one ends with `rest`
     pub made_in : (vars : ℕ) (st : Steps) (c : ℕ) (rest : Part) → StepsIn arrays ps home vars st → HasAt g home vars (suc c) (made st c rest).blocks → BlockIn home vars (block rest) → BlocksIn home vars (whole (made st c rest))
     made_in vars Nothing c rest i h r = (r, tt)
-    made_in vars (Then (Do a) more) c rest i h r = behind_in home vars a (made more c rest) i.0 (made_in vars more c rest i.1 h r)
+    made_in vars (Then (Do a) more) c rest i h r = led_in home vars a (made more c rest) i.0 (made_in vars more c rest i.1 h r)
     made_in vars (Then (Call x f ts) more) c rest i h r =
         (calls_in vars x f ts (suc c) i.0 (stays_in home vars (suc c) (block (made more (suc c) rest).front) (made more (suc c) rest).blocks h), made_in vars more (suc c) rest i.1 h.2 r)
     made_in vars (Then (If t a b) more) c rest i h r =

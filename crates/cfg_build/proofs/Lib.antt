@@ -1,4 +1,5 @@
 mod Rows
+mod SizeRows
 pub mod CodeSteps
 pub mod Lists
 pub mod Emitted
@@ -14,4 +15,8 @@ pub mod Edges
 pub mod Shaped
 pub mod InRange
 pub mod Rules
+pub mod Heights
+pub mod Totals
+pub mod FewArrays
+pub mod Sized
 pub mod OfPrograms

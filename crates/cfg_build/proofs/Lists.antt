@@ -1,14 +1,13 @@
 -- Lists that the code fills, one item after another.
-use Rattle.std.proofs.Common.{◌≡◌, ℕ, zero, suc, ◌+◌, ◌<◌, ◌≤◌, List, [], ◌∷◌, ◌++◌, length, map, drop, slice_index_or, Some, refl, sym, ap, ◌∙◌, arith}
+use Rattle.std.proofs.Common.{◌≡◌, ℕ, zero, suc, ◌+◌, ◌<◌, ◌^◌, List, [], ◌∷◌, ◌++◌, length, map, drop, slice_index_or, Some, refl, sym, ap, ◌∙◌, arith}
 use Rattle.std.proofs.lemmas.List.{drop_more}
 use Rattle.std.specs.List.{AllByRecursion}
 use Rattle.seq_run.specs.View as source
-use Rattle.seq_run.specs.declared.tree.Term.{Term}
 use Rattle.seq_run.specs.declared.tree.ArrayShape.{ArrayShape}
 use Rattle.cfg_core.specs.Graph as graph
 use Rattle.cfg_core.specs.View as view
-use Rattle.cfg_core.specs.declared.blocks.Term.{Term as GraphTerm}
 use Rattle.cfg_core.specs.declared.blocks.GraphArray.{GraphArray}
+use Rattle.cfg_build.specs.Building.{LengthFits}
 use Rattle.cfg_build.specs.Lowered as lowered
 
 map_more : {A B : Type 0} (f : A → B) (xs : List A) (x : A) (ys : List B) → map f (xs ++ x ∷ []) ++ ys ≡ map f xs ++ f x ∷ ys
@@ -19,20 +18,14 @@ map_more f (y ∷ xs) x ys = ap (λ zs. f y ∷ zs) (map_more f xs x ys)
 pub one_more : {A B : Type 0} (f : A → B) (list now : List A) (made : A) (left rest all : List B) → now ≡ list ++ made ∷ [] → left ≡ f made ∷ rest → map f list ++ left ≡ all → map f now ++ rest ≡ all
 one_more f list now made left rest all en is h = ap (λ xs. map f xs ++ rest) en ∙ map_more f list made rest ∙ ap (λ ys. map f list ++ ys) (sym is) ∙ h
 
--- the terms to come
-pub next_term : (ts : List Term) (i : ℕ) (t : Term) (made : GraphTerm) → i < length ts → t ≡ slice_index_or ts i t → view.term made ≡ lowered.term (source.term t) → map lowered.term (source.terms (drop i ts)) ≡ view.term made ∷ map lowered.term (source.terms (drop (i + 1) ts))
-next_term ts i t made lt is same =
-    let rest = map lowered.term (source.terms (drop (i + 1) ts)) in
-    ap (λ (us : List Term). map lowered.term (source.terms us)) (drop_more ts i t lt) ∙ ap (λ (u : Term). lowered.term (source.term u) ∷ rest) (sym is) ∙ ap (λ (u : graph.Term). u ∷ rest) (sym same)
-
 -- the arrays to come
 pub next_array : (ss : List ArrayShape) (i : ℕ) (s : ArrayShape) (made : GraphArray) → i < length ss → s ≡ slice_index_or ss i s → view.array made ≡ record { name = Some s.name; length = s.length } → lowered.arrays (source.names (drop i ss)) (source.lengths (drop i ss)) ≡ view.array made ∷ lowered.arrays (source.names (drop (i + 1) ss)) (source.lengths (drop (i + 1) ss))
 next_array ss i s made lt is same =
     let rest = lowered.arrays (source.names (drop (i + 1) ss)) (source.lengths (drop (i + 1) ss)) in
     ap (λ (us : List ArrayShape). lowered.arrays (source.names us) (source.lengths us)) (drop_more ss i s lt) ∙ ap (λ (u : ArrayShape). record { name = Some u.name; length = u.length } ∷ rest) (sym is) ∙ ap (λ (a : graph.GraphArray). a ∷ rest) (sym same)
 
--- each array is short
-pub length_few : (ss : List ArrayShape) (i : ℕ) (s : ArrayShape) → i < length ss → s ≡ slice_index_or ss i s → AllByRecursion (λ n. n ≤ 65536) (source.lengths ss) → s.length ≤ 65536
+-- the length of each array fits into 32 bits
+pub length_few : (ss : List ArrayShape) (i : ℕ) (s : ArrayShape) → i < length ss → s ≡ slice_index_or ss i s → AllByRecursion LengthFits (source.lengths ss) → s.length < 2 ^ 32
 length_few [] i s lt is h = absurd (omega arith)
 length_few (x ∷ ss) zero s lt is h = let e : s.length ≡ x.length = ap (λ (y : ArrayShape). y.length) is in omega (arith, e, h.0)
 length_few (x ∷ ss) (suc i) s lt is h = length_few ss i s (omega arith) is h.1

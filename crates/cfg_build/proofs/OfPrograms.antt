@@ -4,6 +4,9 @@ use Rattle.std.specs.List.{AllByRecursion}
 use Rattle.ws_words.specs.Outside.{World, Outside}
 use Rattle.src_ast.specs.declared.lexeme.Name.{Name}
 use Rattle.src_ast.specs.Syntax.{Procedure, Part, Array, Proc}
+use Rattle.src_ast.specs.declared.lexeme.Place.{Place}
+use Rattle.src_ast.specs.Rules.{IsAccepted}
+use Rattle.src_ast.specs.Bound.{widest}
 use Rattle.src_ast.specs.Meaning.{scope_of, arrays_of as names_of_arrays, procs_of, names_of}
 use Rattle.seq_run.specs.Resolved.{Program}
 use Rattle.seq_run.specs.Resolving as resolving
@@ -11,10 +14,15 @@ use Rattle.seq_run.specs.InRange.{ProgramIn}
 use Rattle.cfg_core.specs.Graph.{Graph, GraphArray}
 use Rattle.cfg_core.specs.Walk.{Ends, Goes}
 use Rattle.cfg_core.specs.Rules.{IsGraph}
+use Rattle.cfg_core.specs.Weights.{TwoBlocksATurn, TurnsPayWork}
 use Rattle.cfg_core.specs.Shown.{has_name, NoneHidden, ShowsAll, StaysInside}
 use Rattle.cfg_build.specs.Lowered.{begun, procs, lowered}
 use Rattle.cfg_build.specs.Keeps.{KeepsRun, ShowsRun, arrays_of, Room, rooms_of, rooms_in, IsFirstForm}
-use Rattle.cfg_build.specs.Shape.{IsShaped}
+use Rattle.cfg_core.specs.Shape.{IsShaped}
+use Rattle.cfg_build.specs.Sizes.{IsSized, IsSmall}
+use Rattle.cfg_build.proofs.Heights.{two_blocks_a_turn}
+use Rattle.cfg_build.proofs.FewArrays.{few_arrays}
+use Rattle.cfg_build.proofs.Sized.{turns_pay_work, is_sized, is_small}
 use Rattle.cfg_build.proofs.Kept.{TurnsNeverGrow, NamesArePlaces, lowered_keeps_run}
 use Rattle.cfg_build.proofs.Rules.{is_graph}
 use Rattle.cfg_build.proofs.Shaped.{is_shaped, is_first_form}
@@ -64,6 +72,20 @@ module _ (parts : List Part) (program : Program) (g : Graph) (same : program ≡
 
   pub shape_kept : IsShaped g
   shape_kept = subst (λ (h : Graph). IsShaped h) (sym made) (is_shaped program)
+
+  pub turns_kept : TwoBlocksATurn g
+  turns_kept = subst (λ (h : Graph). TwoBlocksATurn h) (sym made) (two_blocks_a_turn program)
+
+  pub work_kept : TurnsPayWork g (widest parts)
+  work_kept = subst (λ (h : Graph). TurnsPayWork h (widest parts)) (sym is_lowered) (turns_pay_work parts)
+
+  pub size_kept : IsSized (procs_of parts) g
+  size_kept = subst (λ (h : Graph). IsSized (procs_of parts) h) (sym is_lowered) (is_sized parts)
+
+  pub small_kept : (finish : Place) → IsAccepted parts finish → IsSmall parts g
+  small_kept finish accepted =
+      subst (λ (h : Graph). IsSmall parts h) (sym is_lowered)
+      (is_small parts (subst (λ (p : Program). ProgramIn p) same fit) (arrays_are parts) (few_arrays parts finish accepted))
 
   none : NoneHidden g.arrays
   none = subst (λ (xs : List GraphArray). NoneHidden xs) (sym arrays_kept) (none_hidden parts)

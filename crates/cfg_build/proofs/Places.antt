@@ -9,23 +9,23 @@ abbrev pub StandAt : {A : Type 0} → (ℕ → A) → ℕ → ℕ → List A →
 StandAt item many b [] = Unit {0}
 StandAt item many b (x ∷ xs) = (b < many) × (item b ≡ x) × StandAt item many (suc b) xs
 
-nth_behind : {A : Type 0} (before : List A) (x : A) (xs : List A) (none : A) → or_else (nth (before ++ x ∷ xs) (length before)) none ≡ x
-nth_behind [] x xs none = refl
-nth_behind (y ∷ before) x xs none = nth_behind before x xs none
+nth_after : {A : Type 0} (before : List A) (x : A) (xs : List A) (none : A) → or_else (nth (before ++ x ∷ xs) (length before)) none ≡ x
+nth_after [] x xs none = refl
+nth_after (y ∷ before) x xs none = nth_after before x xs none
 
--- the last items of a list stand behind those before them
-stand_behind : {A : Type 0} (all before xs : List A) (none : A) → all ≡ before ++ xs → StandAt (λ n. or_else (nth all n) none) (length all) (length before) xs
-stand_behind all before [] none e = tt
-stand_behind all before (x ∷ xs) none e =
+-- the last items of a list stand after those before them
+stand_after : {A : Type 0} (all before xs : List A) (none : A) → all ≡ before ++ xs → StandAt (λ n. or_else (nth all n) none) (length all) (length before) xs
+stand_after all before [] none e = tt
+stand_after all before (x ∷ xs) none e =
     let e2 : all ≡ (before ++ x ∷ []) ++ xs = e ∙ sym (append_assoc before (x ∷ []) xs) in
     let n : length (before ++ x ∷ []) ≡ suc (length before) = omega (arith, length-append before (x ∷ [])) in (
       omega (arith, ap length e, length-append before (x ∷ xs)),
-      ap (λ ys. or_else (nth ys (length before)) none) e ∙ nth_behind before x xs none,
-      subst (λ m. StandAt (λ n. or_else (nth all n) none) (length all) m xs) n (stand_behind all (before ++ x ∷ []) xs none e2),
+      ap (λ ys. or_else (nth ys (length before)) none) e ∙ nth_after before x xs none,
+      subst (λ m. StandAt (λ n. or_else (nth all n) none) (length all) m xs) n (stand_after all (before ++ x ∷ []) xs none e2),
     )
 
 pub stand_all : {A : Type 0} (all : List A) (none : A) → StandAt (λ n. or_else (nth all n) none) (length all) 0 all
-stand_all all none = stand_behind all [] all none refl
+stand_all all none = stand_after all [] all none refl
 
 pub stand_front : {A : Type 0} (item : ℕ → A) (many b : ℕ) (xs ys : List A) → StandAt item many b (xs ++ ys) → StandAt item many b xs
 stand_front item many b [] ys h = tt

@@ -2,8 +2,8 @@
 use Rattle.std.proofs.Common.{◌≡◌, [], ◌∷◌, refl, Some, None}
 use Rattle.ws_words.specs.declared.alu.Alu.TheVariants.{Add, Mul, Lt, Le}
 use Rattle.ws_words.specs.Outside.{World, prints, reads}
-use Rattle.seq_run.specs.Resolved.{Number, Var, Binary, Assign, Print, Read, Do, Call, If, While, Nothing, Then, Proc, Program}
-use Rattle.cfg_core.specs.Graph.{spot_at, proc_at, entry_of}
+use Rattle.seq_run.specs.Resolved.{Assign, Print, Read, Do, Call, If, While, Nothing, Then, Proc, Program}
+use Rattle.cfg_core.specs.Graph.{Number, Var, Binary, spot_at, proc_at, entry_of}
 use Rattle.cfg_core.specs.Walk.{Over, Going, walk, opening}
 use Rattle.cfg_build.specs.Lowered.{lowered}
 
@@ -57,7 +57,7 @@ pub stops_in_the_call : walk (lowered doubles) 5 (opening (lowered doubles) give
 unfolding spot_at proc_at entry_of
 stops_in_the_call = refl
 
--- a loop in an arm, behind which the join is printed
+-- a loop in an arm, after which the join is printed
 abbrev counts_up : Program
 counts_up = main_of (record {
   params = 0;

@@ -7,7 +7,7 @@ use Rattle.cfg_core.specs.Graph.{Op, Assign, Store, Print, Read, Give, Take, Cho
 use Rattle.cfg_core.specs.Rules.{Leads, Lands, ChoosesBare, CallsEarlier, calls, is_tick, has_tick, takes_turn, has_turn, Quiet, one, more, ProcNumbers, BlockNumbers, Apart, IsGraph}
 use Rattle.cfg_build.specs.Lowered.{begun, last_part, proc_blocks, arrays, procs, lowered}
 use Rattle.cfg_build.specs.Keeps.{IsFirstOp, IsFirstExit}
-use Rattle.cfg_build.proofs.Stand.{proc_is, count_procs, proc_spots, SpotsAt, proc_at_front, procs_behind, all_spots_at}
+use Rattle.cfg_build.proofs.Stand.{proc_is, count_procs, proc_spots, SpotsAt, proc_at_front, procs_after, all_spots_at}
 use Rattle.cfg_build.proofs.Places.{each_all, all_both, all_have}
 use Rattle.cfg_build.proofs.Edges.{Fine}
 use Rattle.cfg_build.proofs.Shaped.{labels_of, each_fine, fine_at}
@@ -108,7 +108,7 @@ module _ (g : Graph) (count : ℕ) (same : length g.arrays ≡ count) (all : Lis
       let xs = made_in g count same home all (omega (arith, e, many)) (λ f lt. params f (omega (arith, lt, e))) (p.params + p.locals) p.body c (last_part p.result) here.body (proc_at_front g home p ps c at).2 (last_in g count same home (p.params + p.locals) p.result here.result) in
       all_both SpotIn (spots_in home (p.params + p.locals) (proc_blocks p c)) (proc_spots (suc home) ps next)
       (spots_have home (p.params + p.locals) (proc_blocks p c) xs)
-      (procs_have (suc home) ps next (omega (arith, e)) (λ i lt. let n : home + suc i ≡ suc home + i = omega arith in subst (λ m. ProcIn count all m (nth_proc ps i)) n (h (suc i) (omega (arith, lt)))) (procs_behind g home p ps c at))
+      (procs_have (suc home) ps next (omega (arith, e)) (λ i lt. let n : home + suc i ≡ suc home + i = omega arith in subst (λ m. ProcIn count all m (nth_proc ps i)) n (h (suc i) (omega (arith, lt)))) (procs_after g home p ps c at))
 
   numbered : (s : Spot) → SpotIn s → BlockNumbers g s
   numbered s h = record {

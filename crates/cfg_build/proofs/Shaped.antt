@@ -4,11 +4,11 @@ use Rattle.std.specs.List.{AllByRecursion}
 use Rattle.seq_run.specs.Resolved.{Proc, Program}
 use Rattle.cfg_core.specs.Graph.{Graph, spots, spot_at, block_at, no_spot}
 use Rattle.cfg_build.specs.Lowered.{begun, last_part, lowered}
-use Rattle.cfg_build.specs.Shape.{OnlyFrom, IsShaped}
+use Rattle.cfg_core.specs.Shape.{OnlyFrom, IsShaped}
 use Rattle.cfg_build.specs.Keeps.{IsFirstOp, IsFirstExit, IsFirstForm}
 use Rattle.cfg_build.proofs.Places.{Each, each_nth, each_all, stand_all}
 use Rattle.cfg_build.proofs.Labels.{all_labels, label_in, LabelsAt, labels_front, labels_back}
-use Rattle.cfg_build.proofs.Stand.{proc_spots, SpotsAt, proc_at_front, procs_behind, all_spots_at, then_procs}
+use Rattle.cfg_build.proofs.Stand.{proc_spots, SpotsAt, proc_at_front, procs_after, all_spots_at, then_procs}
 use Rattle.cfg_build.proofs.Edges.{Fine, made_fine, last_fine}
 
 -- the procedures, of which the first has this number and begins at this block
@@ -18,7 +18,7 @@ procs_fine g all home (p ∷ ps) c h i =
     let next = suc (c + begun p.body) in
     then_procs (Fine g all) home p ps c
     (made_fine g all home (p.params + p.locals) p.body c None (last_part p.result) (proc_at_front g home p ps c h).2 (labels_front all p.body c None (all_labels ps next) i) (last_fine g all p.result (c + begun p.body)))
-    (procs_fine g all (suc home) ps next (procs_behind g home p ps c h) (labels_back all p.body c None (all_labels ps next) i))
+    (procs_fine g all (suc home) ps next (procs_after g home p ps c h) (labels_back all p.body c None (all_labels ps next) i))
 
 abbrev pub labels_of : Program → List (Option ℕ)
 labels_of program = all_labels program.procs 0

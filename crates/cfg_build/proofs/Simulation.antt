@@ -4,15 +4,15 @@ use Rattle.std.proofs.lemmas.List.{append-nil}
 use Rattle.ws_words.specs.Outside.{Act, Outside, State}
 use Rattle.src_ast.specs.Turns.{Outcome, Ended, Out, and_then, turn, CallEnd, Returned, Stopped, with_result, back_in, ending, loop}
 use Rattle.src_ast.specs.Meaning.{Calls}
-use Rattle.seq_run.specs.Resolved.{Term, Action, Do, Call, If, While, Steps, Nothing, Then, Proc, value_of, values_of, done, run_all, finish}
+use Rattle.seq_run.specs.Resolved.{Action, Do, Call, If, While, Steps, Nothing, Then, Proc, done, run_all, finish}
 use Rattle.seq_run.specs.InRange.{StepsIn}
 use Rattle.seq_run.specs.TurnsLeft.{AtMost}
 use Rattle.cfg_core.specs.Graph as graph
-use Rattle.cfg_core.specs.Graph.{Op, Tick, Exit, Goto, Branch, Return, Graph, Spot, spot_at, proc_at, entry_of}
+use Rattle.cfg_core.specs.Graph.{Term, Op, Tick, Exit, Goto, Branch, Return, Graph, Spot, spot_at, proc_at, entry_of}
 use Rattle.cfg_core.specs.Walk as walks
-use Rattle.cfg_core.specs.Walk.{Frame, Config, At, Over, Going, Done, run_ops, entered, returned, leave, passed, step, walk}
-use Rattle.cfg_build.specs.Lowered.{Part, Made, term, op, ticked, leaves, goes_to, last_part, begun, whole, made}
-use Rattle.cfg_build.proofs.Values.{value_of_same, values_of_same, action_same, result_same}
+use Rattle.cfg_core.specs.Walk.{Frame, Config, At, Over, Going, Done, value_of, values_of, run_ops, entered, returned, leave, passed, step, walk}
+use Rattle.cfg_build.specs.Lowered.{Part, Made, op, ticked, leaves, goes_to, last_part, begun, whole, made}
+use Rattle.cfg_build.proofs.Values.{action_same, result_same}
 use Rattle.cfg_build.proofs.Stand.{HasAt, front, next_at}
 
 module _ (g : Graph) where
@@ -58,13 +58,13 @@ module _ (g : Graph) where
   both (Ended s k) go c b q fs h f = after c (At b s fs k) (go s k) q fs h (f s k)
   both (Out o) go c b q fs h f = h
 
-  -- an action behind its turn, then what is left
+  -- an action after its turn, then what is left
   acted : (a : Action) (r q : Part) (next : State → ℕ → Outcome) (fs : List Frame) (s : State) → ((j : ℕ) → Follows (next (done a s) j) (from_part r (done a s) fs j) q fs) → (k : ℕ) → Follows (and_then (turn k s (λ j. Ended (done a s) j)) next) (from_part (ticked (op a) r) s fs k) q fs
   acted a r q next fs s f zero = (0, refl)
   acted a r q next fs s f (suc j) =
       subst (λ (x : walks.Outcome). Follows (next (done a s) j) (passed g (walks.and_then x (run_ops r.ops)) r.exit fs) q fs) (sym (action_same a s j)) (f j)
 
-  -- an exit behind its turn
+  -- an exit after its turn
   left : (exit : Exit) (q : Part) (go : ℕ → Outcome) (next : State → ℕ → Outcome) (fs : List Frame) (s : State) → ((j : ℕ) → Follows (and_then (go j) next) (leave g exit s fs j) q fs) → (k : ℕ) → Follows (and_then (turn k s go) next) (from_part (leaves exit) s fs k) q fs
   left exit q go next fs s f zero = (0, refl)
   left exit q go next fs s f (suc j) = f j
@@ -78,8 +78,8 @@ module _ (g : Graph) where
   choice_then false o u next c d q fs h i = i
 
   -- a test has the value that it has in the run
-  branched : (t : Term) (a b : ℕ) (s : State) (k : ℕ) (o : Outcome) (q : Part) (fs : List Frame) → (let v = value_of t s in Follows o (if v.0 == 0 then At b v.1 fs k else At a v.1 fs k) q fs) → Follows o (leave g (Branch (term t) a b) s fs k) q fs
-  branched t a b s k o q fs h = subst (λ (v : ℕ × State). Follows o (if v.0 == 0 then At b v.1 fs k else At a v.1 fs k) q fs) (sym (value_of_same t s)) h
+  branched : (t : Term) (a b : ℕ) (s : State) (k : ℕ) (o : Outcome) (q : Part) (fs : List Frame) → (let v = value_of t s in Follows o (if v.0 == 0 then At b v.1 fs k else At a v.1 fs k) q fs) → Follows o (leave g (Branch t a b) s fs k) q fs
+  branched t a b s k o q fs h = h
 
   after_call : (e : CallEnd) (next : State → ℕ → Outcome) (c : Config) (vars : List ℕ) (x : Option ℕ) (back : ℕ) (q : Part) (fs : List Frame) → FollowsCall e c (record { result = x; back = back; vars = vars } ∷ fs) → ((s : State) (k : ℕ) → Follows (next s k) (At back s fs k) q fs) → Follows (and_then (back_in vars x e) next) c q fs
   after_call (Returned v o k) next c vars x back q fs h f =
@@ -91,12 +91,10 @@ module _ (g : Graph) where
 
   -- a call, from its exit on
   called : (n : ℕ) (calls : Calls) → CallsFollow n calls → (x : Option ℕ) (f : ℕ) → f < n → (ts : List Term) (back : ℕ) (next : State → ℕ → Outcome) (q : Part) (fs : List Frame) → ((s : State) (k : ℕ) → Follows (next s k) (At back s fs k) q fs) → (s : State) (j : ℕ) →
-      let vs = values_of ts s in Follows (and_then (back_in vs.1.vars x (calls f vs.0 vs.1.out j)) next) (leave g (graph.Call x f (map term ts) back) s fs j) q fs
+      let vs = values_of ts s in Follows (and_then (back_in vs.1.vars x (calls f vs.0 vs.1.out j)) next) (leave g (graph.Call x f ts back) s fs j) q fs
   called n calls cf x f lt ts back next q fs go s j =
       let vs = values_of ts s in
-      let o = and_then (back_in vs.1.vars x (calls f vs.0 vs.1.out j)) next in
-      subst (λ (w : List ℕ × State). Follows o (At (entry_of g f) (record { vars = entered (proc_at g f) w.0; out = w.1.out }) (record { result = x; back = back; vars = w.1.vars } ∷ fs) j) q fs) (sym (values_of_same ts s))
-      (after_call (calls f vs.0 vs.1.out j) next _ vs.1.vars x back q fs (cf f lt vs.0 vs.1.out j (record { result = x; back = back; vars = vs.1.vars } ∷ fs)) go)
+      after_call (calls f vs.0 vs.1.out j) next _ vs.1.vars x back q fs (cf f lt vs.0 vs.1.out j (record { result = x; back = back; vars = vs.1.vars } ∷ fs)) go
 
   -- what follows a body of a loop
   again : (o : Outcome) (j : ℕ) (next : State → ℕ → Outcome) (c : Config) (head : ℕ) (q : Part) (fs : List Frame) → AtMost j o → Follows o c (goes_to head) fs → ((u : State) (i : ℕ) → i ≤ j → Follows (next u i) (At head u fs i) q fs) → Follows (and_then o next) c q fs
@@ -105,7 +103,7 @@ module _ (g : Graph) where
 
   -- a loop, entered at its header
   looped : (t : Term) (body : State → ℕ → Outcome) (head inside next : ℕ) (fs : List Frame)
-      → ((o : Outcome) (s : State) (k : ℕ) → Follows o (from_part (leaves (Branch (term t) inside next)) s fs k) (goes_to next) fs → Follows o (At head s fs k) (goes_to next) fs)
+      → ((o : Outcome) (s : State) (k : ℕ) → Follows o (from_part (leaves (Branch t inside next)) s fs k) (goes_to next) fs → Follows o (At head s fs k) (goes_to next) fs)
       → ((s : State) (k : ℕ) → AtMost k (body s k)) → ((s : State) (k : ℕ) → Follows (body s k) (At inside s fs k) (goes_to head) fs)
       → (fuel : ℕ) (s : State) (k : ℕ) → k < fuel → Follows (loop fuel (value_of t) body s k) (At head s fs k) (goes_to next) fs
   looped t body head inside next fs e most f zero s k lt = absurd (omega arith)
@@ -132,7 +130,7 @@ module _ (g : Graph) where
     follow Nothing c rest fit at s k fs = (0, refl)
     follow (Then (Do a) more) c rest fit at s k fs = acted a (made more c rest).front rest (run_all calls more) fs s (λ j. follow more c rest fit.1 at (done a s) j fs) k
     follow (Then (Call x f ts) more) c rest fit at s k fs =
-        left (graph.Call x f (map term ts) (suc c)) rest _ (run_all calls more) fs s
+        left (graph.Call x f ts (suc c)) rest _ (run_all calls more) fs s
         (called home calls cf x f fit.0.1 ts (suc c) (run_all calls more) rest fs
         (λ u i. from_block more (suc c) rest at (follow more (suc c) rest fit.1 at.2) u i fs) s) k
     follow (Then (If t a b) more) c rest fit at s k fs =
@@ -145,7 +143,7 @@ module _ (g : Graph) where
         let v = value_of t s in
         let go : (u : State) (i : ℕ) → Follows (run_all calls more u i) (At join u fs i) rest fs =
         λ u i. from_block more join rest hm (follow more join rest fit.1 hm.2) u i fs in
-        left (Branch (term t) (suc c) second) rest _ (run_all calls more) fs s
+        left (Branch t (suc c) second) rest _ (run_all calls more) fs s
         (λ j. branched t (suc c) second s j _ rest fs
         (choice_then (v.0 == 0) (run_all calls b v.1 j) (run_all calls a v.1 j) (run_all calls more) (At second v.1 fs j) (At (suc c) v.1 fs j) rest fs
         (both (run_all calls b v.1 j) (run_all calls more) (At second v.1 fs j) join rest fs (from_block b second (goes_to join) hb (follow b second (goes_to join) fit.0.2 hb.2) v.1 j fs) go)
@@ -157,7 +155,7 @@ module _ (g : Graph) where
         let hm : HasAt g home vars next wm = next_at g home vars body inside (goes_to (suc c)) wm at.2 in
         both (loop (suc k) (value_of t) (run_all calls body) s k) (run_all calls more) (At (suc c) s fs k) next rest fs
         (looped t (run_all calls body) (suc c) inside next fs
-        (λ o u i. at_whole home vars (suc c) (record { front = leaves (Branch (term t) inside next); blocks = [] }) (at.0, at.1, tt) o u i (goes_to next) fs)
+        (λ o u i. at_whole home vars (suc c) (record { front = leaves (Branch t inside next); blocks = [] }) (at.0, at.1, tt) o u i (goes_to next) fs)
         (most body)
         (λ u i. from_block body inside (goes_to (suc c)) hb (follow body inside (goes_to (suc c)) fit.0.1 hb.2) u i fs)
         (suc k) s k (omega arith))
@@ -167,5 +165,5 @@ module _ (g : Graph) where
   pub finished : (o : Outcome) (r : Option Term) (c : Config) (fs : List Frame) → Follows o c (last_part r) fs → FollowsCall (ending o (finish r)) c fs
   finished (Ended s k) None c fs h = subst (λ (acts : List Act). Reaches c (returned 0 (record { cells = s.out.cells; input = s.out.input; left = s.out.left; acts = acts }) fs k)) (append-nil s.out.acts) h
   finished (Ended s zero) (Some t) c fs h = h
-  finished (Ended s (suc j)) (Some t) c fs h = subst (λ (v : ℕ × State). Reaches c (returned v.0 v.1.out fs j)) (value_of_same t s) h
+  finished (Ended s (suc j)) (Some t) c fs h = h
   finished (Out o) r c fs h = h

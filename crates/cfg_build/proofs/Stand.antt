@@ -6,7 +6,7 @@ use Rattle.cfg_core.specs.Graph.{Block, Graph, Spot, spots, spots_in, spots_from
 use Rattle.cfg_build.specs.Lowered.{Part, goes_to, begun, whole, made, proc, procs, proc_blocks, last_part, lowered}
 use Rattle.cfg_build.proofs.Places.{StandAt, stand_all, stand_front, stand_back, Each, each_both}
 
--- how many blocks stand behind the first one
+-- how many blocks stand after the first one
 pub length_made : (st : Steps) (c : ℕ) (rest : Part) → length (made st c rest).blocks ≡ begun st
 length_made Nothing c rest = refl
 length_made (Then (Do a) more) c rest = length_made more c rest
@@ -50,7 +50,7 @@ module _ (g : Graph) where
   pub front : (home vars b : ℕ) (xs ys : List Block) → HasAt home vars b (xs ++ ys) → HasAt home vars b xs
   front home vars b xs ys h = stand_front (spot_at g) (length (spots g)) b (spots_in home vars xs) (spots_in home vars ys) (apart home vars b xs ys h)
 
-  -- behind the blocks of steps stand those of what follows
+  -- after the blocks of steps stand those of what follows
   pub next_at : (home vars : ℕ) (st : Steps) (c : ℕ) (rest : Part) (ys : List Block) → HasAt home vars c (whole (made st c rest) ++ ys) → HasAt home vars (suc (c + begun st)) ys
   next_at home vars st c rest ys h =
       let xs = whole (made st c rest) in
@@ -60,8 +60,8 @@ module _ (g : Graph) where
     pub proc_at_front : HasAt home (p.params + p.locals) c (proc_blocks p c)
     proc_at_front = stand_front (spot_at g) (length (spots g)) c (spots_in home (p.params + p.locals) (proc_blocks p c)) (proc_spots (suc home) ps (suc (c + begun p.body))) at
 
-    pub procs_behind : SpotsAt (suc (c + begun p.body)) (proc_spots (suc home) ps (suc (c + begun p.body)))
-    procs_behind =
+    pub procs_after : SpotsAt (suc (c + begun p.body)) (proc_spots (suc home) ps (suc (c + begun p.body)))
+    procs_after =
         let xs = spots_in home (p.params + p.locals) (proc_blocks p c) in let next = suc (c + begun p.body) in
         stand_back (spot_at g) (length (spots g)) c next xs (proc_spots (suc home) ps next) (omega (arith, count_spots home (p.params + p.locals) (proc_blocks p c), proc_end p c)) at
 
@@ -74,7 +74,7 @@ module _ (g : Graph) where
   proc_blocks_at home (p ∷ ps) c at (suc i) n is lt =
       let next = suc (c + begun p.body) in let q = nth_proc ps i in
       subst (λ b. let first = entry_from b (procs ps next) i in HasAt n (q.params + q.locals) first (proc_blocks q first)) (sym (proc_end p c))
-      (proc_blocks_at (suc home) ps next (procs_behind home p ps c at) i n (omega (arith, is)) (omega arith))
+      (proc_blocks_at (suc home) ps next (procs_after home p ps c at) i n (omega (arith, is)) (omega arith))
 
 pub all_spots_at : (program : Program) → SpotsAt (lowered program) 0 (proc_spots 0 program.procs 0)
 unfolding spot_at
@@ -107,7 +107,7 @@ pub each_spot : (P : ℕ → Block → Type 0) (home vars b : ℕ) (xs : List Bl
 each_spot P home vars b [] h = tt
 each_spot P home vars b (x ∷ xs) h = (h.0, each_spot P home vars (suc b) xs h.1)
 
--- what holds of the blocks of a procedure and of those behind it
+-- what holds of the blocks of a procedure and of those after it
 pub then_procs : (P : ℕ → Block → Type 0) (home : ℕ) (p : Proc) (ps : List Proc) (c : ℕ) → Each P c (proc_blocks p c) → Each (λ n s. P n s.block) (suc (c + begun p.body)) (proc_spots (suc home) ps (suc (c + begun p.body))) → Each (λ n s. P n s.block) c (proc_spots home (p ∷ ps) c)
 then_procs P home p ps c h i =
     let xs = spots_in home (p.params + p.locals) (proc_blocks p c) in

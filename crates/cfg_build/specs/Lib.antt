@@ -1,5 +1,5 @@
 pub mod Lowered
-pub mod Drafts
+pub mod Building
 pub mod Views
 pub mod Keeps
-pub mod Shape
+pub mod Sizes

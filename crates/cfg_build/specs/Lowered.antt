@@ -1,54 +1,43 @@
 -- The graph of a program: the blocks of its steps, in the order of the text.
-use Rattle.std.specs.Prelude.{ℕ, suc, ◌+◌, List, [], ◌∷◌, ◌++◌, map, Option, Some, None}
-use Rattle.src_ast.specs.declared.tree.Unary.{Unary}
-use Rattle.src_ast.specs.declared.tree.Unary.TheVariants.{Flip, Not, Neg}
+use Rattle.std.specs.Prelude.{ℕ, suc, ◌+◌, List, [], ◌∷◌, ◌++◌, Option, Some, None}
 use Rattle.seq_run.specs.Resolved as resolved
-use Rattle.seq_run.specs.Resolved.{Number, Var, Cell, Signed, Binary, Action, Assign, Store, Print, Read, Give, Take, Step, Do, Call, If, While, Steps, Nothing, Then, Proc}
+use Rattle.seq_run.specs.Resolved.{Action, Assign, Store, Print, Read, Give, Take, Step, Do, Call, If, While, Steps, Nothing, Then, Proc}
 use Rattle.cfg_core.specs.Graph as graph
 use Rattle.cfg_core.specs.Graph.{Op, Tick, Exit, Goto, Branch, Return, Block, GraphProc, GraphArray, Graph}
 
-abbrev pub signed : Unary → graph.Term → graph.Term
-signed Flip t = graph.Flip t
-signed Not t = graph.Not t
-signed Neg t = graph.Neg t
-
-abbrev pub term : resolved.Term → graph.Term
-term (Number n) = graph.Number n
-term (Var x) = graph.Var x
-term (Cell a t) = graph.Cell a (term t)
-term (Signed s t) = signed s (term t)
-term (Binary op a b) = graph.Binary op (term a) (term b)
-
+-- what an action does, all but its turn
 abbrev pub op : Action → Op
-op (Assign x t) = graph.Assign x (term t)
-op (Store a t u) = graph.Store a (term t) (term u)
-op (Print t) = graph.Print (term t)
+op (Assign x t) = graph.Assign x t
+op (Store a t u) = graph.Store a t u
+op (Print t) = graph.Print t
 op (Read x) = graph.Read x
 op (Give p x) = graph.Give p x
-op (Take p t) = graph.Take p (term t)
+op (Take p t) = graph.Take p t
 
 -- what is left of a block: a place in the graph
 pub record Part : Type 0 where
   pub ops : List Op
   pub exit : Exit
 
--- an operation behind a turn, then what is left
+-- an operation after a turn, then what is left
 abbrev pub ticked : Op → Part → Part
 ticked o p = record { ops = Tick 1 ∷ o ∷ p.ops; exit = p.exit }
 
--- an exit behind a turn
+-- an exit after a turn
 abbrev pub leaves : Exit → Part
 leaves exit = record { ops = Tick 1 ∷ []; exit = exit }
 
+-- an exit to a block, without a turn
 abbrev pub goes_to : ℕ → Part
 goes_to b = record { ops = []; exit = Goto b }
 
 -- the last part of a procedure: without a `return` the result is 0
-abbrev pub last_part : Option resolved.Term → Part
+abbrev pub last_part : Option graph.Term → Part
 last_part None = record { ops = []; exit = Return (graph.Number 0) }
-last_part (Some t) = leaves (Return (term t))
+last_part (Some t) = leaves (Return t)
 
--- How many blocks begin inside steps: a call's return block; of an `if` each arm's first block and the join; of a `while` its header, the first block of its body, and the one behind it.
+-- How many blocks begin inside steps: a call's return block; of an `if` each arm's first block and
+-- the join; of a `while` its header, the first block of its body, and the one after it.
 abbrev pub begun : Steps → ℕ
 begun Nothing = 0
 begun (Then (Do a) rest) = begun rest
@@ -56,6 +45,7 @@ begun (Then (Call x f ts) rest) = suc (begun rest)
 begun (Then (If t a b) rest) = suc (begun a + suc (begun b + suc (begun rest)))
 begun (Then (While t body) rest) = suc (suc (begun body + suc (begun rest)))
 
+-- a block that begins with this part
 abbrev pub block : Part → Block
 block p = record { named = []; ops = p.ops; exit = p.exit }
 
@@ -64,29 +54,40 @@ pub record Made : Type 0 where
   pub front : Part
   pub blocks : List Block
 
-abbrev pub behind : Op → Made → Made
-behind o m = record { front = ticked o m.front; blocks = m.blocks }
+-- a turn and an operation first
+abbrev pub led_by : Op → Made → Made
+led_by o m = record { front = ticked o m.front; blocks = m.blocks }
 
 -- the block that begins with the front, and those after it
 abbrev pub whole : Made → List Block
 whole m = block m.front ∷ m.blocks
 
--- Steps that begin in the block with this number, where `rest` follows them. Of an `if`, the blocks of its first arm come before those of its second, and the join after both; of a `while`, its header comes first, then the blocks of its body, then the block behind it.
+-- Steps that begin in the block with this number, where `rest` follows them. Of an `if`, the blocks
+-- of its first arm come before those of its second, and the join after both; of a `while`, its
+-- header comes first, then the blocks of its body, then the block after it.
 abbrev pub made : Steps → ℕ → Part → Made
 made Nothing c rest = record { front = rest; blocks = [] }
-made (Then (Do a) more) c rest = behind (op a) (made more c rest)
-made (Then (Call x f ts) more) c rest = record { front = leaves (graph.Call x f (map term ts) (suc c)); blocks = whole (made more (suc c) rest) }
+made (Then (Do a) more) c rest = led_by (op a) (made more c rest)
+made (Then (Call x f ts) more) c rest =
+    record { front = leaves (graph.Call x f ts (suc c)); blocks = whole (made more (suc c) rest) }
 made (Then (If t a b) more) c rest =
     let second = suc (suc c + begun a) in let join = suc (second + begun b) in
-    record { front = leaves (Branch (term t) (suc c) second); blocks = whole (made a (suc c) (goes_to join)) ++ (whole (made b second (goes_to join)) ++ whole (made more join rest)) }
+    let first_arm = whole (made a (suc c) (goes_to join)) in
+    let second_arm = whole (made b second (goes_to join)) in
+    let joined = whole (made more join rest) in
+    let blocks = first_arm ++ (second_arm ++ joined) in
+    record { front = leaves (Branch t (suc c) second); blocks = blocks }
 made (Then (While t body) more) c rest =
     let inside = suc (suc c) in let after = suc (inside + begun body) in
-    record { front = goes_to (suc c); blocks = block (leaves (Branch (term t) inside after)) ∷ (whole (made body inside (goes_to (suc c))) ++ whole (made more after rest)) }
+    let header = block (leaves (Branch t inside after)) in
+    let inner = whole (made body inside (goes_to (suc c))) in
+    record { front = goes_to (suc c); blocks = header ∷ (inner ++ whole (made more after rest)) }
 
 -- the blocks of a procedure, the first of which has this number
 abbrev pub proc_blocks : Proc → ℕ → List Block
 proc_blocks p c = whole (made p.body c (last_part p.result))
 
+-- a procedure, the first of whose blocks has this number
 abbrev pub proc : Proc → ℕ → GraphProc
 proc p c = record { params = p.params; vars = p.params + p.locals; blocks = proc_blocks p c }
 
@@ -101,5 +102,7 @@ arrays [] lengths = []
 arrays (name ∷ names) [] = []
 arrays (name ∷ names) (n ∷ lengths) = record { name = Some name; length = n } ∷ arrays names lengths
 
+-- the graph of a program with numbers for names
 abbrev pub lowered : resolved.Program → Graph
-lowered program = record { arrays = arrays program.names program.lengths; procs = procs program.procs 0 }
+lowered program =
+    record { arrays = arrays program.names program.lengths; procs = procs program.procs 0 }

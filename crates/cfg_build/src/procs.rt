@@ -6,9 +6,9 @@ ghost use Rattle.seq_run.specs.View as source;
 ghost use Rattle.cfg_core.specs.View as view;
 ghost use Rattle.cfg_build.specs.Lowered as lowered;
 ghost use Rattle.cfg_build.specs.Lowered.{begun};
-ghost use Rattle.cfg_build.specs.Drafts.{StepsFit, ProcFits, blocks_of};
+ghost use Rattle.cfg_build.specs.Building.{StepsFit, ProcFits, blocks_of};
 
-use crate::draft::Draft;
+use crate::builder::Builder;
 use crate::steps::lower_steps;
 use cfg_core::{GraphProc, GraphProcs};
 use seq_run::Proc;
@@ -21,9 +21,9 @@ fn lower_proc(alloc: Global, first: u32, proc: &Proc) -> Result<GraphProc, NoMem
     requires fits { ProcFits (source.proc proc.now) }
     ensures { IfOk result (λ made. view.proc made ≡ lowered.proc (source.proc proc.now) first) }
 {
-    let mut draft = Draft::at(alloc, first);
-    lower_steps(alloc, &mut draft, &proc.body)?;
-    let blocks = draft.finish(alloc, &proc.result)?;
+    let mut builder = Builder::at(alloc, first);
+    lower_steps(alloc, &mut builder, &proc.body)?;
+    let blocks = builder.finish(alloc, &proc.result)?;
     Ok(GraphProc {
         params: proc.params,
         vars: proc.params + proc.locals,
@@ -35,7 +35,8 @@ fn lower_proc(alloc: Global, first: u32, proc: &Proc) -> Result<GraphProc, NoMem
 pub(crate) fn lower_procs(alloc: Global, procs: &[Proc]) -> Result<GraphProcs, NoMemory>
     requires room { blocks_of (source.procs procs.now) < 2 ^ 32 }
     requires fit { AllByRecursion ProcFits (source.procs procs.now) }
-    ensures { IfOk result (λ list. map view.proc list.items ≡ lowered.procs (source.procs procs.now) 0) }
+    ensures { let made = lowered.procs (source.procs procs.now) 0 in
+        IfOk result (λ list. map view.proc list.items ≡ made) }
 {
     let mut list = Vec::new(alloc);
     let mut first = 0;

@@ -2,6 +2,7 @@
 
 ghost use Rattle.std.specs.Prelude.{◌≡◌, ℕ, IfOk};
 ghost use Rattle.ws_words.specs.Outside.{World, Outside};
+ghost use Rattle.src_ast.specs.Bound.{widest};
 ghost use Rattle.src_ast.specs.Meaning.{procs_of};
 ghost use Rattle.src_ast.specs.View as ast;
 ghost use Rattle.seq_run.specs.InRange.{ProgramIn};
@@ -9,9 +10,11 @@ ghost use Rattle.seq_run.specs.View as source;
 ghost use Rattle.cfg_core.specs.View as view;
 ghost use Rattle.cfg_core.specs.Rules.{IsGraph};
 ghost use Rattle.cfg_core.specs.Shown.{StaysInside};
+ghost use Rattle.cfg_core.specs.Weights.{TwoBlocksATurn, TurnsPayWork};
 ghost use Rattle.cfg_build.specs.Lowered.{lowered};
 ghost use Rattle.cfg_build.specs.Keeps.{KeepsRun, ShowsRun, arrays_of, rooms_of, rooms_in, IsFirstForm};
-ghost use Rattle.cfg_build.specs.Shape.{IsShaped};
+ghost use Rattle.cfg_core.specs.Shape.{IsShaped};
+ghost use Rattle.cfg_build.specs.Sizes.{IsSized, IsSmall};
 
 use crate::arrays::arrays;
 use crate::procs::lower_procs;
@@ -31,22 +34,34 @@ fn graph_of(alloc: Global, resolved: &Resolved) -> Result<Graph, NoMemory>
     Ok(Graph { arrays, procs })
 }
 
-/// The control graph of an accepted program. Its walk does turn by turn what the sequential run
-/// does, in every world.
+/// The control graph of an accepted program. Its walk does turn by turn what the run does that
+/// passes loads and stores past the end, in every world.
 pub fn lower(alloc: Global, accepted: &Accepted) -> Result<Graph, NoMemory>
     // the walk is the run, and shows all of it
-    ensures run { IfOk result (λ graph. KeepsRun (ast.parts accepted.now.program.items.items) (view.graph graph)) }
+    ensures run { let parts = ast.parts accepted.now.program.items.items in
+        IfOk result (λ graph. KeepsRun parts (view.graph graph)) }
     ensures shown { IfOk result (λ graph. ShowsRun (view.graph graph)) }
 
     // the arrays are the program's and none is hidden, so nothing goes past the end of a hidden one
-    ensures arrays { IfOk result (λ graph. (view.graph graph).arrays ≡ arrays_of (ast.parts accepted.now.program.items.items)) }
+    ensures arrays { let parts = ast.parts accepted.now.program.items.items in
+        IfOk result (λ graph. (view.graph graph).arrays ≡ arrays_of parts) }
     ensures inside { IfOk result (λ graph. (world : World) → StaysInside (view.graph graph) world) }
 
     // what later passes rest on
-    ensures procs { IfOk result (λ graph. rooms_in (view.graph graph).procs ≡ rooms_of (procs_of (ast.parts accepted.now.program.items.items))) }
+    ensures procs { let parts = ast.parts accepted.now.program.items.items in
+        IfOk result (λ graph. rooms_in (view.graph graph).procs ≡ rooms_of (procs_of parts)) }
     ensures rules { IfOk result (λ graph. IsGraph (view.graph graph)) }
     ensures form { IfOk result (λ graph. IsFirstForm (view.graph graph)) }
     ensures shape { IfOk result (λ graph. IsShaped (view.graph graph)) }
+
+    // what turns pay for, and how large the graph is
+    ensures turns { IfOk result (λ graph. TwoBlocksATurn (view.graph graph)) }
+    ensures work { let parts = ast.parts accepted.now.program.items.items in
+        IfOk result (λ graph. TurnsPayWork (view.graph graph) (widest parts)) }
+    ensures size { let parts = ast.parts accepted.now.program.items.items in
+        IfOk result (λ graph. IsSized (procs_of parts) (view.graph graph)) }
+    ensures small { let parts = ast.parts accepted.now.program.items.items in
+        IfOk result (λ graph. IsSmall parts (view.graph graph)) }
 {
     // laws that the contract rests on
     names_are_places();

@@ -3,14 +3,15 @@
 ghost use Rattle.std.specs.Prelude.{◌≡◌, ◌+◌, ◌<◌, ◌^◌, OnOk};
 ghost use Rattle.seq_run.specs.Resolved.{If, While, Nothing, Then};
 ghost use Rattle.seq_run.specs.View as source;
+ghost use Rattle.cfg_core.specs.View as view;
 ghost use Rattle.cfg_build.specs.Lowered.{begun as begun_in};
-ghost use Rattle.cfg_build.specs.Drafts.{number, emit_one, emit, StepFits, StepsFit};
-ghost use Rattle.cfg_build.specs.Views.{draft as draft_of};
+ghost use Rattle.cfg_build.specs.Building.{number, emit_one, emit, StepFits, StepsFit};
+ghost use Rattle.cfg_build.specs.Views.{builder as builder_of};
 
-use crate::draft::Draft;
-use crate::terms::{operation, term, terms};
-use cfg_core::Leave;
-use seq_run::{Step, Term};
+use crate::builder::Builder;
+use crate::operation::operation;
+use cfg_core::{Leave, Term, copy_term, copy_terms};
+use seq_run::Step;
 use std::alloc::Global;
 use ws_words::NoMemory;
 
@@ -40,45 +41,52 @@ fn begun_by(step: &Step) -> u32
     }
 }
 
-/// Adds steps to a draft.
+/// Adds steps to a builder.
 #[cycle(lower)]
-pub(crate) fn lower_steps(alloc: Global, draft: &mut Draft, steps: &[Step]) -> Result<(), NoMemory>
-    requires room { number (draft_of draft.old) + begun_in (source.steps steps.now) < 2 ^ 32 }
+pub(crate) fn lower_steps(
+    alloc: Global,
+    builder: &mut Builder,
+    steps: &[Step],
+) -> Result<(), NoMemory>
+    requires room { number (builder_of builder.old) + begun_in (source.steps steps.now) < 2 ^ 32 }
     requires ports { StepsFit (source.steps steps.now) }
-    ensures { OnOk result (draft_of draft.new ≡ emit (source.steps steps.now) (draft_of draft.old)) }
+    ensures { let made = emit (source.steps steps.now) (builder_of builder.old) in
+        OnOk result (builder_of builder.new ≡ made) }
 {
     for step in steps {
-        lower_step(alloc, draft, step)?;
+        lower_step(alloc, builder, step)?;
     }
     Ok(())
 }
 
 #[cycle(lower)]
-fn lower_step(alloc: Global, draft: &mut Draft, step: &Step) -> Result<(), NoMemory>
-    requires room { number (draft_of draft.old) + begun_in (Then (source.step step.now) Nothing) < 2 ^ 32 }
+fn lower_step(alloc: Global, builder: &mut Builder, step: &Step) -> Result<(), NoMemory>
+    requires room { let alone = Then (source.step step.now) Nothing in
+        number (builder_of builder.old) + begun_in alone < 2 ^ 32 }
     requires ports { StepFits (source.step step.now) }
-    ensures { OnOk result (draft_of draft.new ≡ emit_one (source.step step.now) (draft_of draft.old)) }
+    ensures { let made = emit_one (source.step step.now) (builder_of builder.old) in
+        OnOk result (builder_of builder.new ≡ made) }
 {
     match step {
         Step::Do(action) => {
             let op = operation(alloc, action)?;
-            draft.tick()?;
-            draft.push(op)
+            builder.tick()?;
+            builder.push(op)
         }
         Step::Call(target, callee, args) => {
-            let values = terms(alloc, args)?;
-            let back = draft.number() + 1;
-            draft.tick()?;
+            let values = copy_terms(alloc, args)?;
+            let back = builder.number() + 1;
+            builder.tick()?;
             let call = Leave::Call {
                 result: *target,
                 callee: *callee,
                 values,
                 back,
             };
-            draft.close(alloc, call)
+            builder.close(alloc, call)
         }
-        Step::If(test, first, second) => lower_if(alloc, draft, test, first, second),
-        Step::While(test, body) => lower_while(alloc, draft, test, body),
+        Step::If(test, first, second) => lower_if(alloc, builder, test, first, second),
+        Step::While(test, body) => lower_while(alloc, builder, test, body),
     }
 }
 
@@ -86,42 +94,53 @@ fn lower_step(alloc: Global, draft: &mut Draft, step: &Step) -> Result<(), NoMem
 #[cycle(lower)]
 fn lower_if(
     alloc: Global,
-    draft: &mut Draft,
+    builder: &mut Builder,
     test: &Term,
     first: &[Step],
     second: &[Step],
 ) -> Result<(), NoMemory>
-    requires room { number (draft_of draft.old) + begun_in (Then (If (source.term test.now) (source.steps first.now) (source.steps second.now)) Nothing) < 2 ^ 32 }
+    requires room { let one = source.steps first.now in let other = source.steps second.now in
+        let step = If (view.term test.now) one other in
+        number (builder_of builder.old) + begun_in (Then step Nothing) < 2 ^ 32 }
     requires first_ports { StepsFit (source.steps first.now) }
     requires second_ports { StepsFit (source.steps second.now) }
-    ensures { OnOk result (draft_of draft.new ≡ emit_one (If (source.term test.now) (source.steps first.now) (source.steps second.now)) (draft_of draft.old)) }
+    ensures { let one = source.steps first.now in let other = source.steps second.now in
+        let step = If (view.term test.now) one other in
+        OnOk result (builder_of builder.new ≡ emit_one step (builder_of builder.old)) }
 {
-    let test = term(alloc, test)?;
-    let first_arm = draft.number() + 1;
+    let test = copy_term(alloc, test)?;
+    let first_arm = builder.number() + 1;
     let second_arm = first_arm + begun(first) + 1;
     let join = second_arm + begun(second) + 1;
-    draft.tick()?;
-    draft.close(alloc, Leave::Branch(test, first_arm, second_arm))?;
-    lower_steps(alloc, draft, first)?;
-    draft.close(alloc, Leave::Goto(join))?;
-    lower_steps(alloc, draft, second)?;
-    draft.close(alloc, Leave::Goto(join))
+    builder.tick()?;
+    builder.close(alloc, Leave::Branch(test, first_arm, second_arm))?;
+    lower_steps(alloc, builder, first)?;
+    builder.close(alloc, Leave::Goto(join))?;
+    lower_steps(alloc, builder, second)?;
+    builder.close(alloc, Leave::Goto(join))
 }
 
-// The header is a block of its own, with the blocks of the body behind it.
+// The header is a block of its own, with the blocks of the body after it.
 #[cycle(lower)]
-fn lower_while(alloc: Global, draft: &mut Draft, test: &Term, body: &[Step]) -> Result<(), NoMemory>
-    requires room { number (draft_of draft.old) + begun_in (Then (While (source.term test.now) (source.steps body.now)) Nothing) < 2 ^ 32 }
+fn lower_while(
+    alloc: Global,
+    builder: &mut Builder,
+    test: &Term,
+    body: &[Step],
+) -> Result<(), NoMemory>
+    requires room { let step = While (view.term test.now) (source.steps body.now) in
+        number (builder_of builder.old) + begun_in (Then step Nothing) < 2 ^ 32 }
     requires ports { StepsFit (source.steps body.now) }
-    ensures { OnOk result (draft_of draft.new ≡ emit_one (While (source.term test.now) (source.steps body.now)) (draft_of draft.old)) }
+    ensures { let step = While (view.term test.now) (source.steps body.now) in
+        OnOk result (builder_of builder.new ≡ emit_one step (builder_of builder.old)) }
 {
-    let test = term(alloc, test)?;
-    let header = draft.number() + 1;
+    let test = copy_term(alloc, test)?;
+    let header = builder.number() + 1;
     let inside = header + 1;
     let after = inside + begun(body) + 1;
-    draft.close(alloc, Leave::Goto(header))?;
-    draft.tick()?;
-    draft.close(alloc, Leave::Branch(test, inside, after))?;
-    lower_steps(alloc, draft, body)?;
-    draft.close(alloc, Leave::Goto(header))
+    builder.close(alloc, Leave::Goto(header))?;
+    builder.tick()?;
+    builder.close(alloc, Leave::Branch(test, inside, after))?;
+    lower_steps(alloc, builder, body)?;
+    builder.close(alloc, Leave::Goto(header))
 }

@@ -69,12 +69,15 @@ module _ (g : Graph) (none : NoneHidden g.arrays) where
   all_shown : (o : Outside) → OutIn g o → ShowsAll g o
   all_shown o h = record { acts = acts_shown o.acts h.acts; cells = cells_shown g.arrays none o.cells h.cells }
 
+-- where no array is hidden, all is shown at the end of a walk
 pub ended_shown : (g : Graph) → IsGraph g → NoneHidden g.arrays → (world : World) (turns : ℕ) (o : Outside) → Ends g world turns o → ShowsAll g o
 ended_shown g rules none world turns o e = all_shown g none o (ended_in g rules.numbers world turns o e)
 
+-- and where a walk is going
 pub going_shown : (g : Graph) → IsGraph g → NoneHidden g.arrays → (world : World) (turns : ℕ) (o : Outside) → Goes g world turns o → ShowsAll g o
 going_shown g rules none world turns o e = all_shown g none o (going_in g rules.numbers world turns o e)
 
+-- and no hidden array is loaded or stored past its end
 pub stays_inside : (g : Graph) → IsGraph g → NoneHidden g.arrays → (world : World) → StaysInside g world
 stays_inside g rules none world = record {
   ends = λ turns o e. acts_inside g none o.acts (ended_in g rules.numbers world turns o e).acts;

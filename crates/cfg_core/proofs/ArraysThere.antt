@@ -7,6 +7,7 @@ use Rattle.cfg_core.specs.Walk.{loads_of, all_loads, value_of, values_of, Outcom
 use Rattle.cfg_core.specs.Rules.{IsArray, TermIn, OpIn, ExitIn, BlockNumbers, Numbers}
 use Rattle.cfg_core.proofs.Total.{each_at}
 
+-- an act on an array of the graph, or on none
 abbrev pub ActIn : Graph → Act → Type 0
 ActIn g (loads a i) = IsArray g a
 ActIn g (stores a i w) = IsArray g a
@@ -15,6 +16,7 @@ ActIn g (prints w) = Unit {0}
 ActIn g (gives p) = Unit {0}
 ActIn g (takes p w) = Unit {0}
 
+-- such acts
 abbrev pub ActsIn : Graph → List Act → Type 0
 ActsIn g acts = AllByRecursion (ActIn g) acts
 
@@ -22,10 +24,12 @@ pub record OutIn (g : Graph) (o : Outside) : Type 0 where
   pub acts : ActsIn g o.acts
   pub cells : length o.cells ≡ length g.arrays
 
+-- what is outside after operations has the arrays of the graph, and acts on them alone
 abbrev pub OutcomeIn : Graph → Outcome → Type 0
 OutcomeIn g (Done s k) = OutIn g s.out
 OutcomeIn g (Out o) = OutIn g o
 
+-- the same of a place of the walk
 abbrev pub ConfigIn : Graph → Config → Type 0
 ConfigIn g (At b s frames k) = OutIn g s.out
 ConfigIn g (Over o k) = OutIn g o
@@ -145,8 +149,10 @@ module _ (g : Graph) where
     answer_in : (world : World) (turns n : ℕ) (c : Config) → walk g n (opening g world turns) ≡ c → ConfigIn g c
     answer_in world turns n c e = subst (λ (d : Config). ConfigIn g d) e (walk_in n (opening g world turns) (record { acts = tt; cells = length_cells_of g.arrays }))
 
+    -- the same at the end of a walk
     pub ended_in : (world : World) (turns : ℕ) (o : Outside) → Ends g world turns o → OutIn g o
     ended_in world turns o e = answer_in world turns e.0 (Over o 0) e.1
 
+    -- and where a walk is going
     pub going_in : (world : World) (turns : ℕ) (o : Outside) → Goes g world turns o → OutIn g o
     going_in world turns o e = answer_in world turns e.0 (Going o) e.1

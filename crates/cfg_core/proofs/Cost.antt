@@ -71,10 +71,12 @@ module _ (g : Graph) where
   leave_onward (Send t ts ls) s frames = at _ _ frames (λ k. refl)
   leave_onward Stop s frames = over s.out (λ k. refl)
 
+  -- a walk that has ended stays so
   pub walk_over : (m : ℕ) (o : Outside) (k : ℕ) → walk g m (Over o k) ≡ Over o k
   walk_over zero o k = refl
   walk_over (suc m) o k = walk_over m o k
 
+  -- so does one that is out of turns
   pub walk_going : (m : ℕ) (o : Outside) → walk g m (Going o) ≡ Going o
   walk_going zero o = refl
   walk_going (suc m) o = walk_going m o
@@ -84,6 +86,7 @@ module _ (g : Graph) where
     sum : k ≡ j + cost
     again : (i : ℕ) → walk g m (h (i + cost)) ≡ Over o i
 
+  -- a walk that ends from its end on has just that end
   pub over_again : (m : ℕ) (p o : Outside) (k j : ℕ) → walk g m (Over p k) ≡ Over o j → (k ≡ j) × ((i : ℕ) → walk g m (Over p i) ≡ Over o i)
   over_again m p o k j e =
       let w : Over p k ≡ Over o j = sym (walk_over m p k) ∙ e in
@@ -140,12 +143,15 @@ module _ (g : Graph) where
 pub exactly : (g : Graph) (world : World) (k : ℕ) (o : Outside) (j : ℕ) → EndsWith g world k o j → (n : ℕ) × (k ≡ j + n) × ((i : ℕ) → EndsWith g world (i + n) o i)
 exactly g world k o j e = let r = at_cost g e.0 _ _ _ k o j e.1 in (r.cost, r.sum, λ i. (e.0, r.again i))
 
+-- a walk that ends with turns left ends with none left on fewer turns
 pub fewer : (g : Graph) (world : World) (k j : ℕ) (o : Outside) → EndsWith g world k o j → (n : ℕ) × (k ≡ j + n) × Ends g world n o
 fewer g world k j o e = let r = exactly g world k o j e in let z : 0 + r.0 ≡ r.0 = omega arith in (r.0, r.1, subst (λ n. EndsWith g world n o 0) z (r.2 0))
 
+-- it ends with turns left on more
 pub longer : (g : Graph) (world : World) (n i : ℕ) (o : Outside) → Ends g world n o → EndsWith g world (i + n) o i
 longer g world n i o e = let r = exactly g world n o 0 e in let z : i + r.0 ≡ i + n = omega (arith, r.1) in subst (λ m. EndsWith g world m o i) z (r.2 i)
 
+-- it does not end and go on within the same turns
 pub not_both : (g : Graph) (world : World) (n k : ℕ) (o p : Outside) → n ≤ k → Ends g world n o → Goes g world k p → ⊥
 not_both g world n k o p le e d = apart (one_answer g r.0 d.0 (opening g world k) (Over o (k - n)) (Going p) tt tt r.1 d.1)
   where
@@ -163,6 +169,7 @@ one_end_le g world n m o p le e d =
     let y : m - n ≡ 0 = cc in
     (omega arith, cc)
 
+-- it ends after one number of turns, in one way
 pub one_end : (g : Graph) (world : World) (n m : ℕ) (o p : Outside) → Ends g world n o → Ends g world m p → (n ≡ m) × (o ≡ p)
 one_end g world n m o p e d = elim (le_total n m) [
   | inl le ↦ one_end_le g world n m o p le e d

@@ -4,6 +4,7 @@ use Rattle.std.proofs.lemmas.Bool.Decides.{nat_tests}
 use Rattle.cfg_core.specs.Graph.{Exit, Goto, Branch, Call, Return, Send, Stop, Graph, Spot, nth, or_else, no_spot, spots, spot_at, block_at}
 use Rattle.cfg_core.specs.Rules.{In, Leads, has_turn, Quiet, one, more}
 
+-- each edge of an exit leads to a later block or to one that takes a turn
 abbrev pub OnlyOn : Graph → ℕ → Exit → Type 0
 OnlyOn g c exit = (d : ℕ) → Leads exit d → (c < d) ⊎ (has_turn (block_at g d).ops ≡ true)
 
@@ -44,10 +45,12 @@ module _ (g : Graph) (all : AllOn g 0 (spots g)) where
 abbrev pub edge_on : Graph → ℕ → ℕ → Bool
 edge_on g c d = nat_lt c d || has_turn (block_at g d).ops
 
+-- whether each of these blocks is a later one or takes a turn
 abbrev pub edges_on : Graph → ℕ → List ℕ → Bool
 edges_on g c [] = true
 edges_on g c (l ∷ ls) = edge_on g c l && edges_on g c ls
 
+-- the test of the edges of an exit
 abbrev pub exit_on : Graph → ℕ → Exit → Bool
 exit_on g c (Goto b) = edge_on g c b
 exit_on g c (Branch t a b) = edge_on g c a && edge_on g c b
@@ -56,6 +59,7 @@ exit_on g c (Return t) = true
 exit_on g c (Send t ts ls) = edges_on g c ls
 exit_on g c Stop = true
 
+-- the test of blocks, the first of which has this number
 abbrev pub all_on : Graph → ℕ → List Spot → Bool
 all_on g c [] = true
 all_on g c (s ∷ xs) = exit_on g c s.block.exit && all_on g (suc c) xs
@@ -92,5 +96,6 @@ all_are : (g : Graph) (c : ℕ) (xs : List Spot) → all_on g c xs ≡ true → 
 all_are g c [] h = tt
 all_are g c (s ∷ xs) h = (exit_is g c s.block.exit (and_left (exit_on g c s.block.exit) _ h), all_are g (suc c) xs (and_right (exit_on g c s.block.exit) _ h))
 
+-- where that test holds of all blocks, no quiet path comes back
 pub tested : (g : Graph) → all_on g 0 (spots g) ≡ true → (b : ℕ) → Quiet g b b → ⊥
 tested g h = no_quiet_cycle g (all_are g 0 (spots g) (h))

@@ -5,6 +5,7 @@ use Rattle.cfg_core.specs.Rules.{IsGraph}
 use Rattle.cfg_core.specs.Samples.{straight, branches, counts, calls_twice, sends}
 use Rattle.cfg_core.proofs.Forward.{tested}
 
+-- the straight graph keeps the rules
 pub straight_kept : IsGraph straight
 unfolding spot_at proc_at
 straight_kept = record {
@@ -16,6 +17,7 @@ straight_kept = record {
   bare = search rules;
 }
 
+-- the branching graph does
 pub branches_kept : IsGraph branches
 unfolding spot_at proc_at
 branches_kept = record {
@@ -27,6 +29,7 @@ branches_kept = record {
   bare = search rules;
 }
 
+-- the loop does
 pub counts_kept : IsGraph counts
 unfolding spot_at proc_at
 counts_kept = record {
@@ -38,6 +41,7 @@ counts_kept = record {
   bare = search rules;
 }
 
+-- the calls do
 pub calls_twice_kept : IsGraph calls_twice
 unfolding spot_at proc_at
 calls_twice_kept = record {
@@ -49,6 +53,7 @@ calls_twice_kept = record {
   bare = search rules;
 }
 
+-- the sends do
 pub sends_kept : IsGraph sends
 unfolding spot_at proc_at
 sends_kept = record {

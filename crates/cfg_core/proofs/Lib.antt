@@ -14,3 +14,5 @@ pub mod Total
 pub mod Cost
 pub mod ArraysThere
 pub mod AllShown
+pub mod Paired
+pub mod Weighing

@@ -51,5 +51,6 @@ in_down (suc n) a h = elim (split a n (omega arith)) [ inl e ↦ inl e | inr l �
     split (suc a) zero le = absurd (omega arith)
     split (suc a) (suc n) le = elim (split a n (omega arith)) [ inl e ↦ inl (ap suc e) | inr l ↦ inr (omega arith) ]
 
+-- numbers below n that stand apart are at most n
 pub pigeons : (xs : List ℕ) (n : ℕ) → Apart xs → ((a : ℕ) → In a xs → a < n) → length xs ≤ n
 pigeons xs n o f = subst (λ (m : ℕ). length xs ≤ m) (down_length n) (within xs (down n) o (λ a h. in_down n a (f a h)))

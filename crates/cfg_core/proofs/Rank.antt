@@ -4,10 +4,12 @@ use Rattle.cfg_core.specs.Graph.{Exit, Goto, Branch, Call, Return, Send, Stop, G
 use Rattle.cfg_core.specs.Rules.{In, Apart, Leads, has_turn, Quiet, one, more}
 use Rattle.cfg_core.proofs.Pigeons.{pigeons}
 
+-- one more than the most of a number over blocks, or 0 of none
 abbrev pub most_over : (ℕ → ℕ) → List ℕ → ℕ
 most_over r [] = 0
 most_over r (l ∷ ls) = max (suc (r l)) (most_over r ls)
 
+-- the same over the blocks that an exit leads to
 abbrev pub over_exit : (ℕ → ℕ) → Exit → ℕ
 over_exit r (Goto b) = suc (r b)
 over_exit r (Branch t a b) = max (suc (r a)) (suc (r b))
@@ -21,6 +23,7 @@ abbrev pub edges : Graph → ℕ → ℕ → ℕ
 edges g zero b = 0
 edges g (suc n) b = if has_turn (block_at g b).ops then 0 else over_exit (edges g n) (block_at g b).exit
 
+-- how many edges a walk can pass from a block on without a turn
 unfoldable pub rank : Graph → ℕ → ℕ
 rank g b = edges g (length (spots g)) b
 
@@ -99,6 +102,7 @@ module _ (g : Graph) where
       (λ e. let h = edges_turn (suc n) b e in omega (arith, h))
       (λ e. let h = edges_quiet n b e in let i = over_most (edges g n) n (block_at g b).exit (edges_most n) in omega (arith, h, i))
 
+  -- it is at most the number of blocks
   pub rank_most : (b : ℕ) → rank g b ≤ length (spots g)
   unfolding rank
   rank_most b = edges_most (length (spots g)) b
@@ -136,6 +140,7 @@ module _ (g : Graph) where
         (longer_apart seen b apart below quiet) (longer_below seen b apart below quiet c edge) (longer_quiet seen b apart below quiet e c edge) n (omega arith))
         ∙ sym (edges_quiet n b e))
 
+    -- it falls along an edge from a block without a turn
     pub rank_falls : (b c : ℕ) → has_turn (block_at g b).ops ≡ false → Leads (block_at g b).exit c → rank g c < rank g b
     unfolding rank
     rank_falls b c e edge =

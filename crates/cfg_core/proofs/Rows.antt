@@ -5,6 +5,7 @@ use Rattle.ws_words.specs.Plain.{took_by_ports}
 use Rattle.cfg_core.specs.Graph.{spot_at, proc_at, entry_of}
 use Rattle.cfg_core.specs.Walk.{Config, At, Over, Going, walk, opening}
 use Rattle.cfg_core.specs.Shown.{shown_acts, shown_cells}
+use Rattle.cfg_core.specs.Weights.{path}
 use Rattle.cfg_core.specs.Samples.{straight, branches, counts, calls_twice, sends}
 
 abbrev given : List ℕ → World
@@ -63,3 +64,15 @@ first_landing = refl
 pub last_landing : acts_of (walk sends 2 (opening sends (given (7 ∷ [])) 0)) ≡ reads ∷ prints 2 ∷ prints 0 ∷ []
 unfolding spot_at proc_at entry_of
 last_landing = refl
+
+pub counted_path : path counts 9 (opening counts (given []) 4) ≡ 0 ∷ 1 ∷ 2 ∷ 1 ∷ 2 ∷ 1 ∷ 2 ∷ 1 ∷ 3 ∷ []
+unfolding spot_at proc_at entry_of
+counted_path = refl
+
+pub path_out_of_turns : path counts 9 (opening counts (given []) 2) ≡ 0 ∷ 1 ∷ 2 ∷ 1 ∷ 2 ∷ []
+unfolding spot_at proc_at entry_of
+path_out_of_turns = refl
+
+pub path_of_calls : path calls_twice 9 (opening calls_twice (given []) 2) ≡ 3 ∷ 1 ∷ 0 ∷ 2 ∷ 4 ∷ []
+unfolding spot_at proc_at entry_of
+path_of_calls = refl

@@ -10,6 +10,7 @@ use Rattle.cfg_core.specs.declared.blocks.GraphProc.{GraphProc}
 use Rattle.cfg_core.specs.declared.table.Spot.{Spot}
 use Rattle.cfg_core.specs.declared.table.Room.{Room}
 
+-- the block of the table with a number is that of the graph
 pub spot_in : (xs : List Spot) (ys : List plain.Spot) (b : ℕ) (x : Spot) → map spot_in_code xs ≡ map spot_in_graph ys → b < length xs → x ≡ slice_index_or xs b x → SpotIs (or_else (nth ys b) no_spot) x
 spot_in [] ys b x e lt h = absurd (omega arith)
 spot_in (z ∷ xs) [] b x e lt h = absurd (cc)
@@ -19,6 +20,7 @@ spot_in (z ∷ xs) (y ∷ ys) zero x e lt h =
     record { vars = sym (ap (λ (r : ℕ × Block). r.0) q); block = sym (ap (λ (r : ℕ × Block). r.1) q) }
 spot_in (z ∷ xs) (y ∷ ys) (suc b) x e lt h = spot_in xs ys b x (cc) (omega arith) h
 
+-- past the last block none stands
 pub spot_past : (xs : List Spot) (ys : List plain.Spot) (b : ℕ) → map spot_in_code xs ≡ map spot_in_graph ys → length xs ≤ b → or_else (nth ys b) no_spot ≡ no_spot
 spot_past xs [] b e le = refl
 spot_past [] (y ∷ ys) b e le = absurd (cc)
@@ -30,6 +32,7 @@ pub record RoomIs (first : ℕ) (procs : List plain.GraphProc) (f : ℕ) (x : Ro
   pub params : x.params ≡ (or_else (nth procs f) no_proc).params
   pub vars : x.vars ≡ (or_else (nth procs f) no_proc).vars
 
+-- the procedure of the table with a number is that of the graph
 pub room_in : (first : ℕ) (procs : List plain.GraphProc) (rooms : List Room) (f : ℕ) (x : Room) → rooms ≡ rooms_from first procs → f < length rooms → x ≡ slice_index_or rooms f x → RoomIs first procs f x
 room_in first procs rooms f x e lt h = at first procs f (subst (λ (rs : List Room). f < length rs) e lt) (subst (λ (rs : List Room). x ≡ slice_index_or rs f x) e h)
   where
@@ -38,6 +41,7 @@ room_in first procs rooms f x e lt h = at first procs f (subst (λ (rs : List Ro
     at first (p ∷ procs) zero lt h = record { entry = ap (λ (r : Room). r.entry) h; params = ap (λ (r : Room). r.params) h; vars = ap (λ (r : Room). r.vars) h }
     at first (p ∷ procs) (suc f) lt h = let r = at (first + length p.blocks) procs f (omega arith) h in record { entry = r.entry; params = r.params; vars = r.vars }
 
+-- past the last procedure none stands
 pub entry_past : (first : ℕ) (procs : List plain.GraphProc) (rooms : List Room) (f : ℕ) → rooms ≡ rooms_from first procs → length rooms ≤ f → (0 ≡ entry_from first procs f) × (no_proc ≡ or_else (nth procs f) no_proc)
 entry_past first procs rooms f e le = at first procs f (subst (λ (rs : List Room). length rs ≤ f) e le)
   where
@@ -67,6 +71,7 @@ spots_more items i j p done next whole ej e en h =
     ∙ ap (λ (ps : List GraphProc). done ++ map spot_in_graph (spots_from i (map view.proc ps))) (sym e)
     ∙ h
 
+-- one procedure more
 pub rooms_more : (items : List GraphProc) (i j : ℕ) (p : GraphProc) (n m : ℕ) (done next whole : List Room) (room : Room) → drop i items ≡ p ∷ drop j items → m ≡ n + length (map view.block p.blocks.items) → next ≡ done ++ room ∷ [] → room ≡ record { entry = n; params = p.params; vars = p.vars } → done ++ rooms_from n (map view.proc (drop i items)) ≡ whole → next ++ rooms_from m (map view.proc (drop j items)) ≡ whole
 rooms_more items i j p n m done next whole room e em en er h =
     let rest = map view.proc (drop j items) in
@@ -77,6 +82,7 @@ rooms_more items i j p n m done next whole room e em en er h =
     ∙ ap (λ (ps : List GraphProc). done ++ rooms_from n (map view.proc ps)) (sym e)
     ∙ h
 
+-- its blocks
 pub count_more : (vars : ℕ) (old new : List Spot) (blocks : List GraphBlock) → map spot_in_code new ≡ map spot_in_code old ++ map (λ b. (vars, view.block b)) blocks → length new ≡ length old + length (map view.block blocks)
 count_more vars old new blocks e =
     let pair : GraphBlock → ℕ × Block = λ b. (vars, view.block b) in

@@ -19,12 +19,14 @@ in_place [] k lt = absurd (omega arith)
 in_place (l ∷ ls) zero lt = inl refl
 in_place (l ∷ ls) (suc k) lt = inr (in_place ls k (omega arith))
 
-in_landing : (a : ℕ) (ls : List ℕ) → 1 ≤ length ls → In (landing a ls) ls
+pub in_landing : (a : ℕ) (ls : List ℕ) → 1 ≤ length ls → In (landing a ls) ls
 in_landing a ls some = in_place ls (min a (length ls - 1)) (omega arith)
 
+-- what falls at each block of a walk: turns, calls that wait, and blocks without a turn
 unfoldable pub weight : Graph → ℕ → ℕ → ℕ → ℕ
 weight g frames turns b = (frames + 2 * turns) * suc (length (spots g)) + rank g b
 
+-- a place of the walk weighs less than this
 abbrev pub Lighter : Graph → ℕ → Config → Type 0
 Lighter g w (At b s frames k) = weight g (length frames) k b < w
 Lighter g w (Over o k) = Unit {0}
@@ -61,7 +63,7 @@ module _ (g : Graph) where
     returned_lighter small v o [] e = tt
     returned_lighter small v o (f ∷ fs) e = small f.back f fs e
 
-    -- behind a turn
+    -- after a turn
     leave_turn : ((c : ℕ) (fs : List Frame) → length fs ≤ suc (length frames) → weight g (length fs) k c < w) → (exit : Exit) (s : State) → Lighter g w (leave g exit s frames k)
     leave_turn small (Goto b) s = small b frames (omega arith)
     leave_turn small (Branch t a b) s = if_lighter w ((value_of t s).0 == 0) _ _ (small b frames (omega arith)) (small a frames (omega arith))
@@ -84,6 +86,7 @@ module _ (g : Graph) where
   passed_turn (Out o) exit frames k b lt = tt
 
   module _ (rules : IsGraph g) where
+    -- the landings of a block fit what it sends
     pub lands_at : (b : ℕ) → Lands g (block_at g b).exit
     unfolding spot_at no_spot
     lands_at b = each_at (λ (s : Spot). Lands g s.block.exit) (spots g) no_spot rules.landings tt b
@@ -103,11 +106,13 @@ module _ (g : Graph) where
         no_call false c = c
     passed_quiet b e (Out o) frames k le = tt
 
+    -- each block leads to a place that weighs less
     pub step_lighter : (b : ℕ) (s : State) (frames : List Frame) (k : ℕ) → Lighter g (weight g (length frames) k b) (step g (At b s frames k))
     step_lighter b s frames k = by_bool (has_turn (block_at g b).ops) (Lighter g (weight g (length frames) k b) (step g (At b s frames k)))
         (λ e. passed_turn (run_ops (block_at g b).ops s k) (block_at g b).exit frames k b (ops_fewer (block_at g b).ops e s k))
         (λ e. passed_quiet b e (run_ops (block_at g b).ops s k) frames k (ops_most (block_at g b).ops s k))
 
+    -- from a place the walk comes to an answer
     abbrev pub Comes : Config → Type 0
     Comes c = (n : ℕ) × IsOver (walk g n c)
 
@@ -123,5 +128,6 @@ module _ (g : Graph) where
         lighter_still (Over o j) i = tt
         lighter_still (Going o) i = tt
 
+    -- it does so from the start of each block
     pub comes : (b : ℕ) (s : State) (frames : List Frame) (k : ℕ) → Comes (At b s frames k)
     comes b s frames k = comes_below (suc (weight g (length frames) k b)) (At b s frames k) (omega arith)

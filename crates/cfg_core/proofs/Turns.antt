@@ -1,14 +1,16 @@
--- Operations never have more turns left than they had, and fewer behind a turn.
+-- Operations never have more turns left than they had, and fewer after a turn.
 use Rattle.std.proofs.Common.{ℕ, zero, suc, ◌≡◌, ◌<◌, ◌≤◌, ◌==◌, Bool, true, false, ◌||◌, List, [], ◌∷◌, if◌then◌else◌, refl, sym, ap, ◌∙◌, arith}
 use Rattle.ws_words.specs.Outside.{State}
 use Rattle.cfg_core.specs.Graph.{Op, Assign, Store, Print, Read, Give, Take, Choose, Tick, TickBy}
 use Rattle.cfg_core.specs.Walk.{value_of, Outcome, Done, Out, and_then, spend, run_op, run_ops}
 use Rattle.cfg_core.specs.Rules.{takes_turn, has_turn, is_tick, has_tick}
 
+-- operations leave at most so many turns
 abbrev pub AtMost : ℕ → Outcome → Type 0
 AtMost k (Done s j) = j ≤ k
 AtMost k (Out o) = Unit {0}
 
+-- operations leave fewer turns
 abbrev pub Fewer : ℕ → Outcome → Type 0
 Fewer k (Done s j) = j < k
 Fewer k (Out o) = Unit {0}
@@ -67,6 +69,7 @@ then_most : (k : ℕ) (o : Outcome) (go : State → ℕ → Outcome) → AtMost 
 then_most k (Done s j) go h f = raise j k h (go s j) (f s j)
 then_most k (Out o) go h f = tt
 
+-- operations leave no more turns than they had
 pub ops_most : (ops : List Op) (s : State) (k : ℕ) → AtMost k (run_ops ops s k)
 ops_most [] s k = omega arith
 ops_most (op ∷ ops) s k = then_most k (run_op op s k) (run_ops ops) (op_most op s k) (ops_most ops)
@@ -87,6 +90,7 @@ rest_fewer : (k : ℕ) (o : Outcome) (go : State → ℕ → Outcome) → AtMost
 rest_fewer k (Done s j) go h f = fewer_raise j k h (go s j) (f s j)
 rest_fewer k (Out o) go h f = tt
 
+-- operations with a turn leave fewer
 pub ops_fewer : (ops : List Op) → has_turn ops ≡ true → (s : State) (k : ℕ) → Fewer k (run_ops ops s k)
 ops_fewer [] h s k = absurd (cc)
 ops_fewer (op ∷ ops) h s k = by_first (takes_turn op) refl
@@ -114,6 +118,7 @@ or_up true b c d f g h = ap (λ x. x || d) (f refl)
 or_up false b true d f g h = refl
 or_up false b false d f g h = g h
 
+-- a Tick is a turn
 pub has_tick_turns : (ops : List Op) → has_tick ops ≡ true → has_turn ops ≡ true
 has_tick_turns [] h = h
 has_tick_turns (op ∷ ops) h = or_up (is_tick op) (has_tick ops) (takes_turn op) (has_turn ops) (tick_turns op) (has_tick_turns ops) h

@@ -1,7 +1,6 @@
 -- What the code does block by block is what the walk does.
 use Rattle.std.proofs.Common.{ℕ, zero, suc, ◌+◌, ◌-◌, ◌≡◌, ◌<◌, ◌≤◌, Bool, true, false, List, [], ◌∷◌, ◌++◌, length, drop, map, if◌then◌else◌, refl, sym, ap, ◌∙◌, subst, append_assoc, arith}
-use Rattle.ws_words.specs.Outside.{Outside, State, World, row, zeros, opening_out}
-use Rattle.std.specs.Prelude.{Some, None, slice_get}
+use Rattle.ws_words.specs.Outside.{Outside, State, World, zeros, opening_out}
 use Rattle.std.proofs.lemmas.List.{length-map}
 use Rattle.cfg_core.specs.Graph.{Graph, GraphArray, entry_of, proc_at}
 use Rattle.cfg_core.specs.View as view
@@ -11,15 +10,16 @@ use Rattle.cfg_core.specs.Walk as walks
 use Rattle.cfg_core.specs.Walk.{Config, At, Over, Going, step, walk, opening, Ends, EndsWith, Goes}
 use Rattle.cfg_core.specs.Answer.{EndsSo, GoesSo}
 use Rattle.cfg_core.specs.Rules.{IsGraph}
-use Rattle.cfg_core.specs.Shows.{OutIs, Shows, NextIs, Held, FinalIs, AnswerIs, stacked, shown_at}
+use Rattle.ws_words.specs.Memory.{OutIs}
+use Rattle.cfg_core.specs.Shows.{Shows, NextIs, Held, FinalIs, AnswerIs, stacked, shown_at}
 use Rattle.cfg_core.specs.declared.walker.Walker.{Walker}
 use Rattle.cfg_core.specs.declared.walker.Frame.{Frame}
 use Rattle.cfg_core.specs.declared.exits.Next.TheVariants as next
 use Rattle.cfg_core.specs.declared.blocks.Graph.{Graph as CodeGraph}
-use Rattle.cfg_core.proofs.Lists.{slide}
 use Rattle.cfg_core.proofs.Cost.{fewer}
 use Rattle.cfg_core.proofs.Total.{weight, Lighter, step_lighter}
 
+-- one block more at the end of a walk
 pub walk_more : (g : Graph) (n : ℕ) (c : Config) → walk g (suc n) c ≡ step g (walk g n c)
 walk_more g zero c = refl
 walk_more g (suc n) c = walk_more g n (step g c)
@@ -38,6 +38,7 @@ at_next g c (At e s frames k) n b w same h = record { blocks = n; state = s; fra
 at_next g c (Over o k) n b w same h = absurd h
 at_next g c (Going o) n b w same h = absurd h
 
+-- the code has come to the next block
 pub walk_next : (g : Graph) (c : Config) (b d : ℕ) (w n : Walker) → WalkUpto g c b w → ((s : State) (frames : List walks.Frame) (k : ℕ) → Shows s frames k w → NextIs (step g (At b s frames k)) (next.At d) n) → WalkUpto g c d n
 walk_next g c b d w n u f = at_next g c (step g (At b u.state u.frames u.left)) (suc u.blocks) d n (walk_more g u.blocks c ∙ ap (step g) u.same) (f u.state u.frames u.left u.shows)
 
@@ -51,9 +52,11 @@ going_final (At e s frames k) w h = absurd h
 going_final (Over o k) w h = absurd h
 going_final (Going o) w h = h
 
+-- the code has come to the end
 pub walk_over : (g : Graph) (c : Config) (b : ℕ) (w n : Walker) → WalkUpto g c b w → ((s : State) (frames : List walks.Frame) (k : ℕ) → Shows s frames k w → NextIs (step g (At b s frames k)) next.Over n) → AnswerIs g c true n
 walk_over g c b w n u f = record { blocks = suc u.blocks; final = step g (At b u.state u.frames u.left); same = walk_more g u.blocks c ∙ ap (step g) u.same; is = over_final (step g (At b u.state u.frames u.left)) n (f u.state u.frames u.left u.shows) }
 
+-- the code is out of turns
 pub walk_going : (g : Graph) (c : Config) (b : ℕ) (w n : Walker) → WalkUpto g c b w → ((s : State) (frames : List walks.Frame) (k : ℕ) → Shows s frames k w → NextIs (step g (At b s frames k)) next.Going n) → AnswerIs g c false n
 walk_going g c b w n u f = record { blocks = suc u.blocks; final = step g (At b u.state u.frames u.left); same = walk_more g u.blocks c ∙ ap (step g) u.same; is = going_final (step g (At b u.state u.frames u.left)) n (f u.state u.frames u.left u.shows) }
 
@@ -69,6 +72,7 @@ held_next (At e s frames k) b w h = record { state = s; frames = frames; left = 
 held_next (Over o k) b w h = absurd h
 held_next (Going o) b w h = absurd h
 
+-- the code holds a state at the next block
 pub still_held : (g : Graph) (b d : ℕ) (w n : Walker) → Held w → ((s : State) (frames : List walks.Frame) (k : ℕ) → Shows s frames k w → NextIs (step g (At b s frames k)) (next.At d) n) → Held n
 still_held g b d w n h f = held_next (step g (At b h.state h.frames h.left)) d n (f h.state h.frames h.left h.shows)
 
@@ -82,6 +86,7 @@ lighter_next g limit (At e s frames k) b w l h =
 lighter_next g limit (Over o k) b w l h = absurd h
 lighter_next g limit (Going o) b w l h = absurd h
 
+-- the measure falls at each block
 pub falls : (g : Graph) → IsGraph g → (b d : ℕ) (w n : Walker) → Held w → ((s : State) (frames : List walks.Frame) (k : ℕ) → Shows s frames k w → NextIs (step g (At b s frames k)) (next.At d) n) → heft g d n < heft g b w
 falls g rules b d w n h f =
     let l : Lighter g (heft g b w) (step g (At b h.state h.frames h.left)) =
@@ -112,6 +117,7 @@ shown_one a more (r ∷ cells) zero = by_name (has_name a)
     by_name false = refl
 shown_one a more (r ∷ cells) (suc i) = shown_one a more cells i
 
+-- one array more is shown
 pub shown_more : (arrays : List CodeArray) (cells rows next whole : List (List ℕ)) (i j : ℕ) (a : CodeArray) → j ≡ suc i → drop i arrays ≡ a ∷ drop j arrays → next ≡ rows ++ shown_at (view.array a) cells i → rows ++ shown_cells (map view.array (drop i arrays)) (drop i cells) ≡ whole → next ++ shown_cells (map view.array (drop j arrays)) (drop j cells) ≡ whole
 shown_more arrays cells rows next whole i j a ej e en h =
     let more = map view.array (drop j arrays) in
@@ -122,27 +128,7 @@ shown_more arrays cells rows next whole i j a ej e en h =
     ∙ ap (λ (xs : List CodeArray). rows ++ shown_cells (map view.array xs) (drop i cells)) (sym e)
     ∙ h
 
-pub got : (rows : List (List ℕ)) (k : ℕ) (r : List ℕ) → Some r ≡ slice_get rows k → r ≡ row rows k
-got [] k r e = absurd (cc)
-got (x ∷ rows) zero r e = cc
-got (x ∷ rows) (suc k) r e = got rows k r e
-
-pub got_none : (rows : List (List ℕ)) (k : ℕ) → None ≡ slice_get rows k → [] ≡ row rows k
-got_none [] k e = refl
-got_none (x ∷ rows) zero e = absurd (cc)
-got_none (x ∷ rows) (suc k) e = got_none rows k e
-
-rows_next : (rows : List (List ℕ)) (i : ℕ) → i < length rows → drop i rows ≡ row rows i ∷ drop (suc i) rows
-rows_next [] i lt = absurd (omega arith)
-rows_next (r ∷ rows) zero lt = refl
-rows_next (r ∷ rows) (suc i) lt = rows_next rows i (omega arith)
-
--- one list more
-pub rows_more : (rows done next : List (List ℕ)) (i j : ℕ) (r : List ℕ) → j ≡ suc i → i < length rows → r ≡ row rows i → next ≡ done ++ r ∷ [] → done ++ drop i rows ≡ rows → next ++ drop j rows ≡ rows
-rows_more rows done next i j r ej lt er en h =
-    ap (λ (rs : List (List ℕ)). rs ++ drop j rows) en
-    ∙ slide done (drop i rows) (drop j rows) rows r h (rows_next rows i lt ∙ ap (λ n. row rows i ∷ drop n rows) (sym ej) ∙ ap (λ (x : List ℕ). x ∷ drop j rows) (sym er))
-
+-- the walk begins at this block, with so many variables
 abbrev pub start : Graph → World → ℕ → ℕ → ℕ → Config
 start g world turns b n = At b (record { vars = zeros n; out = opening_out (walks.cells_of g.arrays) world }) [] turns
 
@@ -162,9 +148,10 @@ opened table graph world turns main entry vars ended w same em ee ev h =
 
 pub record EndedIs (g : Graph) (world : World) (turns : ℕ) (w : Walker) : Type 0 where
   pub outside : Outside
-  pub shows : OutIs outside w
+  pub shows : OutIs outside w.memory
   pub ends : EndsWith g world turns outside w.turns
 
+-- a run that ended is a walk that ends
 pub ended_is : (g : Graph) (world : World) (turns : ℕ) (w : Walker) (ended : Bool) → ended ≡ true → AnswerIs g (opening g world turns) ended w → EndedIs g world turns w
 ended_is g world turns w ended t h = by_final h.final h.same (subst (λ (b : Bool). FinalIs h.final b w) t h.is)
   where
@@ -173,18 +160,21 @@ ended_is g world turns w ended t h = by_final h.final h.same (subst (λ (b : Boo
     by_final (Over o k) e f = record { outside = o; shows = f.0; ends = (h.blocks, e ∙ ap (λ n. Over o n) f.1) }
     by_final (Going o) e f = absurd f
 
-pub going_is : (g : Graph) (world : World) (turns : ℕ) (w : Walker) (ended : Bool) → ended ≡ false → AnswerIs g (opening g world turns) ended w → GoesSo g world turns w.printed
+-- a run that did not is a walk that is going
+pub going_is : (g : Graph) (world : World) (turns : ℕ) (w : Walker) (ended : Bool) → ended ≡ false → AnswerIs g (opening g world turns) ended w → GoesSo g world turns w.memory.printed
 going_is g world turns w ended t h = by_final h.final h.same (subst (λ (b : Bool). FinalIs h.final b w) t h.is)
   where
-    by_final : (c : Config) → walk g h.blocks (opening g world turns) ≡ c → FinalIs c false w → GoesSo g world turns w.printed
+    by_final : (c : Config) → walk g h.blocks (opening g world turns) ≡ c → FinalIs c false w → GoesSo g world turns w.memory.printed
     by_final (At b s frames k) e f = absurd f
     by_final (Over o k) e f = absurd f
     by_final (Going o) e f = record { outside = o; goes = (h.blocks, e); prints = sym f.same_printed }
 
+-- no more turns are left than were given
 pub in_time : (g : Graph) (world : World) (turns : ℕ) (w : Walker) → EndedIs g world turns w → w.turns ≤ turns
 in_time g world turns w h = let r = fewer g world turns w.turns h.outside h.ends in omega (arith, r.1)
 
-pub ends_so : (g : Graph) (world : World) (turns : ℕ) (w : Walker) (arrays : List (List ℕ)) → EndedIs g world turns w → arrays ≡ shown_cells g.arrays w.cells → EndsSo g world turns w.printed arrays w.took (turns - w.turns)
+-- the answer says how the walk ends
+pub ends_so : (g : Graph) (world : World) (turns : ℕ) (w : Walker) (arrays : List (List ℕ)) → EndedIs g world turns w → arrays ≡ shown_cells g.arrays w.memory.cells → EndsSo g world turns w.memory.printed arrays w.memory.took (turns - w.turns)
 ends_so g world turns w arrays h e =
     let r = fewer g world turns w.turns h.outside h.ends in
     let n : r.0 ≡ turns - w.turns = omega (arith, r.1) in

@@ -58,7 +58,8 @@ pub record Spot : Type 0 where
 
 abbrev pub spots_in : ℕ → ℕ → List Block → List Spot
 spots_in home vars [] = []
-spots_in home vars (b ∷ blocks) = record { home = home; vars = vars; block = b } ∷ spots_in home vars blocks
+spots_in home vars (b ∷ blocks) =
+    record { home = home; vars = vars; block = b } ∷ spots_in home vars blocks
 
 -- the blocks of procedures, of which the first has this number
 abbrev pub spots_from : ℕ → List GraphProc → List Spot

@@ -7,3 +7,5 @@ pub mod View
 pub mod Shows
 pub mod Answer
 pub mod Samples
+pub mod Shape
+pub mod Weights

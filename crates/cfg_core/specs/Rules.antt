@@ -44,9 +44,13 @@ ResultIn vars (Some x) = x < vars
 abbrev pub ExitIn : Graph → ℕ → ℕ → Exit → Type 0
 ExitIn g home vars (Goto b) = StaysIn g home b
 ExitIn g home vars (Branch t a b) = TermIn g vars t × StaysIn g home a × StaysIn g home b
-ExitIn g home vars (Call x f ts back) = ResultIn vars x × (f < length g.procs) × (length ts ≡ (proc_at g f).params) × AllByRecursion (TermIn g vars) ts × StaysIn g home back
+ExitIn g home vars (Call x f ts back) =
+    ResultIn vars x × (f < length g.procs) × (length ts ≡ (proc_at g f).params) ×
+    AllByRecursion (TermIn g vars) ts × StaysIn g home back
 ExitIn g home vars (Return t) = TermIn g vars t
-ExitIn g home vars (Send t ts ls) = TermIn g vars t × AllByRecursion (TermIn g vars) ts × AllByRecursion (λ l. l < length (spots g)) ls
+ExitIn g home vars (Send t ts ls) =
+    TermIn g vars t × AllByRecursion (TermIn g vars) ts ×
+    AllByRecursion (λ l. l < length (spots g)) ls
 ExitIn g home vars Stop = Unit {0}
 
 abbrev pub In : ℕ → List ℕ → Type 0
@@ -76,7 +80,8 @@ pub record Numbers (g : Graph) : Type 0 where
 -- Rule 2: a Send has a landing, and as many values as each of its landings names variables.
 
 abbrev pub Lands : Graph → Exit → Type 0
-Lands g (Send t ts ls) = (1 ≤ length ls) × AllByRecursion (λ l. length (block_at g l).named ≡ length ts) ls
+Lands g (Send t ts ls) =
+    (1 ≤ length ls) × AllByRecursion (λ l. length (block_at g l).named ≡ length ts) ls
 Lands g _ = Unit {0}
 
 -- Rule 3: a Call names an earlier procedure.
@@ -111,7 +116,8 @@ abbrev pub has_turn : List Op → Bool
 has_turn [] = false
 has_turn (op ∷ ops) = takes_turn op || has_turn ops
 
--- an edge from a block of this exit to block c: a Call leads to its return block, a Send to each landing
+-- an edge from a block of this exit to block c: a Call leads to its return block, a Send to each
+-- landing
 abbrev pub Leads : Exit → ℕ → Type 0
 Leads (Goto b) c = c ≡ b
 Leads (Branch t a b) c = (c ≡ a) ⊎ (c ≡ b)
@@ -123,7 +129,8 @@ Leads Stop c = ⊥
 -- a path of edges out of blocks that may take no turn
 pub data Quiet (g : Graph) : ℕ → ℕ → Type 0 where
   one : (b c : ℕ) → has_turn (block_at g b).ops ≡ false → Leads (block_at g b).exit c → Quiet g b c
-  more : (b c d : ℕ) → Quiet g b c → has_turn (block_at g c).ops ≡ false → Leads (block_at g c).exit d → Quiet g b d
+  more : (b c d : ℕ) → Quiet g b c → has_turn (block_at g c).ops ≡ false →
+      Leads (block_at g c).exit d → Quiet g b d
 
 -- Rule 6: the terms of a Choose and of a TickBy hold no Cell.
 
@@ -144,6 +151,7 @@ pub record IsGraph (g : Graph) : Type 0 where
   pub numbers : Numbers g
   pub landings : AllByRecursion (λ s. Lands g s.block.exit) (spots g)
   pub earlier : AllByRecursion (λ s. CallsEarlier s.home s.block.exit) (spots g)
-  pub call_ticks : AllByRecursion (λ s. calls s.block.exit ≡ true → has_tick s.block.ops ≡ true) (spots g)
+  pub call_ticks :
+      AllByRecursion (λ s. calls s.block.exit ≡ true → has_tick s.block.ops ≡ true) (spots g)
   pub cycles : (b : ℕ) → Quiet g b b → ⊥
   pub bare : AllByRecursion (λ s. AllByRecursion ChoosesBare s.block.ops) (spots g)

@@ -1,14 +1,15 @@
 -- What the code holds of a graph and of its walk.
 use Rattle.std.specs.Prelude.{◌≡◌, ℕ, ◌+◌, Bool, true, false, List, [], ◌∷◌, map, length, if◌then◌else◌, slice_get}
 use Rattle.std.specs.Option.{option_to_list}
-use Rattle.ws_words.specs.Outside.{Outside, State, printed_words}
-use Rattle.ws_words.specs.Plain.{took_by_ports}
+use Rattle.ws_words.specs.Outside.{State}
+use Rattle.ws_words.specs.Memory.{OutIs}
 use Rattle.cfg_core.specs.Graph as plain
 use Rattle.cfg_core.specs.Graph.{Block, GraphProc, spots}
 use Rattle.cfg_core.specs.View as view
 use Rattle.cfg_core.specs.Shown.{has_name}
 use Rattle.cfg_core.specs.Walk as walks
 use Rattle.cfg_core.specs.Walk.{Outcome, Done, Out, Config, At, Over, Going}
+use Rattle.cfg_core.specs.declared.blocks.Term.{Term}
 use Rattle.cfg_core.specs.declared.table.Spot.{Spot}
 use Rattle.cfg_core.specs.declared.table.Room.{Room}
 use Rattle.cfg_core.specs.declared.table.Table.{Table}
@@ -33,34 +34,26 @@ spot_in_graph s = (s.vars, s.block)
 -- the entry, parameters and variables of procedures, the first of which begins at this block
 abbrev pub rooms_from : ℕ → List GraphProc → List Room
 rooms_from first [] = []
-rooms_from first (p ∷ procs) = record { entry = first; params = p.params; vars = p.vars } ∷ rooms_from (first + length p.blocks) procs
+rooms_from first (p ∷ procs) =
+    record { entry = first; params = p.params; vars = p.vars }
+    ∷ rooms_from (first + length p.blocks) procs
 
 -- the table is that of its graph
 pub record TableIs (table : Table) : Type 0 where
-  pub spots : map spot_in_code table.spots.items ≡ map spot_in_graph (spots (view.graph table.graph.now))
+  pub spots : map spot_in_code table.spots.items ≡
+      map spot_in_graph (spots (view.graph table.graph.now))
   pub rooms : table.rooms.items ≡ rooms_from 0 (view.graph table.graph.now).procs
 
 -- the frames of the code, the last first, before others
 abbrev pub stacked : List Frame → List walks.Frame → List walks.Frame
 stacked [] below = below
-stacked (f ∷ frames) below = stacked frames (record { result = f.result; back = f.back; vars = f.vars } ∷ below)
+stacked (f ∷ frames) below =
+    stacked frames (record { result = f.result; back = f.back; vars = f.vars } ∷ below)
 
--- outside are these cells, input and words of ports; of the acts the words printed and taken
-pub record ShowsOut (o : Outside) (cells : List (List ℕ)) (input : List ℕ) (left : List (List ℕ)) (printed : List ℕ) (took : List (List ℕ)) : Type 0 where
-  pub same_cells : o.cells ≡ cells
-  pub same_input : o.input ≡ input
-  pub same_left : o.left ≡ left
-  pub same_printed : printed_words o.acts ≡ printed
-  pub same_took : took_by_ports o.acts ≡ took
-
--- what is outside is what the code holds, but for the acts
-abbrev pub OutIs : Outside → Walker → Type 0
-OutIs o w = ShowsOut o w.cells w.input w.left.items w.printed w.took
-
--- so are the state, the frames and the turns left
+-- state, frames and turns left are those that the code holds
 pub record Shows (s : State) (frames : List walks.Frame) (k : ℕ) (w : Walker) : Type 0 where
   pub vars : s.vars ≡ w.vars
-  pub outside : OutIs s.out w
+  pub outside : OutIs s.out w.memory
   pub waiting : frames ≡ stacked w.frames.items []
   pub turns : k ≡ w.turns
 
@@ -69,8 +62,18 @@ abbrev pub PaceIs : Outcome → List walks.Frame → Pace → Walker → Type 0
 PaceIs (Done s k) frames pace.Done w = Shows s frames k w
 PaceIs (Done s k) frames pace.Out w = ⊥
 PaceIs (Out o) frames pace.Done w = ⊥
-PaceIs (Out o) frames pace.Out w = OutIs o w
+PaceIs (Out o) frames pace.Out w = OutIs o w.memory
 
+-- from each state that the code holds before, it does after what these operations do
+abbrev pub Paced : (State → ℕ → Outcome) → Walker → Pace → Walker → Type 0
+Paced run before pace after = (s : State) (frames : List walks.Frame) (k : ℕ) →
+    Shows s frames k before → PaceIs (run s k) frames pace after
+
+-- the value of a term of the code on these variables and arrays
+abbrev pub value_on : List ℕ → List (List ℕ) → Term → ℕ
+value_on vars cells t = walks.value (view.term t) vars cells
+
+-- whether operations want a turn that isn't left
 abbrev pub out_flag : Pace → Bool
 out_flag pace.Done = false
 out_flag pace.Out = true
@@ -78,9 +81,22 @@ out_flag pace.Out = true
 -- the code's answer is that of a block
 abbrev pub NextIs : Config → Next → Walker → Type 0
 NextIs (At b s frames k) (next.At c) w = (b ≡ c) × Shows s frames k w
-NextIs (Over o k) next.Over w = OutIs o w × (k ≡ w.turns)
-NextIs (Going o) next.Going w = OutIs o w
+NextIs (Over o k) next.Over w = OutIs o w.memory × (k ≡ w.turns)
+NextIs (Going o) next.Going w = OutIs o w.memory
 NextIs _ _ w = ⊥
+
+-- from each state that the code holds before, it is after where the walk goes
+abbrev pub Moved : (State → List walks.Frame → ℕ → Config) → Walker → Next → Walker → Type 0
+Moved way before next after = (s : State) (frames : List walks.Frame) (k : ℕ) →
+    Shows s frames k before → NextIs (way s frames k) next after
+
+-- from the start of a block
+abbrev pub passes : plain.Graph → ℕ → State → List walks.Frame → ℕ → Config
+passes g b s frames k = walks.step g (walks.starts b s frames k)
+
+-- back from a call with this result
+abbrev pub comes_back : ℕ → State → List walks.Frame → ℕ → Config
+comes_back word s frames k = walks.returned word s.out frames k
 
 -- some state that the code holds
 pub record Held (w : Walker) : Type 0 where
@@ -89,9 +105,10 @@ pub record Held (w : Walker) : Type 0 where
   pub left : ℕ
   pub shows : Shows state frames left w
 
+-- the code's answer is that of a walk that has come to one
 abbrev pub FinalIs : Config → Bool → Walker → Type 0
-FinalIs (Over o k) true w = OutIs o w × (k ≡ w.turns)
-FinalIs (Going o) false w = OutIs o w
+FinalIs (Over o k) true w = OutIs o w.memory × (k ≡ w.turns)
+FinalIs (Going o) false w = OutIs o w.memory
 FinalIs _ _ w = ⊥
 
 -- the code's answer is that of the walk
@@ -100,6 +117,11 @@ pub record AnswerIs (g : plain.Graph) (c : Config) (ended : Bool) (w : Walker) :
   pub final : Config
   pub same : walks.walk g blocks c ≡ final
   pub is : FinalIs final ended w
+
+-- from each state that the code holds before, it is after where the walk from this block answers
+abbrev pub Walked : plain.Graph → ℕ → Walker → Bool → Walker → Type 0
+Walked g start before ended after = (s : State) (frames : List walks.Frame) (k : ℕ) →
+    Shows s frames k before → AnswerIs g (walks.starts start s frames k) ended after
 
 -- the cells of an array at a place, if it is shown
 abbrev pub shown_at : plain.GraphArray → List (List ℕ) → ℕ → List (List ℕ)

@@ -58,14 +58,19 @@ spend (suc n) s (suc k) = spend n s k
 
 abbrev pub run_op : Op → State → ℕ → Outcome
 run_op (Assign x t) s k = let v = value_of t s in Done (write v.1 x v.0) k
-run_op (Store a t u) s k = let i = value_of t s in let v = value_of u i.1 in Done (stored v.1 a i.0 v.0) k
+run_op (Store a t u) s k =
+    let i = value_of t s in let v = value_of u i.1 in Done (stored v.1 a i.0 v.0) k
 run_op (Print t) s k = let v = value_of t s in Done (printed v.1 v.0) k
 run_op (Read x) s k = Done (has_read s x) k
 run_op (Give p x) s k = Done (given s p x) k
 run_op (Take p t) s k = let v = value_of t s in Done (taken v.1 p v.0) k
-run_op (Choose x t a b) s k = let v = value_of t s in if v.0 == 0 then (let w = value_of b v.1 in Done (write w.1 x w.0) k) else (let w = value_of a v.1 in Done (write w.1 x w.0) k)
+run_op (Choose x t a b) s k =
+    let v = value_of t s in
+    if v.0 == 0 then (let w = value_of b v.1 in Done (write w.1 x w.0) k)
+    else (let w = value_of a v.1 in Done (write w.1 x w.0) k)
 run_op (Tick n) s k = spend n s k
-run_op (TickBy t n m) s k = let v = value_of t s in if v.0 == 0 then spend m v.1 k else spend n v.1 k
+run_op (TickBy t n m) s k =
+    let v = value_of t s in if v.0 == 0 then spend m v.1 k else spend n v.1 k
 
 abbrev pub run_ops : List Op → State → ℕ → Outcome
 run_ops [] s k = Done s k
@@ -100,7 +105,8 @@ with_result (Some x) v vars = slice_set vars x v
 
 abbrev pub returned : ℕ → Outside → List Frame → ℕ → Config
 returned v o [] k = Over o k
-returned v o (f ∷ frames) k = At f.back (record { vars = with_result f.result v f.vars; out = o }) frames k
+returned v o (f ∷ frames) k =
+    At f.back (record { vars = with_result f.result v f.vars; out = o }) frames k
 
 -- a procedure's variables at its entry
 abbrev pub entered : GraphProc → List ℕ → List ℕ
@@ -108,18 +114,21 @@ entered p vs = vs ++ zeros (p.vars - p.params)
 
 abbrev pub leave : Graph → Exit → State → List Frame → ℕ → Config
 leave g (Goto b) s frames k = At b s frames k
-leave g (Branch t a b) s frames k = let v = value_of t s in if v.0 == 0 then At b v.1 frames k else At a v.1 frames k
+leave g (Branch t a b) s frames k =
+    let v = value_of t s in if v.0 == 0 then At b v.1 frames k else At a v.1 frames k
 leave g (Call x f ts back) s frames k =
     let vs = values_of ts s in
-    At (entry_of g f) (record { vars = entered (proc_at g f) vs.0; out = vs.1.out }) (record { result = x; back = back; vars = vs.1.vars } ∷ frames) k
+    let inside : State = record { vars = entered (proc_at g f) vs.0; out = vs.1.out } in
+    At (entry_of g f) inside (record { result = x; back = back; vars = vs.1.vars } ∷ frames) k
 leave g (Return t) s frames k = let v = value_of t s in returned v.0 v.1.out frames k
 leave g (Send t ts ls) s frames k =
     let a = value_of t s in let vs = values_of ts a.1 in
     let b = landing a.0 ls in
-    At b (record { vars = landed (block_at g b).named vs.0 (zeros (spot_at g b).vars); out = vs.1.out }) frames k
+    let vars = landed (block_at g b).named vs.0 (zeros (spot_at g b).vars) in
+    At b (record { vars = vars; out = vs.1.out }) frames k
 leave g Stop s frames k = Over s.out k
 
--- the exit, behind the operations
+-- the exit, after the operations
 abbrev pub passed : Graph → Outcome → Exit → List Frame → Config
 passed g (Done s k) exit frames = leave g exit s frames k
 passed g (Out o) exit frames = Going o
@@ -143,7 +152,8 @@ cells_of (a ∷ arrays) = zeros a.length ∷ cells_of arrays
 abbrev pub opening : Graph → World → ℕ → Config
 opening g world k =
     let main = length g.procs - 1 in
-    At (entry_of g main) (record { vars = zeros (proc_at g main).vars; out = opening_out (cells_of g.arrays) world }) [] k
+    let vars = zeros (proc_at g main).vars in
+    At (entry_of g main) (record { vars = vars; out = opening_out (cells_of g.arrays) world }) [] k
 
 -- with n turns the walk ends, no turn is left, and this is outside
 abbrev pub Ends : Graph → World → ℕ → Outside → Type 0

@@ -1,11 +1,11 @@
 //! What a walk does at the exit of a block.
 
 ghost use Rattle.std.specs.Prelude.{◌≡◌, ◌-◌, ◌++◌, ℕ, List, map, IfOk};
-ghost use Rattle.ws_words.specs.Outside.{State, zeros};
+ghost use Rattle.ws_words.specs.Outside.{zeros};
 ghost use Rattle.cfg_core.specs.Graph as plain;
 ghost use Rattle.cfg_core.specs.Walk as walks;
 ghost use Rattle.cfg_core.specs.View as view;
-ghost use Rattle.cfg_core.specs.Shows.{Shows, TableIs, NextIs};
+ghost use Rattle.cfg_core.specs.Shows.{Moved, TableIs, comes_back, passes};
 
 use crate::blocks::Leave;
 use crate::table::{Room, Table};
@@ -27,7 +27,8 @@ impl<'a> Walker<'a> {
     /// Walks one block.
     pub fn pass(&mut self, alloc: Global, table: &Table<'_>, b: usize) -> Result<Next, NoMemory>
         requires { TableIs table.now }
-        ensures { IfOk result (λ next. (s : State) (frames : List walks.Frame) (k : ℕ) → Shows s frames k self.old → NextIs (walks.step (view.graph table.now.graph.now) (walks.starts b s frames k)) next self.new) }
+        ensures { let g = view.graph table.now.graph.now in
+            IfOk result (λ next. Moved (passes g b) self.old next self.new) }
     {
         match table.spot(b) {
             Some(spot) => match self.run_ops(&spot.block.ops)? {
@@ -43,12 +44,13 @@ impl<'a> Walker<'a> {
 
     fn leave(&mut self, alloc: Global, table: &Table<'_>, exit: &Leave) -> Result<Next, NoMemory>
         requires { TableIs table.now }
-        ensures { IfOk result (λ next. (s : State) (frames : List walks.Frame) (k : ℕ) → Shows s frames k self.old → NextIs (walks.leave (view.graph table.now.graph.now) (view.exit exit.now) s frames k) next self.new) }
+        ensures { let way = walks.leave (view.graph table.now.graph.now) (view.exit exit.now) in
+            IfOk result (λ next. Moved way self.old next self.new) }
     {
         match exit {
             Leave::Goto(b) => Ok(Next::At(*b as usize)),
             Leave::Branch(test, a, b) => {
-                if value(test, &self.vars, &self.cells) == 0 {
+                if value(test, &self.vars, &self.memory.cells) == 0 {
                     Ok(Next::At(*b as usize))
                 } else {
                     Ok(Next::At(*a as usize))
@@ -60,7 +62,7 @@ impl<'a> Walker<'a> {
                 values: terms,
                 back,
             } => {
-                let words = values(alloc, terms, &self.vars, &self.cells)?;
+                let words = values(alloc, terms, &self.vars, &self.memory.cells)?;
                 let room = table.room(*callee as usize);
                 let fresh = enter(words, room)?;
                 let vars = mem::replace(&mut self.vars, fresh);
@@ -72,7 +74,7 @@ impl<'a> Walker<'a> {
                 Ok(Next::At(room.entry))
             }
             Leave::Return(t) => {
-                let word = value(t, &self.vars, &self.cells);
+                let word = value(t, &self.vars, &self.memory.cells);
                 Ok(self.give_back(word))
             }
             Leave::Send {
@@ -80,8 +82,8 @@ impl<'a> Walker<'a> {
                 values: terms,
                 landings,
             } => {
-                let place = value(address, &self.vars, &self.cells);
-                let words = values(alloc, terms, &self.vars, &self.cells)?;
+                let place = value(address, &self.vars, &self.memory.cells);
+                let words = values(alloc, terms, &self.vars, &self.memory.cells)?;
                 let b = choose(place, landings) as usize;
                 self.vars = land(alloc, table, b, &words)?;
                 Ok(Next::At(b))
@@ -92,7 +94,7 @@ impl<'a> Walker<'a> {
 
     // Back into the last call that waits, or the walk's end.
     fn give_back(&mut self, word: u64) -> Next
-        ensures { (s : State) (frames : List walks.Frame) (k : ℕ) → Shows s frames k self.old → NextIs (walks.returned word s.out frames k) result self.new }
+        ensures { Moved (comes_back word) self.old result self.new }
     {
         match self.frames.pop() {
             Some(frame) => {
@@ -139,7 +141,8 @@ fn choose(address: u64, landings: &[u32]) -> u32
 // The variables at a landing: the words in those that it names, and 0 in all others.
 fn land(alloc: Global, table: &Table<'_>, b: usize, words: &Words) -> Result<Words, NoMemory>
     requires { TableIs table.now }
-    ensures { let spot = plain.spot_at (view.graph table.now.graph.now) b in IfOk result (λ vars. vars ≡ walks.landed spot.block.named words.now (zeros spot.vars)) }
+    ensures { let spot = plain.spot_at (view.graph table.now.graph.now) b in
+        IfOk result (λ vars. vars ≡ walks.landed spot.block.named words.now (zeros spot.vars)) }
 {
     match table.spot(b) {
         Some(spot) => {

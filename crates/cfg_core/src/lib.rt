@@ -5,11 +5,11 @@
 #![tactic(auto)]
 
 pub mod blocks;
+mod copies;
 mod exits;
 pub mod laws;
 pub mod run;
-mod table;
-mod tape;
+pub mod table;
 mod terms;
 mod walker;
 
@@ -17,8 +17,11 @@ pub use blocks::{
     Graph, GraphArray, GraphArrays, GraphBlock, GraphBlocks, GraphOp, GraphOps, GraphProc,
     GraphProcs, Leave, Numbers, Term, Terms,
 };
-pub use laws::{nothing_hidden, turns_are_exact, walks_answer};
+pub use copies::{copy_term, copy_terms};
+pub use laws::{nothing_hidden, turns_are_exact, walks_answer, weights_are_paid};
 pub use run::run_graph;
+pub use table::{Room, Spot, Table};
+pub use terms::{value, values};
 
 #[cfg(test)]
 mod tests;

@@ -1,44 +1,49 @@
 //! The run of a graph.
 
-ghost use Rattle.std.specs.Prelude.{◌≡◌, ℕ, ◌≤◌, List, [], ◌++◌, map, IfOk, OnOk, IsTrue};
-ghost use Rattle.ws_words.specs.Outside.{State, Outside, row, zeros, opening_out};
-ghost use Rattle.ws_words.specs.Plain.{IfEnded, IfGoing, has_ended, took_by_ports, world_of};
+ghost use Rattle.std.specs.Prelude.{◌≡◌, ℕ, false, ◌≤◌, List, [], ◌++◌, map, IfOk, OnOk, IsTrue};
+ghost use Rattle.ws_words.specs.Outside.{Outside, zeros, opening_out};
+ghost use Rattle.ws_words.specs.Plain.{IfEnded, IfGoing, has_ended, has_faulted, world_of};
 ghost use Rattle.cfg_core.specs.Walk as walks;
 ghost use Rattle.cfg_core.specs.View as view;
 ghost use Rattle.cfg_core.specs.Rules.{IsGraph};
 ghost use Rattle.cfg_core.specs.Shown.{shown_cells};
 ghost use Rattle.cfg_core.specs.Answer.{EndsSo, GoesSo};
-ghost use Rattle.cfg_core.specs.Shows.{Shows, Held, TableIs, AnswerIs, shown_at};
+ghost use Rattle.cfg_core.specs.Shows.{Shows, Held, TableIs, Walked, shown_at};
 
 use crate::blocks::{Graph, GraphArray};
 use crate::exits::Next;
 use crate::table::Table;
-use crate::tape::Tape;
 use crate::walker::Walker;
 use std::alloc::Global;
-use ws_words::{Cells, NoMemory, Plain, Words, World};
+use ws_words::{Cells, Memory, NoMemory, Plain, Words, World};
 
 /// Walks a graph with at most so many turns.
 pub fn run_graph(alloc: Global, graph: &Graph, world: &World, turns: u64) -> Result<Plain, NoMemory>
     requires { IsGraph (view.graph graph.now) }
-    ensures ended { IfOk result (λ plain. IfEnded plain (EndsSo (view.graph graph.now) (world_of world.now) turns)) }
-    ensures going { IfOk result (λ plain. IfGoing plain (GoesSo (view.graph graph.now) (world_of world.now) turns)) }
-    ensures ends_in_time { IfOk result (λ plain. (n : ℕ) (o : Outside) → n ≤ turns → walks.Ends (view.graph graph.now) (world_of world.now) n o → IsTrue (has_ended plain)) }
+    ensures ended { let ends = EndsSo (view.graph graph.now) (world_of world.now) turns in
+        IfOk result (λ plain. IfEnded plain ends) }
+    ensures going { let goes = GoesSo (view.graph graph.now) (world_of world.now) turns in
+        IfOk result (λ plain. IfGoing plain goes) }
+    ensures never_faults { IfOk result (λ plain. has_faulted plain ≡ false) }
+    ensures ends_in_time { IfOk result (λ plain. (n : ℕ) (o : Outside) → n ≤ turns →
+        walks.Ends (view.graph graph.now) (world_of world.now) n o → IsTrue (has_ended plain)) }
 {
     let table = Table::of(alloc, graph)?;
     let main = table.room(graph.procs.len().saturating_sub(1));
     let mut walker = open(alloc, graph, world, main.vars, turns)?;
     if walk(alloc, &table, &mut walker, main.entry)? {
-        let arrays = shown(alloc, &graph.arrays, &walker.cells)?;
+        let arrays = shown(alloc, &graph.arrays, &walker.memory.cells)?;
+        let memory = walker.memory;
         Ok(Plain::Ended {
-            printed: walker.printed,
+            printed: memory.printed,
             arrays,
-            took: walker.took,
+            took: memory.took,
             turns: turns - walker.turns,
         })
     } else {
+        let memory = walker.memory;
         Ok(Plain::Going {
-            printed: walker.printed,
+            printed: memory.printed,
         })
     }
 }
@@ -53,7 +58,8 @@ fn walk(
     requires table { TableIs table.now }
     requires rules { IsGraph (view.graph table.now.graph.now) }
     requires held { Held walker.old }
-    ensures { IfOk result (λ ended. (s : State) (frames : List walks.Frame) (k : ℕ) → Shows s frames k walker.old → AnswerIs (view.graph table.now.graph.now) (walks.starts start s frames k) ended walker.new) }
+    ensures { let g = view.graph table.now.graph.now in
+        IfOk result (λ ended. Walked g start walker.old ended walker.new) }
 {
     let mut at = start;
     loop {
@@ -73,15 +79,13 @@ fn open<'a>(
     vars: u32,
     turns: u64,
 ) -> Result<Walker<'a>, NoMemory>
-    ensures { IfOk result (λ walker. Shows (record { vars = zeros vars; out = opening_out (walks.cells_of (map view.array graph.now.arrays.items)) (world_of world.now) }) [] turns walker) }
+    ensures { let cells = walks.cells_of (map view.array graph.now.arrays.items) in
+        let out = opening_out cells (world_of world.now) in
+        IfOk result (Shows (record { vars = zeros vars; out = out }) [] turns) }
 {
     Ok(Walker {
         vars: Words::zeros(alloc, vars as usize)?,
-        cells: empty_cells(alloc, &graph.arrays)?,
-        input: Tape::new(world.input.as_slice()),
-        left: tapes(alloc, &world.left)?,
-        printed: Words::empty(alloc),
-        took: no_words(alloc)?,
+        memory: Memory::open(alloc, empty_cells(alloc, &graph.arrays)?, world)?,
         frames: Vec::new(alloc),
         turns,
     })
@@ -95,38 +99,6 @@ fn empty_cells(alloc: Global, arrays: &[GraphArray]) -> Result<Cells, NoMemory>
         cells.push(Words::zeros(alloc, array.length as usize)?)?;
     }
     Ok(cells)
-}
-
-fn tapes<'a>(alloc: Global, left: &'a Cells) -> Result<Vec<Tape<'a>>, NoMemory>
-    ensures { IfOk result (λ tapes. tapes.items ≡ left.now) }
-{
-    let mut tapes = Vec::new(alloc);
-    for port in 0..left.len() {
-        tapes.push(tape_of(left, port))?;
-    }
-    Ok(tapes)
-}
-
-// The words of a port that stands at this place; past the last one none.
-fn tape_of<'a>(left: &'a Cells, place: usize) -> Tape<'a>
-    ensures { result ≡ row left.now place }
-{
-    match left.get(place) {
-        Some(words) => Tape::new(words.as_slice()),
-        None => Tape::new(&[]),
-    }
-}
-
-// No words for each of the seven ports.
-#[tactic(auto, using(crate::proofs::Acts::took_nothing))]
-fn no_words(alloc: Global) -> Result<Cells, NoMemory>
-    ensures { IfOk result (λ took. took ≡ took_by_ports []) }
-{
-    let mut took = Cells::empty(alloc);
-    for _ in 0..7u8 {
-        took.push(Words::empty(alloc))?;
-    }
-    Ok(took)
 }
 
 // The cells of the arrays that have a name.

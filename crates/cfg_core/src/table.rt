@@ -58,7 +58,8 @@ impl<'a> Table<'a> {
     /// The block with this number.
     pub fn spot(&self, b: usize) -> Option<Spot<'a>>
         requires { TableIs self.now }
-        ensures { MatchOption result (spot_at (view.graph self.now.graph.now) b ≡ no_spot) (SpotIs (spot_at (view.graph self.now.graph.now) b)) }
+        ensures { let spot = spot_at (view.graph self.now.graph.now) b in
+            MatchOption result (spot ≡ no_spot) (SpotIs spot) }
     {
         match self.spots.get(b) {
             Some(spot) => Some(*spot),
@@ -84,9 +85,11 @@ impl<'a> Table<'a> {
     }
 }
 
-// The blocks of a procedure, behind those of the earlier ones.
+// The blocks of a procedure, after those of the earlier ones.
 fn add_blocks<'a>(spots: &mut Vec<Spot<'a>>, proc: &'a GraphProc) -> Result<(), NoMemory>
-    ensures { OnOk result (map spot_in_code spots.new.items ≡ map spot_in_code spots.old.items ++ map (λ b. (proc.now.vars, view.block b)) proc.now.blocks.items) }
+    ensures { let blocks = map (λ b. (proc.now.vars, view.block b)) proc.now.blocks.items in
+        let before = map spot_in_code spots.old.items in
+        OnOk result (map spot_in_code spots.new.items ≡ before ++ blocks) }
 {
     for block in &proc.blocks {
         spots.push(Spot {

@@ -28,7 +28,8 @@ pub fn value(term: &Term, vars: &Words, cells: &Cells) -> u64
 
 /// The values of terms, in order.
 pub fn values(alloc: Global, terms: &[Term], vars: &Words, cells: &Cells) -> Result<Words, NoMemory>
-    ensures { IfOk result (λ words. words ≡ walks.values (map term_of terms.now) vars.now cells.now) }
+    ensures { let list = map term_of terms.now in
+        IfOk result (λ words. words ≡ walks.values list vars.now cells.now) }
 {
     let mut words = Words::empty(alloc);
     for term in terms {

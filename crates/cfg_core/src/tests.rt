@@ -16,13 +16,15 @@ use std::test::Fail;
 use ws_words::{Alu, Bytes, Cells, NoMemory, Plain, Words, World};
 
 fn block(named: Numbers, ops: GraphOps, exit: Leave) -> GraphBlock
-    ensures { view.block result ≡ record { named = named.items; ops = map view.op ops.items; exit = view.exit exit } }
+    ensures { let list = map view.op ops.items in
+        view.block result ≡ record { named = named.items; ops = list; exit = view.exit exit } }
 {
     GraphBlock { named, ops, exit }
 }
 
 fn proc(params: u32, vars: u32, blocks: GraphBlocks) -> GraphProc
-    ensures { view.proc result ≡ record { params = params; vars = vars; blocks = map view.block blocks.items } }
+    ensures { let list = map view.block blocks.items in
+        view.proc result ≡ record { params = params; vars = vars; blocks = list } }
 {
     GraphProc {
         params,
@@ -32,7 +34,8 @@ fn proc(params: u32, vars: u32, blocks: GraphBlocks) -> GraphProc
 }
 
 fn graph(arrays: GraphArrays, procs: GraphProcs) -> Graph
-    ensures { view.graph result ≡ record { arrays = map view.array arrays.items; procs = map view.proc procs.items } }
+    ensures { let list = map view.array arrays.items in
+        view.graph result ≡ record { arrays = list; procs = map view.proc procs.items } }
 {
     Graph { arrays, procs }
 }
@@ -208,6 +211,8 @@ fn expect(rt: &impl Abort, plain: Plain, words: &[u64], total: Option<u64>) {
             assert_eq!(rt; printed.as_slice(), words);
             assert_eq!(rt; total, None);
         }
+        // A walk never answers so; arrays are numbered from 1.
+        Plain::Fault { array, .. } => assert_eq!(rt; array, 0),
     }
 }
 

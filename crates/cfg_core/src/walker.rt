@@ -1,16 +1,14 @@
 //! The state of a walk, and what operations do to it.
 
 ghost use Rattle.std.specs.Prelude.{◌≡◌, ℕ, ◌+◌, ◌-◌, ◌<◌, ◌≤◌, List, map, IfOk, OnOk, ◌==◌, if◌then◌else◌};
-ghost use Rattle.ws_words.specs.Outside.{State, head_or_zero, rest_of, row, taken, with_row};
 ghost use Rattle.cfg_core.specs.Walk as walks;
-ghost use Rattle.cfg_core.specs.Walk.{Frame as Waiting, run_op, run_ops};
-ghost use Rattle.cfg_core.specs.View.{op as op_of, term as term_of};
-ghost use Rattle.cfg_core.specs.Shows.{Shows, PaceIs, out_flag};
+ghost use Rattle.cfg_core.specs.Walk.{run_op, run_ops};
+ghost use Rattle.cfg_core.specs.View.{op as op_of};
+ghost use Rattle.cfg_core.specs.Shows.{Paced, out_flag, value_on};
 
 use crate::blocks::{GraphOp, Term};
-use crate::tape::Tape;
 use crate::terms::value;
-use ws_words::{Cells, NoMemory, Words};
+use ws_words::{Memory, NoMemory, Words};
 
 /// A call that waits: where it goes on, on which variables, and which of them takes the result.
 #[derive(Drop)]
@@ -20,16 +18,11 @@ pub struct Frame {
     pub vars: Words,
 }
 
-/// The state of a walk. Of its acts it keeps the words that were printed and taken. The last frame
-/// is that of the call at hand.
+/// The state of a walk. The last frame is that of the call at hand.
 #[derive(Drop)]
 pub struct Walker<'a> {
     pub vars: Words,
-    pub cells: Cells,
-    pub input: Tape<'a>,
-    pub left: Vec<Tape<'a>>,
-    pub printed: Words,
-    pub took: Cells,
+    pub memory: Memory<'a>,
     pub frames: Vec<Frame>,
     pub turns: u64,
 }
@@ -44,7 +37,8 @@ pub enum Pace {
 impl<'a> Walker<'a> {
     /// Runs operations in order.
     pub fn run_ops(&mut self, ops: &[GraphOp]) -> Result<Pace, NoMemory>
-        ensures { IfOk result (λ pace. (s : State) (frames : List Waiting) (k : ℕ) → Shows s frames k self.old → PaceIs (run_ops (map op_of ops.now) s k) frames pace self.new) }
+        ensures { let run = run_ops (map op_of ops.now) in
+            IfOk result (λ pace. Paced run self.old pace self.new) }
     {
         for op in ops {
             let pace = self.run_op(op)?;
@@ -56,40 +50,38 @@ impl<'a> Walker<'a> {
     }
 
     fn run_op(&mut self, op: &GraphOp) -> Result<Pace, NoMemory>
-        ensures { IfOk result (λ pace. (s : State) (frames : List Waiting) (k : ℕ) → Shows s frames k self.old → PaceIs (run_op (op_of op.now) s k) frames pace self.new) }
+        ensures { IfOk result (λ pace. Paced (run_op (op_of op.now)) self.old pace self.new) }
     {
         match op {
             GraphOp::Assign(x, t) => {
-                let word = value(t, &self.vars, &self.cells);
+                let word = value(t, &self.vars, &self.memory.cells);
                 self.vars.set(*x as usize, word);
                 Ok(Pace::Done)
             }
             GraphOp::Store(a, t, u) => {
-                let index = value(t, &self.vars, &self.cells);
-                let word = value(u, &self.vars, &self.cells);
-                let place = (*a as usize).saturating_sub(1);
-                self.cells.set(place, index as usize, word);
+                let index = value(t, &self.vars, &self.memory.cells);
+                let word = value(u, &self.vars, &self.memory.cells);
+                self.memory.store(*a, index, word);
                 Ok(Pace::Done)
             }
             GraphOp::Print(t) => {
-                let word = value(t, &self.vars, &self.cells);
-                self.printed.push(word)?;
+                let word = value(t, &self.vars, &self.memory.cells);
+                self.memory.print(word)?;
                 Ok(Pace::Done)
             }
             GraphOp::Read(x) => {
-                let word = self.input.next();
+                let word = self.memory.read();
                 self.vars.set(*x as usize, word);
                 Ok(Pace::Done)
             }
             GraphOp::Give(port, x) => {
-                let place = (*port as usize).saturating_sub(1);
-                let word = next_of(&mut self.left, place);
+                let word = self.memory.give(*port as u64);
                 self.vars.set(*x as usize, word);
                 Ok(Pace::Done)
             }
             GraphOp::Take(port, t) => {
-                let word = value(t, &self.vars, &self.cells);
-                self.take(*port, word)?;
+                let word = value(t, &self.vars, &self.memory.cells);
+                self.memory.take(*port as u64, word)?;
                 Ok(Pace::Done)
             }
             GraphOp::Choose(x, test, a, b) => {
@@ -99,7 +91,7 @@ impl<'a> Walker<'a> {
             }
             GraphOp::Tick(n) => Ok(self.spend(*n)),
             GraphOp::TickBy(test, n, m) => {
-                if value(test, &self.vars, &self.cells) == 0 {
+                if value(test, &self.vars, &self.memory.cells) == 0 {
                     Ok(self.spend(*m))
                 } else {
                     Ok(self.spend(*n))
@@ -108,30 +100,21 @@ impl<'a> Walker<'a> {
         }
     }
 
-    // A port takes a word.
-    fn take(&mut self, port: u8, word: u64) -> Result<(), NoMemory>
-        ensures { OnOk result ((s : State) (frames : List Waiting) (k : ℕ) → Shows s frames k self.old → Shows (taken s port word) frames k self.new) }
-    {
-        if port > 0 {
-            self.took.add((port - 1) as usize, word)?;
-        }
-        Ok(())
-    }
-
     // The value of the first of two terms if the test isn't 0, else of the second.
     fn chosen(&self, test: &Term, a: &Term, b: &Term) -> u64
-        ensures { result ≡ (if walks.value (term_of test.now) self.now.vars self.now.cells == 0 then walks.value (term_of b.now) self.now.vars self.now.cells else walks.value (term_of a.now) self.now.vars self.now.cells) }
+        ensures { let word = value_on self.now.vars self.now.memory.cells in
+            result ≡ (if word test.now == 0 then word b.now else word a.now) }
     {
-        if value(test, &self.vars, &self.cells) == 0 {
-            value(b, &self.vars, &self.cells)
+        if value(test, &self.vars, &self.memory.cells) == 0 {
+            value(b, &self.vars, &self.memory.cells)
         } else {
-            value(a, &self.vars, &self.cells)
+            value(a, &self.vars, &self.memory.cells)
         }
     }
 
     // Takes turns, if there are enough.
     fn spend(&mut self, n: u64) -> Pace
-        ensures { (s : State) (frames : List Waiting) (k : ℕ) → Shows s frames k self.old → PaceIs (walks.spend n s k) frames result self.new }
+        ensures { Paced (walks.spend n) self.old result self.new }
     {
         if n <= self.turns {
             self.turns -= n;
@@ -150,17 +133,5 @@ impl Pace {
             Pace::Done => false,
             Pace::Out => true,
         }
-    }
-}
-
-// The next word at a place, or 0 where none is left.
-fn next_of(tapes: &mut Vec<Tape<'_>>, place: usize) -> u64
-    ensures word { result ≡ head_or_zero (row tapes.old.items place) }
-    ensures rest { tapes.new.items ≡ with_row tapes.old.items place (rest_of (row tapes.old.items place)) }
-{
-    if place < tapes.len() {
-        tapes[place].next()
-    } else {
-        0
     }
 }

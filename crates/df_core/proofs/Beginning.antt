@@ -174,7 +174,7 @@ flow_begins pieces places slots order arrived issued straight placed leads empty
       fires = record {
         within = omega arith;
         numbers = first.numbers;
-        behind = λ i l. absurd (omega arith);
+        after = λ i l. absurd (omega arith);
         once = first.once;
         held = λ k q l. ap (λ s. slot (slots_at s k) q) empty ∙ ap (λ s. slot s q) (get_or-replicate n k no_tokens no_tokens l) ∙ slot-none q ∙ sym (token-nil (name_at (piece_at pieces k) q) (values pieces));
       };

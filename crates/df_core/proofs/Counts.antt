@@ -103,7 +103,7 @@ length-lt_distinct n j xs l z b h = omega (arith, total-is-length n xs b, total-
 pub length_each_once : (n : ℕ) (xs : List ℕ) → ((i : ℕ) → i < length xs → get_or xs i 0 < n) → ((k : ℕ) → k < n → times k xs ≡ 1) → length xs ≡ n
 length_each_once n xs b h = omega (arith, total-is-length n xs b, total-all n xs h)
 
--- what stands at a place of a list stands behind those before it
+-- what stands at a place of a list stands after those before it
 pub times-take-at : (xs : List ℕ) (i : ℕ) → i < length xs → times (get_or xs i 0) (take i xs) + 1 ≤ times (get_or xs i 0) xs
 times-take-at xs i h =
     let x = get_or xs i 0 in

@@ -169,10 +169,10 @@ module _ (pieces : List Piece) (slots : List Slots) (order : List ℕ) (fired : 
     pub fires_word : result_of (piece_at pieces (get_or order fired 0)) (slots_at slots (get_or order fired 0)) ≡ word_of (values pieces) (piece_at pieces (get_or order fired 0))
     fires_word = result_of-word_of (piece_at pieces (get_or order fired 0)) (slots_at slots (get_or order fired 0)) (take fired order) (values pieces) (λ q. fires.held (get_or order fired 0) q number-lt) ready
 
-    behind-more : (i : ℕ) → i < fired + 1 → AllByRecursion (λ a. 0 < times a (take i order)) (operands (piece_at pieces (get_or order i 0)))
-    behind-more i l =
+    after-more : (i : ℕ) → i < fired + 1 → AllByRecursion (λ a. 0 < times a (take i order)) (operands (piece_at pieces (get_or order i 0)))
+    after-more i l =
         ⊎_elim
-        (λ (less : i < fired). fires.behind i less)
+        (λ (less : i < fired). fires.after i less)
         (λ (ge : fired ≤ i). let same : fired ≡ i = omega arith in
         subst (λ x. AllByRecursion (λ a. 0 < times a (take x order)) (operands (piece_at pieces (get_or order x 0)))) same
         (can_fire-operands (piece_at pieces (get_or order fired 0)) (take fired order) ready))
@@ -350,10 +350,10 @@ module _ (pieces : List Piece) (slots slots' : List Slots) (order order' : List 
         record {
           within = omega (arith, length-ready b order order' place.piece order_is);
           numbers = numbers-ready b order order' place.piece (length pieces) f.within order_is fires.numbers;
-          behind = λ i l.
+          after = λ i l.
               let t : take i order' ≡ take i order = take-ready b order order' place.piece i (omega arith) order_is in
               let g : get_or order' i 0 ≡ get_or order i 0 = get_or-ready b order order' place.piece i (omega arith) order_is in
-              rw (t, g) (behind-more pieces slots order fired fires lt i l);
+              rw (t, g) (after-more pieces slots order fired fires lt i l);
           once = λ k l. ⊎_elim
               (λ (e : k ≡ place.piece). subst (λ x. times x order' ≡ flag (can_fire (take (fired + 1) order') (piece_at pieces x))) (sym e) once-there)
               (λ (ne : k ≡ place.piece → ⊥). once-elsewhere k l ne)
@@ -384,7 +384,7 @@ module _ (pieces : List Piece) (slots : List Slots) (order : List ℕ) (fired : 
       record {
         within = omega arith;
         numbers = fires.numbers;
-        behind = behind-more pieces slots order fired fires lt;
+        after = after-more pieces slots order fired fires lt;
         once = λ k l. fires.once k l ∙ sym (ap flag (can_fire-still (piece_at pieces k) j (take fired order) (take (fired + 1) order) more (λ q e. unnamed k q l e)));
         held = λ k q l. fires.held k q l ∙ sym (token-same (name_at (piece_at pieces k) q) j (take fired order) (take (fired + 1) order) (values pieces) more (λ e. unnamed k q l e));
       }

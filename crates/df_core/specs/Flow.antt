@@ -1,4 +1,5 @@
--- The state of a run: where results go, what has fired, what has arrived in the store buffer, and what has been issued.
+-- The state of a run: where results go, what has fired, what has arrived in the store buffer, and
+-- what has been issued.
 use Rattle.std.specs.Prelude.{◌≡◌, ℕ, ◌<◌, ◌≤◌, Bool, true, false, List, [], ◌∷◌, Option, Some, None, is_none, unwrap_or, length, take, slice_index, slice_index_or, slice_set, if◌then◌else◌, vec_len, vec_capacity}
 use Rattle.std.specs.List.{AllByRecursion}
 use Rattle.ws_words.specs.Operators.{flag}
@@ -18,25 +19,34 @@ nowhere = record { piece = 0; port = Left }
 abbrev pub place_at : List Place → ℕ → Place
 place_at places a = slice_index_or places a nowhere
 
--- the result of each piece that is named goes to the port that names it, where the pieces below this number name
+-- the result of each piece that is named goes to the port that names it, where the pieces below
+-- this number name
 pub record Leads (pieces : List Piece) (below : ℕ) (places : List Place) : Type 0 where
-  pub to_port : (k a : ℕ) (port : Port) → k < below → name_at (piece_at pieces k) port ≡ Some a → place_at places a ≡ record { piece = k; port = port }
+  pub to_port : (k a : ℕ) (port : Port) → k < below → name_at (piece_at pieces k) port ≡ Some a →
+      place_at places a ≡ record { piece = k; port = port }
 
--- the pieces that are ready or have fired stand in the order once each, those that have fired first and each behind what it names,
--- and a port has the token of the piece that feeds it, once that has fired
-pub record Fires (pieces : List Piece) (slots : List Slots) (order : List ℕ) (fired : ℕ) : Type 0 where
+-- the pieces that are ready or have fired stand in the order once each, those that have fired first
+-- and each after what it names, and a port has the token of the piece that feeds it, once that has
+-- fired
+pub record Fires (pieces : List Piece) (slots : List Slots) (order : List ℕ) (fired : ℕ) :
+    Type 0 where
   pub within : fired ≤ length order
   pub numbers : (i : ℕ) → i < length order → slice_index order i < length pieces
-  pub once : (k : ℕ) → k < length pieces → times k order ≡ flag (can_fire (take fired order) (piece_at pieces k))
-  pub behind : (i : ℕ) → i < fired → AllByRecursion (λ a. 0 < times a (take i order)) (operands (piece_at pieces (slice_index order i)))
-  pub held : (k : ℕ) (port : Port) → k < length pieces → slot (slots_at slots k) port ≡ token (take fired order) (values pieces) (name_at (piece_at pieces k) port)
+  pub once : (k : ℕ) → k < length pieces → times k order ≡
+      flag (can_fire (take fired order) (piece_at pieces k))
+  pub after : (i : ℕ) → i < fired →
+      AllByRecursion (λ a. 0 < times a (take i order))
+      (operands (piece_at pieces (slice_index order i)))
+  pub held : (k : ℕ) (port : Port) → k < length pieces → slot (slots_at slots k) port ≡
+      token (take fired order) (values pieces) (name_at (piece_at pieces k) port)
 
 abbrev pub arrived_at : List (Option ℕ) → ℕ → Option ℕ
 arrived_at arrived k = slice_index_or arrived k None
 
 -- what has arrived of a memory operation, where these pieces have fired
 abbrev pub arrival : List ℕ → List ℕ → ℕ → Piece → Option ℕ
-arrival fired values k piece = if has_value piece then None else token_if (times k fired) (word_of values piece)
+arrival fired values k piece =
+    if has_value piece then None else token_if (times k fired) (word_of values piece)
 
 -- a memory operation whose turn it is, and that has not arrived
 abbrev pub waits : Piece → Option ℕ → Bool
@@ -54,11 +64,13 @@ issue_of Halt word = []
 
 -- a memory operation has arrived once it has fired
 pub record Arrives (pieces : List Piece) (fired : List ℕ) (arrived : List (Option ℕ)) : Type 0 where
-  pub once_fired : (k : ℕ) → k < length pieces → arrived_at arrived k ≡ arrival fired (values pieces) k (piece_at pieces k)
+  pub once_fired : (k : ℕ) → k < length pieces → arrived_at arrived k ≡
+      arrival fired (values pieces) k (piece_at pieces k)
 
 -- what has arrived is the word of the piece
 pub record HasWords (pieces : List Piece) (arrived : List (Option ℕ)) : Type 0 where
-  pub word : (k w : ℕ) → k < length pieces → arrived_at arrived k ≡ Some w → w ≡ word_of (values pieces) (piece_at pieces k)
+  pub word : (k w : ℕ) → k < length pieces → arrived_at arrived k ≡ Some w →
+      w ≡ word_of (values pieces) (piece_at pieces k)
 
 -- the memory operations before the next are issued, in their order
 pub record Issues (pieces : List Piece) (next : ℕ) (issued : List ℕ) : Type 0 where
@@ -85,7 +97,8 @@ pub record IsFlow (pieces : List Piece) (flow : Flow) : Type 0 where
 abbrev pub with_places : List Place → Piece → ℕ → List Place
 with_places places (Number n) k = places
 with_places places (Apply op a b) k =
-    slice_set (slice_set places a (record { piece = k; port = Left })) b (record { piece = k; port = Right })
+    let left = slice_set places a (record { piece = k; port = Left }) in
+    slice_set left b (record { piece = k; port = Right })
 with_places places (Out a) k = slice_set places a (record { piece = k; port = Left })
 with_places places Halt k = places
 

@@ -5,14 +5,16 @@ use Rattle.df_core.specs.declared.flow.Flow.{Flow}
 use Rattle.df_core.specs.Straight.{EachOnce, InDataOrder, printed_by}
 use Rattle.df_core.specs.Flow.{IsFlow}
 
--- the pieces of its image, the numbers of those that have fired, in the order in which they did, and the words issued, in order
+-- the pieces of its image, the numbers of those that have fired, in the order in which they did,
+-- and the words issued, in order
 pub record Running : Type 0 where
   pub pieces : List Piece
   pub fired : List ℕ
   pub printed : List ℕ
 
 abbrev pub shown : List Piece → Flow → List ℕ → Running
-shown pieces flow printed = record { pieces = pieces; fired = take flow.fired flow.order.items; printed = printed }
+shown pieces flow printed =
+    record { pieces = pieces; fired = take flow.fired flow.order.items; printed = printed }
 
 -- before the run
 pub record IsFresh (pieces : List Piece) (flow : Flow) (printed : List ℕ) : Type 0 where

@@ -45,16 +45,21 @@ pub record EachOnce (n : ℕ) (numbers : List ℕ) : Type 0 where
 abbrev pub uses_of : ℕ → List Piece → ℕ
 uses_of k pieces = times k (flat_map operands pieces)
 
--- names are of earlier pieces that have a value, each such piece is named once, and the last piece alone is a Halt
+-- names are of earlier pieces that have a value, each such piece is named once, and the last piece
+-- alone is a Halt
 pub record IsStraight (pieces : List Piece) : Type 0 where
-  pub earlier : (k : ℕ) → k < length pieces → AllByRecursion (IsEarlierValue pieces k) (operands (piece_at pieces k))
-  pub once : (k : ℕ) → k < length pieces → IsTrue (has_value (piece_at pieces k)) → uses_of k pieces ≡ 1
+  pub earlier : (k : ℕ) → k < length pieces →
+      AllByRecursion (IsEarlierValue pieces k) (operands (piece_at pieces k))
+  pub once : (k : ℕ) → k < length pieces → IsTrue (has_value (piece_at pieces k)) →
+      uses_of k pieces ≡ 1
   pub some : 0 < length pieces
   pub halts : (k : ℕ) → k < length pieces → is_halt (piece_at pieces k) ≡ (k + 1 == length pieces)
 
--- a piece fires behind those that it names
+-- a piece fires after those that it names
 pub record InDataOrder (pieces : List Piece) (fired : List ℕ) : Type 0 where
-  pub behind : (i : ℕ) → i < length fired → AllByRecursion (λ a. 0 < times a (take i fired)) (operands (piece_at pieces (slice_index fired i)))
+  pub after : (i : ℕ) → i < length fired →
+      AllByRecursion (λ a. 0 < times a (take i fired))
+      (operands (piece_at pieces (slice_index fired i)))
 
 -- the value of a piece, from the values of the pieces before it
 abbrev pub value_of : List ℕ → Piece → ℕ

@@ -7,5 +7,6 @@ ghost use Rattle.df_core.specs.Built.{Prints};
 
 /// A law: pieces that are built to print words are straight, and print these.
 pub fn built_is_straight()
-    ensures { (ps : List Piece) (ws : List ℕ) → Prints 0 ps ws → IsStraight ps × (printed_by ps ≡ ws) }
+    ensures { (ps : List Piece) (ws : List ℕ) →
+        Prints 0 ps ws → IsStraight ps × (printed_by ps ≡ ws) }
 {}

@@ -73,8 +73,11 @@ pub fn deliver(pieces: &[Piece], slots: &mut [Slots], order: &mut Vec<u32>, plac
     requires piece { place.piece < length pieces.now }
     requires slots { length slots.old ≡ length pieces.now }
     requires room { vec_len order.old < vec_capacity order.old }
-    ensures filled { slots.new ≡ slice_set slots.old place.piece (with_token (slots_at slots.old place.piece) place.port word) }
-    ensures ready { order.new.items ≡ (if full (piece_at pieces.now place.piece) (slots_at slots.new place.piece) then order.old.items ++ place.piece ∷ [] else order.old.items) }
+    ensures filled { let before = slots_at slots.old place.piece in
+        slots.new ≡ slice_set slots.old place.piece (with_token before place.port word) }
+    ensures ready { let after = slots_at slots.new place.piece in
+        order.new.items ≡ (if full (piece_at pieces.now place.piece) after
+        then order.old.items ++ place.piece ∷ [] else order.old.items) }
     ensures room { vec_capacity order.new ≡ vec_capacity order.old }
 {
     let number = place.piece as usize;

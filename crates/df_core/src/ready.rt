@@ -18,10 +18,11 @@ fn needs_none(piece: Piece) -> bool
     }
 }
 
-/// Puts the number of a piece behind the others, if it fires on no token.
+/// Puts the number of a piece after the others, if it fires on no token.
 fn push_if_ready(order: &mut Vec<u32>, piece: Piece, number: u32)
     requires { vec_len order.old < vec_capacity order.old }
-    ensures items { order.new.items ≡ (if can_fire [] piece then order.old.items ++ number ∷ [] else order.old.items) }
+    ensures items { order.new.items ≡
+        (if can_fire [] piece then order.old.items ++ number ∷ [] else order.old.items) }
     ensures room { vec_capacity order.new ≡ vec_capacity order.old }
 {
     if needs_none(piece) {

@@ -30,24 +30,7 @@ fn expect_words(
     Ok(())
 }
 
-#[test]
-fn operators_are_applied(rt: HostRuntime) -> Result<(), Fail> {
-    let pieces = [
-        Piece::Number(2),
-        Piece::Number(3),
-        Piece::Apply(Alu::Add, 0, 1),
-        Piece::Number(10),
-        Piece::Number(4),
-        Piece::Apply(Alu::Sub, 3, 4),
-        Piece::Apply(Alu::Mul, 2, 5),
-        Piece::Out(6),
-        Piece::Halt,
-    ];
-    expect_words(&rt, &pieces, &[30])?;
-    Ok(())
-}
-
-/// The last word arrives before the one in the middle, which waits for its operator.
+// The difference arrives last, and the word after it waits for it.
 #[test]
 fn words_are_issued_in_order(rt: HostRuntime) -> Result<(), Fail> {
     let pieces = [

@@ -3,10 +3,13 @@ use Rattle.std.proofs.Common.{ℕ, zero, suc, ◌+◌, ◌-◌, ◌≡◌, ◌<�
 use Rattle.ws_words.specs.Outside.{Outside, State, zeros, World, opening_out}
 use Rattle.src_ast.specs.Turns.{Outcome, Ended, Out, and_then, turn, CallEnd, Returned, Stopped, with_result, back_in, ending, loop}
 use Rattle.src_ast.specs.Meaning.{Calls, empty_cells}
-use Rattle.seq_run.specs.Resolved.{Term, Step, Do, Call, If, While, Steps, Nothing, Then, Proc, Program, value_of, values_of, run_one, run_all, finish, run_proc, calls_below, nth_proc, run, run_at}
+use Rattle.cfg_core.specs.Graph.{Term}
+use Rattle.cfg_core.specs.Walk.{value_of, values_of}
+use Rattle.seq_run.specs.Resolved.{Step, Do, Call, If, While, Steps, Nothing, Then, Proc, Program, run_one, run_all, finish, run_proc, calls_below, nth_proc, run, run_at}
 use Rattle.seq_run.specs.TurnsLeft.{AtMost}
 use Rattle.seq_run.proofs.TurnsLeft.{all_most, calls_most, CallsAtMost}
 
+-- a part that ended with j of k turns left takes this many, whatever is left
 pub record Cost (h : ℕ → Outcome) (u : State) (j k : ℕ) : Type 0 where
   pub cost : ℕ
   pub sum : k ≡ j + cost
@@ -17,6 +20,7 @@ pub record CallCost (h : ℕ → CallEnd) (v : ℕ) (o : Outside) (j k : ℕ) : 
   pub sum : k ≡ j + cost
   pub again : (i : ℕ) → h (i + cost) ≡ Returned v o i
 
+-- so does a call
 abbrev pub CallsCost : Calls → Type 0
 CallsCost calls = (f : ℕ) (args : List ℕ) (o : Outside) (k v : ℕ) (p : Outside) (j : ℕ) → calls f args o k ≡ Returned v p j → CallCost (calls f args o) v p j k
 
@@ -93,6 +97,7 @@ module _ (calls : Calls) (cm : CallsAtMost calls) (cc_ : CallsCost calls) where
   leaf s v u j k e = turn_cost s (λ i. Ended v i) u j k (λ i d. no_cost v u j i d) e
 
   mutual
+    -- so does a step
     pub one_cost : (st : Step) (s : State) (k : ℕ) (u : State) (j : ℕ) → run_one calls st s k ≡ Ended u j → Cost (run_one calls st s) u j k
     one_cost (Do a) s k u j e = leaf s _ u j k e
     one_cost (Call x f ts) s k u j e =
@@ -107,6 +112,7 @@ module _ (calls : Calls) (cm : CallsAtMost calls) (cc_ : CallsCost calls) where
         let r = loop_cost (value_of t) (run_all calls body) (all_most calls cm body) (all_cost body) (suc k) s k u j (omega arith) e in
         record { cost = r.cost; sum = r.sum; again = λ i. r.again i (suc (i + r.cost)) (omega arith) }
 
+    -- so do steps
     pub all_cost : (st : Steps) (s : State) (k : ℕ) (u : State) (j : ℕ) → run_all calls st s k ≡ Ended u j → Cost (run_all calls st s) u j k
     all_cost Nothing s k u j e = no_cost s u j k e
     all_cost (Then st rest) s k u j e = then_cost (run_one calls st s) (run_all calls rest) u j k (λ t i d. one_cost st s k t i d) (λ t i d. all_cost rest t i u j d) (run_one calls st s k) refl e
@@ -137,6 +143,7 @@ if_call_cost : (b : Bool) (h g : ℕ → CallEnd) (v : ℕ) (p : Outside) (j k :
 if_call_cost true h g v p j k f i e = f e
 if_call_cost false h g v p j k f i e = i e
 
+-- so do the calls of a program
 pub calls_cost : (n : ℕ) (procs : List Proc) → CallsCost (calls_below n procs)
 calls_cost zero procs f args o k v p j e = absurd (cc)
 calls_cost (suc n) procs f args o k v p j e =

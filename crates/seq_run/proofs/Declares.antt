@@ -9,6 +9,7 @@ use Rattle.src_ast.specs.View as ast
 use Rattle.src_ast.specs.declared.tree.Stmt.{Stmt}
 use Rattle.src_ast.specs.Syntax.{Part, Array, Proc, Procedure, Last}
 use Rattle.src_ast.specs.Meaning.{scope_of, arrays_of, lengths_of, procs_of, names_of}
+use Rattle.cfg_core.specs.Graph as plain
 use Rattle.seq_run.specs.Resolved as resolved
 use Rattle.seq_run.specs.Resolving as resolving
 use Rattle.seq_run.specs.Resolving.{texts}
@@ -18,6 +19,7 @@ use Rattle.seq_run.specs.declared.table.Table.{Table}
 use Rattle.seq_run.specs.declared.tree.ArrayShape.{ArrayShape}
 use Rattle.seq_run.specs.declared.tree.Proc.{Proc as CodeProc}
 
+-- the first items, and one more
 pub taken_more : {X : Type 0} (xs : List X) (i : ℕ) (x : X) → i < length xs → x ≡ slice_index_or xs i x → take (i + 1) xs ≡ take i xs ++ x ∷ []
 taken_more {X} xs i x lt is = ap (λ (n : ℕ). take n xs) (let z : i + 1 ≡ suc i = omega arith in z) ∙ at xs i lt is
   where
@@ -34,6 +36,7 @@ map_append f (x ∷ xs) ys = ap (λ (ps : List Part). f x ∷ ps) (map_append f 
 pub parts_more : (xs : List Item) (i : ℕ) (x : Item) → i < length xs → x ≡ slice_index_or xs i x → ast.parts (take (i + 1) xs) ≡ ast.parts (take i xs) ++ ast.part x ∷ []
 parts_more xs i x lt is = ap ast.parts (taken_more xs i x lt is) ∙ map_append ast.part (take i xs) (x ∷ [])
 
+-- the arrays of parts, one list after another
 pub arrays_append : (xs ys : List Part) → arrays_of (xs ++ ys) ≡ arrays_of xs ++ arrays_of ys
 arrays_append [] ys = refl
 arrays_append (Array x n at ∷ xs) ys = ap (λ (ns : List Name). x ∷ ns) (arrays_append xs ys)
@@ -44,11 +47,13 @@ lengths_append [] ys = refl
 lengths_append (Array x n at ∷ xs) ys = ap (λ (ns : List ℕ). n ∷ ns) (lengths_append xs ys)
 lengths_append (Proc p ∷ xs) ys = lengths_append xs ys
 
+-- so the procedures
 pub procs_append : (xs ys : List Part) → procs_of (xs ++ ys) ≡ procs_of xs ++ procs_of ys
 procs_append [] ys = refl
 procs_append (Array x n at ∷ xs) ys = procs_append xs ys
 procs_append (Proc p ∷ xs) ys = ap (λ (ps : List Procedure). p ∷ ps) (procs_append xs ys)
 
+-- so the names of procedures
 pub names_append : (xs ys : List Procedure) → names_of (xs ++ ys) ≡ names_of xs ++ names_of ys
 names_append [] ys = refl
 names_append (p ∷ xs) ys = ap (λ (ns : List Name). p.name ∷ ns) (names_append xs ys)
@@ -77,6 +82,7 @@ resolving_append arrays names (p ∷ xs) ys = ap (λ (ps : List resolved.Proc). 
 pub declared_more : (first : ℕ) (names list : List Name) (i : ℕ) (x : Name) (table : Table) → i < length list → x ≡ slice_index_or list i x → IsTable first ((names ++ take i list) ++ x ∷ []) table → IsTable first (names ++ take (i + 1) list) table
 declared_more first names list i x table lt is h = subst (λ (ns : List Name). IsTable first ns table) (append_assoc names (take i list) (x ∷ []) ∙ ap (λ (ns : List Name). names ++ ns) (sym (taken_more list i x lt is))) h
 
+-- all items are taken
 pub take_whole : {X : Type 0} (xs : List X) (i : ℕ) → length xs ≤ i → take i xs ≡ xs
 take_whole [] zero le = refl
 take_whole [] (suc i) le = refl
@@ -92,22 +98,27 @@ module _ (xs : List Item) (i : ℕ) (x : Item) (lt : i < length xs) (is : x ≡ 
 
   -- an array more
   module _ (name : Name) (n : ℕ) (at : Place) (isa : x ≡ items.Array name n at) where
+    -- an array is one more name of arrays
     pub array_more : (table : Table) → IsTable 1 (arrays_of (ast.parts (take i xs)) ++ name ∷ []) table → IsTable 1 (arrays_of (ast.parts (take (i + 1) xs))) table
     array_more table h = subst (λ (ns : List Name). IsTable 1 ns table) (sym (more arrays_of arrays_append ∙ ap (λ (y : Item). arrays_of (ast.parts (take i xs)) ++ arrays_of (ast.part y ∷ [])) isa)) h
 
+    -- and none of procedures
     pub array_no_proc : (table : Table) → IsTable 0 (names_of (procs_of (ast.parts (take i xs)))) table → IsTable 0 (names_of (procs_of (ast.parts (take (i + 1) xs)))) table
     array_no_proc table h = subst (λ (ns : List Name). IsTable 0 ns table) (sym (proc_names_more ∙ ap (λ (y : Item). names_of (procs_of (ast.parts (take i xs))) ++ names_of (procs_of (ast.part y ∷ []))) isa ∙ append-nil (names_of (procs_of (ast.parts (take i xs)))))) h
 
+    -- its name
     pub shape_name : (list now : List ArrayShape) (s : ArrayShape) → view.names list ≡ texts (arrays_of (ast.parts (take i xs))) → now ≡ list ++ s ∷ [] → s.name ≡ name.text → view.names now ≡ texts (arrays_of (ast.parts (take (i + 1) xs)))
     shape_name list now s so en es =
         ap view.names en ∙ view_names_append list (s ∷ []) ∙ ap (λ (ts : List (List ℕ)). ts ++ s.name ∷ []) so ∙ ap (λ (t : List ℕ). texts (arrays_of (ast.parts (take i xs))) ++ t ∷ []) es
         ∙ sym (more (λ ps. texts (arrays_of ps)) (λ ps qs. ap texts (arrays_append ps qs) ∙ texts_append (arrays_of ps) (arrays_of qs)) ∙ ap (λ (y : Item). texts (arrays_of (ast.parts (take i xs))) ++ texts (arrays_of (ast.part y ∷ []))) isa)
 
+    -- its length
     pub shape_length : (list now : List ArrayShape) (s : ArrayShape) → view.lengths list ≡ lengths_of (ast.parts (take i xs)) → now ≡ list ++ s ∷ [] → s.length ≡ n → view.lengths now ≡ lengths_of (ast.parts (take (i + 1) xs))
     shape_length list now s so en es =
         ap view.lengths en ∙ view_lengths_append list (s ∷ []) ∙ ap (λ (ts : List ℕ). ts ++ s.length ∷ []) so ∙ ap (λ (t : ℕ). lengths_of (ast.parts (take i xs)) ++ t ∷ []) es
         ∙ sym (more lengths_of lengths_append ∙ ap (λ (y : Item). lengths_of (ast.parts (take i xs)) ++ lengths_of (ast.part y ∷ [])) isa)
 
+    -- it leaves the procedures as they are
     pub array_procs_same : (arrays names : List Name) → resolving.procs arrays names (procs_of (ast.parts (take (i + 1) xs))) ≡ resolving.procs arrays names (procs_of (ast.parts (take i xs)))
     array_procs_same arrays names =
         more (λ ps. resolving.procs arrays names (procs_of ps)) (λ ps qs. ap (resolving.procs arrays names) (procs_append ps qs) ∙ resolving_append arrays names (procs_of ps) (procs_of qs))
@@ -116,38 +127,48 @@ module _ (xs : List Item) (i : ℕ) (x : Item) (lt : i < length xs) (is : x ≡ 
 
   -- a procedure more
   module _ (p : Procedure) (isp : ast.part x ≡ Proc p) where
+    -- a procedure is one more name of procedures
     pub proc_more : (table : Table) → IsTable 0 (names_of (procs_of (ast.parts (take i xs))) ++ p.name ∷ []) table → IsTable 0 (names_of (procs_of (ast.parts (take (i + 1) xs)))) table
     proc_more table h = subst (λ (ns : List Name). IsTable 0 ns table) (sym (proc_names_more ∙ ap (λ (y : Part). names_of (procs_of (ast.parts (take i xs))) ++ names_of (procs_of (y ∷ []))) isp)) h
 
+    -- and none of arrays
     pub proc_no_array : (table : Table) → IsTable 1 (arrays_of (ast.parts (take i xs))) table → IsTable 1 (arrays_of (ast.parts (take (i + 1) xs))) table
     proc_no_array table h = subst (λ (ns : List Name). IsTable 1 ns table) (sym (more arrays_of arrays_append ∙ ap (λ (y : Part). arrays_of (ast.parts (take i xs)) ++ arrays_of (y ∷ [])) isp ∙ append-nil (arrays_of (ast.parts (take i xs))))) h
 
+    -- it leaves the names of arrays
     pub proc_no_name : texts (arrays_of (ast.parts (take (i + 1) xs))) ≡ texts (arrays_of (ast.parts (take i xs)))
     proc_no_name = ap texts (more arrays_of arrays_append ∙ ap (λ (y : Part). arrays_of (ast.parts (take i xs)) ++ arrays_of (y ∷ [])) isp ∙ append-nil (arrays_of (ast.parts (take i xs))))
 
+    -- and their lengths
     pub proc_no_length : lengths_of (ast.parts (take (i + 1) xs)) ≡ lengths_of (ast.parts (take i xs))
     proc_no_length = more lengths_of lengths_append ∙ ap (λ (y : Part). lengths_of (ast.parts (take i xs)) ++ lengths_of (y ∷ [])) isp ∙ append-nil (lengths_of (ast.parts (take i xs)))
 
+    -- one procedure more
     pub procs_more : (arrays names : List Name) (list now : List CodeProc) (q : CodeProc) → view.procs list ≡ resolving.procs arrays names (procs_of (ast.parts (take i xs))) → now ≡ list ++ q ∷ [] → view.proc q ≡ resolving.proc (record { names = p.params ++ p.vars; arrays = arrays; procs = names }) p → view.procs now ≡ resolving.procs arrays names (procs_of (ast.parts (take (i + 1) xs)))
     procs_more arrays names list now q so en eq =
         ap view.procs en ∙ view_procs_append list (q ∷ []) ∙ ap (λ (ts : List resolved.Proc). ts ++ view.proc q ∷ []) so ∙ ap (λ (t : resolved.Proc). resolving.procs arrays names (procs_of (ast.parts (take i xs))) ++ t ∷ []) eq
         ∙ sym (more (λ ps. resolving.procs arrays names (procs_of ps)) (λ ps qs. ap (resolving.procs arrays names) (procs_append ps qs) ∙ resolving_append arrays names (procs_of ps) (procs_of qs)) ∙ ap (λ (y : Part). resolving.procs arrays names (procs_of (ast.parts (take i xs))) ++ resolving.procs arrays names (procs_of (y ∷ []))) isp)
 
-pub same_proc : (params locals n m : ℕ) (body steps : resolved.Steps) (result term : Option resolved.Term) → params ≡ n → locals ≡ m → body ≡ steps → result ≡ term → ◌≡◌ {A = resolved.Proc} (record { params = params; locals = locals; body = body; result = result }) (record { params = n; locals = m; body = steps; result = term })
+-- a procedure by its parts
+pub same_proc : (params locals n m : ℕ) (body steps : resolved.Steps) (result term : Option plain.Term) → params ≡ n → locals ≡ m → body ≡ steps → result ≡ term → ◌≡◌ {A = resolved.Proc} (record { params = params; locals = locals; body = body; result = result }) (record { params = n; locals = m; body = steps; result = term })
 same_proc params locals n m body steps result term a b c d = cc
 
+-- how many parameters there are
 pub count_front : (xs : List Name) (n : ℕ) → n ≡ 0 + length xs → n ≡ length xs
 count_front xs n e = omega (arith, e)
 
+-- no more than variables in all
 pub front_at_most : (xs ys : List Name) (n m : ℕ) → n ≡ 0 + length xs → m ≡ 0 + length (xs ++ ys) → n ≤ m
 front_at_most xs ys n m e d = let l = length-append xs ys in omega (arith, e, d, l)
 
+-- the rest are no parameters
 pub count_back : (xs ys : List Name) (n m : ℕ) → n ≡ 0 + length xs → m ≡ 0 + length (xs ++ ys) → m - n ≡ length ys
 count_back xs ys n m e d = let l = length-append xs ys in omega (arith, e, d, l)
 
 abbrev procedure : Name → List Name → List Name → List Stmt → Option Last → Procedure
 procedure name params vars body ending = record { name = name; params = params; vars = vars; body = ast.statements body; ending = ending }
 
+-- a procedure, whatever names its parts go by
 pub moved : (arrays procs : List Name) (name : Name) (ending : Option Last) (q : resolved.Proc) (a b c d : List Name) (s t : List Stmt) → a ≡ b → c ≡ d → s ≡ t → q ≡ resolving.proc (scope_of arrays procs (procedure name a c s ending)) (procedure name a c s ending) → q ≡ resolving.proc (scope_of arrays procs (procedure name b d t ending)) (procedure name b d t ending)
 moved arrays procs name ending q a b c d s t ab cd st h =
     h ∙ ap (λ (x : List Name). resolving.proc (scope_of arrays procs (procedure name x c s ending)) (procedure name x c s ending)) ab

@@ -1,95 +1,120 @@
--- What the code does outside the variables is what the run does.
-use Rattle.std.proofs.Common.{◌≡◌, ℕ, zero, suc, ◌+◌, ◌-◌, ◌<◌, ◌≤◌, List, [], ◌∷◌, ◌++◌, length, drop, slice_index, slice_set, refl, sym, ap, ◌∙◌, subst, arith}
-use Rattle.ws_words.specs.Outside.{stores, reads, prints, gives, State, row, with_row, head_or_zero, rest_of, zeros, stored, printed, taken, has_read, given}
-use Rattle.seq_run.specs.Shows.{rests, Shows}
-use Rattle.seq_run.specs.declared.machine.Machine.{Machine}
-use Rattle.seq_run.proofs.Acts.{silent_printed, silent_took, silent_store, silent_read, silent_give, printed_append, prints_took, takes_printed, takes_took, takes_nowhere, rest_drop, rest_past, gives_word, gives_more, gives_none, length_set}
+-- What the code holds after acts, and where one is past.
+use Rattle.std.proofs.Common.{◌≡◌, ℕ, List, [], ◌∷◌, ◌++◌, Some, None, refl, sym, ap, ◌∙◌, subst, append_assoc}
+use Rattle.ws_words.specs.Memory.{OutIs, Does, lengths_of}
+use Rattle.ws_words.specs.Outside.{Act, loads, stores, reads, prints, gives, takes, Outside, State}
+use Rattle.ws_words.specs.Past.{IsWithin, AreWithin, after_act, after_acts}
+use Rattle.ws_words.specs.declared.memory.Memory.{Memory}
+use Rattle.ws_words.proofs.Acts.{Silent, after_append, acts_of}
+use Rattle.ws_words.proofs.Held.{silently, lengths_stay_all}
+use Rattle.cfg_core.specs.Graph.{Term}
+use Rattle.cfg_core.specs.Walk.{value, loads_of, values, all_loads, value_of, values_of}
+use Rattle.seq_run.specs.Firsts.{first_past}
+use Rattle.seq_run.specs.Laws.{Begins}
+use Rattle.seq_run.specs.Shows.{Shows, Holds, Stops}
+use Rattle.seq_run.proofs.Grows.{with_more, OnlyLoads, loads_front, loads_leave, only_loads, only_all_loads}
+use Rattle.seq_run.proofs.FirstPasts.{all_within, found, within_both}
+use Rattle.seq_run.proofs.Fronts.{begins_then}
 
-pub store_shows : (s : State) (m : Machine) (a i v place : ℕ) (cells : List (List ℕ)) → Shows s.out m → place ≡ a - 1 → cells ≡ with_row m.cells place (slice_set (row m.cells place) i v) → Shows (stored s a i v).out (record m { cells = cells })
-store_shows s m a i v place cells sh at e = record {
-  cells = ap (λ (cs : List (List ℕ)). with_row cs (a - 1) (slice_set (row cs (a - 1)) i v)) sh.cells ∙ ap (λ (p : ℕ). with_row m.cells p (slice_set (row m.cells p) i v)) (sym at) ∙ sym e;
-  input = sh.input;
-  left = sh.left;
-  ports = sh.ports;
-  printed = silent_printed s.out.acts (stores a i v ∷ []) (silent_store a i v) ∙ sh.printed;
-  took = silent_took s.out.acts (stores a i v ∷ []) (silent_store a i v) ∙ sh.took;
-}
+-- the lengths that the code holds are those from the start
+pub lengths_held : (start o : Outside) (m : Memory) → Shows start o m → lengths_of m.cells ≡ lengths_of start.cells
+lengths_held start o m sh = ap lengths_of (sym sh.out.same_cells) ∙ ap (λ (p : Outside). lengths_of p.cells) sh.told ∙ lengths_stay_all start o.acts
 
-pub print_shows : (s : State) (m : Machine) (v : ℕ) (now : List ℕ) → Shows s.out m → now ≡ m.printed ++ v ∷ [] → Shows (printed s v).out (record m { printed = now })
-print_shows s m v now sh e = record {
-  cells = sh.cells;
-  input = sh.input;
-  left = sh.left;
-  ports = sh.ports;
-  printed = printed_append s.out.acts (prints v ∷ []) ∙ ap (λ (ws : List ℕ). ws ++ v ∷ []) sh.printed ∙ sym e;
-  took = prints_took s.out.acts v ∙ sh.took;
-}
+after_shows : (start o : Outside) (m n : Memory) (acts : List Act) → Shows start o m → OutIs (after_acts o acts) n → AreWithin (lengths_of start.cells) acts → Shows start (after_acts o acts) n
+after_shows start o m n acts sh out w =
+    let e : o.acts ++ acts ≡ (after_acts o acts).acts = sym (acts_of o acts) in
+    record {
+      out = out;
+      within = subst (AreWithin (lengths_of start.cells)) e (within_both (lengths_of start.cells) o.acts acts sh.within w);
+      told = ap (λ (p : Outside). after_acts p acts) sh.told ∙ sym (after_append start o.acts acts) ∙ ap (after_acts start) e;
+    }
 
-pub take_shows : (s : State) (m : Machine) (q v : ℕ) (now : List (List ℕ)) → Shows s.out m → 0 < q → now ≡ with_row m.took (q - 1) (row m.took (q - 1) ++ v ∷ []) → Shows (taken s q v).out (record m { took = now })
-take_shows s m q v now sh lt e = record {
-  cells = sh.cells;
-  input = sh.input;
-  left = sh.left;
-  ports = sh.ports;
-  printed = takes_printed s.out.acts q v ∙ sh.printed;
-  took = takes_took s.out.acts q v lt ∙ ap (λ (t : List (List ℕ)). with_row t (q - 1) (row t (q - 1) ++ v ∷ [])) sh.took ∙ sym e;
-}
+-- after one act more
+pub act_shows : (start o : Outside) (m n : Memory) (act : Act) → Shows start o m → Does act m n → IsWithin (lengths_of start.cells) act → Shows start (after_act o act) n
+act_shows start o m n act sh d w = after_shows start o m n (act ∷ []) sh (d o sh.out) (w, tt)
 
-pub take_nowhere : (s : State) (m : Machine) (q v : ℕ) → Shows s.out m → q ≡ 0 → Shows (taken s q v).out m
-take_nowhere s m q v sh z = record {
-  cells = sh.cells;
-  input = sh.input;
-  left = sh.left;
-  ports = sh.ports;
-  printed = takes_printed s.out.acts q v ∙ sh.printed;
-  took = takes_nowhere s.out.acts q v z ∙ sh.took;
-}
+silent_loads : (acts : List Act) → OnlyLoads acts → Silent acts
+silent_loads [] h = record { printed = refl; took = λ p. refl }
+silent_loads (loads a i ∷ acts) h = let s = silent_loads acts h.1 in record { printed = s.printed; took = λ p. s.took p }
+silent_loads (stores a i w ∷ acts) h = absurd h.0
+silent_loads (reads ∷ acts) h = absurd h.0
+silent_loads (prints w ∷ acts) h = absurd h.0
+silent_loads (gives p ∷ acts) h = absurd h.0
+silent_loads (takes p w ∷ acts) h = absurd h.0
 
-read_shows : (s : State) (x : ℕ) (m : Machine) (now : ℕ) → Shows s.out m → rest_of (drop m.read m.world.now.input) ≡ drop now m.world.now.input → Shows (has_read s x).out (record m { read = now })
-read_shows s x m now sh e = record {
-  cells = sh.cells;
-  input = ap rest_of sh.input ∙ e;
-  left = sh.left;
-  ports = sh.ports;
-  printed = silent_printed s.out.acts (reads ∷ []) silent_read ∙ sh.printed;
-  took = silent_took s.out.acts (reads ∷ []) silent_read ∙ sh.took;
-}
+-- after loads more
+pub loads_show : (start o : Outside) (m : Memory) (acts : List Act) → Shows start o m → OnlyLoads acts → AreWithin (lengths_of start.cells) acts → Shows start (with_more o acts) m
+loads_show start o m acts sh only w =
+    let e = loads_leave o acts only in
+    subst (λ (p : Outside). Shows start p m) e
+    (after_shows start o m m acts sh (subst (λ (p : Outside). OutIs p m) (sym e) (silently o m sh.out acts (silent_loads acts only))) w)
 
-pub read_more : (s : State) (x : ℕ) (m : Machine) → Shows s.out m → Shows (has_read s x).out (record m { read = m.read + 1 })
-read_more s x m sh = let e : m.read + 1 ≡ suc m.read = omega arith in read_shows s x m (m.read + 1) sh (rest_drop m.read m.world.now.input ∙ ap (λ (n : ℕ). drop n m.world.now.input) (sym e))
+cut : (xs ys zs : List Act) (a : Act) → xs ++ (ys ++ a ∷ zs) ≡ ((xs ++ ys) ++ a ∷ []) ++ zs
+cut xs ys zs a = sym (append_assoc xs ys (a ∷ zs)) ∙ sym (append_assoc (xs ++ ys) (a ∷ []) zs)
 
-pub read_none : (s : State) (x : ℕ) (m : Machine) → Shows s.out m → length m.world.now.input ≤ m.read → Shows (has_read s x).out m
-read_none s x m sh le = read_shows s x m m.read sh (rest_past m.read m.world.now.input le)
+-- one of the loads is past
+pub loads_stop : (start o : Outside) (m : Memory) (acts all : List Act) (c : ℕ) → Shows start o m → OnlyLoads acts → first_past (lengths_of start.cells) acts ≡ Some c → Begins (o.acts ++ acts) all → Stops start all c m
+loads_stop start o m acts all c sh only h b =
+    let r = found (lengths_of start.cells) acts c h in
+    record {
+      before = with_more o r.before;
+      shows = loads_show start o m r.before sh (loads_front r.before _ (subst OnlyLoads r.first.split only)) r.first.within;
+      act = r.first.act;
+      past = r.first.past;
+      first = begins_then _ (o.acts ++ acts) all (record { more = r.first.after; rest = ap (λ (xs : List Act). o.acts ++ xs) r.first.split ∙ cut o.acts r.before r.first.after r.first.act }) b;
+    }
 
-pub given_word : (s : State) (m : Machine) (q place at : ℕ) (words : List ℕ) (word : ℕ) → Shows s.out m → place ≡ q - 1 → at ≡ slice_index m.given place → row m.world.now.left place ≡ words → word ≡ slice_index words at → word ≡ head_or_zero (row s.out.left (q - 1))
-given_word s m q place at words word sh ep ea er ew =
-    ew ∙ ap (λ (n : ℕ). slice_index words n) ea ∙ ap (λ (ws : List ℕ). slice_index ws (slice_index m.given place)) (sym er)
-    ∙ sym (gives_word m.given m.world.now.left place) ∙ ap (λ (p : ℕ). head_or_zero (row (rests m.given m.world.now.left) p)) ep ∙ ap (λ (left : List (List ℕ)). head_or_zero (row left (q - 1))) (sym sh.left)
+-- more acts stop at the same act
+pub stops_more : (start : Outside) (xs ys : List Act) (c : ℕ) (m : Memory) → Begins xs ys → Stops start xs c m → Stops start ys c m
+stops_more start xs ys c m b s = record { before = s.before; shows = s.shows; act = s.act; past = s.past; first = begins_then _ xs ys s.first b }
 
-give_shows : (s : State) (q x : ℕ) (m : Machine) (now : List ℕ) (place : ℕ) → Shows s.out m → place ≡ q - 1 → length now ≡ length m.given → with_row (rests m.given m.world.now.left) place (rest_of (row (rests m.given m.world.now.left) place)) ≡ rests now m.world.now.left → Shows (given s q x).out (record m { given = now })
-give_shows s q x m now place sh ep el e = record {
-  cells = sh.cells;
-  input = sh.input;
-  left = ap (λ (left : List (List ℕ)). with_row left (q - 1) (rest_of (row left (q - 1)))) sh.left ∙ ap (λ (p : ℕ). with_row (rests m.given m.world.now.left) p (rest_of (row (rests m.given m.world.now.left) p))) (sym ep) ∙ e;
-  ports = el ∙ sh.ports;
-  printed = silent_printed s.out.acts (gives q ∷ []) (silent_give q) ∙ sh.printed;
-  took = silent_took s.out.acts (gives q ∷ []) (silent_give q) ∙ sh.took;
-}
+-- evaluation in a state that the code holds
+module _ (start : Outside) (s : State) (m : Memory) (vars : List ℕ) (h : Holds start s m vars) where
+  lens : lengths_of m.cells ≡ lengths_of start.cells
+  lens = lengths_held start s.out m h.out
 
-pub give_more : (s : State) (q x : ℕ) (m : Machine) (place at : ℕ) (now : List ℕ) → Shows s.out m → place ≡ q - 1 → at ≡ slice_index m.given place → now ≡ slice_set m.given place (at + 1) → Shows (given s q x).out (record m { given = now })
-give_more s q x m place at now sh ep ea en =
-    let e : at + 1 ≡ suc (slice_index m.given place) = omega (arith, ea) in
-    give_shows s q x m now place sh ep (ap length en ∙ length_set m.given place (at + 1))
-    (gives_more m.given m.world.now.left place sh.ports ∙ ap (λ (ns : List ℕ). rests ns m.world.now.left) (ap (λ (n : ℕ). slice_set m.given place n) (sym e) ∙ sym en))
+  -- the code's value is the run's
+  pub value_is : (t : Term) → value t vars m.cells ≡ (value_of t s).0
+  value_is t = ap (λ (vs : List ℕ). value t vs m.cells) (sym h.same_vars) ∙ ap (λ (cs : List (List ℕ)). value t s.vars cs) (sym h.out.out.same_cells)
 
-pub give_none : (s : State) (q x : ℕ) (m : Machine) (place at : ℕ) (words : List ℕ) → Shows s.out m → place ≡ q - 1 → at ≡ slice_index m.given place → row m.world.now.left place ≡ words → length words ≤ at → Shows (given s q x).out m
-give_none s q x m place at words sh ep ea er le =
-    let l : length (row m.world.now.left place) ≤ slice_index m.given place = subst (λ (n : ℕ). length (row m.world.now.left place) ≤ n) ea (subst (λ (ws : List ℕ). length ws ≤ at) (sym er) le) in
-    give_shows s q x m m.given place sh ep refl (gives_none m.given m.world.now.left place l)
+  -- so are the values of arguments
+  pub values_are : (ts : List Term) → values ts vars m.cells ≡ (values_of ts s).0
+  values_are ts = ap (λ (vs : List ℕ). values ts vs m.cells) (sym h.same_vars) ∙ ap (λ (cs : List (List ℕ)). values ts s.vars cs) (sym h.out.out.same_cells)
 
-pub zeros_more : (n m : ℕ) → m ≡ suc n → zeros n ++ 0 ∷ [] ≡ zeros m
-zeros_more n m e = at n ∙ ap zeros (sym e)
-  where
-    at : (n : ℕ) → zeros n ++ 0 ∷ [] ≡ zeros (suc n)
-    at zero = refl
-    at (suc n) = ap (λ (ns : List ℕ). 0 ∷ ns) (at n)
+  -- so are its loads
+  pub loads_are : (t : Term) → first_past (lengths_of m.cells) (loads_of t vars m.cells) ≡ first_past (lengths_of start.cells) (loads_of t s.vars s.out.cells)
+  loads_are t =
+      ap (λ (ns : List ℕ). first_past ns (loads_of t vars m.cells)) lens
+      ∙ ap (λ (vs : List ℕ). first_past (lengths_of start.cells) (loads_of t vs m.cells)) (sym h.same_vars)
+      ∙ ap (λ (cs : List (List ℕ)). first_past (lengths_of start.cells) (loads_of t s.vars cs)) (sym h.out.out.same_cells)
+
+  all_loads_are : (ts : List Term) → first_past (lengths_of m.cells) (all_loads ts vars m.cells) ≡ first_past (lengths_of start.cells) (all_loads ts s.vars s.out.cells)
+  all_loads_are ts =
+      ap (λ (ns : List ℕ). first_past ns (all_loads ts vars m.cells)) lens
+      ∙ ap (λ (vs : List ℕ). first_past (lengths_of start.cells) (all_loads ts vs m.cells)) (sym h.same_vars)
+      ∙ ap (λ (cs : List (List ℕ)). first_past (lengths_of start.cells) (all_loads ts s.vars cs)) (sym h.out.out.same_cells)
+
+  -- no load is past
+  pub value_holds : (t : Term) → first_past (lengths_of m.cells) (loads_of t vars m.cells) ≡ None → Holds start (value_of t s).1 m vars
+  value_holds t e = record {
+    out = loads_show start s.out m (loads_of t s.vars s.out.cells) h.out (only_loads t s.vars s.out.cells) (all_within (lengths_of start.cells) _ (sym (loads_are t) ∙ e));
+    same_vars = h.same_vars;
+  }
+
+  -- no load of the arguments is past
+  pub values_hold : (ts : List Term) → first_past (lengths_of m.cells) (all_loads ts vars m.cells) ≡ None → Holds start (values_of ts s).1 m vars
+  values_hold ts e = record {
+    out = loads_show start s.out m (all_loads ts s.vars s.out.cells) h.out (only_all_loads ts s.vars s.out.cells) (all_within (lengths_of start.cells) _ (sym (all_loads_are ts) ∙ e));
+    same_vars = h.same_vars;
+  }
+
+  -- a load is past
+  pub value_stops : (t : Term) (c : ℕ) (all : List Act) → first_past (lengths_of m.cells) (loads_of t vars m.cells) ≡ Some c → Begins (value_of t s).1.out.acts all → Stops start all c m
+  value_stops t c all e b = loads_stop start s.out m (loads_of t s.vars s.out.cells) all c h.out (only_loads t s.vars s.out.cells) (sym (loads_are t) ∙ e) b
+
+  -- a load of the arguments is past
+  pub values_stop : (ts : List Term) (c : ℕ) (all : List Act) → first_past (lengths_of m.cells) (all_loads ts vars m.cells) ≡ Some c → Begins (values_of ts s).1.out.acts all → Stops start all c m
+  values_stop ts c all e b = loads_stop start s.out m (all_loads ts s.vars s.out.cells) all c h.out (only_all_loads ts s.vars s.out.cells) (sym (all_loads_are ts) ∙ e) b
+
+-- acts more at the end
+pub one_more : (xs : List Act) (a : Act) → Begins xs (xs ++ a ∷ [])
+one_more xs a = record { more = a ∷ []; rest = refl }

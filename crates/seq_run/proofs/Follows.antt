@@ -1,134 +1,158 @@
 -- What the code does at each step is what the run does.
-use Rattle.std.proofs.Common.{rules, ◌≡◌, ℕ, zero, suc, ◌+◌, ◌-◌, ◌<◌, ◌≤◌, ◌==◌, Bool, true, false, List, [], ◌∷◌, ◌++◌, Option, Some, None, length, take, drop, if◌then◌else◌, slice_index_or, slice_set, refl, sym, ap, ◌∙◌, subst, arith}
+use mathlib.Core.Path.{fun_ext}
+use Rattle.std.proofs.Common.{rules, ◌≡◌, ℕ, zero, suc, ◌+◌, ◌-◌, ◌<◌, ◌≤◌, ◌==◌, Bool, true, false, List, [], ◌∷◌, ◌++◌, Option, Some, None, length, map, take, drop, if◌then◌else◌, slice_index_or, refl, sym, ap, ◌∙◌, subst, append_assoc, arith}
+use Rattle.std.proofs.lemmas.List.{append-nil}
 use Rattle.std.proofs.lemmas.Bool.{eqb-true}
 use Rattle.std.proofs.lemmas.Bool.Decides.{nat_tests}
-use Rattle.ws_words.specs.Outside.{Act, Outside, State, row, head_or_zero, zeros, stored, printed, taken, has_read, given}
-use Rattle.src_ast.specs.Turns.{Outcome, Ended, Out, and_then, turn, CallEnd, Returned, Stopped, with_result, back_in, ending, loop}
-use Rattle.src_ast.specs.Meaning.{Calls}
-use Rattle.seq_run.specs.Resolved as resolved
-use Rattle.seq_run.specs.Resolved.{Term, Number, Var, Cell, Signed, Binary, Action, Steps, Nothing, Then, Proc, value, loads_of, values, all_loads, value_of, values_of, done, run_one, run_all, run_proc, finish, calls_below, nth_proc}
-use Rattle.seq_run.specs.View as view
-use Rattle.seq_run.specs.View.{row_list}
-use Rattle.seq_run.specs.Shows.{Shows, Holds, FlowIs, ReplyIs, Upto, out_flag}
-use Rattle.seq_run.specs.Weight.{weight, heft, weight_below}
 use Rattle.std.specs.Prelude.{Vec}
 use Rattle.std.specs.declared.alloc.Global.{Global}
+use Rattle.ws_words.specs.Memory.{lengths_of}
+use Rattle.ws_words.specs.Outside.{Act, Outside, State, zeros}
+use Rattle.ws_words.specs.Past.{AreWithin}
+use Rattle.ws_words.specs.declared.memory.Memory.{Memory}
+use Rattle.src_ast.specs.Turns.{Outcome, Ended, Out, and_then, CallEnd, Returned, Stopped, with_result, back_in, ending, loop}
+use Rattle.src_ast.specs.Meaning.{Calls}
+use Rattle.src_ast.specs.Runs.{outside_of}
+use Rattle.cfg_core.specs.Graph.{Term}
+use Rattle.cfg_core.specs.Walk.{value, values, loads_of, all_loads, value_of, values_of}
+use Rattle.cfg_core.specs.View as graph
+use Rattle.cfg_core.specs.declared.blocks.Term.{Term as CodeTerm}
+use Rattle.seq_run.specs.Resolved as resolved
+use Rattle.seq_run.specs.Resolved.{Action, Steps, Nothing, Then, Proc, done, run_one, run_all, run_proc, finish, calls_below, nth_proc}
+use Rattle.seq_run.specs.Firsts.{first_past}
+use Rattle.seq_run.specs.Laws.{Begins}
+use Rattle.seq_run.specs.Seen.{seen, call_seen}
+use Rattle.seq_run.specs.Shows.{Shows, Holds, Stops, Faulted, PartEnded, PartOut, FlowIs, CallReturned, CallOut, ReplyIs, Upto, stop_flag}
+use Rattle.seq_run.specs.TurnsLeft.{AtMost}
+use Rattle.seq_run.specs.View as view
+use Rattle.seq_run.specs.View.{row_list}
+use Rattle.seq_run.specs.Weight.{weight, heft, weight_below}
 use Rattle.seq_run.specs.declared.tree.Step.TheVariants as code
 use Rattle.seq_run.specs.declared.tree.Step.TheFolds.{the_lemmas}
 use Rattle.seq_run.specs.declared.tree.Step.{Step}
-use Rattle.seq_run.specs.declared.tree.Term.{Term as CodeTerm}
-use Rattle.seq_run.specs.declared.tree.Action.{Action as CodeAction}
 use Rattle.seq_run.specs.declared.tree.Proc.{Proc as CodeProc}
-use Rattle.seq_run.specs.declared.machine.Machine.{Machine}
-use Rattle.seq_run.specs.declared.run.Flow.{Flow}
-use Rattle.seq_run.specs.declared.run.Flow.TheVariants as flows
-use Rattle.seq_run.specs.TurnsLeft.{AtMost}
-use Rattle.seq_run.proofs.Acts.{Silent, silent_append, silent_load, silent_none, silent_printed, silent_took}
+use Rattle.seq_run.specs.declared.runner.Flow.{Flow}
+use Rattle.seq_run.specs.declared.runner.Flow.TheVariants as flows
+use Rattle.seq_run.specs.declared.runner.Reply.{Reply}
+use Rattle.seq_run.specs.declared.runner.Reply.TheVariants as replies
+use Rattle.seq_run.proofs.TurnsLeft.{calls_most, CallsAtMost}
+use Rattle.seq_run.proofs.Cost.{Cost, one_cost, all_cost, calls_cost, CallsCost}
+use Rattle.seq_run.proofs.Grows.{OutcomeTells, CallTells, CallsTell, all_tells, finish_tells, loop_tells}
+use Rattle.seq_run.proofs.Fronts.{begins_all, outcome_begins, call_begins, then_begins, back_begins}
+use Rattle.seq_run.proofs.Effects.{value_is, values_are, value_holds, value_stops, values_stop, stops_more}
 
-quiet : (t : Term) (vars : List ℕ) (cells : List (List ℕ)) → Silent (loads_of t vars cells)
-quiet (Number n) vars cells = silent_none
-quiet (Var x) vars cells = silent_none
-quiet (Cell a t) vars cells = silent_append (loads_of t vars cells) _ (quiet t vars cells) (silent_load a (value t vars cells))
-quiet (Signed s t) vars cells = quiet t vars cells
-quiet (Binary op a b) vars cells = silent_append (loads_of a vars cells) (loads_of b vars cells) (quiet a vars cells) (quiet b vars cells)
+-- the same where a turn is wanted, and else acts that begin with the same
+abbrev Extends : List Act × Bool → List Act × Bool → Type 0
+Extends x y = (x.1 ≡ true → y ≡ x) × Begins x.0 y.0
 
-all_quiet : (ts : List Term) (vars : List ℕ) (cells : List (List ℕ)) → Silent (all_loads ts vars cells)
-all_quiet [] vars cells = silent_none
-all_quiet (t ∷ ts) vars cells = silent_append (loads_of t vars cells) (all_loads ts vars cells) (quiet t vars cells) (all_quiet ts vars cells)
+extends_same : (x y : List Act × Bool) → y ≡ x → Extends x y
+extends_same x y e = (λ h. e, subst (λ (z : List Act × Bool). Begins x.0 z.0) (sym e) (begins_all x.0))
 
-with_silent : (o : Outside) (m : Machine) (acts : List Act) → Shows o m → Silent acts → Shows (record { cells = o.cells; input = o.input; left = o.left; acts = o.acts ++ acts }) m
-with_silent o m acts sh q = record {
-  cells = sh.cells;
-  input = sh.input;
-  left = sh.left;
-  ports = sh.ports;
-  printed = silent_printed o.acts acts q ∙ sh.printed;
-  took = silent_took o.acts acts q ∙ sh.took;
+-- a fault in a part is one in what goes on as the part does, some turns later
+shifted : (start : Outside) (p q : ℕ → List Act × Bool) (cost turns k c : ℕ) (m : Memory) (left : ℕ) → turns ≡ k + cost → ((n : ℕ) → Extends (p n) (q (n + cost))) → Faulted start p k c m left → Faulted start q turns c m left
+shifted start p q cost turns k c m left e x f = record {
+  earlier = f.earlier + cost;
+  sum = omega (arith, e, f.sum);
+  stops =
+      let z : suc f.earlier + cost ≡ suc (f.earlier + cost) = omega arith in
+      subst (λ (n : ℕ). Stops start (q n).0 c m) z (stops_more start (p (suc f.earlier)).0 (q (suc f.earlier + cost)).0 c m (x (suc f.earlier)).1 f.stops);
+  wants = ap (λ (y : List Act × Bool). y.1) ((x f.earlier).0 f.wants) ∙ f.wants;
+  within = subst (λ (y : List Act × Bool). AreWithin (lengths_of start.cells) y.0) (sym ((x f.earlier).0 f.wants)) f.within;
 }
 
-pub loaded : (t : Term) (s : State) (m : Machine) → Shows s.out m → Shows (value_of t s).1.out m
-loaded t s m sh = with_silent s.out m (loads_of t s.vars s.out.cells) sh (quiet t s.vars s.out.cells)
+-- a part that goes on as another does, some turns later
+pub flow_shift : (start : Outside) (p q : ℕ → Outcome) (cost turns k : ℕ) (f : Flow) (m : Memory) (vars : List ℕ) (left : ℕ) → turns ≡ k + cost → ((n : ℕ) → q (n + cost) ≡ p n) → FlowIs start p k f m vars left → FlowIs start q turns f m vars left
+flow_shift start p q cost turns k flows.Ended m vars left e x h = subst (λ (o : Outcome). PartEnded start o m vars left) (sym (x k) ∙ ap q (sym e)) h
+flow_shift start p q cost turns k flows.Out m vars left e x h = subst (λ (o : Outcome). PartOut start o m) (sym (x k) ∙ ap q (sym e)) h
+flow_shift start p q cost turns k (flows.Fault c) m vars left e x h = shifted start (λ n. seen (p n)) (λ n. seen (q n)) cost turns k c m left e (λ n. extends_same (seen (p n)) (seen (q (n + cost))) (ap seen (x n))) h
 
-pub all_loaded : (ts : List Term) (s : State) (m : Machine) → Shows s.out m → Shows (values_of ts s).1.out m
-all_loaded ts s m sh = with_silent s.out m (all_loads ts s.vars s.out.cells) sh (all_quiet ts s.vars s.out.cells)
+-- so with a call
+pub reply_shift : (start : Outside) (p q : ℕ → CallEnd) (cost turns k : ℕ) (r : Reply) (m : Memory) (left : ℕ) → turns ≡ k + cost → ((n : ℕ) → q (n + cost) ≡ p n) → ReplyIs start p k r m left → ReplyIs start q turns r m left
+reply_shift start p q cost turns k (replies.Value w) m left e x h = subst (λ (o : CallEnd). CallReturned start o w m left) (sym (x k) ∙ ap q (sym e)) h
+reply_shift start p q cost turns k replies.Out m left e x h = subst (λ (o : CallEnd). CallOut start o m) (sym (x k) ∙ ap q (sym e)) h
+reply_shift start p q cost turns k (replies.Fault c) m left e x h = shifted start (λ n. call_seen (p n)) (λ n. call_seen (q n)) cost turns k c m left e (λ n. extends_same (call_seen (p n)) (call_seen (q (n + cost))) (ap call_seen (x n))) h
 
-pub loaded_holds : (t : Term) (s : State) (m : Machine) (vars : List ℕ) → Holds s m vars → Holds (value_of t s).1 m vars
-loaded_holds t s m vars h = record { out = loaded t s m h.out; same_vars = h.same_vars }
+-- after one turn
+pub after_turn : (start : Outside) (p q : ℕ → Outcome) (turns : ℕ) (f : Flow) (m : Memory) (vars : List ℕ) (left : ℕ) → 0 < turns → ((n : ℕ) → q (suc n) ≡ p n) → FlowIs start p (turns - 1) f m vars left → FlowIs start q turns f m vars left
+after_turn start p q turns f m vars left lt x h = flow_shift start p q 1 turns (turns - 1) f m vars left (omega arith) (λ n. let z : n + 1 ≡ suc n = omega arith in ap q z ∙ x n) h
 
-pub value_is : (t : Term) (s : State) (m : Machine) (vars : List ℕ) → Holds s m vars → value t vars m.cells ≡ (value_of t s).0
-value_is t s m vars h = ap (λ (vs : List ℕ). value t vs m.cells) (sym h.same_vars) ∙ ap (λ (cs : List (List ℕ)). value t s.vars cs) (sym h.out.cells)
+-- what stops first stops the whole
+pub then_stops : (start : Outside) (p : ℕ → Outcome) (go : ℕ → State → ℕ → Outcome) (turns : ℕ) (f : Flow) (m : Memory) (vars now : List ℕ) (left : ℕ) → stop_flag f ≡ true → ((n : ℕ) (s : State) (k : ℕ) → OutcomeTells s.out (go n s k)) → FlowIs start p turns f m vars left → FlowIs start (λ n. and_then (p n) (go n)) turns f m now left
+then_stops start p go turns flows.Ended m vars now left e t h = absurd (cc)
+then_stops start p go turns flows.Out m vars now left e t h = at (p turns) h
+  where
+    at : (o : Outcome) → PartOut start o m → PartOut start (and_then o (go turns)) m
+    at (Ended s k) h = absurd h
+    at (Out o) h = h
+then_stops start p go turns (flows.Fault c) m vars now left e t h =
+    shifted start (λ n. seen (p n)) (λ n. seen (and_then (p n) (go n))) 0 turns turns c m left (omega arith)
+    (λ n. let z : n + 0 ≡ n = omega arith in subst (λ (k : ℕ). Extends (seen (p n)) (seen (and_then (p k) (go k)))) (sym z) (at n (p n))) h
+  where
+    at : (n : ℕ) (o : Outcome) → Extends (seen o) (seen (and_then o (go n)))
+    at n (Ended s k) = (λ h. absurd (cc), outcome_begins s.out (go n s k) (t n s k))
+    at n (Out o) = (λ h. refl, begins_all o.acts)
 
--- actions
-module _ (s : State) (m : Machine) (vars : List ℕ) (h : Holds s m vars) where
-  pub assign_holds : (x v : ℕ) (t : Term) (now : List ℕ) → v ≡ value t vars m.cells → now ≡ slice_set vars x v → Holds (done (resolved.Assign x t) s) m now
-  assign_holds x v t now ev en = record {
-    out = loaded t s m h.out;
-    same_vars = ap (λ (w : ℕ). slice_set s.vars x w) (sym (value_is t s m vars h) ∙ sym ev) ∙ ap (λ (vs : List ℕ). slice_set vs x v) h.same_vars ∙ sym en;
-  }
+-- before its first turn a part wants it; with one it stops
+pub stops_at_once : (start : Outside) (part : ℕ → Outcome) (s : State) (turns c : ℕ) (m held : Memory) (vars : List ℕ) → 0 < turns → part 0 ≡ Out s.out → Holds start s held vars → Stops start (seen (part 1)).0 c m → Faulted start (λ n. seen (part n)) turns c m (turns - 1)
+stops_at_once start part s turns c m held vars lt e h st = record {
+  earlier = 0;
+  sum = omega arith;
+  stops = st;
+  wants = ap (λ (o : Outcome). (seen o).1) e;
+  within = subst (λ (o : Outcome). AreWithin (lengths_of start.cells) (seen o).0) (sym e) h.out.within;
+}
 
-  pub store_holds : (a i v : ℕ) (t u : Term) (n : Machine) → i ≡ value t vars m.cells → v ≡ value u vars m.cells → ((z : State) → Shows z.out m → Shows (stored z a i v).out n) → Holds (done (resolved.Store a t u) s) n vars
-  store_holds a i v t u n ei ev f = record {
-    out =
-        let g = f (value_of u (value_of t s).1).1 (loaded u (value_of t s).1 m (loaded t s m h.out)) in
-        subst (λ (j : ℕ). Shows (stored (value_of u (value_of t s).1).1 a j (value_of u (value_of t s).1).0).out n) (ei ∙ value_is t s m vars h)
-        (subst (λ (w : ℕ). Shows (stored (value_of u (value_of t s).1).1 a i w).out n) (ev ∙ value_is u s m vars h) g);
-    same_vars = h.same_vars;
-  }
+-- where no turn is left
+pub no_turn : (start : Outside) (part : ℕ → Outcome) (s : State) (turns : ℕ) (m : Memory) (vars : List ℕ) → turns ≡ 0 → part 0 ≡ Out s.out → Holds start s m vars → PartOut start (part turns) m
+no_turn start part s turns m vars z e h = subst (λ (o : Outcome). PartOut start o m) (sym (ap part z ∙ e)) h.out
 
-  pub print_holds : (v : ℕ) (t : Term) (n : Machine) → v ≡ value t vars m.cells → ((z : State) → Shows z.out m → Shows (printed z v).out n) → Holds (done (resolved.Print t) s) n vars
-  print_holds v t n ev f = record {
-    out = subst (λ (w : ℕ). Shows (printed (value_of t s).1 w).out n) (ev ∙ value_is t s m vars h) (f (value_of t s).1 (loaded t s m h.out));
-    same_vars = h.same_vars;
-  }
-
-  pub take_holds : (p v : ℕ) (t : Term) (n : Machine) → v ≡ value t vars m.cells → ((z : State) → Shows z.out m → Shows (taken z p v).out n) → Holds (done (resolved.Take p t) s) n vars
-  take_holds p v t n ev f = record {
-    out = subst (λ (w : ℕ). Shows (taken (value_of t s).1 p w).out n) (ev ∙ value_is t s m vars h) (f (value_of t s).1 (loaded t s m h.out));
-    same_vars = h.same_vars;
-  }
-
-  pub read_holds : (x w : ℕ) (n : Machine) (now : List ℕ) → ((z : State) → Shows z.out m → w ≡ head_or_zero z.out.input) → ((z : State) (y : ℕ) → Shows z.out m → Shows (has_read z y).out n) → now ≡ slice_set vars x w → Holds (done (resolved.Read x) s) n now
-  read_holds x w n now ew f en = record {
-    out = f s x h.out;
-    same_vars = ap (λ (v : ℕ). slice_set s.vars x v) (sym (ew s h.out)) ∙ ap (λ (vs : List ℕ). slice_set vs x w) h.same_vars ∙ sym en;
-  }
-
-  pub give_holds : (p x w : ℕ) (n : Machine) (now : List ℕ) → ((z : State) → Shows z.out m → w ≡ head_or_zero (row z.out.left (p - 1))) → ((z : State) (y : ℕ) → Shows z.out m → Shows (given z p y).out n) → now ≡ slice_set vars x w → Holds (done (resolved.Give p x) s) n now
-  give_holds p x w n now ew f en = record {
-    out = f s x h.out;
-    same_vars = ap (λ (v : ℕ). slice_set s.vars x v) (sym (ew s h.out)) ∙ ap (λ (vs : List ℕ). slice_set vs x w) h.same_vars ∙ sym en;
-  }
-
-pub from_action : (a b : CodeAction) (s : State) (m : Machine) (vars : List ℕ) → b ≡ a → Holds (done (view.action a) s) m vars → Holds (done (view.action b) s) m vars
-from_action a b s m vars e h = subst (λ (x : CodeAction). Holds (done (view.action x) s) m vars) (sym e) h
-
-pub values_more : (ts : List CodeTerm) (vars : List ℕ) (cells : List (List ℕ)) (i : ℕ) (t : CodeTerm) (words : List ℕ) → i < length ts → t ≡ slice_index_or ts i t → words ≡ values (view.terms (take i ts)) vars cells → words ++ value (view.term t) vars cells ∷ [] ≡ values (view.terms (take (i + 1) ts)) vars cells
+-- the value of one term more
+pub values_more : (ts : List CodeTerm) (vars : List ℕ) (cells : List (List ℕ)) (i : ℕ) (t : CodeTerm) (words : List ℕ) → i < length ts → t ≡ slice_index_or ts i t → words ≡ values (map graph.term (take i ts)) vars cells → words ++ value (graph.term t) vars cells ∷ [] ≡ values (map graph.term (take (i + 1) ts)) vars cells
 values_more ts vars cells i t words lt e w =
     let z : i + 1 ≡ suc i = omega arith in
-    ap (λ (ws : List ℕ). ws ++ value (view.term t) vars cells ∷ []) w ∙ at ts i lt e ∙ ap (λ (n : ℕ). values (view.terms (take n ts)) vars cells) (sym z)
+    ap (λ (ws : List ℕ). ws ++ value (graph.term t) vars cells ∷ []) w ∙ at ts i lt e ∙ ap (λ (n : ℕ). values (map graph.term (take n ts)) vars cells) (sym z)
   where
-    at : (ts : List CodeTerm) (i : ℕ) → i < length ts → t ≡ slice_index_or ts i t → values (view.terms (take i ts)) vars cells ++ value (view.term t) vars cells ∷ [] ≡ values (view.terms (take (suc i) ts)) vars cells
+    at : (ts : List CodeTerm) (i : ℕ) → i < length ts → t ≡ slice_index_or ts i t → values (map graph.term (take i ts)) vars cells ++ value (graph.term t) vars cells ∷ [] ≡ values (map graph.term (take (suc i) ts)) vars cells
     at [] i lt e = absurd (omega arith)
-    at (x ∷ ts) zero lt e = ap (λ (y : CodeTerm). value (view.term y) vars cells ∷ []) e
-    at (x ∷ ts) (suc i) lt e = ap (λ (ws : List ℕ). value (view.term x) vars cells ∷ ws) (at ts i (omega arith) e)
+    at (x ∷ ts) zero lt e = ap (λ (y : CodeTerm). value (graph.term y) vars cells ∷ []) e
+    at (x ∷ ts) (suc i) lt e = ap (λ (ws : List ℕ). value (graph.term x) vars cells ∷ ws) (at ts i (omega arith) e)
 
--- a turn first
-pub behind : (turns : ℕ) (s : State) (go : ℕ → Outcome) (flow : Flow) (m : Machine) (vars : List ℕ) (k : ℕ) → 0 < turns → FlowIs (go (turns - 1)) flow m vars k → FlowIs (turn turns s go) flow m vars k
-behind zero s go flow m vars k lt h = absurd (omega arith)
-behind (suc j) s go flow m vars k lt h = let e : suc j - 1 ≡ j = omega arith in subst (λ (n : ℕ). FlowIs (go n) flow m vars k) e h
+-- the loads of one term more
+pub loads_more : (ts : List CodeTerm) (vars : List ℕ) (cells : List (List ℕ)) (i : ℕ) (t : CodeTerm) → i < length ts → t ≡ slice_index_or ts i t → all_loads (map graph.term (take (i + 1) ts)) vars cells ≡ all_loads (map graph.term (take i ts)) vars cells ++ loads_of (graph.term t) vars cells
+loads_more ts vars cells i t lt e = ap (λ (n : ℕ). all_loads (map graph.term (take n ts)) vars cells) (let z : i + 1 ≡ suc i = omega arith in z) ∙ at ts i lt e
+  where
+    at : (ts : List CodeTerm) (i : ℕ) → i < length ts → t ≡ slice_index_or ts i t → all_loads (map graph.term (take (suc i) ts)) vars cells ≡ all_loads (map graph.term (take i ts)) vars cells ++ loads_of (graph.term t) vars cells
+    at [] i lt e = absurd (omega arith)
+    at (x ∷ ts) zero lt e = append-nil _ ∙ ap (λ (y : CodeTerm). loads_of (graph.term y) vars cells) (sym e)
+    at (x ∷ ts) (suc i) lt e = ap (λ (acts : List Act). loads_of (graph.term x) vars cells ++ acts) (at ts i (omega arith) e) ∙ sym (append_assoc (loads_of (graph.term x) vars cells) _ _)
 
-pub no_turn : (s : State) (go : ℕ → Outcome) (m : Machine) (vars : List ℕ) (turns k : ℕ) → turns ≡ 0 → Shows s.out m → FlowIs (turn turns s go) flows.Out m vars k
-no_turn s go m vars zero k e sh = sh
-no_turn s go m vars (suc j) k e sh = absurd (omega (arith, e))
+-- a choice
+module _ (calls : Calls) (tell : CallsTell calls) (start : Outside) (s : State) (m : Memory) (vars : List ℕ) (h : Holds start s m vars) (turns : ℕ) (lt : 0 < turns) (t : Term) (a b : Steps) where
+  second_arm : (b0 : Bool) (n : ℕ) → b0 ≡ true → (if b0 then run_all calls b (value_of t s).1 n else run_all calls a (value_of t s).1 n) ≡ run_all calls b (value_of t s).1 n
+  second_arm b0 n e = ap (λ (v : Bool). if v then run_all calls b (value_of t s).1 n else run_all calls a (value_of t s).1 n) e
 
-module _ (calls : Calls) (s : State) (m : Machine) (vars : List ℕ) (h : Holds s m vars) (turns : ℕ) (lt : 0 < turns) where
-  pub do_is : (a : Action) (n : Machine) (now : List ℕ) → Holds (done a s) n now → FlowIs (run_one calls (resolved.Do a) s turns) flows.Ended n now (turns - 1)
-  do_is a n now d = behind turns s _ flows.Ended n now (turns - 1) lt (d, refl)
+  first_arm : (b0 : Bool) (n : ℕ) → b0 ≡ false → (if b0 then run_all calls b (value_of t s).1 n else run_all calls a (value_of t s).1 n) ≡ run_all calls a (value_of t s).1 n
+  first_arm b0 n e = ap (λ (v : Bool). if v then run_all calls b (value_of t s).1 n else run_all calls a (value_of t s).1 n) e
 
-  pub if_is : (t : Term) (a b : Steps) (flow : Flow) (n : Machine) (now : List ℕ) (k : ℕ) → (b0 : Bool) → (value t vars m.cells == 0) ≡ b0 → (FlowIs (if b0 then run_all calls b (value_of t s).1 (turns - 1) else run_all calls a (value_of t s).1 (turns - 1)) flow n now k) → FlowIs (run_one calls (resolved.If t a b) s turns) flow n now k
-  if_is t a b flow n now k b0 e g = behind turns s _ flow n now k lt
-      (subst (λ (v : Bool). FlowIs (if v then run_all calls b (value_of t s).1 (turns - 1) else run_all calls a (value_of t s).1 (turns - 1)) flow n now k)
-      (sym e ∙ ap (λ (v : ℕ). v == 0) (value_is t s m vars h)) g)
+  flag_is : (f : Bool) → (value t vars m.cells == 0) ≡ f → ((value_of t s).0 == 0) ≡ f
+  flag_is f e = ap (λ (v : ℕ). v == 0) (sym (value_is start s m vars h t)) ∙ e
+
+  -- the second arm
+  pub if_zero : (f : Flow) (n : Memory) (now : List ℕ) (k : ℕ) → (value t vars m.cells == 0) ≡ true → FlowIs start (run_all calls b (value_of t s).1) (turns - 1) f n now k → FlowIs start (run_one calls (resolved.If t a b) s) turns f n now k
+  if_zero f n now k e g = after_turn start (run_all calls b (value_of t s).1) (run_one calls (resolved.If t a b) s) turns f n now k lt (λ j. second_arm _ j (flag_is true e)) g
+
+  -- the first arm
+  pub if_other : (f : Flow) (n : Memory) (now : List ℕ) (k : ℕ) → (value t vars m.cells == 0) ≡ false → FlowIs start (run_all calls a (value_of t s).1) (turns - 1) f n now k → FlowIs start (run_one calls (resolved.If t a b) s) turns f n now k
+  if_other f n now k e g = after_turn start (run_all calls a (value_of t s).1) (run_one calls (resolved.If t a b) s) turns f n now k lt (λ j. first_arm _ j (flag_is false e)) g
+
+  -- the test has a load that is past
+  pub if_stops : (c : ℕ) (now : List ℕ) → first_past (lengths_of m.cells) (loads_of t vars m.cells) ≡ Some c → FlowIs start (run_one calls (resolved.If t a b) s) turns (flows.Fault c) m now (turns - 1)
+  if_stops c now e = stops_at_once start (run_one calls (resolved.If t a b) s) s turns c m m vars lt refl h
+      (value_stops start s m vars h t c _ e (arm ((value_of t s).0 == 0)))
+    where
+      arm : (f : Bool) → Begins (value_of t s).1.out.acts (seen (if f then run_all calls b (value_of t s).1 0 else run_all calls a (value_of t s).1 0)).0
+      arm true = outcome_begins (value_of t s).1.out _ (all_tells calls tell b (value_of t s).1 0)
+      arm false = outcome_begins (value_of t s).1.out _ (all_tells calls tell a (value_of t s).1 0)
 
 -- a step among the steps that are left
 next_steps : (ss : List Step) (i : ℕ) (x : Step) → i < length ss → x ≡ slice_index_or ss i x → view.steps (drop i ss) ≡ Then (view.step x) (view.steps (drop (suc i) ss))
@@ -140,59 +164,103 @@ heft_some : (st : Steps) → 0 < heft st
 heft_some Nothing = omega arith
 heft_some (Then s rest) = omega arith
 
+-- a step weighs less than the steps that it is among
 pub weight_lt : (ss : List Step) (i : ℕ) (x : Step) → i < length ss → x ≡ slice_index_or ss i x → suc (weight (view.step x)) < heft (view.steps ss)
 weight_lt [] i x lt e = absurd (omega arith)
 weight_lt (y ∷ ss) zero x lt e = let h : weight (view.step x) ≡ weight (view.step y) = ap (λ (z : Step). weight (view.step z)) e in let s = heft_some (view.steps ss) in omega arith
 weight_lt (y ∷ ss) (suc i) x lt e = let h = weight_lt ss i x (omega arith) e in omega arith
 
-flow_then : (o : Outcome) (go : State → ℕ → Outcome) (m : Machine) (vars : List ℕ) (turns : ℕ) → FlowIs o flows.Ended m vars turns → (whole : Outcome) → and_then o go ≡ whole → Upto (λ at. go at turns) whole m vars
-flow_then (Ended u k) go m vars turns h whole e = record { at = u; holds = h.0; same = ap (go u) (sym h.1) ∙ e }
-flow_then (Out o) go m vars turns h whole e = absurd h
+-- what is left goes as the whole does
+pub upto_is : (start : Outside) (now : State → ℕ → Outcome) (whole : ℕ → Outcome) (turns left k : ℕ) (m n : Memory) (vars later : List ℕ) (f : Flow) → (u : Upto start now whole turns m vars left) → FlowIs start (now u.at) left f n later k → FlowIs start whole turns f n later k
+upto_is start now whole turns left k m n vars later f u g = flow_shift start (now u.at) whole u.spent turns left f n later k u.sum u.same g
 
--- one more step
-pub stepped : (calls : Calls) (ss : List Step) (i : ℕ) (x : Step) (whole : Outcome) (m n : Machine) (vars now : List ℕ) (turns k : ℕ) → i < length ss → x ≡ slice_index_or ss i x → Upto (λ at. run_all calls (view.steps (drop i ss)) at turns) whole m vars → ((s : State) → Holds s m vars → FlowIs (run_one calls (view.step x) s turns) flows.Ended n now k) → Upto (λ at. run_all calls (view.steps (drop (suc i) ss)) at k) whole n now
-stepped calls ss i x whole m n vars now turns k lt e u f =
-    flow_then (run_one calls (view.step x) u.at turns) (run_all calls (view.steps (drop (suc i) ss))) n now k (f u.at u.holds) whole
-    (ap (λ (st : Steps). run_all calls st u.at turns) (sym (next_steps ss i x lt e)) ∙ u.same)
+-- the state at the end of a part, and what the part took
+record Ends (start : Outside) (p : ℕ → Outcome) (k : ℕ) (m : Memory) (vars : List ℕ) (left : ℕ) : Type 0 where
+  at : State
+  holds : Holds start at m vars
+  cost : ℕ
+  sum : k ≡ left + cost
+  again : (i : ℕ) → p (i + cost) ≡ Ended at i
 
-out_then : (o : Outcome) (go : State → ℕ → Outcome) (m : Machine) (vars now : List ℕ) (turns k : ℕ) → FlowIs o flows.Out m vars turns → FlowIs (and_then o go) flows.Out m now k
-out_then (Ended u j) go m vars now turns k h = absurd h
-out_then (Out o) go m vars now turns k h = h
+ends : (start : Outside) (p : ℕ → Outcome) (k : ℕ) (m : Memory) (vars : List ℕ) (left : ℕ) → ((s : State) (i : ℕ) → p k ≡ Ended s i → Cost p s i k) → FlowIs start p k flows.Ended m vars left → Ends start p k m vars left
+ends start p k m vars left f h = at (p k) refl h
+  where
+    at : (o : Outcome) → p k ≡ o → PartEnded start o m vars left → Ends start p k m vars left
+    at (Ended s i) e g = let r = f s i e in record { at = s; holds = g.0; cost = r.cost; sum = omega (arith, r.sum, g.1); again = r.again }
+    at (Out o) e g = absurd g
 
-pub stopped_at : (calls : Calls) (ss : List Step) (i : ℕ) (x : Step) (whole : Outcome) (m n : Machine) (vars now : List ℕ) (turns k : ℕ) → i < length ss → x ≡ slice_index_or ss i x → Upto (λ at. run_all calls (view.steps (drop i ss)) at turns) whole m vars → ((s : State) → Holds s m vars → FlowIs (run_one calls (view.step x) s turns) flows.Out n now k) → FlowIs whole flows.Out n now k
-stopped_at calls ss i x whole m n vars now turns k lt e u f =
-    subst (λ (o : Outcome). FlowIs o flows.Out n now k) (ap (λ (st : Steps). run_all calls st u.at turns) (sym (next_steps ss i x lt e)) ∙ u.same)
-    (out_then (run_one calls (view.step x) u.at turns) (run_all calls (view.steps (drop (suc i) ss))) n now now k k (f u.at u.holds))
+-- among steps
+module _ (calls : Calls) (most : CallsAtMost calls) (costs : CallsCost calls) (tell : CallsTell calls) (start : Outside) (ss : List Step) (i : ℕ) (x : Step) (whole : ℕ → Outcome) (turns left : ℕ) (m : Memory) (vars : List ℕ) (lt : i < length ss) (is : x ≡ slice_index_or ss i x) (u : Upto start (run_all calls (view.steps (drop i ss))) whole turns m vars left) where
+  here : (k : ℕ) → whole (k + u.spent) ≡ and_then (run_one calls (view.step x) u.at k) (run_all calls (view.steps (drop (suc i) ss)))
+  here k = u.same k ∙ ap (λ (st : Steps). run_all calls st u.at k) (next_steps ss i x lt is)
 
-pub is_ended : (o : Outcome) (f : Flow) (m : Machine) (vars : List ℕ) (k : ℕ) → out_flag f ≡ false → FlowIs o f m vars k → FlowIs o flows.Ended m vars k
-is_ended o flows.Ended m vars k e h = h
-is_ended o flows.Out m vars k e h = absurd (cc)
+  -- one more step
+  pub stepped : (n : Memory) (now : List ℕ) (k next : ℕ) → next ≡ suc i → FlowIs start (run_one calls (view.step x) u.at) left flows.Ended n now k → Upto start (run_all calls (view.steps (drop next ss))) whole turns n now k
+  stepped n now k next en h =
+      let e = ends start (run_one calls (view.step x) u.at) left n now k (λ s j d. one_cost calls most costs (view.step x) u.at left s j d) h in
+      subst (λ (j : ℕ). Upto start (run_all calls (view.steps (drop j ss))) whole turns n now k) (sym en) (record {
+        at = e.at;
+        holds = e.holds;
+        spent = e.cost + u.spent;
+        sum = omega (arith, e.sum, u.sum);
+        same = λ j.
+            let z : j + (e.cost + u.spent) ≡ (j + e.cost) + u.spent = omega arith in
+            ap whole z ∙ here (j + e.cost) ∙ ap (λ (o : Outcome). and_then o (run_all calls (view.steps (drop (suc i) ss)))) (e.again j);
+      })
 
-pub is_out : (o : Outcome) (f : Flow) (m : Machine) (vars : List ℕ) (k : ℕ) → out_flag f ≡ true → FlowIs o f m vars k → FlowIs o flows.Out m vars k
-is_out o flows.Ended m vars k e h = absurd (cc)
-is_out o flows.Out m vars k e h = h
+  -- a step stops the steps
+  pub stopped_at : (n : Memory) (now : List ℕ) (k : ℕ) (f : Flow) → stop_flag f ≡ true → FlowIs start (run_one calls (view.step x) u.at) left f n now k → FlowIs start whole turns f n now k
+  stopped_at n now k f e h =
+      flow_shift start (λ j. and_then (run_one calls (view.step x) u.at j) (run_all calls (view.steps (drop (suc i) ss)))) whole u.spent turns left f n now k u.sum here
+      (then_stops start (run_one calls (view.step x) u.at) (λ j. run_all calls (view.steps (drop (suc i) ss))) left f n now now k e (λ j. all_tells calls tell (view.steps (drop (suc i) ss))) h)
 
-module _ (calls : Calls) (s : State) (m : Machine) (vars : List ℕ) (h : Holds s m vars) (turns : ℕ) (lt : 0 < turns) where
-  back_is : (x : Option ℕ) (e : CallEnd) (n : Machine) (v k : ℕ) (now : List ℕ) → ReplyIs e (Some v) n k → now ≡ with_result x v vars → FlowIs (back_in s.vars x e) flows.Ended n now k
-  back_is x (Returned w o j) n v k now g en = (record { out = g.0; same_vars = ap (λ (u : ℕ). with_result x u s.vars) g.1 ∙ ap (λ (vs : List ℕ). with_result x v vs) h.same_vars ∙ sym en }, g.2)
-  back_is x (Stopped o) n v k now g en = absurd g
+-- what has not stopped has ended
+pub is_ended : (start : Outside) (p : ℕ → Outcome) (turns : ℕ) (f : Flow) (m : Memory) (vars : List ℕ) (k : ℕ) → stop_flag f ≡ false → FlowIs start p turns f m vars k → FlowIs start p turns flows.Ended m vars k
+is_ended start p turns flows.Ended m vars k e h = h
+is_ended start p turns flows.Out m vars k e h = absurd (cc)
+is_ended start p turns (flows.Fault c) m vars k e h = absurd (cc)
 
-  back_out : (x : Option ℕ) (e : CallEnd) (n : Machine) (k : ℕ) (now : List ℕ) → ReplyIs e None n k → FlowIs (back_in s.vars x e) flows.Out n now k
-  back_out x (Returned w o j) n k now g = absurd g
-  back_out x (Stopped o) n k now g = g
+-- calls
+module _ (calls : Calls) (tell : CallsTell calls) (start : Outside) (s : State) (m : Memory) (vars : List ℕ) (h : Holds start s m vars) (turns : ℕ) (lt : 0 < turns) (x : Option ℕ) (f : ℕ) (ts : List Term) where
+  back_seen : (e : CallEnd) → seen (back_in s.vars x e) ≡ call_seen e
+  back_seen (Returned v o k) = refl
+  back_seen (Stopped o) = refl
 
-  values_is : (ts : List Term) → values ts vars m.cells ≡ (values_of ts s).0
-  values_is ts = ap (λ (vs : List ℕ). values ts vs m.cells) (sym h.same_vars) ∙ ap (λ (cs : List (List ℕ)). values ts s.vars cs) (sym h.out.cells)
+  module _ (words : List ℕ) (ew : words ≡ values ts vars m.cells) where
+    called : (j : ℕ) → run_one calls (resolved.Call x f ts) s (suc j) ≡ back_in s.vars x (calls f words (values_of ts s).1.out j)
+    called j = ap (λ (ws : List ℕ). back_in s.vars x (calls f ws (values_of ts s).1.out j)) (sym (ew ∙ values_are start s m vars h ts))
 
-  pub call_is : (x : Option ℕ) (f : ℕ) (ts : List Term) (words : List ℕ) (n : Machine) (v k : ℕ) (now : List ℕ) → words ≡ values ts vars m.cells → ((o : Outside) → Shows o m → ReplyIs (calls f words o (turns - 1)) (Some v) n k) → now ≡ with_result x v vars → FlowIs (run_one calls (resolved.Call x f ts) s turns) flows.Ended n now k
-  call_is x f ts words n v k now ew g en = behind turns s _ flows.Ended n now k lt
-      (subst (λ (ws : List ℕ). FlowIs (back_in s.vars x (calls f ws (values_of ts s).1.out (turns - 1))) flows.Ended n now k) (ew ∙ values_is ts)
-      (back_is x (calls f words (values_of ts s).1.out (turns - 1)) n v k now (g (values_of ts s).1.out (all_loaded ts s m h.out)) en))
+    back_is : (e : CallEnd) (n : Memory) (v k : ℕ) (now : List ℕ) → CallReturned start e v n k → now ≡ with_result x v vars → PartEnded start (back_in s.vars x e) n now k
+    back_is (Returned w o j) n v k now g en = (record { out = g.0; same_vars = ap (λ (u : ℕ). with_result x u s.vars) g.1 ∙ ap (λ (vs : List ℕ). with_result x v vs) h.same_vars ∙ sym en }, g.2)
+    back_is (Stopped o) n v k now g en = absurd g
 
-  pub call_out : (x : Option ℕ) (f : ℕ) (ts : List Term) (words : List ℕ) (n : Machine) (k : ℕ) (now : List ℕ) → words ≡ values ts vars m.cells → ((o : Outside) → Shows o m → ReplyIs (calls f words o (turns - 1)) None n k) → FlowIs (run_one calls (resolved.Call x f ts) s turns) flows.Out n now k
-  call_out x f ts words n k now ew g = behind turns s _ flows.Out n now k lt
-      (subst (λ (ws : List ℕ). FlowIs (back_in s.vars x (calls f ws (values_of ts s).1.out (turns - 1))) flows.Out n now k) (ew ∙ values_is ts)
-      (back_out x (calls f words (values_of ts s).1.out (turns - 1)) n k now (g (values_of ts s).1.out (all_loaded ts s m h.out))))
+    back_out : (e : CallEnd) (n : Memory) → CallOut start e n → PartOut start (back_in s.vars x e) n
+    back_out (Returned w o j) n g = absurd g
+    back_out (Stopped o) n g = g
+
+    -- the call gave a word
+    pub call_is : (n : Memory) (v k : ℕ) (now : List ℕ) → ReplyIs start (calls f words (values_of ts s).1.out) (turns - 1) (replies.Value v) n k → now ≡ with_result x v vars → FlowIs start (run_one calls (resolved.Call x f ts) s) turns flows.Ended n now k
+    call_is n v k now g en =
+        after_turn start (λ j. back_in s.vars x (calls f words (values_of ts s).1.out j)) (run_one calls (resolved.Call x f ts) s) turns flows.Ended n now k lt called (back_is (calls f words (values_of ts s).1.out (turns - 1)) n v k now g en)
+
+    -- it wants a turn
+    pub call_out : (n : Memory) (k : ℕ) (now : List ℕ) → ReplyIs start (calls f words (values_of ts s).1.out) (turns - 1) replies.Out n k → FlowIs start (run_one calls (resolved.Call x f ts) s) turns flows.Out n now k
+    call_out n k now g =
+        after_turn start (λ j. back_in s.vars x (calls f words (values_of ts s).1.out j)) (run_one calls (resolved.Call x f ts) s) turns flows.Out n now k lt called (back_out (calls f words (values_of ts s).1.out (turns - 1)) n g)
+
+    -- it stopped
+    pub call_faulted : (n : Memory) (c k : ℕ) (now : List ℕ) → ReplyIs start (calls f words (values_of ts s).1.out) (turns - 1) (replies.Fault c) n k → FlowIs start (run_one calls (resolved.Call x f ts) s) turns (flows.Fault c) n now k
+    call_faulted n c k now g =
+        after_turn start (λ j. back_in s.vars x (calls f words (values_of ts s).1.out j)) (run_one calls (resolved.Call x f ts) s) turns (flows.Fault c) n now k lt called
+        (subst (λ (p : ℕ → List Act × Bool). Faulted start p (turns - 1) c n k) (fun_ext (λ j. sym (back_seen (calls f words (values_of ts s).1.out j)))) g)
+
+  -- an argument has a load that is past
+  pub arguments_stop : (c : ℕ) (now : List ℕ) → first_past (lengths_of m.cells) (all_loads ts vars m.cells) ≡ Some c → FlowIs start (run_one calls (resolved.Call x f ts) s) turns (flows.Fault c) m now (turns - 1)
+  arguments_stop c now e = stops_at_once start (run_one calls (resolved.Call x f ts) s) s turns c m m vars lt refl h
+      (values_stop start s m vars h ts c _ e (at (calls f (values_of ts s).0 (values_of ts s).1.out 0) (tell f (values_of ts s).0 (values_of ts s).1.out 0)))
+    where
+      at : (r : CallEnd) → CallTells (values_of ts s).1.out r → Begins (values_of ts s).1.out.acts (seen (back_in s.vars x r)).0
+      at r t = back_begins (values_of ts s).1.out.acts s.vars x r (call_begins (values_of ts s).1.out r t)
 
 -- a loop's fuel, of which there is enough, makes no difference
 loop_fuel : (test : State → ℕ × State) (body : State → ℕ → Outcome) → ((s : State) (k : ℕ) → AtMost k (body s k)) → (f g : ℕ) (s : State) (k : ℕ) → k < f → k < g → loop f test body s k ≡ loop g test body s k
@@ -206,30 +274,60 @@ loop_fuel test body most (suc f) (suc g) s (suc j) lf lg =
     after (Ended u i) go went le h = h u i le
     after (Out o) go went le h = refl
 
-module _ (t : Term) (body : State → ℕ → Outcome) (most : (s : State) (k : ℕ) → AtMost k (body s k)) (whole : Outcome) (m : Machine) (vars : List ℕ) (turns : ℕ) (lt : 0 < turns) (u : Upto (λ at. loop (suc turns) (value_of t) body at turns) whole m vars) where
-  opened : (b : Bool) → (value t vars m.cells == 0) ≡ b → (if b then Ended (value_of t u.at).1 (turns - 1) else and_then (body (value_of t u.at).1 (turns - 1)) (loop turns (value_of t) body)) ≡ whole
-  opened b e = by_turns turns lt ∙ u.same
-    where
-      by_turns : (k : ℕ) → 0 < k → (if b then Ended (value_of t u.at).1 (k - 1) else and_then (body (value_of t u.at).1 (k - 1)) (loop k (value_of t) body)) ≡ loop (suc k) (value_of t) body u.at k
-      by_turns zero l = absurd (omega arith)
-      by_turns (suc j) l =
-          let z : suc j - 1 ≡ j = omega arith in
-          ap (λ (i : ℕ). if b then Ended (value_of t u.at).1 i else and_then (body (value_of t u.at).1 i) (loop (suc j) (value_of t) body)) z
-          ∙ ap (λ (v : Bool). if v then Ended (value_of t u.at).1 j else and_then (body (value_of t u.at).1 j) (loop (suc j) (value_of t) body)) (sym e ∙ ap (λ (v : ℕ). v == 0) (value_is t u.at m vars u.holds))
+-- a loop, some of whose turns are spent
+module _ (t : Term) (body : State → ℕ → Outcome) (most : (s : State) (k : ℕ) → AtMost k (body s k)) (tells : (s : State) (k : ℕ) → OutcomeTells s.out (body s k)) (costs : (s : State) (k : ℕ) (u : State) (j : ℕ) → body s k ≡ Ended u j → Cost (body s) u j k) where
+  -- the loop with fuel enough
+  abbrev pub looped : State → ℕ → Outcome
+  looped s k = loop (suc k) (value_of t) body s k
 
-  pub loop_zero : (value t vars m.cells == 0) ≡ true → FlowIs whole flows.Ended m vars (turns - 1)
-  loop_zero e = subst (λ (o : Outcome). FlowIs o flows.Ended m vars (turns - 1)) (opened true e) (loaded_holds t u.at m vars u.holds, refl)
+  module _ (start : Outside) (whole : ℕ → Outcome) (turns left : ℕ) (m : Memory) (vars : List ℕ) (u : Upto start looped whole turns m vars left) where
+    -- the test has a load that is past
+    pub test_stops : (c : ℕ) → 0 < left → first_past (lengths_of m.cells) (loads_of t vars m.cells) ≡ Some c → FlowIs start whole turns (flows.Fault c) m vars (left - 1)
+    test_stops c lt e =
+        upto_is start looped whole turns left (left - 1) m m vars vars (flows.Fault c) u
+        (stops_at_once start (looped u.at) u.at left c m m vars lt refl u.holds (value_stops start u.at m vars u.holds t c _ e (arm ((value_of t u.at).0 == 0))))
+      where
+        arm : (f : Bool) → Begins (value_of t u.at).1.out.acts (seen (if f then Ended (value_of t u.at).1 0 else and_then (body (value_of t u.at).1 0) (loop 1 (value_of t) body))).0
+        arm true = begins_all _
+        arm false = then_begins (value_of t u.at).1.out.acts (body (value_of t u.at).1 0) (loop 1 (value_of t) body) (outcome_begins (value_of t u.at).1.out _ (tells (value_of t u.at).1 0)) (loop_tells 1 t body tells)
 
-  pub loop_next : (n : Machine) (now : List ℕ) (k : ℕ) → (value t vars m.cells == 0) ≡ false → k < turns → ((s : State) → Holds s m vars → FlowIs (body s (turns - 1)) flows.Ended n now k) → Upto (λ at. loop (suc k) (value_of t) body at k) whole n now
-  loop_next n now k e less f =
-      let r = flow_then (body (value_of t u.at).1 (turns - 1)) (loop turns (value_of t) body) n now k (f (value_of t u.at).1 (loaded_holds t u.at m vars u.holds)) whole (opened false e) in
-      record { at = r.at; holds = r.holds; same = loop_fuel (value_of t) body most (suc k) turns r.at k (omega arith) less ∙ r.same }
+    flag_at : (f : Bool) → (value t vars m.cells == 0) ≡ f → ((value_of t u.at).0 == 0) ≡ f
+    flag_at f e = ap (λ (v : ℕ). v == 0) (sym (value_is start u.at m vars u.holds t)) ∙ e
 
-  pub loop_out : (n : Machine) (now : List ℕ) (k : ℕ) → (value t vars m.cells == 0) ≡ false → ((s : State) → Holds s m vars → FlowIs (body s (turns - 1)) flows.Out n now k) → FlowIs whole flows.Out n now k
-  loop_out n now k e f = subst (λ (o : Outcome). FlowIs o flows.Out n now k) (opened false e)
-      (out_then (body (value_of t u.at).1 (turns - 1)) (loop turns (value_of t) body) n now now k k (f (value_of t u.at).1 (loaded_holds t u.at m vars u.holds)))
+    -- the test is 0
+    pub loop_zero : 0 < left → first_past (lengths_of m.cells) (loads_of t vars m.cells) ≡ None → (value t vars m.cells == 0) ≡ true → FlowIs start whole turns flows.Ended m vars (left - 1)
+    loop_zero lt none e =
+        upto_is start looped whole turns left (left - 1) m m vars vars flows.Ended u
+        (after_turn start (λ k. Ended (value_of t u.at).1 k) (looped u.at) left flows.Ended m vars (left - 1) lt
+        (λ k. ap (λ (f : Bool). if f then Ended (value_of t u.at).1 k else and_then (body (value_of t u.at).1 k) (loop (suc k) (value_of t) body)) (flag_at true e))
+        (value_holds start u.at m vars u.holds t none, refl))
 
--- calls
+    again_at : (value t vars m.cells == 0) ≡ false → (k : ℕ) → looped u.at (suc k) ≡ and_then (body (value_of t u.at).1 k) (loop (suc k) (value_of t) body)
+    again_at e k = ap (λ (f : Bool). if f then Ended (value_of t u.at).1 k else and_then (body (value_of t u.at).1 k) (loop (suc k) (value_of t) body)) (flag_at false e)
+
+    -- the body was run once more
+    pub loop_next : (n : Memory) (now : List ℕ) (k : ℕ) → 0 < left → (value t vars m.cells == 0) ≡ false → FlowIs start (body (value_of t u.at).1) (left - 1) flows.Ended n now k → Upto start looped whole turns n now k
+    loop_next n now k lt e h =
+        let r = ends start (body (value_of t u.at).1) (left - 1) n now k (λ s j d. costs (value_of t u.at).1 (left - 1) s j d) h in
+        record {
+          at = r.at;
+          holds = r.holds;
+          spent = suc (r.cost + u.spent);
+          sum = omega (arith, r.sum, u.sum, lt);
+          same = λ j.
+              let z : j + suc (r.cost + u.spent) ≡ suc (j + r.cost) + u.spent = omega arith in
+              ap whole z ∙ u.same (suc (j + r.cost)) ∙ again_at e (j + r.cost) ∙ ap (λ (o : Outcome). and_then o (loop (suc (j + r.cost)) (value_of t) body)) (r.again j)
+              ∙ loop_fuel (value_of t) body most (suc (j + r.cost)) (suc j) r.at j (omega arith) (omega arith);
+        }
+
+    -- the body stopped
+    pub loop_stopped : (n : Memory) (now : List ℕ) (k : ℕ) (f : Flow) → 0 < left → (value t vars m.cells == 0) ≡ false → stop_flag f ≡ true → FlowIs start (body (value_of t u.at).1) (left - 1) f n now k → FlowIs start whole turns f n now k
+    loop_stopped n now k f lt e st h =
+        upto_is start looped whole turns left k m n vars now f u
+        (after_turn start (λ j. and_then (body (value_of t u.at).1 j) (loop (suc j) (value_of t) body)) (looped u.at) left f n now k lt (again_at e)
+        (then_stops start (body (value_of t u.at).1) (λ j. loop (suc j) (value_of t) body) (left - 1) f n now now k st (λ j. loop_tells (suc j) t body tells) h))
+
+-- procedures by number
 if_true : (b : Bool) (e u : CallEnd) → b ≡ true → (if b then e else u) ≡ e
 if_true b e u h = ap (λ (v : Bool). if v then e else u) h
 
@@ -240,6 +338,7 @@ by_flag : (b : Bool) (P : Type 0) → (b ≡ true → P) → (b ≡ false → P)
 by_flag true P f g = f refl
 by_flag false P f g = g refl
 
+-- a call of a procedure by its number
 pub calls_at : (n f : ℕ) (procs : List Proc) → f < n → (args : List ℕ) (o : Outside) (k : ℕ) → calls_below n procs f args o k ≡ run_proc (calls_below f procs) (nth_proc procs f) args o k
 calls_at zero f procs lt args o k = absurd (omega arith)
 calls_at (suc n) f procs lt args o k =
@@ -247,6 +346,7 @@ calls_at (suc n) f procs lt args o k =
     (λ e. if_true (f == n) _ _ e ∙ ap (λ (i : ℕ). run_proc (calls_below i procs) (nth_proc procs i) args o k) (sym (eqb-true f n e)))
     (λ e. if_false (f == n) _ _ e ∙ calls_at n f procs (grind (arith, nat_tests)) args o k)
 
+-- there is no procedure with a larger number
 pub calls_past : (n f : ℕ) (procs : List Proc) → n ≤ f → (args : List ℕ) (o : Outside) (k : ℕ) → calls_below n procs f args o k ≡ Stopped o
 calls_past zero f procs le args o k = refl
 calls_past (suc n) f procs le args o k =
@@ -264,92 +364,136 @@ weight_call (suc n) f procs lt = by_flag (f == n) (weight_below f procs + heft (
     (λ e. subst (λ (i : ℕ). weight_below i procs + heft (nth_proc procs i).body < weight_below (suc n) procs) (sym (eqb-true f n e)) (omega arith))
     (λ e. let h = weight_call n f procs (grind (arith, nat_tests)) in omega arith)
 
+-- the result of a procedure
+pub result_is : (start : Outside) (t : Term) (s : State) (m : Memory) (vars : List ℕ) (v j : ℕ) → Holds start s m vars → 0 < j → first_past (lengths_of m.cells) (loads_of t vars m.cells) ≡ None → v ≡ value t vars m.cells → ReplyIs start (finish (Some t) s) j (replies.Value v) m (j - 1)
+result_is start t s m vars v zero h lt none ev = absurd (omega arith)
+result_is start t s m vars v (suc j) h lt none ev = ((value_holds start s m vars h t none).out, sym (value_is start s m vars h t) ∙ sym ev, omega arith)
+
+-- it wants a turn
+pub result_wants : (start : Outside) (t : Term) (s : State) (m : Memory) (vars : List ℕ) (j k : ℕ) → Holds start s m vars → j ≡ 0 → ReplyIs start (finish (Some t) s) j replies.Out m k
+result_wants start t s m vars zero k h e = h.out
+result_wants start t s m vars (suc j) k h e = absurd (omega (arith, e))
+
+-- it has a load that is past
+pub result_stops : (start : Outside) (t : Term) (s : State) (m : Memory) (vars : List ℕ) (c j : ℕ) → Holds start s m vars → 0 < j → first_past (lengths_of m.cells) (loads_of t vars m.cells) ≡ Some c → ReplyIs start (finish (Some t) s) j (replies.Fault c) m (j - 1)
+result_stops start t s m vars c j h lt e = record {
+  earlier = 0;
+  sum = omega arith;
+  stops = value_stops start s m vars h t c _ e (begins_all _);
+  wants = refl;
+  within = h.out.within;
+}
+
 -- the callee, and what its steps did
-module _ (below f : ℕ) (ps : List CodeProc) (p : CodeProc) (lt : f < below) (in_ps : f < length ps) (is : p ≡ slice_index_or ps f p) (args : List ℕ) (m : Machine) (turns : ℕ) where
-  ended_call : (o : Outcome) (r : Option Term) (reply : Option ℕ) (n e : Machine) (vars : List ℕ) (j k : ℕ) → FlowIs o flows.Ended n vars j → ((s : State) → Holds s n vars → ReplyIs (finish r s j) reply e k) → ReplyIs (ending o (finish r)) reply e k
-  ended_call (Ended s i) r reply n e vars j k h f = subst (λ (a : ℕ). ReplyIs (finish r s a) reply e k) (sym h.1) (f s h.0)
-  ended_call (Out o) r reply n e vars j k h f = absurd h
+module _ (below f : ℕ) (ps : List CodeProc) (p : CodeProc) (lt : f < below) (in_ps : f < length ps) (is : p ≡ slice_index_or ps f p) (start : Outside) (args : List ℕ) (m : Memory) (turns : ℕ) where
+  callee : (o : Outside) (k : ℕ) → calls_below below (view.procs ps) f args o k ≡ run_proc (calls_below f (view.procs ps)) (view.proc p) args o k
+  callee o k = calls_at below f (view.procs ps) lt args o k ∙ ap (λ (q : Proc). run_proc (calls_below f (view.procs ps)) q args o k) (nth_procs ps f p in_ps is)
 
-  out_call : (o : Outcome) (r : Option Term) (n : Machine) (vars : List ℕ) (k : ℕ) → FlowIs o flows.Out n vars k → ReplyIs (ending o (finish r)) None n k
-  out_call (Ended s i) r n vars k h = absurd h
-  out_call (Out o) r n vars k h = h
+  module _ (vars : List ℕ) (starts : vars ≡ args ++ zeros p.locals) (o : Outside) (sh : Shows start o m) where
+    abbrev first : State
+    first = record { vars = args ++ zeros p.locals; out = o }
 
-  callee : (o : Outside) → run_proc (calls_below f (view.procs ps)) (view.proc p) args o turns ≡ calls_below below (view.procs ps) f args o turns
-  callee o = ap (λ (q : Proc). run_proc (calls_below f (view.procs ps)) q args o turns) (sym (nth_procs ps f p in_ps is)) ∙ sym (calls_at below f (view.procs ps) lt args o turns)
+    first_holds : Holds start first m vars
+    first_holds = record { out = sh; same_vars = sym starts }
 
-  module _ (start : List ℕ) (starts : start ≡ args ++ zeros p.locals) where
-    first : (o : Outside) → Shows o m → Holds (record { vars = args ++ zeros p.locals; out = o }) m start
-    first o sh = record { out = sh; same_vars = sym starts }
+    abbrev steps : ℕ → Outcome
+    steps k = run_all (calls_below f (view.procs ps)) (view.steps p.body.items) first k
 
-    pub call_ended : (n e : Machine) (vars : List ℕ) (reply : Option ℕ) (j k : ℕ) → ((s : State) → Holds s m start → FlowIs (run_all (calls_below f (view.procs ps)) (view.steps p.body.items) s turns) flows.Ended n vars j) → ((s : State) → Holds s n vars → ReplyIs (finish (view.result p.result) s j) reply e k) → (o : Outside) → Shows o m → ReplyIs (calls_below below (view.procs ps) f args o turns) reply e k
-    call_ended n e vars reply j k h g o sh =
-        subst (λ (c : CallEnd). ReplyIs c reply e k) (callee o)
-        (ended_call (run_all (calls_below f (view.procs ps)) (view.steps p.body.items) (record { vars = args ++ zeros p.locals; out = o }) turns) (view.result p.result) reply n e vars j k
-        (h (record { vars = args ++ zeros p.locals; out = o }) (first o sh)) g)
+    as_call : (r : Reply) (n : Memory) (k : ℕ) → ReplyIs start (λ j. ending (steps j) (finish (view.result p.result))) turns r n k → ReplyIs start (calls_below below (view.procs ps) f args o) turns r n k
+    as_call r n k h = reply_shift start (λ j. ending (steps j) (finish (view.result p.result))) (calls_below below (view.procs ps) f args o) 0 turns turns r n k (omega arith) (λ j. let z : j + 0 ≡ j = omega arith in ap (calls_below below (view.procs ps) f args o) z ∙ callee o j) h
 
-    pub call_stopped : (n : Machine) (vars : List ℕ) (k : ℕ) → ((s : State) → Holds s m start → FlowIs (run_all (calls_below f (view.procs ps)) (view.steps p.body.items) s turns) flows.Out n vars k) → (o : Outside) → Shows o m → ReplyIs (calls_below below (view.procs ps) f args o turns) None n k
-    call_stopped n vars k h o sh =
-        subst (λ (c : CallEnd). ReplyIs c None n k) (callee o)
-        (out_call (run_all (calls_below f (view.procs ps)) (view.steps p.body.items) (record { vars = args ++ zeros p.locals; out = o }) turns) (view.result p.result) n vars k
-        (h (record { vars = args ++ zeros p.locals; out = o }) (first o sh)))
+    -- they ended, and then the result was made
+    pub call_ended : (n e : Memory) (now : List ℕ) (r : Reply) (j k : ℕ) → ((s : State) → Holds start s m vars → FlowIs start (run_all (calls_below f (view.procs ps)) (view.steps p.body.items) s) turns flows.Ended n now j) → ((s : State) → Holds start s n now → ReplyIs start (finish (view.result p.result) s) j r e k) → ReplyIs start (calls_below below (view.procs ps) f args o) turns r e k
+    call_ended n e now r j k h g =
+        let u = ends start steps turns n now j (λ s i d. all_cost (calls_below f (view.procs ps)) (calls_most f (view.procs ps)) (calls_cost f (view.procs ps)) (view.steps p.body.items) first turns s i d) (h first first_holds) in
+        as_call r e k (reply_shift start (finish (view.result p.result) u.at) (λ i. ending (steps i) (finish (view.result p.result))) u.cost turns j r e k u.sum (λ i. ap (λ (x : Outcome). ending x (finish (view.result p.result))) (u.again i)) (g u.at u.holds))
 
-pub result_is : (t : Term) (s : State) (n : Machine) (vars : List ℕ) (v j : ℕ) → 0 < j → Holds s n vars → v ≡ value t vars n.cells → ReplyIs (finish (Some t) s j) (Some v) n (j - 1)
-result_is t s n vars v zero lt h ev = absurd (omega arith)
-result_is t s n vars v (suc j) lt h ev = (loaded t s n h.out, sym (value_is t s n vars h) ∙ sym ev, omega arith)
+    -- they want a turn
+    pub call_wants : (n : Memory) (now : List ℕ) (k : ℕ) → ((s : State) → Holds start s m vars → FlowIs start (run_all (calls_below f (view.procs ps)) (view.steps p.body.items) s) turns flows.Out n now k) → ReplyIs start (calls_below below (view.procs ps) f args o) turns replies.Out n k
+    call_wants n now k h = as_call replies.Out n k (at (steps turns) (h first first_holds))
+      where
+        at : (x : Outcome) → PartOut start x n → CallOut start (ending x (finish (view.result p.result))) n
+        at (Ended s j) g = absurd g
+        at (Out q) g = g
 
-pub result_stops : (t : Term) (s : State) (n : Machine) (j k : ℕ) → j ≡ 0 → Shows s.out n → ReplyIs (finish (Some t) s j) None n k
-result_stops t s n zero k e sh = sh
-result_stops t s n (suc j) k e sh = absurd (omega (arith, e))
+    -- they stopped
+    pub call_stops : (n : Memory) (now : List ℕ) (c k : ℕ) → ((s : State) → Holds start s m vars → FlowIs start (run_all (calls_below f (view.procs ps)) (view.steps p.body.items) s) turns (flows.Fault c) n now k) → ReplyIs start (calls_below below (view.procs ps) f args o) turns (replies.Fault c) n k
+    call_stops n now c k h = as_call (replies.Fault c) n k
+        (shifted start (λ j. seen (steps j)) (λ j. call_seen (ending (steps j) (finish (view.result p.result)))) 0 turns turns c n k (omega arith)
+        (λ j. let z : j + 0 ≡ j = omega arith in subst (λ (i : ℕ). Extends (seen (steps j)) (call_seen (ending (steps i) (finish (view.result p.result))))) (sym z) (at (steps j))) (h first first_holds))
+      where
+        same_acts : (acts : List Act) (e : CallEnd) → Begins acts (outside_of e).acts → Begins acts (call_seen e).0
+        same_acts acts (Returned v q j) b = b
+        same_acts acts (Stopped q) b = b
 
-pub from_step : (calls : Calls) (a b : Step) (s : State) (turns : ℕ) (flow : Flow) (m : Machine) (vars : List ℕ) (k : ℕ) → b ≡ a → FlowIs (run_one calls (view.step a) s turns) flow m vars k → FlowIs (run_one calls (view.step b) s turns) flow m vars k
-from_step calls a b s turns flow m vars k e h = subst (λ (st : Step). FlowIs (run_one calls (view.step st) s turns) flow m vars k) (sym e) h
+        at : (x : Outcome) → Extends (seen x) (call_seen (ending x (finish (view.result p.result))))
+        at (Ended s j) = (λ e. absurd (cc), same_acts s.out.acts (finish (view.result p.result) s j) (call_begins s.out (finish (view.result p.result) s j) (finish_tells (view.result p.result) s j)))
+        at (Out q) = (λ e. refl, begins_all q.acts)
 
-pub as_flow : (o : Outcome) (f g : Flow) (m : Machine) (vars : List ℕ) (k : ℕ) → f ≡ g → FlowIs o f m vars k → FlowIs o g m vars k
-as_flow o f g m vars k e h = subst (λ (x : Flow). FlowIs o x m vars k) e h
-
-pub as_reply : (o : CallEnd) (f g : Option ℕ) (m : Machine) (k : ℕ) → f ≡ g → ReplyIs o f m k → ReplyIs o g m k
-as_reply o f g m k e h = subst (λ (x : Option ℕ). ReplyIs o x m k) e h
-
-pub as_result : (r q : Option CodeTerm) (s : State) (j : ℕ) (reply : Option ℕ) (m : Machine) (k : ℕ) → r ≡ q → ReplyIs (finish (view.result q) s j) reply m k → ReplyIs (finish (view.result r) s j) reply m k
-as_result r q s j reply m k e h = subst (λ (x : Option CodeTerm). ReplyIs (finish (view.result x) s j) reply m k) (sym e) h
-
-pub as_steps : (calls : Calls) (x y : List Step) (u : State) (k : ℕ) (f : Flow) (m : Machine) (vars : List ℕ) (j : ℕ) → x ≡ y → FlowIs (run_all calls (view.steps x) u k) f m vars j → FlowIs (run_all calls (view.steps y) u k) f m vars j
-as_steps calls x y u k f m vars j e h = subst (λ (ss : List Step). FlowIs (run_all calls (view.steps ss) u k) f m vars j) e h
-
+-- the test is 0
 pub zero_flag : (n m : ℕ) → m ≡ n → m ≡ 0 → (n == 0) ≡ true
 zero_flag n m e z = ap (λ (v : ℕ). v == 0) (sym e ∙ z)
 
+-- the test is not 0
 pub other_flag : (n m : ℕ) → m ≡ n → (m ≡ 0 → ⊥) → (n == 0) ≡ false
 other_flag n m e f = let g : n ≡ 0 → ⊥ = (λ h. f (e ∙ h)) in grind (arith, nat_tests)
 
-pub if_view : (t : CodeTerm) (a b : Vec Step Global) → view.step (code.If t a b) ≡ resolved.If (view.term t) (view.steps a.items) (view.steps b.items)
+-- what a choice of the code stands for
+pub if_view : (t : CodeTerm) (a b : Vec Step Global) → view.step (code.If t a b) ≡ resolved.If (graph.term t) (view.steps a.items) (view.steps b.items)
 if_view t a b = search (rules, the_lemmas, row_list)
 
-pub while_view : (t : CodeTerm) (a : Vec Step Global) → view.step (code.While t a) ≡ resolved.While (view.term t) (view.steps a.items)
+-- what a loop of the code stands for
+pub while_view : (t : CodeTerm) (a : Vec Step Global) → view.step (code.While t a) ≡ resolved.While (graph.term t) (view.steps a.items)
 while_view t a = search (rules, the_lemmas, row_list)
 
-pub if_step : (calls : Calls) (s : State) (turns : ℕ) (t : CodeTerm) (a b : Vec Step Global) (st : Step) (xs ys : List Step) → st ≡ code.If t a b → xs ≡ a.items → ys ≡ b.items → (flow : Flow) (n : Machine) (now : List ℕ) (k : ℕ) → FlowIs (run_one calls (resolved.If (view.term t) (view.steps xs) (view.steps ys)) s turns) flow n now k → FlowIs (run_one calls (view.step st) s turns) flow n now k
-if_step calls s turns t a b st xs ys is ea eb flow n now k h =
-    subst (λ (x : resolved.Step). FlowIs (run_one calls x s turns) flow n now k)
-    (ap (λ (zs : List Step). resolved.If (view.term t) (view.steps zs) (view.steps ys)) ea ∙ ap (λ (zs : List Step). resolved.If (view.term t) (view.steps a.items) (view.steps zs)) eb ∙ sym (ap (λ (x : Step). view.step x) is ∙ if_view t a b)) h
+-- steps of the code as steps of the run
+pub from_step : (calls : Calls) (start : Outside) (a b : Step) (s : State) (turns : ℕ) (f : Flow) (m : Memory) (vars : List ℕ) (k : ℕ) → b ≡ a → FlowIs start (run_one calls (view.step a) s) turns f m vars k → FlowIs start (run_one calls (view.step b) s) turns f m vars k
+from_step calls start a b s turns f m vars k e h = subst (λ (st : Step). FlowIs start (run_one calls (view.step st) s) turns f m vars k) (sym e) h
 
-pub call_step : (calls : Calls) (s : State) (turns : ℕ) (x : Option ℕ) (f : ℕ) (a : Vec CodeTerm Global) (st : Step) (ts : List CodeTerm) → st ≡ code.Call x f a → ts ≡ a.items → (flow : Flow) (n : Machine) (now : List ℕ) (k : ℕ) → FlowIs (run_one calls (resolved.Call x f (view.terms ts)) s turns) flow n now k → FlowIs (run_one calls (view.step st) s turns) flow n now k
-call_step calls s turns x f a st ts is e flow n now k h =
-    subst (λ (z : resolved.Step). FlowIs (run_one calls z s turns) flow n now k) (ap (λ (us : List CodeTerm). resolved.Call x f (view.terms us)) e ∙ sym (ap (λ (z : Step). view.step z) is)) h
+-- a reply that is known
+pub as_reply : (start : Outside) (p : ℕ → CallEnd) (turns : ℕ) (r q : Reply) (m : Memory) (k : ℕ) → r ≡ q → ReplyIs start p turns r m k → ReplyIs start p turns q m k
+as_reply start p turns r q m k e h = subst (λ (x : Reply). ReplyIs start p turns x m k) e h
 
-pub while_step : (calls : Calls) (s : State) (turns : ℕ) (t : CodeTerm) (a : Vec Step Global) (st : Step) (ss : List Step) → st ≡ code.While t a → ss ≡ a.items → (flow : Flow) (n : Machine) (now : List ℕ) (k : ℕ) → FlowIs (loop (suc turns) (value_of (view.term t)) (run_all calls (view.steps ss)) s turns) flow n now k → FlowIs (run_one calls (view.step st) s turns) flow n now k
-while_step calls s turns t a st ss is e flow n now k h =
-    subst (λ (x : resolved.Step). FlowIs (run_one calls x s turns) flow n now k) (sym (ap (λ (x : Step). view.step x) is ∙ while_view t a))
-    (subst (λ (x : List Step). FlowIs (loop (suc turns) (value_of (view.term t)) (run_all calls (view.steps x)) s turns) flow n now k) e h)
+-- a flow that is known
+pub as_flow : (start : Outside) (p : ℕ → Outcome) (turns : ℕ) (f g : Flow) (m : Memory) (vars : List ℕ) (k : ℕ) → f ≡ g → FlowIs start p turns f m vars k → FlowIs start p turns g m vars k
+as_flow start p turns f g m vars k e h = subst (λ (x : Flow). FlowIs start p turns x m vars k) e h
 
+-- a result that is known
+pub as_result : (start : Outside) (r q : Option CodeTerm) (s : State) (j : ℕ) (reply : Reply) (m : Memory) (k : ℕ) → r ≡ q → ReplyIs start (finish (view.result q) s) j reply m k → ReplyIs start (finish (view.result r) s) j reply m k
+as_result start r q s j reply m k e h = subst (λ (x : Option CodeTerm). ReplyIs start (finish (view.result x) s) j reply m k) (sym e) h
+
+-- steps that are known
+pub as_steps : (calls : Calls) (start : Outside) (x y : List Step) (u : State) (k : ℕ) (f : Flow) (m : Memory) (vars : List ℕ) (j : ℕ) → x ≡ y → FlowIs start (run_all calls (view.steps x) u) k f m vars j → FlowIs start (run_all calls (view.steps y) u) k f m vars j
+as_steps calls start x y u k f m vars j e h = subst (λ (ss : List Step). FlowIs start (run_all calls (view.steps ss) u) k f m vars j) e h
+
+-- a choice of the code
+pub if_step : (calls : Calls) (start : Outside) (s : State) (turns : ℕ) (t : CodeTerm) (a b : Vec Step Global) (st : Step) (xs ys : List Step) → st ≡ code.If t a b → xs ≡ a.items → ys ≡ b.items → (f : Flow) (n : Memory) (now : List ℕ) (k : ℕ) → FlowIs start (run_one calls (resolved.If (graph.term t) (view.steps xs) (view.steps ys)) s) turns f n now k → FlowIs start (run_one calls (view.step st) s) turns f n now k
+if_step calls start s turns t a b st xs ys is ea eb f n now k h =
+    subst (λ (x : resolved.Step). FlowIs start (run_one calls x s) turns f n now k)
+    (ap (λ (zs : List Step). resolved.If (graph.term t) (view.steps zs) (view.steps ys)) ea ∙ ap (λ (zs : List Step). resolved.If (graph.term t) (view.steps a.items) (view.steps zs)) eb ∙ sym (ap (λ (x : Step). view.step x) is ∙ if_view t a b)) h
+
+-- a call of the code
+pub call_step : (calls : Calls) (start : Outside) (s : State) (turns : ℕ) (x : Option ℕ) (c : ℕ) (a : Vec CodeTerm Global) (st : Step) (ts : List CodeTerm) → st ≡ code.Call x c a → ts ≡ a.items → (f : Flow) (n : Memory) (now : List ℕ) (k : ℕ) → FlowIs start (run_one calls (resolved.Call x c (map graph.term ts)) s) turns f n now k → FlowIs start (run_one calls (view.step st) s) turns f n now k
+call_step calls start s turns x c a st ts is e f n now k h =
+    subst (λ (z : resolved.Step). FlowIs start (run_one calls z s) turns f n now k) (ap (λ (us : List CodeTerm). resolved.Call x c (map graph.term us)) e ∙ sym (ap (λ (z : Step). view.step z) is)) h
+
+-- a loop of the code
+pub while_step : (calls : Calls) (start : Outside) (s : State) (turns : ℕ) (t : CodeTerm) (a : Vec Step Global) (st : Step) (ss : List Step) → st ≡ code.While t a → ss ≡ a.items → (f : Flow) (n : Memory) (now : List ℕ) (k : ℕ) → FlowIs start (run_one calls (resolved.While (graph.term t) (view.steps ss)) s) turns f n now k → FlowIs start (run_one calls (view.step st) s) turns f n now k
+while_step calls start s turns t a st ss is e f n now k h =
+    subst (λ (x : resolved.Step). FlowIs start (run_one calls x s) turns f n now k) (ap (λ (xs : List Step). resolved.While (graph.term t) (view.steps xs)) e ∙ sym (ap (λ (x : Step). view.step x) is ∙ while_view t a)) h
+
+-- what a choice weighs
 pub if_weight : (t : CodeTerm) (a b : Vec Step Global) (st : Step) → st ≡ code.If t a b → weight (view.step st) ≡ suc (suc (heft (view.steps a.items) + heft (view.steps b.items)))
 if_weight t a b st is = ap (λ (x : Step). weight (view.step x)) is ∙ ap weight (if_view t a b)
 
+-- what a loop weighs
 pub while_weight : (t : CodeTerm) (a : Vec Step Global) (st : Step) → st ≡ code.While t a → weight (view.step st) ≡ suc (suc (suc (heft (view.steps a.items))))
 while_weight t a st is = ap (λ (x : Step). weight (view.step x)) is ∙ ap weight (while_view t a)
 
+-- what steps weigh
 pub heft_of : (x y : List Step) → x ≡ y → heft (view.steps x) ≡ heft (view.steps y)
 heft_of x y e = ap (λ (ss : List Step). heft (view.steps ss)) e
 
+-- a procedure weighs less than the calls of later ones
 pub call_weight : (ps : List CodeProc) (n f : ℕ) (p : CodeProc) → f < n → f < length ps → p ≡ slice_index_or ps f p → weight_below f (view.procs ps) + heft (view.steps p.body.items) < weight_below n (view.procs ps)
 call_weight ps n f p lt inside is = subst (λ (q : Proc). weight_below f (view.procs ps) + heft q.body < weight_below n (view.procs ps)) (nth_procs ps f p inside is) (weight_call n f (view.procs ps) lt)

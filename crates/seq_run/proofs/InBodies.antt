@@ -8,12 +8,17 @@ use Rattle.src_ast.specs.Syntax.{Expression, Number, Variable, Cell, Signed, Bin
 use Rattle.src_ast.specs.Rules.{Rule, Sort, variable, array, procedure, Declared, is_visible, has_kind, has_sort, use_rules, expression_rules, argument_rules, statement_rule, port_rule, statement_rules, body_rules, ending_rules, size_of, size_of_all, size_of_ending}
 use Rattle.src_ast.specs.Meaning.{Scope, place_of, var_number, array_number, proc_number}
 use Rattle.seq_run.specs.Resolved.{Proc, nth_proc}
-use Rattle.seq_run.specs.Resolving.{term, terms, one, all, result}
+use Rattle.cfg_core.specs.Graph.{Term}
+use Rattle.src_ast.specs.declared.tree.Unary.{Unary}
+use Rattle.src_ast.specs.declared.tree.Unary.TheVariants.{Flip, Not, Neg}
+use Rattle.seq_run.specs.Resolving.{signed, term, terms, one, all, result}
 use Rattle.seq_run.specs.InRange.{IsArray, IsPort, TermIn, ResultIn, StepIn, StepsIn, size, size_all}
 
+-- all of these rules are kept
 abbrev pub Kept : List Rule → Type 0
 Kept rs = list_all (λ r. r.kept) rs ≡ true
 
+-- the first of two flags
 pub first_holds : (a b : Bool) → (a && b) ≡ true → a ≡ true
 first_holds true b h = refl
 first_holds false b h = h
@@ -22,15 +27,19 @@ pub second_holds : (a b : Bool) → (a && b) ≡ true → b ≡ true
 second_holds true b h = h
 second_holds false b h = absurd (cc)
 
+-- the rules of the first list
 pub kept_front : (xs ys : List Rule) → Kept (xs ++ ys) → Kept xs
 kept_front xs ys h = first_holds _ _ (sym (list_all-append (λ r. r.kept) xs ys) ∙ h)
 
-pub kept_behind : (xs ys : List Rule) → Kept (xs ++ ys) → Kept ys
-kept_behind xs ys h = second_holds (list_all (λ r. r.kept) xs) _ (sym (list_all-append (λ r. r.kept) xs ys) ∙ h)
+-- the rules of the second list
+pub kept_after : (xs ys : List Rule) → Kept (xs ++ ys) → Kept ys
+kept_after xs ys h = second_holds (list_all (λ r. r.kept) xs) _ (sym (list_all-append (λ r. r.kept) xs ys) ∙ h)
 
+-- the first rule
 pub kept_one : (r : Rule) (rs : List Rule) → Kept (r ∷ rs) → r.kept ≡ true
 kept_one r rs h = first_holds r.kept _ h
 
+-- the rules after it
 pub kept_rest : (r : Rule) (rs : List Rule) → Kept (r ∷ rs) → Kept rs
 kept_rest r rs h = second_holds r.kept _ h
 
@@ -60,22 +69,27 @@ module _ (scope : Scope) (visible : List Declared) (arrays : ℕ) (procs : List 
       let both = first_holds (nat_le 1 port && nat_le port 7) true h in
       (leb-true 1 port (first_holds (nat_le 1 port) _ both), leb-true port 7 (second_holds (nat_le 1 port) _ both))
 
+  signed_in : (u : Unary) (t : Term) → TermIn arrays vars t → TermIn arrays vars (signed u t)
+  signed_in Flip t h = h
+  signed_in Not t h = h
+  signed_in Neg t h = h
+
   pub term_in : (e : Expression) → Kept (expression_rules visible e) → TermIn arrays vars (term scope e)
   term_in (Number n) h = tt
   term_in (Variable x) h = var_in x h
   term_in (Cell a e) h =
       let us = use_rules visible a array in let es = expression_rules visible e in
-      (array_in a (kept_front us es h), term_in e (kept_behind us es h))
-  term_in (Signed s e) h = term_in e h
+      (array_in a (kept_front us es h), term_in e (kept_after us es h))
+  term_in (Signed s e) h = signed_in s (term scope e) (term_in e h)
   term_in (Binary op a b) h =
       let xs = expression_rules visible a in let ys = expression_rules visible b in
-      (term_in a (kept_front xs ys h), term_in b (kept_behind xs ys h))
+      (term_in a (kept_front xs ys h), term_in b (kept_after xs ys h))
 
   terms_in : (es : List Expression) → Kept (argument_rules visible es) → AllByRecursion (TermIn arrays vars) (terms scope es)
   terms_in [] h = tt
   terms_in (e ∷ es) h =
       let xs = expression_rules visible e in let ys = argument_rules visible es in
-      (term_in e (kept_front xs ys h), terms_in es (kept_behind xs ys h))
+      (term_in e (kept_front xs ys h), terms_in es (kept_after xs ys h))
 
   call_in : (f : Name) (es : List Expression) → Kept (use_rules visible f (procedure (length es))) → length (terms scope es) ≡ (nth_proc procs (proc_number scope f)).params
   call_in f es h = length_terms scope es ∙ seen.count_seen f.text (length es) (used f (procedure (length es)) h)
@@ -84,12 +98,12 @@ module _ (scope : Scope) (visible : List Declared) (arrays : ℕ) (procs : List 
     one_in : (k : ℕ) (s : Statement) → Kept (statement_rules visible k s) → StepIn arrays procs home vars (one scope s)
     one_in k (Assign at x e) h =
         let us = use_rules visible x variable in let es = expression_rules visible e in let r = statement_rule k at in
-        (var_in x (kept_front us (r ∷ es) h), term_in e (kept_rest r es (kept_behind us (r ∷ es) h)))
+        (var_in x (kept_front us (r ∷ es) h), term_in e (kept_rest r es (kept_after us (r ∷ es) h)))
     one_in k (Store at a i e) h =
         let us = use_rules visible a array in let r = statement_rule k at in
         let xs = expression_rules visible i in let ys = expression_rules visible e in
-        let both = kept_rest r (xs ++ ys) (kept_behind us (r ∷ (xs ++ ys)) h) in
-        (array_in a (kept_front us (r ∷ (xs ++ ys)) h), term_in i (kept_front xs ys both), term_in e (kept_behind xs ys both))
+        let both = kept_rest r (xs ++ ys) (kept_after us (r ∷ (xs ++ ys)) h) in
+        (array_in a (kept_front us (r ∷ (xs ++ ys)) h), term_in i (kept_front xs ys both), term_in e (kept_after xs ys both))
     one_in k (Print at e) h = term_in e (kept_rest (statement_rule k at) (expression_rules visible e) h)
     one_in k (Read at x) h = var_in x (kept_rest (statement_rule k at) (use_rules visible x variable) h)
     one_in k (Give at n p x) h =
@@ -103,28 +117,30 @@ module _ (scope : Scope) (visible : List Declared) (arrays : ℕ) (procs : List 
     one_in k (Call at None f es) h =
         let us = use_rules visible f (procedure (length es)) in let xs = argument_rules visible es in let r = statement_rule k at in
         let named = kept_front us (r ∷ xs) h in
-        (tt, seen.proc_seen f.text (length es) (used f (procedure (length es)) named), call_in f es named, terms_in es (kept_rest r xs (kept_behind us (r ∷ xs) h)))
+        (tt, seen.proc_seen f.text (length es) (used f (procedure (length es)) named), call_in f es named, terms_in es (kept_rest r xs (kept_after us (r ∷ xs) h)))
     one_in k (Call at (Some x) f es) h =
         let vs = use_rules visible x variable in let us = use_rules visible f (procedure (length es)) in let xs = argument_rules visible es in let r = statement_rule k at in
-        let both = kept_rest r (us ++ xs) (kept_behind vs (r ∷ (us ++ xs)) h) in
+        let both = kept_rest r (us ++ xs) (kept_after vs (r ∷ (us ++ xs)) h) in
         let named = kept_front us xs both in
-        (var_in x (kept_front vs (r ∷ (us ++ xs)) h), seen.proc_seen f.text (length es) (used f (procedure (length es)) named), call_in f es named, terms_in es (kept_behind us xs both))
+        (var_in x (kept_front vs (r ∷ (us ++ xs)) h), seen.proc_seen f.text (length es) (used f (procedure (length es)) named), call_in f es named, terms_in es (kept_after us xs both))
     one_in k (If at e a b) h =
         let es = expression_rules visible e in let xs = body_rules visible (suc k) a in let ys = body_rules visible (suc k + size_of_all a) b in
         let rest = kept_rest (statement_rule k at) (es ++ (xs ++ ys)) h in
-        let both = kept_behind es (xs ++ ys) rest in
-        (term_in e (kept_front es (xs ++ ys) rest), all_in (suc k) a (kept_front xs ys both), all_in (suc k + size_of_all a) b (kept_behind xs ys both))
+        let both = kept_after es (xs ++ ys) rest in
+        (term_in e (kept_front es (xs ++ ys) rest), all_in (suc k) a (kept_front xs ys both), all_in (suc k + size_of_all a) b (kept_after xs ys both))
     one_in k (While at e body) h =
         let es = expression_rules visible e in let xs = body_rules visible (suc k) body in
         let rest = kept_rest (statement_rule k at) (es ++ xs) h in
-        (term_in e (kept_front es xs rest), all_in (suc k) body (kept_behind es xs rest))
+        (term_in e (kept_front es xs rest), all_in (suc k) body (kept_after es xs rest))
 
+    -- the numbers in statements name something
     pub all_in : (k : ℕ) (b : Statements) → Kept (body_rules visible k b) → StepsIn arrays procs home vars (all scope b)
     all_in k Nothing h = tt
     all_in k (Then s rest) h =
         let xs = statement_rules visible k s in let ys = body_rules visible (k + size_of s) rest in
-        (one_in k s (kept_front xs ys h), all_in (k + size_of s) rest (kept_behind xs ys h))
+        (one_in k s (kept_front xs ys h), all_in (k + size_of s) rest (kept_after xs ys h))
 
+  -- so in a result
   pub result_in : (k : ℕ) (r : Option Last) → Kept (ending_rules visible k r) → ResultIn arrays vars (result scope r)
   result_in k None h = tt
   result_in k (Some last) h = term_in last.value (kept_rest (statement_rule k last.place) (expression_rules visible last.value) h)
@@ -142,6 +158,7 @@ mutual
   one_size scope (If at e a b) = let h = body_size scope a in let i = body_size scope b in omega (arith, h, i)
   one_size scope (While at e body) = ap suc (body_size scope body)
 
+  -- numbers for names leave the count of steps
   pub body_size : (scope : Scope) (b : Statements) → size_all (all scope b) ≡ size_of_all b
   body_size scope Nothing = refl
   body_size scope (Then s rest) = let h = one_size scope s in let i = body_size scope rest in omega (arith, h, i)
@@ -153,40 +170,42 @@ module _ (visible : List Declared) where
 
   mutual
     one_few : (k : ℕ) (s : Statement) → Kept (statement_rules visible k s) → k + size_of s ≤ 1024
-    one_few k (Assign at x e) h = let lt = room k at (expression_rules visible e) (kept_behind (use_rules visible x variable) (statement_rule k at ∷ expression_rules visible e) h) in omega (arith, lt)
+    one_few k (Assign at x e) h = let lt = room k at (expression_rules visible e) (kept_after (use_rules visible x variable) (statement_rule k at ∷ expression_rules visible e) h) in omega (arith, lt)
     one_few k (Store at a i e) h =
         let es = expression_rules visible i ++ expression_rules visible e in
-        let lt = room k at es (kept_behind (use_rules visible a array) (statement_rule k at ∷ es) h) in omega (arith, lt)
+        let lt = room k at es (kept_after (use_rules visible a array) (statement_rule k at ∷ es) h) in omega (arith, lt)
     one_few k (Print at e) h = let lt = room k at (expression_rules visible e) h in omega (arith, lt)
     one_few k (Read at x) h = let lt = room k at (use_rules visible x variable) h in omega (arith, lt)
     one_few k (Give at n p x) h = let lt = room k at (port_rule n p ∷ use_rules visible x variable) h in omega (arith, lt)
     one_few k (Take at n p e) h = let lt = room k at (port_rule n p ∷ expression_rules visible e) h in omega (arith, lt)
     one_few k (Call at None f es) h =
         let xs = argument_rules visible es in
-        let lt = room k at xs (kept_behind (use_rules visible f (procedure (length es))) (statement_rule k at ∷ xs) h) in omega (arith, lt)
+        let lt = room k at xs (kept_after (use_rules visible f (procedure (length es))) (statement_rule k at ∷ xs) h) in omega (arith, lt)
     one_few k (Call at (Some x) f es) h =
         let xs = use_rules visible f (procedure (length es)) ++ argument_rules visible es in
-        let lt = room k at xs (kept_behind (use_rules visible x variable) (statement_rule k at ∷ xs) h) in omega (arith, lt)
+        let lt = room k at xs (kept_after (use_rules visible x variable) (statement_rule k at ∷ xs) h) in omega (arith, lt)
     one_few k (If at e a b) h =
         let es = expression_rules visible e in let xs = body_rules visible (suc k) a in let ys = body_rules visible (suc k + size_of_all a) b in
         let lt = room k at (es ++ (xs ++ ys)) h in
-        let both = kept_behind es (xs ++ ys) (kept_rest (statement_rule k at) (es ++ (xs ++ ys)) h) in
+        let both = kept_after es (xs ++ ys) (kept_rest (statement_rule k at) (es ++ (xs ++ ys)) h) in
         let first = body_few (suc k) a (omega (arith, lt)) (kept_front xs ys both) in
-        let second = body_few (suc k + size_of_all a) b first (kept_behind xs ys both) in
+        let second = body_few (suc k + size_of_all a) b first (kept_after xs ys both) in
         omega (arith, second)
     one_few k (While at e body) h =
         let es = expression_rules visible e in let xs = body_rules visible (suc k) body in
         let lt = room k at (es ++ xs) h in
-        let i = body_few (suc k) body (omega (arith, lt)) (kept_behind es xs (kept_rest (statement_rule k at) (es ++ xs) h)) in
+        let i = body_few (suc k) body (omega (arith, lt)) (kept_after es xs (kept_rest (statement_rule k at) (es ++ xs) h)) in
         omega (arith, i)
 
+    -- there are few enough statements
     pub body_few : (k : ℕ) (b : Statements) → k ≤ 1024 → Kept (body_rules visible k b) → k + size_of_all b ≤ 1024
     body_few k Nothing le h = omega (arith, le)
     body_few k (Then s rest) le h =
         let xs = statement_rules visible k s in let ys = body_rules visible (k + size_of s) rest in
-        let i = body_few (k + size_of s) rest (one_few k s (kept_front xs ys h)) (kept_behind xs ys h) in
+        let i = body_few (k + size_of s) rest (one_few k s (kept_front xs ys h)) (kept_after xs ys h) in
         omega (arith, i)
 
+  -- with a result too
   pub ending_few : (k : ℕ) (r : Option Last) → k ≤ 1024 → Kept (ending_rules visible k r) → k + size_of_ending r ≤ 1024
   ending_few k None le h = omega (arith, le)
   ending_few k (Some last) le h = let lt = room k last.place (expression_rules visible last.value) h in omega (arith, lt)

@@ -14,8 +14,8 @@ use Rattle.seq_run.specs.InRange.{ProcIn, ProgramIn, steps_in}
 use Rattle.seq_run.proofs.Declares.{procs_append}
 use Rattle.seq_run.proofs.Places.{length_procs}
 use Rattle.seq_run.proofs.Whole.{some_proc, accepted_has_proc, list_all_end}
-use Rattle.seq_run.proofs.Visible.{in_front_or_behind, variable_place, no_variable, only_variables, array_place, procedure_place, proc_place, array_stays, proc_stays, nth_stays, Known, known_none, known_array, known_procedure, clash}
-use Rattle.seq_run.proofs.InBodies.{Kept, kept_front, kept_behind, Seen, all_in, result_in, body_size, body_few, ending_few}
+use Rattle.seq_run.proofs.Visible.{in_front_or_after, variable_place, no_variable, only_variables, array_place, procedure_place, proc_place, array_stays, proc_stays, nth_stays, Known, known_none, known_array, known_procedure, clash}
+use Rattle.seq_run.proofs.InBodies.{Kept, kept_front, kept_after, Seen, all_in, result_in, body_size, body_few, ending_few}
 use Rattle.seq_run.proofs.PartRules.{proc_kept, array_kept, params_few, vars_few, no_params}
 
 lengths_more : (ps qs : List Part) → length (arrays_of ps) ≤ length (lengths_of (ps ++ qs))
@@ -38,23 +38,23 @@ visible_in before p = variables (p.params ++ p.vars) ++ declared_by before
 abbrev InRangeAt : List Part → ℕ → resolved.Proc → Type 0
 InRangeAt whole home q = ProcIn (length (lengths_of whole)) (resolving.program whole).procs home q
 
--- a procedure behind others is in range, whatever comes behind it
+-- a procedure after others is in range, whatever comes after it
 module _ (before rest : List Part) (p : Procedure) (known : Known before) where
   declared_array : (text : List ℕ) → has_sort (visible_in before p) text array ≡ true → has_sort (declared_by before) text array ≡ true
-  declared_array text h = elim (in_front_or_behind (variables (p.params ++ p.vars)) (declared_by before) text array h) [
+  declared_array text h = elim (in_front_or_after (variables (p.params ++ p.vars)) (declared_by before) text array h) [
     | inl i ↦ absurd (clash i (only_variables (p.params ++ p.vars) text array refl))
     | inr i ↦ i
   ]
 
   declared_procedure : (text : List ℕ) (n : ℕ) → has_sort (visible_in before p) text (procedure n) ≡ true → has_sort (declared_by before) text (procedure n) ≡ true
-  declared_procedure text n h = elim (in_front_or_behind (variables (p.params ++ p.vars)) (declared_by before) text (procedure n) h) [
+  declared_procedure text n h = elim (in_front_or_after (variables (p.params ++ p.vars)) (declared_by before) text (procedure n) h) [
     | inl i ↦ absurd (clash i (only_variables (p.params ++ p.vars) text (procedure n) refl))
     | inr i ↦ i
   ]
 
   seen : Seen (scope_in (before ++ rest) p) (visible_in before p) (length (lengths_of (before ++ rest))) (resolving.program (before ++ rest)).procs (length (procs_of before)) (length p.params + length p.vars)
   seen = record {
-    var_seen = λ text h. elim (in_front_or_behind (variables (p.params ++ p.vars)) (declared_by before) text variable h) [
+    var_seen = λ text h. elim (in_front_or_after (variables (p.params ++ p.vars)) (declared_by before) text variable h) [
       | inl i ↦ let lt = variable_place (p.params ++ p.vars) text i in let l = length-append p.params p.vars in omega (arith, lt, l)
       | inr i ↦ absurd (clash i (no_variable before text))
     ];
@@ -117,7 +117,7 @@ all_procs_in : (whole before parts : List Part) → before ++ parts ≡ whole �
 all_procs_in whole before [] e known h k lt = absurd (omega arith)
 all_procs_in whole before (Array x n at ∷ parts) e known h k lt =
     let next = before ++ Array x n at ∷ [] in
-    let i = all_procs_in whole next parts (moved before (Array x n at) parts whole e) (known_array before known x n at) (kept_behind (part_rules before (Array x n at)) (rules_behind next parts) h) k lt in
+    let i = all_procs_in whole next parts (moved before (Array x n at) parts whole e) (known_array before known x n at) (kept_after (part_rules before (Array x n at)) (rules_behind next parts) h) k lt in
     subst (λ (m : ℕ). InRangeAt whole (m + k) (nth_proc (resolving.procs (arrays_of whole) (names_of (procs_of whole)) (procs_of parts)) k)) (length_array before x n at) i
 all_procs_in whole before (Proc p ∷ parts) e known h zero lt =
     let here = proc_in before (Proc p ∷ parts) p known (kept_front (part_rules before (Proc p)) (rules_behind (before ++ Proc p ∷ []) parts) h) in
@@ -127,7 +127,7 @@ all_procs_in whole before (Proc p ∷ parts) e known h zero lt =
 all_procs_in whole before (Proc p ∷ parts) e known h (suc k) lt =
     let next = before ++ Proc p ∷ [] in
     let kept = proc_kept before p (kept_front (part_rules before (Proc p)) (rules_behind next parts) h) in
-    let i = all_procs_in whole next parts (moved before (Proc p) parts whole e) (known_procedure before known p kept.new) (kept_behind (part_rules before (Proc p)) (rules_behind next parts) h) k (omega (arith, lt)) in
+    let i = all_procs_in whole next parts (moved before (Proc p) parts whole e) (known_procedure before known p kept.new) (kept_after (part_rules before (Proc p)) (rules_behind next parts) h) k (omega (arith, lt)) in
     let l = length_procedure before p in
     let z : length (procs_of next) + k ≡ length (procs_of before) + suc k = omega (arith, l) in
     subst (λ (m : ℕ). InRangeAt whole m (nth_proc (resolving.procs (arrays_of whole) (names_of (procs_of whole)) (procs_of parts)) k)) z i
@@ -137,7 +137,7 @@ procs_few before [] le h = omega (arith, le)
 procs_few before (Array x n at ∷ parts) le h =
     let next = before ++ Array x n at ∷ [] in
     let l = length_array before x n at in
-    let i = procs_few next parts (omega (arith, l, le)) (kept_behind (part_rules before (Array x n at)) (rules_behind next parts) h) in
+    let i = procs_few next parts (omega (arith, l, le)) (kept_after (part_rules before (Array x n at)) (rules_behind next parts) h) in
     omega (arith, i, l)
 procs_few before (Proc p ∷ parts) le h =
     let next = before ++ Proc p ∷ [] in
@@ -145,7 +145,7 @@ procs_few before (Proc p ∷ parts) le h =
     let kept = proc_kept before p (kept_front (part_rules before (Proc p)) (rules_behind next parts) h) in
     let room = kept.room in
     let c = procs_in_is before in
-    let i = procs_few next parts (omega (arith, l, room, c)) (kept_behind (part_rules before (Proc p)) (rules_behind next parts) h) in
+    let i = procs_few next parts (omega (arith, l, room, c)) (kept_after (part_rules before (Proc p)) (rules_behind next parts) h) in
     omega (arith, i, l)
 
 module _ (arrays names : List Name) where
@@ -154,7 +154,7 @@ module _ (arrays names : List Name) where
   steps_few before (Array x n at ∷ parts) le h =
       let next = before ++ Array x n at ∷ [] in
       let l = statements_append before (Array x n at ∷ []) in
-      let i = steps_few next parts (omega (arith, l, le)) (kept_behind (part_rules before (Array x n at)) (rules_behind next parts) h) in
+      let i = steps_few next parts (omega (arith, l, le)) (kept_after (part_rules before (Array x n at)) (rules_behind next parts) h) in
       omega (arith, i, l)
   steps_few before (Proc p ∷ parts) le h =
       let next = before ++ Proc p ∷ [] in
@@ -163,7 +163,7 @@ module _ (arrays names : List Name) where
       let few = body_few (visible_in before p) (statements_in before) p.body le kept.body in
       let fewer = ending_few (visible_in before p) (statements_in before + size_of_all p.body) p.ending few kept.ending in
       let s = body_size (scope_of arrays names p) p.body in
-      let i = steps_few next parts (omega (arith, l, fewer)) (kept_behind (part_rules before (Proc p)) (rules_behind next parts) h) in
+      let i = steps_few next parts (omega (arith, l, fewer)) (kept_after (part_rules before (Proc p)) (rules_behind next parts) h) in
       omega (arith, i, l, s)
 
 lengths_in : (before parts : List Part) → Kept (rules_behind before parts) → AllByRecursion (λ n. n ≤ 65536) (lengths_of parts)
@@ -171,10 +171,10 @@ lengths_in before [] h = tt
 lengths_in before (Array x n at ∷ parts) h =
     let next = before ++ Array x n at ∷ [] in (
       array_kept before x n at (kept_front (part_rules before (Array x n at)) (rules_behind next parts) h),
-      lengths_in next parts (kept_behind (part_rules before (Array x n at)) (rules_behind next parts) h),
+      lengths_in next parts (kept_after (part_rules before (Array x n at)) (rules_behind next parts) h),
     )
 lengths_in before (Proc p ∷ parts) h =
-    let next = before ++ Proc p ∷ [] in lengths_in next parts (kept_behind (part_rules before (Proc p)) (rules_behind next parts) h)
+    let next = before ++ Proc p ∷ [] in lengths_in next parts (kept_after (part_rules before (Proc p)) (rules_behind next parts) h)
 
 length_texts : (parts : List Part) → length (texts (arrays_of parts)) ≡ length (lengths_of parts)
 length_texts [] = refl
@@ -199,23 +199,23 @@ main_last [] p h = ap (λ (b : Bool). b || false) h
 main_last (Array x n at ∷ ps) p h = main_last ps p h
 main_last (Proc q ∷ ps) p h = ap (λ (b : Bool). is_main q || b) (main_last ps p h) ∙ or_true (is_main q)
 
--- no procedure stands behind `main`
-none_behind : (before parts : List Part) → has_main before ≡ true → Kept (rules_behind before parts) → length (procs_of parts) ≡ 0
-none_behind before [] m h = refl
-none_behind before (Array x n at ∷ parts) m h =
-    let next = before ++ Array x n at ∷ [] in none_behind next parts (main_front before (Array x n at ∷ []) m) (kept_behind (part_rules before (Array x n at)) (rules_behind next parts) h)
-none_behind before (Proc p ∷ parts) m h =
+-- no procedure stands after `main`
+none_after : (before parts : List Part) → has_main before ≡ true → Kept (rules_behind before parts) → length (procs_of parts) ≡ 0
+none_after before [] m h = refl
+none_after before (Array x n at ∷ parts) m h =
+    let next = before ++ Array x n at ∷ [] in none_after next parts (main_front before (Array x n at ∷ []) m) (kept_after (part_rules before (Array x n at)) (rules_behind next parts) h)
+none_after before (Proc p ∷ parts) m h =
     absurd (clash m (proc_kept before p (kept_front (part_rules before (Proc p)) (rules_behind (before ++ Proc p ∷ []) parts) h)).first)
 
 main_in : (before parts : List Part) → Kept (rules_behind before parts) → has_main parts ≡ true → length (nth_procedure (procs_of parts) (length (procs_of parts) - 1)).params ≡ 0
 main_in before [] h m = absurd (cc)
 main_in before (Array x n at ∷ parts) h m =
-    let next = before ++ Array x n at ∷ [] in main_in next parts (kept_behind (part_rules before (Array x n at)) (rules_behind next parts) h) m
+    let next = before ++ Array x n at ∷ [] in main_in next parts (kept_after (part_rules before (Array x n at)) (rules_behind next parts) h) m
 main_in before (Proc p ∷ parts) h m =
     let next = before ++ Proc p ∷ [] in
-    let behind = kept_behind (part_rules before (Proc p)) (rules_behind next parts) h in
+    let behind = kept_after (part_rules before (Proc p)) (rules_behind next parts) h in
     by_flag (is_main p) refl m (proc_kept before p (kept_front (part_rules before (Proc p)) (rules_behind next parts) h)).params
-    (λ f. none_behind next parts (main_last before p f) behind)
+    (λ f. none_after next parts (main_last before p f) behind)
     (main_in next parts behind)
   where
     by_flag : (b : Bool) → is_main p ≡ b → (b || has_main parts) ≡ true → Kept (parameter_rules (is_main p) (declared_by before) 0 p.params)

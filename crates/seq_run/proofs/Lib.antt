@@ -1,8 +1,12 @@
 pub mod Places
 pub mod TurnsLeft
 pub mod Cost
-pub mod Acts
+pub mod Grows
+pub mod Fronts
+pub mod FirstPasts
+pub mod OneAnswer
 pub mod Effects
+pub mod Actions
 pub mod Follows
 pub mod Tables
 pub mod Resolves

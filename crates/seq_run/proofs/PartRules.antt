@@ -7,7 +7,7 @@ use Rattle.src_ast.specs.declared.fault.Quantity.TheVariants.{Arrays, Length, Ce
 use Rattle.src_ast.specs.declared.fault.RefusalKind.TheVariants.{Twice, Main, Limit}
 use Rattle.src_ast.specs.Syntax.{Part, Array, Proc, Procedure}
 use Rattle.src_ast.specs.Rules.{Rule, Declared, variable, declared_by, variables, is_visible, is_main, has_main, arrays_in, procs_in, cells_in, statements_in, size_of_all, parameter_rules, variable_rules, body_rules, ending_rules, part_rules}
-use Rattle.seq_run.proofs.InBodies.{Kept, kept_front, kept_behind, kept_one, kept_rest}
+use Rattle.seq_run.proofs.InBodies.{Kept, kept_front, kept_after, kept_one, kept_rest}
 
 -- the rules of a procedure, one by one
 pub record ProcKept (before : List Part) (p : Procedure) : Type 0 where
@@ -23,6 +23,7 @@ not_true : (b : Bool) → not b ≡ true → b ≡ false
 not_true true h = absurd (cc)
 not_true false h = refl
 
+-- what the rules say of a procedure
 pub proc_kept : (before : List Part) (p : Procedure) → Kept (part_rules before (Proc p)) → ProcKept before p
 proc_kept before p h =
     let visible = variables (p.params ++ p.vars) ++ declared_by before in
@@ -37,8 +38,8 @@ proc_kept before p h =
     let h2 = kept_rest r1 (r2 ∷ (r3 ∷ rest)) h in
     let h3 = kept_rest r2 (r3 ∷ rest) h2 in
     let h4 = kept_rest r3 rest h3 in
-    let h5 = kept_behind ps (vs ++ (bs ++ es)) h4 in
-    let h6 = kept_behind vs (bs ++ es) h5 in
+    let h5 = kept_after ps (vs ++ (bs ++ es)) h4 in
+    let h6 = kept_after vs (bs ++ es) h5 in
     record {
       first = not_true (has_main before) (kept_one r1 (r2 ∷ (r3 ∷ rest)) h);
       new = not_true (is_visible (declared_by before) p.name.text) (kept_one r2 (r3 ∷ rest) h2);
@@ -46,9 +47,10 @@ proc_kept before p h =
       params = kept_front ps (vs ++ (bs ++ es)) h4;
       vars = kept_front vs (bs ++ es) h5;
       body = kept_front bs es h6;
-      ending = kept_behind bs es h6;
+      ending = kept_after bs es h6;
     }
 
+-- what they say of the length of an array
 pub array_kept : (before : List Part) (x : Name) (n : ℕ) (at : Place) → Kept (part_rules before (Array x n at)) → n ≤ 65536
 array_kept before x n at h =
     let r1 : Rule = record { place = x.place; kind = Twice; kept = not (is_visible (declared_by before) x.text) } in
@@ -57,6 +59,7 @@ array_kept before x n at h =
     let r4 : Rule = record { place = at; kind = Limit CellSum; kept = nat_le (cells_in before + n) 1048576 } in
     leb-true n 65536 (kept_one r3 (r4 ∷ []) (kept_rest r2 (r3 ∷ (r4 ∷ [])) (kept_rest r1 (r2 ∷ (r3 ∷ (r4 ∷ []))) h)))
 
+-- there are few enough parameters
 pub params_few : (main : Bool) (visible : List Declared) (k : ℕ) (xs : List Name) → k ≤ 8 → Kept (parameter_rules main visible k xs) → k + length xs ≤ 8
 params_few main visible k [] le h = omega (arith, le)
 params_few main visible k (x ∷ xs) le h =
@@ -69,6 +72,7 @@ params_few main visible k (x ∷ xs) le h =
     let i = params_few main (record { text = x.text; sort = variable } ∷ visible) (suc k) xs (omega (arith, lt)) (kept_rest r3 rest h3) in
     omega (arith, i)
 
+-- there are few enough variables
 pub vars_few : (visible : List Declared) (k : ℕ) (xs : List Name) → k ≤ 32 → Kept (variable_rules visible k xs) → k + length xs ≤ 32
 vars_few visible k [] le h = omega (arith, le)
 vars_few visible k (x ∷ xs) le h =
@@ -80,6 +84,7 @@ vars_few visible k (x ∷ xs) le h =
     let i = vars_few (record { text = x.text; sort = variable } ∷ visible) (suc k) xs (omega (arith, lt)) (kept_rest r2 rest h2) in
     omega (arith, i)
 
+-- `main` has no parameters
 pub no_params : (visible : List Declared) (xs : List Name) → Kept (parameter_rules true visible 0 xs) → length xs ≡ 0
 no_params visible [] h = refl
 no_params visible (x ∷ xs) h = absurd (cc)

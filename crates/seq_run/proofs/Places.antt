@@ -7,39 +7,52 @@ use Rattle.src_ast.specs.Turns.{Outcome, Ended, Out, and_then, turn, CallEnd, Re
 use Rattle.src_ast.specs.declared.lexeme.Name.{Name}
 use Rattle.src_ast.specs.Syntax.{Expression, Number, Variable, Cell, Signed, Binary, Statement, Assign, Store, Print, Read, Give, Take, Call, If, While, Statements, Nothing, Then, Last, Procedure, Part}
 use Rattle.seq_run.specs.Resolved as resolved
-use Rattle.seq_run.specs.Resolved.{Term}
+use Rattle.cfg_core.specs.Graph as graph
+use Rattle.cfg_core.specs.Walk as walks
+use Rattle.src_ast.specs.declared.tree.Unary.{Unary}
+use Rattle.src_ast.specs.declared.tree.Unary.TheVariants.{Flip, Not, Neg}
 use Rattle.src_ast.specs.Meaning as meaning
 use Rattle.src_ast.specs.Meaning.{signed_value, Calls, empty_cells, Scope, var_number, array_number, proc_number, target, scope_of, arrays_of, lengths_of, procs_of, names_of, nth_procedure}
-use Rattle.seq_run.specs.Resolving.{term, terms, one, all, result, proc, procs, program}
+use Rattle.seq_run.specs.Resolving.{signed, term, terms, one, all, result, proc, procs, program}
+
+signed_same : (u : Unary) (t : graph.Term) (vars : List ℕ) (cells : List (List ℕ)) → walks.value (signed u t) vars cells ≡ signed_value u (walks.value t vars cells)
+signed_same Flip t vars cells = refl
+signed_same Not t vars cells = refl
+signed_same Neg t vars cells = refl
+
+signed_loads : (u : Unary) (t : graph.Term) (vars : List ℕ) (cells : List (List ℕ)) → walks.loads_of (signed u t) vars cells ≡ walks.loads_of t vars cells
+signed_loads Flip t vars cells = refl
+signed_loads Not t vars cells = refl
+signed_loads Neg t vars cells = refl
 
 module _ (scope : Scope) where
-  value_same : (e : Expression) (vars : List ℕ) (cells : List (List ℕ)) → meaning.value scope e vars cells ≡ resolved.value (term scope e) vars cells
+  value_same : (e : Expression) (vars : List ℕ) (cells : List (List ℕ)) → meaning.value scope e vars cells ≡ walks.value (term scope e) vars cells
   value_same (Number n) vars cells = refl
   value_same (Variable x) vars cells = refl
   value_same (Cell a e) vars cells = ap (λ n. slice_index (row cells (array_number scope a - 1)) n) (value_same e vars cells)
-  value_same (Signed s e) vars cells = ap (signed_value s) (value_same e vars cells)
-  value_same (Binary op a b) vars cells = ap (λ n. applied op n (meaning.value scope b vars cells)) (value_same a vars cells) ∙ ap (λ n. applied op (resolved.value (term scope a) vars cells) n) (value_same b vars cells)
+  value_same (Signed s e) vars cells = ap (signed_value s) (value_same e vars cells) ∙ sym (signed_same s (term scope e) vars cells)
+  value_same (Binary op a b) vars cells = ap (λ n. applied op n (meaning.value scope b vars cells)) (value_same a vars cells) ∙ ap (λ n. applied op (walks.value (term scope a) vars cells) n) (value_same b vars cells)
 
-  loads_same : (e : Expression) (vars : List ℕ) (cells : List (List ℕ)) → meaning.loads_of scope e vars cells ≡ resolved.loads_of (term scope e) vars cells
+  loads_same : (e : Expression) (vars : List ℕ) (cells : List (List ℕ)) → meaning.loads_of scope e vars cells ≡ walks.loads_of (term scope e) vars cells
   loads_same (Number n) vars cells = refl
   loads_same (Variable x) vars cells = refl
-  loads_same (Cell a e) vars cells = ap (λ acts. acts ++ loads (array_number scope a) (meaning.value scope e vars cells) ∷ []) (loads_same e vars cells) ∙ ap (λ n. resolved.loads_of (term scope e) vars cells ++ loads (array_number scope a) n ∷ []) (value_same e vars cells)
-  loads_same (Signed s e) vars cells = loads_same e vars cells
-  loads_same (Binary op a b) vars cells = ap (λ acts. acts ++ meaning.loads_of scope b vars cells) (loads_same a vars cells) ∙ ap (λ acts. resolved.loads_of (term scope a) vars cells ++ acts) (loads_same b vars cells)
+  loads_same (Cell a e) vars cells = ap (λ acts. acts ++ loads (array_number scope a) (meaning.value scope e vars cells) ∷ []) (loads_same e vars cells) ∙ ap (λ n. walks.loads_of (term scope e) vars cells ++ loads (array_number scope a) n ∷ []) (value_same e vars cells)
+  loads_same (Signed s e) vars cells = loads_same e vars cells ∙ sym (signed_loads s (term scope e) vars cells)
+  loads_same (Binary op a b) vars cells = ap (λ acts. acts ++ meaning.loads_of scope b vars cells) (loads_same a vars cells) ∙ ap (λ acts. walks.loads_of (term scope a) vars cells ++ acts) (loads_same b vars cells)
 
-  of_same : (e : Expression) (s : State) → meaning.value_of scope e s ≡ resolved.value_of (term scope e) s
-  of_same e s = ap (λ n. (n, with_acts s (meaning.loads_of scope e s.vars s.out.cells))) (value_same e s.vars s.out.cells) ∙ ap (λ acts. (resolved.value (term scope e) s.vars s.out.cells, with_acts s acts)) (loads_same e s.vars s.out.cells)
+  of_same : (e : Expression) (s : State) → meaning.value_of scope e s ≡ walks.value_of (term scope e) s
+  of_same e s = ap (λ n. (n, with_acts s (meaning.loads_of scope e s.vars s.out.cells))) (value_same e s.vars s.out.cells) ∙ ap (λ acts. (walks.value (term scope e) s.vars s.out.cells, with_acts s acts)) (loads_same e s.vars s.out.cells)
 
-  values_same : (es : List Expression) (vars : List ℕ) (cells : List (List ℕ)) → meaning.values scope es vars cells ≡ resolved.values (terms scope es) vars cells
+  values_same : (es : List Expression) (vars : List ℕ) (cells : List (List ℕ)) → meaning.values scope es vars cells ≡ walks.values (terms scope es) vars cells
   values_same [] vars cells = refl
-  values_same (e ∷ es) vars cells = ap (λ n. n ∷ meaning.values scope es vars cells) (value_same e vars cells) ∙ ap (λ ns. resolved.value (term scope e) vars cells ∷ ns) (values_same es vars cells)
+  values_same (e ∷ es) vars cells = ap (λ n. n ∷ meaning.values scope es vars cells) (value_same e vars cells) ∙ ap (λ ns. walks.value (term scope e) vars cells ∷ ns) (values_same es vars cells)
 
-  all_loads_same : (es : List Expression) (vars : List ℕ) (cells : List (List ℕ)) → meaning.all_loads scope es vars cells ≡ resolved.all_loads (terms scope es) vars cells
+  all_loads_same : (es : List Expression) (vars : List ℕ) (cells : List (List ℕ)) → meaning.all_loads scope es vars cells ≡ walks.all_loads (terms scope es) vars cells
   all_loads_same [] vars cells = refl
-  all_loads_same (e ∷ es) vars cells = ap (λ acts. acts ++ meaning.all_loads scope es vars cells) (loads_same e vars cells) ∙ ap (λ acts. resolved.loads_of (term scope e) vars cells ++ acts) (all_loads_same es vars cells)
+  all_loads_same (e ∷ es) vars cells = ap (λ acts. acts ++ meaning.all_loads scope es vars cells) (loads_same e vars cells) ∙ ap (λ acts. walks.loads_of (term scope e) vars cells ++ acts) (all_loads_same es vars cells)
 
-  all_of_same : (es : List Expression) (s : State) → meaning.values_of scope es s ≡ resolved.values_of (terms scope es) s
-  all_of_same es s = ap (λ ns. (ns, with_acts s (meaning.all_loads scope es s.vars s.out.cells))) (values_same es s.vars s.out.cells) ∙ ap (λ acts. (resolved.values (terms scope es) s.vars s.out.cells, with_acts s acts)) (all_loads_same es s.vars s.out.cells)
+  all_of_same : (es : List Expression) (s : State) → meaning.values_of scope es s ≡ walks.values_of (terms scope es) s
+  all_of_same es s = ap (λ ns. (ns, with_acts s (meaning.all_loads scope es s.vars s.out.cells))) (values_same es s.vars s.out.cells) ∙ ap (λ acts. (walks.values (terms scope es) s.vars s.out.cells, with_acts s acts)) (all_loads_same es s.vars s.out.cells)
 
 turn_same : (k : ℕ) (s : State) (go went : ℕ → Outcome) → ((j : ℕ) → go j ≡ went j) → turn k s go ≡ turn k s went
 turn_same zero s go went h = refl
@@ -66,7 +79,7 @@ module _ (scope : Scope) (calls : Calls) where
     one_same (Assign at x e) s k = turn_same k s _ _ (λ j. ap (λ (v : ℕ × State). Ended (write v.1 (var_number scope x) v.0) j) (of_same scope e s))
     one_same (Store at a e f) s k = turn_same k s _ _ (λ j.
         ap (λ (i : ℕ × State). let v = meaning.value_of scope f i.1 in Ended (stored v.1 (array_number scope a) i.0 v.0) j) (of_same scope e s)
-        ∙ ap (λ (v : ℕ × State). Ended (stored v.1 (array_number scope a) (resolved.value_of (term scope e) s).0 v.0) j) (of_same scope f (resolved.value_of (term scope e) s).1))
+        ∙ ap (λ (v : ℕ × State). Ended (stored v.1 (array_number scope a) (walks.value_of (term scope e) s).0 v.0) j) (of_same scope f (walks.value_of (term scope e) s).1))
     one_same (Print at e) s k = turn_same k s _ _ (λ j. ap (λ (v : ℕ × State). Ended (printed v.1 v.0) j) (of_same scope e s))
     one_same (Read at x) s k = refl
     one_same (Give at p q x) s k = refl
@@ -116,10 +129,12 @@ calls_same p (suc n) = fun_ext (λ f. fun_ext (λ args. fun_ext (λ o. fun_ext (
     (number_same p (meaning.calls_below n p) (resolved.calls_below n (program p).procs) (calls_same p n) n args o k)
     (ap (λ (c : Calls). c f args o k) (calls_same p n))))))
 
+-- there are as many procedures
 pub length_procs : (arrays names : List Name) (ps : List Procedure) → length (procs arrays names ps) ≡ length ps
 length_procs arrays names [] = refl
 length_procs arrays names (p ∷ ps) = ap suc (length_procs arrays names ps)
 
+-- the run with numbers is the run with names
 pub run_same : (p : List Part) (world : World) (k : ℕ) → meaning.run p world k ≡ resolved.run (program p) world k
 run_same p world k =
     let m = length (procs_of p) - 1 in

@@ -20,6 +20,7 @@ place_numbered first (n ∷ ns) text = by_flag (pointwise nat_eq n.text text) (p
         let d : suc first + place_of ns text ≡ first + suc (place_of ns text) = omega arith in
         ap (λ (k : ℕ). unwrap_or (numbered (suc first) ns text) k) e ∙ h ∙ d
 
+-- what a table says of a name
 pub number_is : (table : Table) (first : ℕ) (names : List Name) (text : List ℕ) (r : ℕ) → IsTable first names table → r ≡ unwrap_or (get_by (λ k. bytes_eq text k.now) table.numbers) table.next → r ≡ first + place_of names text
 number_is table first names text r is e =
     e ∙ ap (λ (o : Option ℕ). unwrap_or o table.next) (is.numbers text) ∙ ap (λ (k : ℕ). unwrap_or (numbered first names text) k) is.next ∙ place_numbered first names text
@@ -80,6 +81,7 @@ none_of (Some k) e = absurd (cc)
 abbrev by_text : {S : Type 0} → HashMap (Bor (List ℕ)) ℕ S → List ℕ → Option ℕ
 by_text m text = get_by (λ k. bytes_eq text k.now) m
 
+-- a name that is new
 pub added_new : (table : Table) (first : ℕ) (names : List Name) (x : Name) (text : List ℕ) (after : ℕ) (now : Table) → IsTable first names table → text ≡ x.text → is_some (by_text table.numbers text) ≡ false → ((cs : List ℕ) → by_text now.numbers cs ≡ cond (bytes_eq text cs) (Some table.next) (by_text table.numbers cs)) → after ≡ table.next + 1 → now.next ≡ after → IsTable first (names ++ x ∷ []) now
 added_new table first names x text after now is e absent put ea en = record {
   numbers = put_new first names x (by_text table.numbers) (by_text now.numbers) is.numbers table.next is.next (none_of (by_text table.numbers x.text) (ap (λ (t : List ℕ). is_some (by_text table.numbers t)) (sym e) ∙ absent))
@@ -87,6 +89,7 @@ added_new table first names x text after now is e absent put ea en = record {
   next = en ∙ length_more first names x table.next after is.next ea;
 }
 
+-- a name that is there already
 pub added_again : (table : Table) (first : ℕ) (names : List Name) (x : Name) (text : List ℕ) (after : ℕ) (now : Table) → IsTable first names table → text ≡ x.text → is_some (by_text table.numbers text) ≡ true → now.numbers ≡ table.numbers → after ≡ table.next + 1 → now.next ≡ after → IsTable first (names ++ x ∷ []) now
 added_again table first names x text after now is e there same ea en = record {
   numbers = put_again first names x (by_text table.numbers) (by_text now.numbers) is.numbers (ap (λ (t : List ℕ). is_some (by_text table.numbers t)) (sym e) ∙ there)
@@ -94,6 +97,7 @@ added_again table first names x text after now is e there same ea en = record {
   next = en ∙ length_more first names x table.next after is.next ea;
 }
 
+-- the next number
 pub one_more : (n after : ℕ) (o : Option ℕ) → SomeIff o (n + 1 < 2 ^ 32) (n + 1) → o ≡ Some after → after ≡ n + 1
 one_more n after (Some k) h e = let d : k ≡ after = cc in sym d ∙ h.1
 one_more n after None h e = absurd (cc)

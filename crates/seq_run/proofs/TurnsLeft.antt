@@ -3,13 +3,16 @@ use Rattle.std.proofs.Common.{ℕ, zero, suc, ◌≤◌, ◌==◌, Bool, true, f
 use Rattle.ws_words.specs.Outside.{Outside, State, zeros}
 use Rattle.src_ast.specs.Turns.{Outcome, Ended, Out, and_then, turn, CallEnd, Returned, Stopped, back_in, ending, loop}
 use Rattle.src_ast.specs.Meaning.{Calls}
-use Rattle.seq_run.specs.Resolved.{Term, Step, Do, Call, If, While, Steps, Nothing, Then, Proc, value_of, run_one, run_all, finish, run_proc, calls_below, nth_proc}
+use Rattle.cfg_core.specs.Graph.{Term}
+use Rattle.cfg_core.specs.Walk.{value_of}
+use Rattle.seq_run.specs.Resolved.{Step, Do, Call, If, While, Steps, Nothing, Then, Proc, run_one, run_all, finish, run_proc, calls_below, nth_proc}
 use Rattle.seq_run.specs.TurnsLeft.{AtMost}
 
 abbrev pub CallAtMost : ℕ → CallEnd → Type 0
 CallAtMost k (Returned v o j) = j ≤ k
 CallAtMost k (Stopped o) = Unit {0}
 
+-- no call leaves more turns than it was given
 abbrev pub CallsAtMost : Calls → Type 0
 CallsAtMost calls = (f : ℕ) (args : List ℕ) (o : Outside) (k : ℕ) → CallAtMost k (calls f args o k)
 
@@ -39,12 +42,14 @@ loop_most (suc fuel) test body f s k =
     turn_most k s _ (λ j. if_most j ((test s).0 == 0) _ _ (omega arith) (then_most j (body (test s).1 j) (loop fuel test body) (f (test s).1 j) (loop_most fuel test body f)))
 
 mutual
+  -- nor does a step
   pub one_most : (calls : Calls) → CallsAtMost calls → (st : Step) (s : State) (k : ℕ) → AtMost k (run_one calls st s k)
   one_most calls c (Do a) s k = turn_most k s _ (λ j. omega arith)
   one_most calls c (Call x f ts) s k = turn_most k s _ (λ j. back_most j _ x _ (c f _ _ j))
   one_most calls c (If t a b) s k = turn_most k s _ (λ j. if_most j ((value_of t s).0 == 0) _ _ (all_most calls c b (value_of t s).1 j) (all_most calls c a (value_of t s).1 j))
   one_most calls c (While t body) s k = loop_most (suc k) (value_of t) (run_all calls body) (all_most calls c body) s k
 
+  -- nor do steps
   pub all_most : (calls : Calls) → CallsAtMost calls → (st : Steps) (s : State) (k : ℕ) → AtMost k (run_all calls st s k)
   all_most calls c Nothing s k = omega arith
   all_most calls c (Then st rest) s k = then_most k (run_one calls st s k) (run_all calls rest) (one_most calls c st s k) (all_most calls c rest)
@@ -69,6 +74,7 @@ if_call_most k false o p h i = i
 pub proc_most : (calls : Calls) → CallsAtMost calls → (p : Proc) (args : List ℕ) (o : Outside) (k : ℕ) → CallAtMost k (run_proc calls p args o k)
 proc_most calls c p args o k = ending_most k _ p.result (all_most calls c p.body (record { vars = args ++ zeros p.locals; out = o }) k)
 
+-- so it is with the calls of a program
 pub calls_most : (n : ℕ) (procs : List Proc) → CallsAtMost (calls_below n procs)
 calls_most zero procs f args o k = tt
 calls_most (suc n) procs f args o k = if_call_most k (f == n) _ _ (proc_most (calls_below n procs) (calls_most n procs) (nth_proc procs n) args o k) (calls_most n procs f args o k)

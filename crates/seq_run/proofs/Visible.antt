@@ -26,12 +26,13 @@ both_hold : (a b : Bool) → (a && b) ≡ true → (a ≡ true) × (b ≡ true)
 both_hold true b h = (refl, h)
 both_hold false b h = absurd (cc)
 
+-- a flag has one value
 pub clash : {b : Bool} → b ≡ true → b ≡ false → ⊥
 clash h i = absurd (cc)
 
 -- among names in a row, a name is the first or the others
-pub in_front_or_behind : (xs ys : List Declared) (text : List ℕ) (s : Sort) → has_sort (xs ++ ys) text s ≡ true → (has_sort xs text s ≡ true) ⊎ (has_sort ys text s ≡ true)
-in_front_or_behind xs ys text s h = or_cases (has_sort xs text s) (has_sort ys text s) (sym (list_any-append (λ d. pointwise nat_eq d.text text && same_sort d.sort s) xs ys) ∙ h)
+pub in_front_or_after : (xs ys : List Declared) (text : List ℕ) (s : Sort) → has_sort (xs ++ ys) text s ≡ true → (has_sort xs text s ≡ true) ⊎ (has_sort ys text s ≡ true)
+in_front_or_after xs ys text s h = or_cases (has_sort xs text s) (has_sort ys text s) (sym (list_any-append (λ d. pointwise nat_eq d.text text && same_sort d.sort s) xs ys) ∙ h)
 
 -- a variable that is visible has a place
 pub variable_place : (ns : List Name) (text : List ℕ) → has_sort (variables ns) text variable ≡ true → place_of ns text < length ns
@@ -57,6 +58,7 @@ pub only_variables : (ns : List Name) (text : List ℕ) (s : Sort) → same_sort
 only_variables [] text s e = refl
 only_variables (n ∷ ns) text s e = ap (λ (c : Bool). (pointwise nat_eq n.text text && c) || has_sort (variables ns) text s) e ∙ no_test (pointwise nat_eq n.text text) _ (only_variables ns text s e)
 
+-- the place of an array that is declared
 pub array_place : (parts : List Part) (text : List ℕ) → has_sort (declared_by parts) text array ≡ true → place_of (arrays_of parts) text < length (arrays_of parts)
 array_place [] text h = absurd (cc)
 array_place (Array x n at ∷ parts) text h = by_flag (pointwise nat_eq x.text text) h (array_place parts text)
@@ -73,6 +75,7 @@ array_place (Proc p ∷ parts) text h = elim (or_cases (pointwise nat_eq p.name.
 abbrev pub proc_place : List Part → List ℕ → ℕ
 proc_place parts text = place_of (names_of (procs_of parts)) text
 
+-- the place of a procedure that is declared
 pub procedure_place : (parts : List Part) (text : List ℕ) (n : ℕ) → has_sort (declared_by parts) text (procedure n) ≡ true → proc_place parts text < length (procs_of parts)
 procedure_place [] text n h = absurd (cc)
 procedure_place (Array x m at ∷ parts) text n h = elim (or_cases (pointwise nat_eq x.text text && false) _ h) [
@@ -95,7 +98,7 @@ hidden_place (Proc p ∷ parts) text h = by_flag (pointwise nat_eq p.name.text t
     by_flag true h f = absurd (cc)
     by_flag false h f = ap suc (f h)
 
--- more names behind change no place
+-- more names after change no place
 pub place_front : (xs ys : List Name) (text : List ℕ) → place_of xs text < length xs → place_of (xs ++ ys) text ≡ place_of xs text
 place_front [] ys text lt = absurd (omega arith)
 place_front (x ∷ xs) ys text lt = by_flag (pointwise nat_eq x.text text) lt (place_front xs ys text)
@@ -125,11 +128,13 @@ length_names : (ps : List Procedure) → length (names_of ps) ≡ length ps
 length_names [] = refl
 length_names (p ∷ ps) = ap suc (length_names ps)
 
--- parts behind change no place of what is declared in front
+-- parts after change no place of what is declared in front
 module _ (before rest : List Part) (text : List ℕ) where
+  -- an array keeps its place
   pub array_stays : place_of (arrays_of before) text < length (arrays_of before) → place_of (arrays_of (before ++ rest)) text ≡ place_of (arrays_of before) text
   array_stays lt = ap (λ (ns : List Name). place_of ns text) (arrays_append before rest) ∙ place_front (arrays_of before) (arrays_of rest) text lt
 
+  -- a procedure keeps its place
   pub proc_stays : proc_place before text < length (procs_of before) → proc_place (before ++ rest) text ≡ proc_place before text
   proc_stays lt =
       let l = length_names (procs_of before) in
@@ -137,6 +142,7 @@ module _ (before rest : List Part) (text : List ℕ) where
       ∙ ap (λ (ns : List Name). place_of ns text) (names_append (procs_of before) (procs_of rest))
       ∙ place_front (names_of (procs_of before)) (names_of (procs_of rest)) text (omega (arith, lt, l))
 
+  -- and stands there
   pub nth_stays : (k : ℕ) → k < length (procs_of before) → nth_procedure (procs_of (before ++ rest)) k ≡ nth_procedure (procs_of before) k
   nth_stays k lt = ap (λ (ps : List Procedure). nth_procedure ps k) (procs_append before rest) ∙ nth_front (procs_of before) (procs_of rest) k lt
 
@@ -144,6 +150,7 @@ module _ (before rest : List Part) (text : List ℕ) where
 abbrev pub Known : List Part → Type 0
 Known before = (text : List ℕ) (n : ℕ) → has_sort (declared_by before) text (procedure n) ≡ true → length (nth_procedure (procs_of before) (proc_place before text)).params ≡ n
 
+-- nothing is known yet
 pub known_none : Known []
 known_none text n h = absurd (cc)
 
@@ -161,14 +168,16 @@ module _ (before : List Part) (known : Known before) where
       ∙ known text n h
 
   split : (part : Part) (text : List ℕ) (n : ℕ) → has_sort (declared_by (before ++ part ∷ [])) text (procedure n) ≡ true → (has_sort (declared_by before) text (procedure n) ≡ true) ⊎ (has_sort (declared_by (part ∷ [])) text (procedure n) ≡ true)
-  split part text n h = in_front_or_behind (declared_by before) (declared_by (part ∷ [])) text (procedure n) (ap (λ (ds : List Declared). has_sort ds text (procedure n)) (sym (declared_append before (part ∷ []))) ∙ h)
+  split part text n h = in_front_or_after (declared_by before) (declared_by (part ∷ [])) text (procedure n) (ap (λ (ds : List Declared). has_sort ds text (procedure n)) (sym (declared_append before (part ∷ []))) ∙ h)
 
+  -- an array more
   pub known_array : (x : Name) (m : ℕ) (at : _) → Known (before ++ Array x m at ∷ [])
   known_array x m at text n h = elim (split (Array x m at) text n h) [
     | inl i ↦ known_front (Array x m at) text n i
     | inr i ↦ absurd (clash i (no_test (pointwise nat_eq x.text text) false refl))
   ]
 
+  -- a procedure more
   pub known_procedure : (p : Procedure) → is_visible (declared_by before) p.name.text ≡ false → Known (before ++ Proc p ∷ [])
   known_procedure p new text n h = elim (split (Proc p) text n h) [
     | inl i ↦ known_front (Proc p) text n i

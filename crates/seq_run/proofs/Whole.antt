@@ -1,34 +1,40 @@
 -- A whole run.
-use Rattle.std.proofs.Common.{◌≡◌, ℕ, zero, suc, ◌+◌, ◌-◌, ◌<◌, ◌≤◌, ◌⊎◌, inl, inr, Bool, true, false, ◌&&◌, List, [], ◌∷◌, ◌++◌, Option, Some, None, length, take, drop, slice_index_or, refl, sym, ap, ◌∙◌, subst, arith}
+use mathlib.Core.Path.{fun_ext}
+use Rattle.std.proofs.Common.{◌≡◌, ℕ, zero, suc, ◌+◌, ◌-◌, ◌<◌, ◌≤◌, ◌⊎◌, inl, inr, Bool, true, false, ◌&&◌, List, [], ◌∷◌, ◌++◌, length, take, slice_index_or, refl, sym, ap, ◌∙◌, subst, append_assoc, arith}
 use Rattle.std.specs.List.{list_all}
 use Rattle.ws_words.specs.declared.plain.Plain.{Plain}
 use Rattle.ws_words.specs.declared.plain.Plain.TheVariants as plains
-use Rattle.ws_words.specs.declared.plain.World.{World as CodeWorld}
+use Rattle.ws_words.specs.declared.memory.Memory.{Memory}
+use Rattle.ws_words.specs.Memory.{OutIs, lengths_of}
 use Rattle.ws_words.specs.Outside.{Outside, World, zeros, opening_out}
-use Rattle.ws_words.specs.Plain.{took_from, took_by_ports}
+use Rattle.ws_words.specs.Past.{AreWithin, FirstPast, after_acts}
 use Rattle.src_ast.specs.declared.lexeme.Place.{Place}
 use Rattle.src_ast.specs.Syntax.{Part, Array, Proc}
 use Rattle.src_ast.specs.Rules.{Rule, IsAccepted, has_main, rules_behind}
 use Rattle.src_ast.specs.Turns.{CallEnd, Returned, Stopped}
 use Rattle.src_ast.specs.Meaning as meaning
-use Rattle.src_ast.specs.Meaning.{Passes, Flows, procs_of, arrays_of, names_of, empty_cells}
+use Rattle.src_ast.specs.Meaning.{procs_of, arrays_of, names_of, lengths_of as declared_lengths, empty_cells}
+use Rattle.src_ast.specs.Runs.{outside_of, acts_in, opened, Runs, Goes, Faults}
 use Rattle.seq_run.specs.Resolved as resolved
 use Rattle.seq_run.specs.Resolved.{run, calls_below}
 use Rattle.seq_run.specs.Resolving as resolving
+use Rattle.seq_run.specs.Seen.{call_seen}
 use Rattle.seq_run.specs.View as view
-use Rattle.seq_run.specs.Shows.{rests, Shows, ReplyIs}
-use Rattle.seq_run.specs.Answer.{SaysEnded, SaysGoing, HasEnded, IsGoing, ReplySays}
-use Rattle.ws_words.specs.Plain.{world_of}
+use Rattle.seq_run.specs.Shows.{Shows, CallReturned, CallOut, ReplyIs}
+use Rattle.seq_run.specs.Answer.{SaysEnded, SaysFault, SaysGoing, HasEnded, HasFaulted, IsGoing, RunEnded, RunGoes, RunSays}
 use Rattle.seq_run.specs.declared.tree.ArrayShape.{ArrayShape}
 use Rattle.seq_run.specs.declared.tree.Proc.{Proc as CodeProc}
 use Rattle.seq_run.specs.declared.tree.Resolved.{Resolved}
-use Rattle.seq_run.specs.declared.machine.Machine.{Machine}
+use Rattle.seq_run.specs.declared.runner.Reply.{Reply}
+use Rattle.seq_run.specs.declared.runner.Reply.TheVariants as replies
 use Rattle.seq_run.proofs.Places.{run_same, length_procs}
-use Rattle.seq_run.proofs.Cost.{exactly, more_turns}
-use Rattle.seq_run.proofs.Follows.{calls_at}
+use Rattle.seq_run.proofs.Cost.{exactly}
+use Rattle.seq_run.proofs.FirstPasts.{within_front}
+use Rattle.seq_run.proofs.Follows.{calls_at, reply_shift}
+use Rattle.seq_run.proofs.OneAnswer.{fronts, one_end, one_fault, one_going, end_no_fault, end_no_going, fault_no_going}
 use Rattle.seq_run.proofs.Declares.{taken_more}
 
--- the machine before the first turn
+-- the cells before the first turn
 pub cells_more : (arrays : List ArrayShape) (i : ℕ) (x : ArrayShape) (cells now : List (List ℕ)) (row : List ℕ) → i < length arrays → x ≡ slice_index_or arrays i x → cells ≡ empty_cells (view.lengths (take i arrays)) → row ≡ zeros x.length → now ≡ cells ++ row ∷ [] → now ≡ empty_cells (view.lengths (take (i + 1) arrays))
 cells_more arrays i x cells now row lt is so er en =
     en ∙ ap (λ (cs : List (List ℕ)). cs ++ row ∷ []) so ∙ ap (λ (r : List ℕ). empty_cells (view.lengths (take i arrays)) ++ r ∷ []) er ∙ sym (at (take i arrays)) ∙ ap (λ (xs : List ArrayShape). empty_cells (view.lengths xs)) (sym (taken_more arrays i x lt is))
@@ -37,30 +43,16 @@ cells_more arrays i x cells now row lt is so er en =
     at [] = refl
     at (y ∷ xs) = ap (λ (cs : List (List ℕ)). zeros y.length ∷ cs) (at xs)
 
-pub took_more : (n : ℕ) (took now : List (List ℕ)) → took ≡ took_from 1 n [] → now ≡ took ++ [] ∷ [] → now ≡ took_from 1 (n + 1) []
-took_more n took now so en = en ∙ ap (λ (t : List (List ℕ)). t ++ [] ∷ []) so ∙ at 1 n ∙ ap (λ (k : ℕ). took_from 1 k []) (let z : suc n ≡ n + 1 = omega arith in z)
-  where
-    at : (k n : ℕ) → took_from k n [] ++ [] ∷ [] ≡ took_from k (suc n) []
-    at k zero = refl
-    at k (suc n) = ap (λ (t : List (List ℕ)). [] ∷ t) (at (suc k) n)
-
-all_left : (n : ℕ) (left : List (List ℕ)) → rests (zeros n) left ≡ left
-all_left zero left = refl
-all_left (suc n) [] = refl
-all_left (suc n) (words ∷ left) = ap (λ (rest : List (List ℕ)). words ∷ rest) (all_left n left)
-
 length_zeros : (n : ℕ) → length (zeros n) ≡ n
 length_zeros zero = refl
 length_zeros (suc n) = ap suc (length_zeros n)
 
-pub opening_shows : (cells : List (List ℕ)) (world : CodeWorld) (m : Machine) (n : ℕ) → m.world.now ≡ world → m.cells ≡ cells → m.read ≡ 0 → n ≡ length world.left → m.given ≡ zeros n → m.printed ≡ [] → m.took ≡ took_by_ports [] → Shows (opening_out cells (world_of world)) m
-opening_shows cells world m n ew ec er en eg ep et = record {
-  cells = sym ec;
-  input = ap (λ (w : CodeWorld). w.input) (sym ew) ∙ ap (λ (k : ℕ). drop k m.world.now.input) (sym er);
-  left = sym (all_left n world.left) ∙ ap (λ (ns : List ℕ). rests ns world.left) (sym eg) ∙ ap (λ (w : CodeWorld). rests m.given w.left) (sym ew);
-  ports = ap length eg ∙ length_zeros n ∙ en ∙ ap (λ (w : CodeWorld). length w.left) (sym ew);
-  printed = sym ep;
-  took = sym et;
+-- before the first turn the code holds what is outside then
+pub opening_shows : (o : Outside) (m : Memory) → o.acts ≡ [] → OutIs o m → Shows o o m
+opening_shows o m e out = record {
+  out = out;
+  within = subst (AreWithin (lengths_of o.cells)) (sym e) tt;
+  told = ap (after_acts o) (sym e);
 }
 
 length_view : (ps : List CodeProc) → length (view.procs ps) ≡ length ps
@@ -73,13 +65,55 @@ run_is_call r world turns count some e =
     calls_at count (count - 1) (view.procs r.procs.items) (omega (arith, e)) [] (opening_out (empty_cells (view.lengths r.arrays.items)) world) turns
     ∙ ap (λ (n : ℕ). resolved.run_at (n - 1) (view.program r) world turns) (e ∙ sym (length_view r.procs.items))
 
-pub says_ended : (e : CallEnd) (v left turns : ℕ) (m : Machine) → ReplyIs e (Some v) m left → left ≤ turns → ReplySays e turns (plains.Ended m.printed m.cells m.took (turns - left))
-says_ended (Returned w o k) v left turns m h le = (omega (arith, h.2), (ap (λ (n : ℕ). turns - n) (sym h.2), sym h.0.printed, sym h.0.cells, sym h.0.took))
-says_ended (Stopped o) v left turns m h le = absurd h
+-- the answer says how the run went
+module _ (start : Outside) (call : ℕ → CallEnd) (turns left : ℕ) (m : Memory) where
+  -- the run ended
+  pub says_ended : (v : ℕ) → left ≤ turns → ReplyIs start call turns (replies.Value v) m left → RunSays start call turns (plains.Ended m.printed m.cells m.took (turns - left))
+  says_ended v le h = at (call turns) refl h
+    where
+      at : (e : CallEnd) → call turns ≡ e → CallReturned start e v m left → RunEnded start call turns (plains.Ended m.printed m.cells m.took (turns - left))
+      at (Returned w o k) is g = record {
+        value = w;
+        end = o;
+        left = k;
+        returns = is;
+        within = g.0.within;
+        says = (ap (λ (n : ℕ). turns - n) (sym g.2), sym g.0.out.same_printed, sym g.0.out.same_cells, sym g.0.out.same_took);
+      }
+      at (Stopped o) is g = absurd g
 
-pub says_going : (e : CallEnd) (left turns : ℕ) (m : Machine) → ReplyIs e None m left → ReplySays e turns (plains.Going m.printed)
-says_going (Returned w o k) left turns m h = absurd h
-says_going (Stopped o) left turns m h = sym h.printed
+  -- it wants a further turn
+  pub says_going : ReplyIs start call turns replies.Out m left → RunSays start call turns (plains.Going m.printed)
+  says_going h = at (call turns) refl h
+    where
+      at : (e : CallEnd) → call turns ≡ e → CallOut start e m → RunGoes start call turns (plains.Going m.printed)
+      at (Returned w o k) is g = absurd g
+      at (Stopped o) is g = record { now = o; stops = is; within = g.within; says = sym g.out.same_printed }
+
+  seen_acts : (e : CallEnd) → (call_seen e).0 ≡ (outside_of e).acts
+  seen_acts (Returned v o k) = refl
+  seen_acts (Stopped o) = refl
+
+  -- it met its first act that is past
+  pub says_fault : (c : ℕ) → ReplyIs start call turns (replies.Fault c) m left → RunSays start call turns (plains.Fault c m.printed m.cells m.took (turns - left))
+  says_fault c h =
+      let b = h.stops.before in
+      record {
+        earlier = h.earlier;
+        array = c;
+        state = b;
+        in_time = omega (arith, h.sum);
+        first = record {
+          within = h.stops.shows.within;
+          act = h.stops.act;
+          past = h.stops.past;
+          after = h.stops.first.more;
+          split = sym (seen_acts (call (suc h.earlier))) ∙ h.stops.first.rest ∙ append_assoc b.acts (h.stops.act ∷ []) h.stops.first.more;
+        };
+        sooner = subst (AreWithin (lengths_of start.cells)) (seen_acts (call h.earlier)) h.within;
+        left = h.stops.shows.told;
+        says = (refl, omega (arith, h.sum), sym h.stops.shows.out.same_printed, sym h.stops.shows.out.same_cells, sym h.stops.shows.out.same_took);
+      }
 
 -- an accepted program has a procedure
 pub list_all_end : (xs : List Rule) (x : Rule) → list_all (λ r. r.kept) (xs ++ x ∷ []) ≡ true → x.kept ≡ true
@@ -94,67 +128,117 @@ list_all_end (y ∷ xs) x h = by_flag y.kept (list_all (λ r. r.kept) (xs ++ x �
     by_flag true c h f = f h
     by_flag false c h f = absurd (cc)
 
+-- `main` is a procedure
 pub some_proc : (parts : List Part) → has_main parts ≡ true → 0 < length (procs_of parts)
 some_proc [] h = absurd (cc)
 some_proc (Array x n at ∷ parts) h = some_proc parts h
 some_proc (Proc p ∷ parts) h = omega arith
 
+-- so an accepted program has one
 pub accepted_has_proc : (parts : List Part) (finish : Place) → IsAccepted parts finish → 0 < length (procs_of parts)
 accepted_has_proc parts finish a = some_proc parts (list_all_end (rules_behind [] parts) _ a)
 
+-- so has the code
 pub resolved_has_proc : (r : Resolved) (parts : List Part) (finish : Place) → view.program r ≡ resolving.program parts → IsAccepted parts finish → 0 < length r.procs.items
 resolved_has_proc r parts finish e a =
     let h = accepted_has_proc parts finish a in
     let l : length r.procs.items ≡ length (procs_of parts) = sym (length_view r.procs.items) ∙ ap (λ (p : resolved.Program). length p.procs) e ∙ length_procs (arrays_of parts) (names_of (procs_of parts)) (procs_of parts) in
     omega (arith, h, l)
 
+-- the lengths of the cells at the start are those of the arrays
+lengths_opened : (ns : List ℕ) → lengths_of (empty_cells ns) ≡ ns
+lengths_opened [] = refl
+lengths_opened (n ∷ ns) = ap (λ (k : ℕ). k ∷ lengths_of (empty_cells ns)) (length_zeros n) ∙ ap (λ (ks : List ℕ). n ∷ ks) (lengths_opened ns)
+
 -- what the answer says of the program with names
-module _ (r : Resolved) (parts : List Part) (world : World) (turns : ℕ) (plain : Plain) (e : view.program r ≡ resolving.program parts) (says : ReplySays (run (view.program r) world turns) turns plain) where
-  says_names : ReplySays (meaning.run parts world turns) turns plain
-  says_names = subst (λ (c : CallEnd). ReplySays c turns plain) (ap (λ (p : resolved.Program). run p world turns) e ∙ sym (run_same parts world turns)) says
+module _ (r : Resolved) (parts : List Part) (world : World) (turns : ℕ) (plain : Plain) (e : view.program r ≡ resolving.program parts)
+    (says : RunSays (opening_out (empty_cells (view.program r).lengths) world) (run (view.program r) world) turns plain) where
+  lens : lengths_of (opened parts world).cells ≡ declared_lengths parts
+  lens = lengths_opened (declared_lengths parts)
 
-  -- more turns than it takes
-  in_time : (n : ℕ) (end : Outside) → Passes parts world n end → n ≤ turns → (v : ℕ) × (meaning.run parts world turns ≡ Returned v end (turns - n))
-  in_time n end runs le =
-      let m = more_turns (resolving.program parts) world n runs.0 end (turns - n) (sym (run_same parts world n) ∙ runs.1) in
-      let z : (turns - n) + n ≡ turns = omega (arith, le) in
-      (runs.0, run_same parts world turns ∙ ap (λ (k : ℕ). run (resolving.program parts) world k) (sym z) ∙ m)
+  abbrev named : ℕ → CallEnd
+  named k = meaning.run parts world k
 
-  pub ends : (n : ℕ) (end : Outside) → Passes parts world n end → n ≤ turns → SaysEnded n end plain
-  ends n end runs le = let t = in_time n end runs le in by_plain plain (subst (λ (c : CallEnd). ReplySays c turns plain) t.1 says_names) le
+  says_names : RunSays (opened parts world) named turns plain
+  says_names =
+      subst (λ (f : ℕ → CallEnd). RunSays (opened parts world) f turns plain) (fun_ext (λ k. sym (run_same parts world k)))
+      (subst (λ (p : resolved.Program). RunSays (opening_out (empty_cells p.lengths) world) (run p world) turns plain) e says)
+
+  -- one of the three answers
+  pub one_of : HasEnded parts world turns plain ⊎ (HasFaulted parts world turns plain ⊎ IsGoing parts world turns plain)
+  one_of = by_plain plain says_names
     where
-      by_plain : (p : Plain) → ReplySays (Returned (in_time n end runs le).0 end (turns - n)) turns p → n ≤ turns → SaysEnded n end p
-      by_plain (plains.Ended printed arrays took k) h l = let z : turns - (turns - n) ≡ n = omega (arith, l) in (h.1.0 ∙ z, h.1.1, h.1.2, h.1.3)
-      by_plain (plains.Going printed) h l = absurd h
+      by_plain : (p : Plain) → RunSays (opened parts world) named turns p → HasEnded parts world turns p ⊎ (HasFaulted parts world turns p ⊎ IsGoing parts world turns p)
+      by_plain (plains.Ended printed arrays took n) h =
+          let x = exactly (resolving.program parts) world turns h.value h.end h.left (sym (run_same parts world turns) ∙ h.returns) in
+          let z : turns - h.left ≡ x.0 = omega (arith, x.1) in
+          inl (record {
+            taken = x.0;
+            end = h.end;
+            runs = record { passes = (h.value, run_same parts world x.0 ∙ x.2); within = subst (λ (ns : List ℕ). AreWithin ns h.end.acts) lens h.within };
+            within = omega (arith, x.1);
+            says = subst (λ (k : ℕ). SaysEnded k h.end (plains.Ended printed arrays took n)) z h.says;
+          })
+      by_plain (plains.Fault array printed arrays took n) h = inr (inl (record {
+        turn = suc h.earlier;
+        array = h.array;
+        state = h.state;
+        faults = record {
+          first = subst (λ (ns : List ℕ). FirstPast ns (acts_in parts world (suc h.earlier)) h.state.acts h.array) lens h.first;
+          sooner = λ m lt. within_front (declared_lengths parts) (acts_in parts world m) (acts_in parts world h.earlier) (fronts parts world m h.earlier (omega (arith, lt)))
+              (subst (λ (ns : List ℕ). AreWithin ns (acts_in parts world h.earlier)) lens h.sooner);
+          left = h.left;
+        };
+        within = h.in_time;
+        says = h.says;
+      }))
+      by_plain (plains.Going printed) h = inr (inr (record {
+        now = h.now;
+        goes = record { flows = h.stops; within = subst (λ (ns : List ℕ). AreWithin ns h.now.acts) lens h.within };
+        says = h.says;
+      }))
 
-  pub goes : (now : Outside) → Flows parts world turns now → SaysGoing now plain
-  goes now g = subst (λ (c : CallEnd). ReplySays c turns plain) g says_names
-
-  pub one_of : HasEnded parts world turns plain ⊎ IsGoing parts world turns plain
-  one_of = by_end (meaning.run parts world turns) refl says_names
+  -- the answer of a run that ends
+  pub ends_so : (n : ℕ) (end : Outside) → Runs parts world n end → n ≤ turns → SaysEnded n end plain
+  ends_so n end runs le = at one_of
     where
-      by_plain : (v k : ℕ) (o : Outside) (p : Plain) → meaning.run parts world turns ≡ Returned v o k → ReplySays (Returned v o k) turns p → HasEnded parts world turns p
-      by_plain v k o (plains.Going printed) is h = absurd h
-      by_plain v k o (plains.Ended printed arrays took n) is h =
-          let x = exactly (resolving.program parts) world turns v o k (sym (run_same parts world turns) ∙ is) in
-          let z : x.0 ≡ turns - k = omega (arith, x.1) in
-          record {
-            taken = turns - k;
-            end = o;
-            runs = (v, run_same parts world (turns - k) ∙ ap (λ (j : ℕ). run (resolving.program parts) world j) (sym z) ∙ x.2);
-            within = omega arith;
-            says = h.1;
-          }
+      at : HasEnded parts world turns plain ⊎ (HasFaulted parts world turns plain ⊎ IsGoing parts world turns plain) → SaysEnded n end plain
+      at (inl h) = let s = one_end parts world h.taken n h.end end h.runs runs in subst (λ (k : ℕ). SaysEnded k end plain) s.0 (subst (λ (o : Outside). SaysEnded h.taken o plain) s.1 h.says)
+      at (inr (inl h)) = absurd (end_no_fault parts world n h.turn h.array end h.state runs h.faults)
+      at (inr (inr h)) = absurd (end_no_going parts world n turns end h.now le runs h.goes)
 
-      by_end : (c : CallEnd) → meaning.run parts world turns ≡ c → ReplySays c turns plain → HasEnded parts world turns plain ⊎ IsGoing parts world turns plain
-      by_end (Returned v o k) is h = inl (by_plain v k o plain is h)
-      by_end (Stopped o) is h = inr (record { now = o; goes = is; says = h })
+  -- that of one that meets an act that is past
+  pub faults_so : (n array : ℕ) (state : Outside) → Faults parts world n array state → n ≤ turns → SaysFault n array state plain
+  faults_so n array state faults le = at one_of
+    where
+      at : HasEnded parts world turns plain ⊎ (HasFaulted parts world turns plain ⊎ IsGoing parts world turns plain) → SaysFault n array state plain
+      at (inl h) = absurd (end_no_fault parts world h.taken n array h.end state h.runs faults)
+      at (inr (inl h)) =
+          let s = one_fault parts world h.turn n h.array array h.state state h.faults faults in
+          subst (λ (k : ℕ). SaysFault k array state plain) s.0 (subst (λ (a : ℕ). SaysFault h.turn a state plain) s.1 (subst (λ (o : Outside). SaysFault h.turn h.array o plain) s.2 h.says))
+      at (inr (inr h)) = absurd (fault_no_going parts world n turns array state h.now le faults h.goes)
 
-pub reply_is : (r : Resolved) (world : World) (turns count : ℕ) (shapes : List ArrayShape) (procs : List CodeProc) (args : List ℕ) (reply answer : Option ℕ) (before m : Machine) (left : ℕ) → 0 < length r.procs.items → count ≡ length r.procs.items → shapes ≡ r.arrays.items → procs ≡ r.procs.items → args ≡ [] → reply ≡ answer → Shows (opening_out (empty_cells (view.lengths shapes)) world) before → ((o : Outside) → Shows o before → ReplyIs (calls_below count (view.procs procs) (count - 1) args o turns) reply m left) → ReplyIs (run (view.program r) world turns) answer m left
-reply_is r world turns count shapes procs args reply answer before m left some ec es ep ea er sh f =
-    subst (λ (c : CallEnd). ReplyIs c answer m left)
-    (ap (λ (ss : List ArrayShape). calls_below count (view.procs procs) (count - 1) args (opening_out (empty_cells (view.lengths ss)) world) turns) es
-    ∙ ap (λ (ps : List CodeProc). calls_below count (view.procs ps) (count - 1) args (opening_out (empty_cells (view.lengths r.arrays.items)) world) turns) ep
-    ∙ ap (λ (xs : List ℕ). calls_below count (view.procs r.procs.items) (count - 1) xs (opening_out (empty_cells (view.lengths r.arrays.items)) world) turns) ea
-    ∙ run_is_call r world turns count some ec)
-    (subst (λ (x : Option ℕ). ReplyIs (calls_below count (view.procs procs) (count - 1) args (opening_out (empty_cells (view.lengths shapes)) world) turns) x m left) er (f (opening_out (empty_cells (view.lengths shapes)) world) sh))
+  -- that of one that wants a further turn
+  pub goes_so : (now : Outside) → Goes parts world turns now → SaysGoing now plain
+  goes_so now goes = at one_of
+    where
+      at : HasEnded parts world turns plain ⊎ (HasFaulted parts world turns plain ⊎ IsGoing parts world turns plain) → SaysGoing now plain
+      at (inl h) = absurd (end_no_going parts world h.taken turns h.end now h.within h.runs goes)
+      at (inr (inl h)) = absurd (fault_no_going parts world h.turn turns h.array h.state now h.within h.faults goes)
+      at (inr (inr h)) = subst (λ (o : Outside). SaysGoing o plain) (one_going parts world turns h.now now h.goes goes) h.says
+
+-- the reply of the call of `main` says how the run went
+pub reply_is : (r : Resolved) (world : World) (turns count : ℕ) (shapes : List ArrayShape) (procs : List CodeProc) (args : List ℕ) (reply answer : Reply) (cells : List (List ℕ)) (before m : Memory) (left : ℕ) → 0 < length r.procs.items → count ≡ length r.procs.items → shapes ≡ r.arrays.items → procs ≡ r.procs.items → args ≡ [] → reply ≡ answer → cells ≡ empty_cells (view.lengths shapes) → OutIs (opening_out cells world) before
+    → ((start o : Outside) → Shows start o before → ReplyIs start (calls_below count (view.procs procs) (count - 1) args o) turns reply m left)
+    → ReplyIs (opening_out (empty_cells (view.program r).lengths) world) (run (view.program r) world) turns answer m left
+reply_is r world turns count shapes procs args reply answer cells before m left some ec es ep ea er ecs out f =
+    let cs : cells ≡ empty_cells (view.lengths r.arrays.items) = ecs ∙ ap (λ (ss : List ArrayShape). empty_cells (view.lengths ss)) es in
+    let start : Outside = opening_out (empty_cells (view.lengths r.arrays.items)) world in
+    let sh : Shows start start before = opening_shows start before refl (subst (λ (c : List (List ℕ)). OutIs (opening_out c world) before) cs out) in
+    subst (λ (x : Reply). ReplyIs start (run (view.program r) world) turns x m left) er
+    (reply_shift start (calls_below count (view.procs procs) (count - 1) args start) (run (view.program r) world) 0 turns turns reply m left (omega arith)
+    (λ k. let z : k + 0 ≡ k = omega arith in ap (run (view.program r) world) z ∙ sym (
+    ap (λ (ps : List CodeProc). calls_below count (view.procs ps) (count - 1) args start k) ep
+    ∙ ap (λ (xs : List ℕ). calls_below count (view.procs r.procs.items) (count - 1) xs start k) ea
+    ∙ run_is_call r world k count some ec))
+    (f start start sh))

@@ -1,6 +1,9 @@
 pub mod Resolved
 pub mod Resolving
 pub mod View
+pub mod Laws
+pub mod Firsts
+pub mod Seen
 pub mod Shows
 pub mod Weight
 pub mod Tables

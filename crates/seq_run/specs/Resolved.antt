@@ -1,19 +1,11 @@
--- The tree with numbers for names, and its sequential run: what the code runs and lowers.
-use Rattle.std.specs.Prelude.{ℕ, zero, suc, ◌-◌, ◌==◌, List, [], ◌∷◌, ◌++◌, length, Option, Some, None, if◌then◌else◌, slice_index}
-use Rattle.ws_words.specs.declared.alu.Alu.{Alu}
-use Rattle.ws_words.specs.Operators.{applied}
-use Rattle.ws_words.specs.Outside.{Outside, State, write, with_acts, row, Act, loads, stored, printed, taken, has_read, given, zeros, World, opening_out}
-use Rattle.src_ast.specs.declared.tree.Unary.{Unary}
+-- The tree with numbers for names, and its sequential run: what the code runs and lowers. In its
+-- terms variables are numbered from 0 in each procedure, parameters first, and arrays from 1.
+use Rattle.std.specs.Prelude.{ℕ, zero, suc, ◌-◌, ◌==◌, List, [], ◌∷◌, ◌++◌, length, Option, Some, None, if◌then◌else◌}
+use Rattle.ws_words.specs.Outside.{Outside, State, write, stored, printed, taken, has_read, given, zeros, World, opening_out}
 use Rattle.src_ast.specs.Turns.{Outcome, Ended, and_then, turn, CallEnd, Returned, Stopped, back_in, ending, loop}
-use Rattle.src_ast.specs.Meaning.{signed_value, Calls, empty_cells}
-
--- variables are numbered from 0 in each procedure, parameters first, and arrays from 1
-pub data Term : Type 0 where
-  Number : (n : ℕ) → Term
-  Var : (x : ℕ) → Term
-  Cell : (a : ℕ) (index : Term) → Term
-  Signed : (s : Unary) (t : Term) → Term
-  Binary : (op : Alu) (a b : Term) → Term
+use Rattle.src_ast.specs.Meaning.{Calls, empty_cells}
+use Rattle.cfg_core.specs.Graph.{Term}
+use Rattle.cfg_core.specs.Walk.{value_of, values_of}
 
 -- a step without a test or a call
 pub data Action : Type 0 where
@@ -42,38 +34,6 @@ pub record Proc : Type 0 where
   pub body : Steps
   pub result : Option Term
 
--- the value of a term on these variables and arrays
-abbrev pub value : Term → List ℕ → List (List ℕ) → ℕ
-value (Number n) vars cells = n
-value (Var x) vars cells = slice_index vars x
-value (Cell a t) vars cells = slice_index (row cells (a - 1)) (value t vars cells)
-value (Signed sign t) vars cells = signed_value sign (value t vars cells)
-value (Binary op a b) vars cells = applied op (value a vars cells) (value b vars cells)
-
--- its loads, from left to right
-abbrev pub loads_of : Term → List ℕ → List (List ℕ) → List Act
-loads_of (Number n) vars cells = []
-loads_of (Var x) vars cells = []
-loads_of (Cell a t) vars cells = loads_of t vars cells ++ loads a (value t vars cells) ∷ []
-loads_of (Signed sign t) vars cells = loads_of t vars cells
-loads_of (Binary op a b) vars cells = loads_of a vars cells ++ loads_of b vars cells
-
--- the values of arguments, from left to right
-abbrev pub values : List Term → List ℕ → List (List ℕ) → List ℕ
-values [] vars cells = []
-values (t ∷ ts) vars cells = value t vars cells ∷ values ts vars cells
-
-abbrev pub all_loads : List Term → List ℕ → List (List ℕ) → List Act
-all_loads [] vars cells = []
-all_loads (t ∷ ts) vars cells = loads_of t vars cells ++ all_loads ts vars cells
-
--- the value, and the state with the loads
-abbrev pub value_of : Term → State → ℕ × State
-value_of t s = (value t s.vars s.out.cells, with_acts s (loads_of t s.vars s.out.cells))
-
-abbrev pub values_of : List Term → State → List ℕ × State
-values_of ts s = (values ts s.vars s.out.cells, with_acts s (all_loads ts s.vars s.out.cells))
-
 -- what an action does, all but its turn
 abbrev pub done : Action → State → State
 done (Assign x t) s = let v = value_of t s in write v.1 x v.0
@@ -86,8 +46,11 @@ done (Take p t) s = let v = value_of t s in taken v.1 p v.0
 abbrev mutual
   pub run_one : Calls → Step → State → ℕ → Outcome
   run_one calls (Do a) s k = turn k s (λ j. Ended (done a s) j)
-  run_one calls (Call x f args) s k = turn k s (λ j. let vs = values_of args s in back_in vs.1.vars x (calls f vs.0 vs.1.out j))
-  run_one calls (If t a b) s k = turn k s (λ j. let v = value_of t s in if v.0 == 0 then run_all calls b v.1 j else run_all calls a v.1 j)
+  run_one calls (Call x f args) s k =
+      turn k s (λ j. let vs = values_of args s in back_in vs.1.vars x (calls f vs.0 vs.1.out j))
+  run_one calls (If t a b) s k =
+      turn k s (λ j. let v = value_of t s in
+      if v.0 == 0 then run_all calls b v.1 j else run_all calls a v.1 j)
   run_one calls (While t body) s k = loop (suc k) (value_of t) (run_all calls body) s k
 
   pub run_all : Calls → Steps → State → ℕ → Outcome
@@ -102,7 +65,9 @@ finish (Some t) s (suc j) = let v = value_of t s in Returned v.0 v.1.out j
 
 -- parameters have the arguments, and the other variables begin at 0
 abbrev pub run_proc : Calls → Proc → List ℕ → Outside → ℕ → CallEnd
-run_proc calls p args o k = ending (run_all calls p.body (record { vars = args ++ zeros p.locals; out = o }) k) (finish p.result)
+run_proc calls p args o k =
+    ending (run_all calls p.body (record { vars = args ++ zeros p.locals; out = o }) k)
+    (finish p.result)
 
 -- past the last one stands a procedure with nothing in it
 abbrev pub nth_proc : List Proc → ℕ → Proc
@@ -114,7 +79,8 @@ nth_proc (p ∷ ps) (suc k) = nth_proc ps k
 abbrev pub calls_below : ℕ → List Proc → Calls
 calls_below zero procs f args o k = Stopped o
 calls_below (suc n) procs f args o k =
-    if f == n then run_proc (calls_below n procs) (nth_proc procs n) args o k else calls_below n procs f args o k
+    if f == n then run_proc (calls_below n procs) (nth_proc procs n) args o k
+    else calls_below n procs f args o k
 
 -- the names and lengths of the arrays, and the procedures, main last
 pub record Program : Type 0 where
@@ -123,7 +89,9 @@ pub record Program : Type 0 where
   pub procs : List Proc
 
 abbrev pub run_at : ℕ → Program → World → ℕ → CallEnd
-run_at main program world k = run_proc (calls_below main program.procs) (nth_proc program.procs main) [] (opening_out (empty_cells program.lengths) world) k
+run_at main program world k =
+    run_proc (calls_below main program.procs) (nth_proc program.procs main) []
+    (opening_out (empty_cells program.lengths) world) k
 
 -- main with at most k turns
 abbrev pub run : Program → World → ℕ → CallEnd

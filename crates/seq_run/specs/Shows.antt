@@ -1,52 +1,116 @@
--- What the code holds of a run: all but the acts, of which the words printed and taken are kept.
-use Rattle.std.specs.Prelude.{◌≡◌, ℕ, Bool, true, false, List, [], ◌∷◌, Option, Some, None, length, drop}
-use Rattle.ws_words.specs.Outside.{Outside, State, printed_words}
-use Rattle.ws_words.specs.Plain.{took_by_ports}
+-- What the code holds of a run: all but the acts, of which it holds the words printed and taken.
+use Rattle.std.specs.Prelude.{◌≡◌, ℕ, suc, ◌+◌, Bool, true, false, List, [], ◌∷◌, ◌++◌, Option, Some, None}
+use Rattle.ws_words.specs.Memory.{OutIs, lengths_of}
+use Rattle.ws_words.specs.Outside.{Act, Outside, State}
+use Rattle.ws_words.specs.Past.{IsPast, AreWithin, after_acts}
+use Rattle.ws_words.specs.declared.memory.Memory.{Memory}
 use Rattle.src_ast.specs.Turns.{Outcome, Ended, Out, CallEnd, Returned, Stopped}
-use Rattle.seq_run.specs.declared.machine.Machine.{Machine}
-use Rattle.seq_run.specs.declared.run.Flow.{Flow}
-use Rattle.seq_run.specs.declared.run.Flow.TheVariants as flows
+use Rattle.seq_run.specs.Resolved.{Action, done}
+use Rattle.seq_run.specs.Laws.{Begins}
+use Rattle.seq_run.specs.Seen.{seen, call_seen}
+use Rattle.seq_run.specs.declared.runner.Run.{Run}
+use Rattle.seq_run.specs.declared.runner.Flow.{Flow}
+use Rattle.seq_run.specs.declared.runner.Flow.TheVariants as flows
+use Rattle.seq_run.specs.declared.runner.Reply.{Reply}
+use Rattle.seq_run.specs.declared.runner.Reply.TheVariants as replies
 
--- what ports have left that have given so many words
-abbrev pub rests : List ℕ → List (List ℕ) → List (List ℕ)
-rests [] left = left
-rests (n ∷ ns) [] = []
-rests (n ∷ ns) (words ∷ left) = drop n words ∷ rests ns left
-
--- the code shows what is outside
-pub record Shows (o : Outside) (m : Machine) : Type 0 where
-  pub cells : o.cells ≡ m.cells
-  pub input : o.input ≡ drop m.read m.world.now.input
-  pub left : o.left ≡ rests m.given m.world.now.left
-  pub ports : length m.given ≡ length m.world.now.left
-  pub printed : printed_words o.acts ≡ m.printed
-  pub took : took_by_ports o.acts ≡ m.took
+-- the code holds what is outside; from the start until then no act was past
+pub record Shows (start o : Outside) (memory : Memory) : Type 0 where
+  pub out : OutIs o memory
+  pub within : AreWithin (lengths_of start.cells) o.acts
+  pub told : o ≡ after_acts start o.acts
 
 -- the code holds a state
-pub record Holds (s : State) (m : Machine) (vars : List ℕ) : Type 0 where
-  pub out : Shows s.out m
+pub record Holds (start : Outside) (s : State) (memory : Memory) (vars : List ℕ) : Type 0 where
+  pub out : Shows start s.out memory
   pub same_vars : s.vars ≡ vars
 
--- the code's answer is the run's
-abbrev pub FlowIs : Outcome → Flow → Machine → List ℕ → ℕ → Type 0
-FlowIs (Ended s k) flows.Ended m vars turns = Holds s m vars × (k ≡ turns)
-FlowIs (Ended s k) flows.Out m vars turns = ⊥
-FlowIs (Out o) flows.Ended m vars turns = ⊥
-FlowIs (Out o) flows.Out m vars turns = Shows o m
+-- among these acts is one that is past, on this array, and the code holds what is outside before
+-- the first such
+pub record Stops (start : Outside) (acts : List Act) (array : ℕ) (memory : Memory) : Type 0 where
+  pub before : Outside
+  pub shows : Shows start before memory
+  pub act : Act
+  pub past : IsPast (lengths_of start.cells) array act
+  pub first : Begins (before.acts ++ act ∷ []) acts
 
--- the word that a call returned, or none where it wanted a turn too many
-abbrev pub ReplyIs : CallEnd → Option ℕ → Machine → ℕ → Type 0
-ReplyIs (Returned v o k) (Some w) m turns = Shows o m × (v ≡ w) × (k ≡ turns)
-ReplyIs (Returned v o k) None m turns = ⊥
-ReplyIs (Stopped o) (Some w) m turns = ⊥
-ReplyIs (Stopped o) None m turns = Shows o m
+-- an action was done, or stopped before an act that is past
+abbrev pub IsDone : Outside → Action → State → Option ℕ → Memory → List ℕ → Type 0
+IsDone start a s None memory vars = Holds start (done a s) memory vars
+IsDone start a s (Some array) memory vars = Stops start (done a s).out.acts array memory
 
--- what is left of a run, from a state that the code holds, is the whole run
-pub record Upto (now : State → Outcome) (whole : Outcome) (m : Machine) (vars : List ℕ) : Type 0 where
+-- a part that was given these turns met its first act that is past when it had these left: with one
+-- turn less than it took by then it wants that turn, and no act is past
+pub record Faulted (start : Outside) (part : ℕ → List Act × Bool) (turns array : ℕ)
+    (memory : Memory) (left : ℕ) : Type 0 where
+  pub earlier : ℕ
+  pub sum : turns ≡ left + suc earlier
+  pub stops : Stops start (part (suc earlier)).0 array memory
+  pub wants : (part earlier).1 ≡ true
+  pub within : AreWithin (lengths_of start.cells) (part earlier).0
+
+-- a part ended
+abbrev pub PartEnded : Outside → Outcome → Memory → List ℕ → ℕ → Type 0
+PartEnded start (Ended s k) memory vars left =
+    Holds start s memory vars × (k ≡ left)
+PartEnded start (Out o) memory vars left = ⊥
+
+-- a part wants a turn
+abbrev pub PartOut : Outside → Outcome → Memory → Type 0
+PartOut start (Ended s k) memory = ⊥
+PartOut start (Out o) memory = Shows start o memory
+
+-- how a part went that was given these turns
+abbrev pub FlowIs : Outside → (ℕ → Outcome) → ℕ → Flow → Memory → List ℕ → ℕ → Type 0
+FlowIs start part turns flows.Ended memory vars left =
+    PartEnded start (part turns) memory vars left
+FlowIs start part turns flows.Out memory vars left = PartOut start (part turns) memory
+FlowIs start part turns (flows.Fault array) memory vars left =
+    Faulted start (λ k. seen (part k)) turns array memory left
+
+-- a call gave a word
+abbrev pub CallReturned : Outside → CallEnd → ℕ → Memory → ℕ → Type 0
+CallReturned start (Returned v o k) word memory left =
+    Shows start o memory × (v ≡ word) × (k ≡ left)
+CallReturned start (Stopped o) word memory left = ⊥
+
+-- a call wants a turn
+abbrev pub CallOut : Outside → CallEnd → Memory → Type 0
+CallOut start (Returned v o k) memory = ⊥
+CallOut start (Stopped o) memory = Shows start o memory
+
+-- how a call went that was given these turns
+abbrev pub ReplyIs : Outside → (ℕ → CallEnd) → ℕ → Reply → Memory → ℕ → Type 0
+ReplyIs start call turns (replies.Value word) memory left =
+    CallReturned start (call turns) word memory left
+ReplyIs start call turns replies.Out memory left = CallOut start (call turns) memory
+ReplyIs start call turns (replies.Fault array) memory left =
+    Faulted start (λ k. call_seen (call k)) turns array memory left
+
+-- from each state that the code holds it goes as a part of the run does
+abbrev pub Follows : (State → ℕ → Outcome) → Run → List ℕ → Flow → Run → List ℕ → Type 0
+Follows part before vars flow after now =
+    (start : Outside) (s : State) → Holds start s before.memory vars →
+    FlowIs start (part s) before.turns flow after.memory now after.turns
+
+-- so it goes as a call does
+abbrev pub FollowsCall : (Outside → ℕ → CallEnd) → Run → Reply → Run → Type 0
+FollowsCall call before reply after =
+    (start o : Outside) → Shows start o before.memory →
+    ReplyIs start (call o) before.turns reply after.memory after.turns
+
+-- what is left of a part, from a state that the code holds, is the whole part, which has spent
+-- turns
+pub record Upto (start : Outside) (now : State → ℕ → Outcome) (whole : ℕ → Outcome) (turns : ℕ)
+    (memory : Memory) (vars : List ℕ) (left : ℕ) : Type 0 where
   pub at : State
-  pub holds : Holds at m vars
-  pub same : now at ≡ whole
+  pub holds : Holds start at memory vars
+  pub spent : ℕ
+  pub sum : turns ≡ left + spent
+  pub same : (k : ℕ) → whole (k + spent) ≡ now at k
 
-abbrev pub out_flag : Flow → Bool
-out_flag flows.Ended = false
-out_flag flows.Out = true
+-- not at the end of a part
+abbrev pub stop_flag : Flow → Bool
+stop_flag flows.Ended = false
+stop_flag flows.Out = true
+stop_flag (flows.Fault array) = true

@@ -13,8 +13,10 @@ abbrev pub numbered : ℕ → List Name → List ℕ → Option ℕ
 numbered k [] text = None
 numbered k (n ∷ ns) text = if pointwise nat_eq n.text text then Some k else numbered (suc k) ns text
 
+-- the table of these names, the first of which has this number
 pub record IsTable (first : ℕ) (names : List Name) (table : Table) : Type 0 where
-  pub numbers : (text : List ℕ) → get_by (λ k. bytes_eq text k.now) table.numbers ≡ numbered first names text
+  pub numbers : (text : List ℕ) →
+      get_by (λ k. bytes_eq text k.now) table.numbers ≡ numbered first names text
   pub next : table.next ≡ first + length names
 
 -- variables are numbered from 0, arrays from 1 and procedures from 0

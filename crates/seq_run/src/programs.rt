@@ -14,14 +14,16 @@ ghost use Rattle.seq_run.specs.View as view;
 use crate::names::Names;
 use crate::resolving::{steps, term};
 use crate::table::Table;
-use crate::tree::{ArrayShape, Proc, Resolved, Term};
+use crate::tree::{ArrayShape, Proc, Resolved};
+use cfg_core::Term;
 use src_ast::{Ending, Item, Name, Stmt};
 use src_check::Accepted;
 use std::alloc::Global;
 use ws_words::NoMemory;
 
 fn declare<'a>(table: &mut Table<'a>, list: &'a [Name]) -> Result<(), NoMemory>
-    ensures { (first : ℕ) (names : List Name) → IsTable first names table.old → OnOk result (IsTable first (names ++ list.now) table.new) }
+    ensures { (first : ℕ) (names : List Name) → IsTable first names table.old →
+        OnOk result (IsTable first (names ++ list.now) table.new) }
 {
     for name in list {
         table.add(name)?;
@@ -31,8 +33,10 @@ fn declare<'a>(table: &mut Table<'a>, list: &'a [Name]) -> Result<(), NoMemory>
 
 // The arrays and procedures of a program; no variables.
 fn declared<'a>(alloc: Global, items: &'a [Item]) -> Result<Names<'a>, NoMemory>
-    ensures arrays { IfOk result (λ names. IsTable 1 (arrays_of (ast.parts items.now)) names.arrays) }
-    ensures procs { IfOk result (λ names. IsTable 0 (names_of (procs_of (ast.parts items.now))) names.procs) }
+    ensures arrays { IfOk result (λ names.
+        IsTable 1 (arrays_of (ast.parts items.now)) names.arrays) }
+    ensures procs { IfOk result (λ names.
+        IsTable 0 (names_of (procs_of (ast.parts items.now))) names.procs) }
 {
     let vars = Table::from(alloc, 0);
     let mut arrays = Table::from(alloc, 1);
@@ -51,8 +55,10 @@ fn declared<'a>(alloc: Global, items: &'a [Item]) -> Result<Names<'a>, NoMemory>
 }
 
 fn shapes(alloc: Global, items: &[Item]) -> Result<Vec<ArrayShape>, NoMemory>
-    ensures names { IfOk result (λ list. view.names list.items ≡ texts (arrays_of (ast.parts items.now))) }
-    ensures lengths { IfOk result (λ list. view.lengths list.items ≡ lengths_of (ast.parts items.now)) }
+    ensures names { IfOk result (λ list.
+        view.names list.items ≡ texts (arrays_of (ast.parts items.now))) }
+    ensures lengths { IfOk result (λ list.
+        view.lengths list.items ≡ lengths_of (ast.parts items.now)) }
 {
     let mut list = Vec::new(alloc);
     for item in items {
@@ -75,7 +81,8 @@ fn result_of(
     names: &Names,
     ending: &Option<Ending>,
 ) -> Result<Option<Term>, NoMemory>
-    ensures { (scope : Scope) → AreNames scope names.now → IfOk result (λ r. view.result r ≡ resolving.result scope (ast.maybe_last ending.now)) }
+    ensures { (scope : Scope) → AreNames scope names.now → IfOk result (λ r.
+        view.result r ≡ resolving.result scope (ast.maybe_last ending.now)) }
 {
     match ending {
         Some(last) => Ok(Some(term(alloc, names, &last.value)?)),
@@ -91,8 +98,15 @@ fn proc<'a>(
     body: &[Stmt],
     ending: &Option<Ending>,
 ) -> Result<Proc, NoMemory>
-    ensures resolves { (arrays procs : List Name) (name : Name) → IsTable 1 arrays names.old.arrays → IsTable 0 procs names.old.procs →
-        let p : Procedure = record { name = name; params = params.now; vars = vars.now; body = ast.statements body.now; ending = ast.maybe_last ending.now } in
+    ensures resolves { (arrays procs : List Name) (name : Name) →
+        IsTable 1 arrays names.old.arrays → IsTable 0 procs names.old.procs →
+        let p : Procedure = record {
+          name = name;
+          params = params.now;
+          vars = vars.now;
+          body = ast.statements body.now;
+          ending = ast.maybe_last ending.now;
+        } in
         IfOk result (λ proc. view.proc proc ≡ resolving.proc (scope_of arrays procs p) p) }
     ensures arrays { names.new.arrays ≡ names.old.arrays }
     ensures procs { names.new.procs ≡ names.old.procs }
@@ -114,7 +128,9 @@ fn proc<'a>(
 }
 
 fn procs<'a>(alloc: Global, names: &mut Names<'a>, items: &'a [Item]) -> Result<Vec<Proc>, NoMemory>
-    ensures { (arrays procs : List Name) → IsTable 1 arrays names.old.arrays → IsTable 0 procs names.old.procs → IfOk result (λ list. view.procs list.items ≡ resolving.procs arrays procs (procs_of (ast.parts items.now))) }
+    ensures { (arrays procs : List Name) →
+        IsTable 1 arrays names.old.arrays → IsTable 0 procs names.old.procs → IfOk result (λ list.
+        view.procs list.items ≡ resolving.procs arrays procs (procs_of (ast.parts items.now))) }
 {
     let mut list = Vec::new(alloc);
     for item in items {
@@ -133,7 +149,8 @@ fn procs<'a>(alloc: Global, names: &mut Names<'a>, items: &'a [Item]) -> Result<
 }
 
 pub(crate) fn numbered(alloc: Global, items: &[Item]) -> Result<Resolved, NoMemory>
-    ensures { IfOk result (λ resolved. view.program resolved ≡ resolving.program (ast.parts items.now)) }
+    ensures { IfOk result (λ resolved.
+        view.program resolved ≡ resolving.program (ast.parts items.now)) }
 {
     let arrays = shapes(alloc, items)?;
     let mut names = declared(alloc, items)?;
@@ -144,7 +161,8 @@ pub(crate) fn numbered(alloc: Global, items: &[Item]) -> Result<Resolved, NoMemo
 /// The program with numbers for names. Each number names something, and the language's limits on
 /// procedures, parameters, variables, lengths and statements are said of it too.
 pub fn resolve(alloc: Global, accepted: &Accepted) -> Result<Resolved, NoMemory>
-    ensures resolves { IfOk result (λ resolved. view.program resolved ≡ resolving.program (ast.parts accepted.now.program.items.items)) }
+    ensures resolves { IfOk result (λ resolved.
+        view.program resolved ≡ resolving.program (ast.parts accepted.now.program.items.items)) }
     ensures in_range { IfOk result (λ resolved. ProgramIn (view.program resolved)) }
 {
     let resolved = numbered(alloc, &accepted.program().items)?;

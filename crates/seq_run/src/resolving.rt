@@ -6,17 +6,30 @@ ghost use Rattle.src_ast.specs.View as ast;
 ghost use Rattle.src_ast.specs.Meaning.{Scope, target as target_in};
 ghost use Rattle.seq_run.specs.Resolving as resolving;
 ghost use Rattle.seq_run.specs.Tables.{AreNames};
+ghost use Rattle.cfg_core.specs.View as graph;
 ghost use Rattle.seq_run.specs.View as view;
 
 use crate::make::{if_step, while_step};
 use crate::names::Names;
-use crate::tree::{Action, Step, Term};
-use src_ast::{Expr, Form, Name, Stmt};
+use crate::tree::{Action, Step};
+use cfg_core::Term;
+use src_ast::{Expr, Form, Name, Stmt, Unary};
 use std::alloc::Global;
 use ws_words::NoMemory;
 
+fn signed(sign: Unary, t: Box<Term>) -> Term
+    ensures { graph.term result ≡ resolving.signed sign (graph.term t.value) }
+{
+    match sign {
+        Unary::Flip => Term::Flip(t),
+        Unary::Not => Term::Not(t),
+        Unary::Neg => Term::Neg(t),
+    }
+}
+
 pub(crate) fn term(alloc: Global, names: &Names, e: &Expr) -> Result<Term, NoMemory>
-    ensures { (scope : Scope) → AreNames scope names.now → IfOk result (λ t. view.term t ≡ resolving.term scope (ast.expression e.now)) }
+    ensures { (scope : Scope) → AreNames scope names.now → IfOk result (λ t.
+        graph.term t ≡ resolving.term scope (ast.expression e.now)) }
 {
     match e {
         Expr::Number(n) => Ok(Term::Number(*n)),
@@ -27,7 +40,7 @@ pub(crate) fn term(alloc: Global, names: &Names, e: &Expr) -> Result<Term, NoMem
         }
         Expr::Unary(sign, e) => {
             let t = term(alloc, names, e)?;
-            Ok(Term::Unary(*sign, Box::new(alloc, t)?))
+            Ok(signed(*sign, Box::new(alloc, t)?))
         }
         Expr::Binary(op, a, b) => {
             let a = term(alloc, names, a)?;
@@ -38,7 +51,8 @@ pub(crate) fn term(alloc: Global, names: &Names, e: &Expr) -> Result<Term, NoMem
 }
 
 fn terms(alloc: Global, names: &Names, es: &[Expr]) -> Result<Vec<Term>, NoMemory>
-    ensures { (scope : Scope) → AreNames scope names.now → IfOk result (λ ts. view.terms ts.items ≡ resolving.terms scope (map ast.expression es.now)) }
+    ensures { (scope : Scope) → AreNames scope names.now → IfOk result (λ ts.
+        map graph.term ts.items ≡ resolving.terms scope (map ast.expression es.now)) }
 {
     let mut list = Vec::new(alloc);
     for e in es {
@@ -58,7 +72,8 @@ fn target(names: &Names, x: &Option<Name>) -> Option<u32>
 
 #[cycle(resolving)]
 pub(crate) fn steps(alloc: Global, names: &Names, body: &[Stmt]) -> Result<Vec<Step>, NoMemory>
-    ensures { (scope : Scope) → AreNames scope names.now → IfOk result (λ list. view.steps list.items ≡ resolving.all scope (ast.statements body.now)) }
+    ensures { (scope : Scope) → AreNames scope names.now → IfOk result (λ list.
+        view.steps list.items ≡ resolving.all scope (ast.statements body.now)) }
 {
     let mut list = Vec::new(alloc);
     for s in body {
@@ -70,7 +85,8 @@ pub(crate) fn steps(alloc: Global, names: &Names, body: &[Stmt]) -> Result<Vec<S
 
 #[cycle(resolving)]
 fn step(alloc: Global, names: &Names, s: &Stmt) -> Result<Step, NoMemory>
-    ensures { (scope : Scope) → AreNames scope names.now → IfOk result (λ one. view.step one ≡ resolving.one scope (ast.statement s.now)) }
+    ensures { (scope : Scope) → AreNames scope names.now → IfOk result (λ one.
+        view.step one ≡ resolving.one scope (ast.statement s.now)) }
 {
     match &s.form {
         Form::Assign(x, e) => {

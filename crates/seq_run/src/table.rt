@@ -31,7 +31,8 @@ impl<'a> Table<'a> {
 
     /// Declares a name. There is no memory for 2^32 names.
     pub(crate) fn add(&mut self, name: &'a Name) -> Result<(), NoMemory>
-        ensures { (first : ℕ) (names : List Name) → IsTable first names self.old → OnOk result (IsTable first (names ++ name.now ∷ []) self.new) }
+        ensures { (first : ℕ) (names : List Name) → IsTable first names self.old →
+            OnOk result (IsTable first (names ++ name.now ∷ []) self.new) }
     {
         let after = self.next.checked_add(1).ok_or(NoMemory)?;
         let text = name.text.as_slice();
@@ -44,7 +45,8 @@ impl<'a> Table<'a> {
 
     /// The number of a name, or the next number if there is no such name.
     pub(crate) fn number(&self, name: &Name) -> u32
-        ensures { (first : ℕ) (names : List Name) → IsTable first names self.now → result ≡ first + place_of names name.now.text }
+        ensures { (first : ℕ) (names : List Name) → IsTable first names self.now →
+            result ≡ first + place_of names name.now.text }
     {
         let text = name.text.as_slice();
         self.numbers.get(text).copied().unwrap_or(self.next)

@@ -1,20 +1,8 @@
-//! The tree of a program with numbers for names.
+//! The tree of a program with numbers for names. In its terms variables are numbered from 0 in
+//! their procedure, parameters first, and arrays from 1, in order of declaration.
 
-use src_ast::Unary;
-use ws_words::{Alu, Bytes};
-
-/// A term. Variables are numbered from 0 in their procedure, parameters first, and arrays from 1,
-/// in order of declaration.
-#[derive(Drop)]
-pub enum Term {
-    Number(u64),
-    Var(u32),
-    Cell(u32, Box<Term>),
-    Unary(Unary, Box<Term>),
-    Binary(Alu, Box<Term>, Box<Term>),
-}
-
-pub type Terms = Vec<Term>;
+use cfg_core::Term;
+use ws_words::Bytes;
 
 /// A step without a test or a call. `Give` and `Take` have the number of the port.
 #[derive(Drop)]

@@ -1,63 +1,77 @@
-//! The value of terms.
+//! The value of terms, and the array of the first load past the end.
 
-ghost use Rattle.std.specs.Prelude.{◌≡◌, ◌-◌, ℕ, List, slice_index, IfOk, IfSome};
-ghost use Rattle.src_ast.specs.Meaning.{signed_value};
-ghost use Rattle.seq_run.specs.Resolved.{value as value_on, values as values_on};
-ghost use Rattle.seq_run.specs.View as view;
+ghost use Rattle.std.specs.Prelude.{◌≡◌, List, map, IfOk};
+ghost use Rattle.ws_words.specs.Memory.{lengths_of};
+ghost use Rattle.ws_words.specs.Outside.{loads};
+ghost use Rattle.cfg_core.specs.Walk as walks;
+ghost use Rattle.cfg_core.specs.View as graph;
+ghost use Rattle.seq_run.specs.Firsts.{or_else, past_array, first_past};
 
-use crate::tree::Term;
-use src_ast::Unary;
+use cfg_core::Term;
 use std::alloc::Global;
-use ws_words::{Cells, NoMemory, Words, apply};
+use ws_words::{Alu, Memory, NoMemory, Words, apply};
 
-fn signed(sign: Unary, v: u64) -> u64
-    ensures { result ≡ signed_value sign v }
+/// Notes the array of a load or store that is past, where none was noted before.
+#[inline(always)]
+pub(crate) fn note(past: &mut Option<u32>, memory: &Memory<'_>, array: u32, index: u64)
+    ensures { let lengths = lengths_of memory.now.cells in
+        past.new ≡ or_else past.old (past_array lengths (loads array index)) }
 {
-    match sign {
-        Unary::Flip => u64::MAX - v,
-        Unary::Not => u64::from(v == 0),
-        Unary::Neg => 0u64.wrapping_sub(v),
+    if !memory.is_within(array, index) && past.is_none() {
+        *past = Some(array);
     }
 }
 
-/// The value of a term on these variables and arrays. Terms without terms inside, and operators on
-/// two of them, have a short way.
+/// The value of a term, as `value` gives it. Terms without terms inside, and operators on two of
+/// them, have a short way, for the loop of bench/plain.py.
 #[inline(always)]
-pub(crate) fn quick(term: &Term, vars: &Words, cells: &Cells) -> u64
-    ensures { result ≡ value_on (view.term term.now) vars.now cells.now }
+pub(crate) fn quick(term: &Term, vars: &Words, memory: &Memory<'_>, past: &mut Option<u32>) -> u64
+    ensures value { result ≡ walks.value (graph.term term.now) vars.now memory.now.cells }
+    ensures past { let acts = walks.loads_of (graph.term term.now) vars.now memory.now.cells in
+        past.new ≡ or_else past.old (first_past (lengths_of memory.now.cells) acts) }
 {
     match term {
         Term::Binary(op, a, b) => {
             let x = match &**a {
                 Term::Var(x) => vars.word(*x as usize),
-                a => value(a, vars, cells),
+                a => value(a, vars, memory, past),
             };
             let y = match &**b {
                 Term::Number(n) => *n,
                 Term::Var(x) => vars.word(*x as usize),
-                b => value(b, vars, cells),
+                b => value(b, vars, memory, past),
             };
             apply(*op, x, y)
         }
         Term::Number(n) => *n,
         Term::Var(x) => vars.word(*x as usize),
-        _ => value(term, vars, cells),
+        _ => value(term, vars, memory, past),
     }
 }
 
-/// The value of a term on these variables and arrays. Past an end stands 0.
-pub(crate) fn value(term: &Term, vars: &Words, cells: &Cells) -> u64
-    ensures { result ≡ value_on (view.term term.now) vars.now cells.now }
+/// The value of a term, in which a load past the end gives 0, and the array of the first such load,
+/// where none was noted before.
+pub(crate) fn value(term: &Term, vars: &Words, memory: &Memory<'_>, past: &mut Option<u32>) -> u64
+    ensures value { result ≡ walks.value (graph.term term.now) vars.now memory.now.cells }
+    ensures past { let acts = walks.loads_of (graph.term term.now) vars.now memory.now.cells in
+        past.new ≡ or_else past.old (first_past (lengths_of memory.now.cells) acts) }
 {
     match term {
         Term::Number(n) => *n,
         Term::Var(x) => vars.word(*x as usize),
-        Term::Cell(a, t) => cells.word(
-            (*a as usize).saturating_sub(1),
-            value(t, vars, cells) as usize,
-        ),
-        Term::Unary(sign, t) => signed(*sign, value(t, vars, cells)),
-        Term::Binary(op, a, b) => apply(*op, value(a, vars, cells), value(b, vars, cells)),
+        Term::Cell(a, t) => {
+            let index = value(t, vars, memory, past);
+            note(past, memory, *a, index);
+            memory.load(*a, index)
+        }
+        Term::Flip(t) => u64::MAX - value(t, vars, memory, past),
+        Term::Not(t) => u64::from(value(t, vars, memory, past) == 0),
+        Term::Neg(t) => apply(Alu::Sub, 0, value(t, vars, memory, past)),
+        Term::Binary(op, a, b) => {
+            let x = value(a, vars, memory, past);
+            let y = value(b, vars, memory, past);
+            apply(*op, x, y)
+        }
     }
 }
 
@@ -66,13 +80,18 @@ pub(crate) fn values(
     alloc: Global,
     terms: &[Term],
     vars: &Words,
-    cells: &Cells,
+    memory: &Memory<'_>,
+    past: &mut Option<u32>,
 ) -> Result<Words, NoMemory>
-    ensures { IfOk result (λ words. words ≡ values_on (view.terms terms.now) vars.now cells.now) }
+    ensures values { IfOk result (λ words.
+        words ≡ walks.values (map graph.term terms.now) vars.now memory.now.cells) }
+    ensures past { IfOk result (λ words.
+        let acts = walks.all_loads (map graph.term terms.now) vars.now memory.now.cells in
+        past.new ≡ or_else past.old (first_past (lengths_of memory.now.cells) acts)) }
 {
     let mut words = Words::empty(alloc);
     for term in terms {
-        words.push(value(term, vars, cells))?;
+        words.push(value(term, vars, memory, past))?;
     }
     Ok(words)
 }

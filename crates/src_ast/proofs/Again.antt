@@ -6,18 +6,21 @@ use Rattle.src_ast.specs.Syntax.{Part}
 use Rattle.src_ast.specs.Written.{IsWritten, ReadsTheSame}
 use Rattle.src_ast.proofs.Pieces.{placed, lexed, keeps}
 use Rattle.src_ast.proofs.Printing.{parts, printed_is}
+use Rattle.src_ast.proofs.Nearly.{nearly}
 use Rattle.src_ast.proofs.Spelt.{parts_spelt}
 use Rattle.src_ast.proofs.Kept.{parts_kept}
 use Rattle.src_ast.proofs.Regrowth.{parts_read}
 
+-- what is written reads as the same program
 pub reads_the_same : (all : List Part) → IsWritten all → ReadsTheSame all
 reads_the_same all h =
-    let r = parts_read all h start in
+    let n = nearly all h in
+    let r = parts_read all n start in
     record {
       ls = placed start (parts all);
       finish = after start (printed_form all);
       again = r.0;
-      lex = subst (λ text. Lex text (placed start (parts all)) (after start text)) (printed_is all) (lexed (parts all) (parts_spelt all h));
+      lex = subst (λ text. Lex text (placed start (parts all)) (after start text)) (printed_is all) (lexed (parts all) (parts_spelt all n));
       kept = keeps start (parts_kept all h);
       tree = r.1;
       same = r.2;

@@ -12,14 +12,16 @@ use Rattle.src_ast.specs.Grammar.{Is, IsName, Spelled, Listed, SpelledName, Spel
 use Rattle.src_ast.specs.Syntax.{Expression, Statement, Assign, Store, Read, Give, Take, Call, Statements, Last, Part, Array, Proc}
 use Rattle.src_ast.specs.Rules.{IsAccepted}
 use Rattle.src_ast.specs.Bound.{most_variables}
-use Rattle.src_ast.specs.Written.{AreGoodNames, IsGood, width, names_width, IsFit, AreFit, IsFitEnding, IsFitProcedure, IsFitPart, IsWritten}
+use Rattle.src_ast.specs.Written.{AreWrittenNames, IsWrittenExpression, width, names_width, IsWrittenStatement, AreWrittenStatements, IsWrittenEnding, IsWritten}
+use Rattle.src_ast.specs.LanguageLimits.{most_locals}
+use Rattle.src_ast.proofs.Nearly.{IsNearlyProcedure, IsNearlyPart, AreNearlyWritten, HaveRows, whole}
 use Rattle.src_ast.proofs.Narrow.{accepted_few}
-use Rattle.src_ast.proofs.Limits.{AllSound, sound_here, sound_behind, sound_front, sound_back, leads_sound, AllPlain, no_plain, plain, plain_append, plain_word, plain_number, plain_mark, row_limits, open_limits, close_limits, line_limits}
+use Rattle.src_ast.proofs.RowLimits.{AllSound, sound_here, sound_behind, sound_front, sound_back, leads_sound, AllPlain, no_plain, plain, plain_append, plain_word, plain_number, plain_mark, row_limits, open_limits, close_limits, line_limits}
 use Rattle.src_ast.proofs.Readable.{name_good, number_good, expression_good, expression_plain, width_least, arguments_plain, arguments_good, arguments_width, some_names_plain, names_plain, some_names_good, names_good, names_fit}
 
--- a statement that is read fits, and the limits go on behind it
+-- a statement that is read fits, and the limits go on after it
 abbrev FitsBefore : ℕ → Statement → List Lexeme → Type 0
-FitsBefore braces s rest = IsFit braces s × KeepLimits braces 0 rest
+FitsBefore braces s rest = IsWrittenStatement braces s × KeepLimits braces 0 rest
 
 -- an expression, its lexeme at the end, and others
 split : (ls : List Lexeme) (last : Lexeme) (rest : List Lexeme) → (ls ++ last ∷ []) ++ rest ≡ ls ++ last ∷ rest
@@ -61,7 +63,7 @@ store_fits ks l first last equals semi is es a i e eq na o si c q se d h braces 
 
 print_fits : (ks : List Lexeme) (l last : Lexeme) (ls : List Lexeme) (e : Expression) (w : List ℕ)
     → ks ≡ l ∷ (ls ++ last ∷ []) → l.shape ≡ Word w → Spelled 0 ls e → Is Semi last
-    → AllSound ks → (braces : ℕ) (rest : List Lexeme) → KeepLimits braces 0 (ks ++ rest) → IsGood e × (width e + 1 ≤ 256) × KeepLimits braces 0 rest
+    → AllSound ks → (braces : ℕ) (rest : List Lexeme) → KeepLimits braces 0 (ks ++ rest) → IsWrittenExpression e × (width e + 1 ≤ 256) × KeepLimits braces 0 rest
 print_fits ks l last ls e word eq is s c h braces rest k =
     let hs = subst AllSound eq h in
     let all : ks ++ rest ≡ (l ∷ ls) ++ last ∷ rest = ap (λ t. t ++ rest) eq ∙ ap (λ t. l ∷ t) (split ls last rest) in
@@ -148,7 +150,7 @@ called_fits ks l equals name first last semi ls x f es eq nx q nf o s c d h brac
 -- the test of an `if` or a `while`
 record TestFits (braces : ℕ) (e : Expression) (ls behind rest : List Lexeme) : Type 0 where
   row : ℕ
-  good : IsGood e
+  good : IsWrittenExpression e
   short : width e + 3 ≤ 256
   inside : AllSound behind
   kept : KeepLimits braces row (behind ++ rest)
@@ -200,7 +202,7 @@ mutual
       ((t.good, t.short, x.0, x.1), x.2)
 
   pub block_fits : {ks : List Lexeme} {b : Statements} → SpelledBlock ks b → AllSound ks → (braces row : ℕ) (rest : List Lexeme)
-      → KeepLimits braces row (ks ++ rest) → (suc braces ≤ 32) × AreFit (suc braces) b × KeepLimits braces 0 rest
+      → KeepLimits braces row (ks ++ rest) → (suc braces ≤ 32) × AreWrittenStatements (suc braces) b × KeepLimits braces 0 rest
   block_fits (block {ks = ks} first last ls b eq o s c) h braces row rest k =
       let hs = subst AllSound eq h in
       let all : ks ++ rest ≡ first ∷ (ls ++ last ∷ rest) = ap (λ t. t ++ rest) eq ∙ ap (λ t. first ∷ t) (split ls last rest) in
@@ -209,7 +211,7 @@ mutual
       (x.0, y.0, close_limits braces 0 last rest c y.1)
 
   pub else_fits : {ks : List Lexeme} {b : Statements} → SpelledElse ks b → AllSound ks → (braces : ℕ) (rest : List Lexeme) → suc braces ≤ 32
-      → KeepLimits braces 0 (ks ++ rest) → AreFit (suc braces) b × KeepLimits braces 0 rest
+      → KeepLimits braces 0 (ks ++ rest) → AreWrittenStatements (suc braces) b × KeepLimits braces 0 rest
   else_fits no_else h braces rest d k = (tt, k)
   else_fits (with_else l ls b is s) h braces rest d k =
       let row : AllPlain (l ∷ []) = plain (plain_word l (codes "else") is) no_plain in
@@ -218,7 +220,7 @@ mutual
       (x.1, x.2)
 
   pub statements_fit : {ks : List Lexeme} {b : Statements} → SpelledStatements ks b → AllSound ks → (braces : ℕ) (rest : List Lexeme)
-      → KeepLimits braces 0 (ks ++ rest) → AreFit braces b × KeepLimits braces 0 rest
+      → KeepLimits braces 0 (ks ++ rest) → AreWrittenStatements braces b × KeepLimits braces 0 rest
   statements_fit nothing h braces rest k = (tt, k)
   statements_fit (first_then {ks = ks} ls rs s b eq ss sb) h braces rest k =
       let hs = subst AllSound eq h in
@@ -228,17 +230,17 @@ mutual
       ((x.0, y.0), y.1)
 
 ending_fits : {ks : List Lexeme} {e : Option Last} → SpelledEnding ks e → AllSound ks → (braces : ℕ) (rest : List Lexeme)
-    → KeepLimits braces 0 (ks ++ rest) → IsFitEnding e × KeepLimits braces 0 rest
+    → KeepLimits braces 0 (ks ++ rest) → IsWrittenEnding e × KeepLimits braces 0 rest
 ending_fits no_ending h braces rest k = (tt, k)
 ending_fits (ending {ks = ks} l semi ls e eq is s c) h braces rest k =
     let f = print_fits ks l semi ls e (codes "return") eq is s c h braces rest k in ((f.0, f.1), f.2)
 
-names_append : (xs ys : List Name) → AreGoodNames xs → AreGoodNames ys → AreGoodNames (xs ++ ys)
+names_append : (xs ys : List Name) → AreWrittenNames xs → AreWrittenNames ys → AreWrittenNames (xs ++ ys)
 names_append [] ys h k = k
 names_append (x ∷ xs) ys h k = (h.0, names_append xs ys h.1 k)
 
 vars_fit : {ks : List Lexeme} {xs : List Name} → SpelledVars ks xs → AllSound ks → (braces : ℕ) (rest : List Lexeme)
-    → KeepLimits braces 0 (ks ++ rest) → AreGoodNames xs × KeepLimits braces 0 rest
+    → KeepLimits braces 0 (ks ++ rest) → AreWrittenNames xs × KeepLimits braces 0 rest
 vars_fit no_vars h braces rest k = (tt, k)
 vars_fit (vars {ks = ks} l semi ls rs xs ys eq zs is s c more) h braces rest k =
     let hs = subst AllSound eq h in
@@ -247,7 +249,7 @@ vars_fit (vars {ks = ks} l semi ls rs xs ys eq zs is s c more) h braces rest k =
     let row : AllPlain (l ∷ ls) = plain (plain_word l (codes "var") is) (some_names_plain s) in
     let w = line_limits semi (rs ++ rest) braces row c (subst (KeepLimits braces 0) all k) in
     let t = vars_fit more (sound_behind (sound_back ls (semi ∷ rs) inside)) braces rest w.1 in
-    (subst AreGoodNames (sym zs) (names_append xs ys (some_names_good s (sound_front ls (semi ∷ rs) inside)) t.0), t.1)
+    (subst AreWrittenNames (sym zs) (names_append xs ys (some_names_good s (sound_front ls (semi ∷ rs) inside)) t.0), t.1)
 
 names_few : (xs : List Name) → names_width xs ≤ 2 * length xs
 names_few [] = omega arith
@@ -257,7 +259,7 @@ names_few (x ∷ y ∷ xs) = omega (arith, names_few (y ∷ xs))
 array_fits : (ks : List Lexeme) (l name first size last semi : Lexeme) (x : Name) (n : ℕ)
     → ks ≡ l ∷ name ∷ first ∷ size ∷ last ∷ semi ∷ []
     → l.shape ≡ Word (codes "array") → IsName x name → Is LSquare first → size.shape ≡ shape.Number n → Is RSquare last → Is Semi semi
-    → AllSound ks → (rest : List Lexeme) → KeepLimits 0 0 (ks ++ rest) → IsFitPart (Array x n size.place) × KeepLimits 0 0 rest
+    → AllSound ks → (rest : List Lexeme) → KeepLimits 0 0 (ks ++ rest) → IsNearlyPart (Array x n size.place) × KeepLimits 0 0 rest
 array_fits ks l name first size last semi x n eq is nx o v c d h rest k =
     let hs = subst AllSound eq h in
     let row : AllPlain (l ∷ name ∷ first ∷ size ∷ last ∷ []) =
@@ -266,19 +268,13 @@ array_fits ks l name first size last semi x n eq is nx o v c d h rest k =
     let w = line_limits semi rest 0 row d (subst (λ t. KeepLimits 0 0 (t ++ rest)) eq k) in
     ((name_good nx (sound_here (sound_behind hs)), number_good size v (sound_here (sound_behind (sound_behind (sound_behind hs))))), w.1)
 
--- each procedure has at most 32 variables
-abbrev HaveFew : List Part → Type 0
-HaveFew [] = Unit {0}
-HaveFew (Array x n at ∷ parts) = HaveFew parts
-HaveFew (Proc p ∷ parts) = (length p.vars ≤ 32) × HaveFew parts
-
 procedure_fits : (ks : List Lexeme) (l name first last open' close : Lexeme) (ps vs bs es : List Lexeme) (x : Name) (params vs' : List Name) (b : Statements) (e : Option Last)
     → ks ≡ l ∷ name ∷ first ∷ (ps ++ last ∷ open' ∷ (vs ++ (bs ++ (es ++ close ∷ []))))
     → l.shape ≡ Word (codes "proc") → IsName x name → Is LParen first → Listed SpelledName ps params → Is RParen last → Is LBrace open'
-    → SpelledVars vs vs' → SpelledStatements bs b → SpelledEnding es e → Is RBrace close → length vs' ≤ 32
+    → SpelledVars vs vs' → SpelledStatements bs b → SpelledEnding es e → Is RBrace close
     → AllSound ks → (rest : List Lexeme) → KeepLimits 0 0 (ks ++ rest)
-    → IsFitProcedure (record { name = x; params = params; vars = vs'; body = b; ending = e }) × KeepLimits 0 0 rest
-procedure_fits ks l name first last open' close ps vs bs es x params vs' b e eq is nx o sp c d sv sb se f few h rest k =
+    → IsNearlyProcedure (record { name = x; params = params; vars = vs'; body = b; ending = e }) × KeepLimits 0 0 rest
+procedure_fits ks l name first last open' close ps vs bs es x params vs' b e eq is nx o sp c d sv sb se f h rest k =
     let hs = subst AllSound eq h in
     let endings = es ++ close ∷ [] in
     let bodies = bs ++ endings in
@@ -302,39 +298,32 @@ procedure_fits ks l name first last open' close ps vs bs es x params vs' b e eq 
         params = names_good sp (sound_front ps (last ∷ open' ∷ (vs ++ bodies)) inside);
         params_row = omega (arith, short, names_fit sp, length-append ps (last ∷ []));
         vars = v.0;
-        vars_row = omega (arith, few, names_few vs');
         body = s.0;
         ending = r.0;
       },
       close_limits 0 0 close rest f r.1,
     )
 
-item_fits : {ks : List Lexeme} {a : Part} → SpelledItem ks a → HaveFew (a ∷ []) → AllSound ks → (rest : List Lexeme) → KeepLimits 0 0 (ks ++ rest)
-    → IsFitPart a × KeepLimits 0 0 rest
-item_fits (array {ks = ks} l name first size last semi x n eq is nx o v c d) few h rest k = array_fits ks l name first size last semi x n eq is nx o v c d h rest k
-item_fits (proc {ks = ks} l name first last open' close ps vs bs es x params vs' b e eq is nx o sp c d sv sb se f) few h rest k =
-    procedure_fits ks l name first last open' close ps vs bs es x params vs' b e eq is nx o sp c d sv sb se f few.0 h rest k
+item_fits : {ks : List Lexeme} {a : Part} → SpelledItem ks a → AllSound ks → (rest : List Lexeme) → KeepLimits 0 0 (ks ++ rest)
+    → IsNearlyPart a × KeepLimits 0 0 rest
+item_fits (array {ks = ks} l name first size last semi x n eq is nx o v c d) h rest k = array_fits ks l name first size last semi x n eq is nx o v c d h rest k
+item_fits (proc {ks = ks} l name first last open' close ps vs bs es x params vs' b e eq is nx o sp c d sv sb se f) h rest k =
+    procedure_fits ks l name first last open' close ps vs bs es x params vs' b e eq is nx o sp c d sv sb se f h rest k
 
-few_here : (a : Part) (all : List Part) → HaveFew (a ∷ all) → HaveFew (a ∷ [])
-few_here (Array x n at) all h = tt
-few_here (Proc p) all h = (h.0, tt)
-
-few_behind : (a : Part) (all : List Part) → HaveFew (a ∷ all) → HaveFew all
-few_behind (Array x n at) all h = h
-few_behind (Proc p) all h = h.1
-
-pub tree_written : {ks : List Lexeme} {all : List Part} → Tree ks all → HaveFew all → AllSound ks → KeepLimits 0 0 ks → IsWritten all
-tree_written no_items few h k = tt
-tree_written (items ls rs a all eq s more) few h k =
+-- a tree of lexemes within the limits is nearly written
+pub tree_nearly : {ks : List Lexeme} {all : List Part} → Tree ks all → AllSound ks → KeepLimits 0 0 ks → AreNearlyWritten all
+tree_nearly no_items h k = tt
+tree_nearly (items ls rs a all eq s more) h k =
     let hs = subst AllSound eq h in
-    let x = item_fits s (few_here a all few) (sound_front ls rs hs) rs (subst (KeepLimits 0 0) eq k) in
-    (x.0, tree_written more (few_behind a all few) (sound_back ls rs hs) x.1)
+    let x = item_fits s (sound_front ls rs hs) rs (subst (KeepLimits 0 0) eq k) in
+    (x.0, tree_nearly more (sound_back ls rs hs) x.1)
 
-have_few : (all : List Part) → most_variables all ≤ 32 → HaveFew all
-have_few [] h = tt
-have_few (Array x n at ∷ all) h = have_few all h
-have_few (Proc p ∷ all) h = (omega (arith, h), have_few all (omega (arith, h)))
+have_rows : (all : List Part) → most_variables all ≤ most_locals → HaveRows all
+have_rows [] h = tt
+have_rows (Array x n at ∷ all) h = have_rows all h
+have_rows (Proc p ∷ all) h = (omega (arith, h, names_few p.vars), have_rows all (omega (arith, h)))
 
+-- what is read from a text within the limits and accepted is written
 pub read_is_written : (text : List ℕ) (ls : List Lexeme) (finish : Place) (all : List Part) → Lex text ls finish → KeepLimits 0 0 ls → Tree ls all
     → IsAccepted all finish → IsWritten all
-read_is_written text ls finish all lex k tree accepted = tree_written tree (have_few all (accepted_few all finish accepted)) (leads_sound 0 0 lex.leads k) k
+read_is_written text ls finish all lex k tree accepted = whole all (tree_nearly tree (leads_sound 0 0 lex.leads k) k) (have_rows all (accepted_few all finish accepted))

@@ -13,7 +13,7 @@ use Rattle.src_ast.specs.declared.tree.Unary.TheVariants.{Flip}
 use Rattle.src_ast.specs.Grammar.{level_of, mark_of, sign_mark}
 use Rattle.src_ast.specs.Syntax.{Expression, Number, Variable, Cell, Signed, Binary, Statement, Assign, Store, Print, Read, Give, Take, Call, If, While, Statements, Nothing, Then, Last, Part, Array, Proc}
 use Rattle.src_ast.specs.Printed.{is_looser, is_no_tighter, is_binary, indent}
-use Rattle.src_ast.specs.Written.{IsGoodName, AreGoodNames, IsGood, AreGood, rounded, width, list_width, names_width, IsFit, AreFit, IsFitEnding, IsFitPart, IsWritten}
+use Rattle.src_ast.specs.Written.{IsWrittenName, AreWrittenNames, IsWrittenExpression, AreWrittenExpressions, rounded, width, list_width, names_width, IsWrittenStatement, AreWrittenStatements, IsWrittenEnding, IsWrittenPart, IsWritten}
 use Rattle.src_ast.proofs.Pieces.{Piece, gap, lexeme, Keep, over, behind_gap, behind}
 use Rattle.src_ast.proofs.Printing.{space, newline, wrapped, expression, arguments, names, finish, call, closing, test, second_arm, statement, body, variables, ending, part, parts}
 
@@ -24,10 +24,12 @@ is_inner LBrace = false
 is_inner RBrace = false
 is_inner m = true
 
+-- operators stand in the middle of a row
 pub op_inner : (op : Alu) → is_inner (mark_of op) ≡ true
 op_inner Or = refl
 op_inner op = refl
 
+-- so do signs
 pub sign_inner : (s : Unary) → is_inner (sign_mark s) ≡ true
 sign_inner Flip = refl
 sign_inner s = refl
@@ -57,7 +59,7 @@ wrapped_kept braces true f n d h row next ps e l k =
     (h (row + 1) (row + 1 + n) (lexeme (Mark RParen) ∷ ps) refl (omega arith) (inner RParen braces (row + 1 + n) next ps refl d (omega arith) l k))
 wrapped_kept braces false f n d h row next ps e l k = h row next ps e l k
 
-expression_kept : (braces : ℕ) → braces ≤ 32 → (e : Expression) → IsGood e
+expression_kept : (braces : ℕ) → braces ≤ 32 → (e : Expression) → IsWrittenExpression e
     → (row next : ℕ) (ps : List Piece) → row + width e ≡ next → next ≤ 256 → Keep braces next ps → Keep braces row (expression e ps)
 expression_kept braces d (Number n) g row next ps e l k = number_in n braces row next ps d e l k
 expression_kept braces d (Variable x) g row next ps e l k = word_in x.text braces row next ps g.short d e l k
@@ -75,7 +77,7 @@ expression_kept braces d (Binary op a b) g row next ps e l k =
     (behind_gap space (inner (mark_of op) braces (row + left) (row + left + 1) _ (op_inner op) d refl (omega arith)
     (behind_gap space (wrapped_kept braces (is_no_tighter b (level_of op)) (expression b) (width b) d (expression_kept braces d b g.1) (row + left + 1) next ps (omega arith) l k))))
 
-arguments_kept : (braces : ℕ) → braces ≤ 32 → (es : List Expression) → AreGood es
+arguments_kept : (braces : ℕ) → braces ≤ 32 → (es : List Expression) → AreWrittenExpressions es
     → (row next : ℕ) (ps : List Piece) → row + list_width es ≡ next → next ≤ 256 → Keep braces next ps → Keep braces row (arguments es ps)
 arguments_kept braces d [] g row next ps e l k = let same : next ≡ row = omega arith in subst (λ n. Keep braces n ps) same k
 arguments_kept braces d (x ∷ []) g row next ps e l k = expression_kept braces d x g.0 row next ps e l k
@@ -84,7 +86,7 @@ arguments_kept braces d (x ∷ y ∷ xs) g row next ps e l k =
     (inner Comma braces (row + width x) (row + width x + 1) _ refl d refl (omega arith)
     (behind_gap space (arguments_kept braces d (y ∷ xs) g.1 (row + width x + 1) next ps (omega arith) l k)))
 
-names_kept : (braces : ℕ) → braces ≤ 32 → (xs : List Name) → AreGoodNames xs
+names_kept : (braces : ℕ) → braces ≤ 32 → (xs : List Name) → AreWrittenNames xs
     → (row next : ℕ) (ps : List Piece) → row + names_width xs ≡ next → next ≤ 256 → Keep braces next ps → Keep braces row (names xs ps)
 names_kept braces d [] g row next ps e l k = let same : next ≡ row = omega arith in subst (λ n. Keep braces n ps) same k
 names_kept braces d (x ∷ []) g row next ps e l k = word_in x.text braces row next ps g.0.short d e l k
@@ -97,11 +99,11 @@ finish_kept : (braces row : ℕ) (ps : List Piece) → braces ≤ 32 → Keep br
 finish_kept braces row ps d k = behind (Mark Semi) tt d (omega arith) (behind_gap newline k)
 
 -- an expression at the end of a statement
-last_kept : (braces row : ℕ) (ps : List Piece) → braces ≤ 32 → (e : Expression) → IsGood e → row + width e ≤ 256 → Keep braces 0 ps
+last_kept : (braces row : ℕ) (ps : List Piece) → braces ≤ 32 → (e : Expression) → IsWrittenExpression e → row + width e ≤ 256 → Keep braces 0 ps
     → Keep braces row (expression e (finish ps))
 last_kept braces row ps d e g l k = expression_kept braces d e g row (row + width e) (finish ps) refl l (finish_kept braces _ ps d k)
 
-call_kept : (braces row : ℕ) (ps : List Piece) → braces ≤ 32 → (f : Name) (es : List Expression) → IsGoodName f → AreGood es → row + list_width es + 3 ≤ 256
+call_kept : (braces row : ℕ) (ps : List Piece) → braces ≤ 32 → (f : Name) (es : List Expression) → IsWrittenName f.text → AreWrittenExpressions es → row + list_width es + 3 ≤ 256
     → Keep braces 0 ps → Keep braces row (call f es ps)
 call_kept braces row ps d f es h g l k =
     word_in f.text braces row (row + 1) _ h.short d refl (omega arith)
@@ -115,7 +117,7 @@ opens braces row ps d k = behind_gap space (behind (Mark LBrace) tt d (omega ari
 closing_kept : (n braces row : ℕ) (ps : List Piece) → braces ≤ 32 → Keep braces 0 ps → Keep (suc braces) row (closing n ps)
 closing_kept n braces row ps d k = behind_gap (indent n) (behind (Mark RBrace) tt d (omega arith) (behind_gap newline k))
 
-test_kept : (braces : ℕ) (ps : List Piece) → suc braces ≤ 32 → (word : List ℕ) (e : Expression) → length word ≤ 64 → IsGood e → width e + 3 ≤ 256
+test_kept : (braces : ℕ) (ps : List Piece) → suc braces ≤ 32 → (word : List ℕ) (e : Expression) → length word ≤ 64 → IsWrittenExpression e → width e + 3 ≤ 256
     → Keep (suc braces) 0 ps → Keep braces 0 (test word e ps)
 test_kept braces ps d word e w g l k =
     let d' : braces ≤ 32 = omega arith in
@@ -135,7 +137,7 @@ second_arm_kept n braces (Then s rest) f d h ps k =
     (opens braces 1 _ d (h _ (closing_kept n braces 0 ps d' k))))))
 
 mutual
-  pub statement_kept : (n braces : ℕ) → braces ≤ 32 → (s : Statement) → IsFit braces s → (ps : List Piece) → Keep braces 0 ps → Keep braces 0 (statement n s ps)
+  pub statement_kept : (n braces : ℕ) → braces ≤ 32 → (s : Statement) → IsWrittenStatement braces s → (ps : List Piece) → Keep braces 0 ps → Keep braces 0 (statement n s ps)
   statement_kept n braces d (Assign at x e) h ps k =
       behind_gap (indent n) (word_in x.text braces 0 1 _ h.0.short d refl (omega arith) (behind_gap space
       (inner mark.Assign braces 1 2 _ refl d refl (omega arith) (behind_gap space (last_kept braces 2 ps d e h.1 (omega arith) k)))))
@@ -172,23 +174,23 @@ mutual
       behind_gap (indent n) (test_kept braces _ h.2 (codes "while") e (omega arith) h.0 h.1
       (body_kept (suc n) (suc braces) h.2 a h.3 _ (closing_kept n braces 0 ps d k)))
 
-  pub body_kept : (n braces : ℕ) → braces ≤ 32 → (b : Statements) → AreFit braces b → (ps : List Piece) → Keep braces 0 ps → Keep braces 0 (body n b ps)
+  pub body_kept : (n braces : ℕ) → braces ≤ 32 → (b : Statements) → AreWrittenStatements braces b → (ps : List Piece) → Keep braces 0 ps → Keep braces 0 (body n b ps)
   body_kept n braces d Nothing h ps k = k
   body_kept n braces d (Then s rest) h ps k = statement_kept n braces d s h.0 _ (body_kept n braces d rest h.1 ps k)
 
-variables_kept : (braces : ℕ) → braces ≤ 32 → (xs : List Name) → AreGoodNames xs → names_width xs + 1 ≤ 256 → (ps : List Piece) → Keep braces 0 ps → Keep braces 0 (variables xs ps)
+variables_kept : (braces : ℕ) → braces ≤ 32 → (xs : List Name) → AreWrittenNames xs → names_width xs + 1 ≤ 256 → (ps : List Piece) → Keep braces 0 ps → Keep braces 0 (variables xs ps)
 variables_kept braces d [] g l ps k = k
 variables_kept braces d (x ∷ xs) g l ps k =
     behind_gap (indent 1) (word_in (codes "var") braces 0 1 _ (omega arith) d refl (omega arith) (behind_gap space
     (names_kept braces d (x ∷ xs) g 1 (1 + names_width (x ∷ xs)) _ refl (omega arith) (finish_kept braces _ ps d k))))
 
-ending_kept : (braces : ℕ) → braces ≤ 32 → (e : Option Last) → IsFitEnding e → (ps : List Piece) → Keep braces 0 ps → Keep braces 0 (ending e ps)
+ending_kept : (braces : ℕ) → braces ≤ 32 → (e : Option Last) → IsWrittenEnding e → (ps : List Piece) → Keep braces 0 ps → Keep braces 0 (ending e ps)
 ending_kept braces d None h ps k = k
 ending_kept braces d (Some last) h ps k =
     behind_gap (indent 1) (word_in (codes "return") braces 0 1 _ (omega arith) d refl (omega arith) (behind_gap space
     (last_kept braces 1 ps d last.value h.0 (omega arith) k)))
 
-part_kept : (p : Part) → IsFitPart p → (ps : List Piece) → Keep 0 0 ps → Keep 0 0 (part p ps)
+part_kept : (p : Part) → IsWrittenPart p → (ps : List Piece) → Keep 0 0 ps → Keep 0 0 (part p ps)
 part_kept (Array x n at) h ps k =
     let d : 0 ≤ 32 = omega arith in
     word_in (codes "array") 0 0 1 _ (omega arith) d refl (omega arith) (behind_gap space
@@ -210,6 +212,7 @@ part_kept (Proc p) h ps k =
     (body_kept 1 1 one p.body h.body _
     (ending_kept 1 one p.ending h.ending _ (closing_kept 0 0 0 ps d k))))))))))
 
+-- the pieces of a written program keep the limits
 pub parts_kept : (all : List Part) → IsWritten all → Keep 0 0 (parts all)
 parts_kept [] h = over
 parts_kept (p ∷ all) h = part_kept p h.0 (parts all) (parts_kept all h.1)

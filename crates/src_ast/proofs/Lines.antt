@@ -12,10 +12,12 @@ pub separated_is : (t : List ℕ) (ts : List (List ℕ)) → separated_text (t �
 separated_is t [] = sym (append-nil t)
 separated_is t (u ∷ ts) = ap (λ x. t ++ codes ", " ++ x) (separated_is u ts) ∙ simp append_assoc
 
+-- names with commas, from the first on
 pub names_from : (xs : List Name) (x : Name) → 0 < length xs → x ≡ get_or xs 0 x → separated_text (name_texts xs) ≡ x.text ++ comma_text (name_texts (drop 1 xs))
 names_from [] x h e = absurd (omega arith)
 names_from (y ∷ ys) x h e = ap (λ z. separated_text (z.text ∷ name_texts ys)) (sym e) ∙ separated_is x.text (name_texts ys)
 
+-- arguments with commas, from the first on
 pub args_from : (xs : List Expr) (x : Expr) → 0 < length xs → x ≡ get_or xs 0 x
     → separated_text (argument_texts (map expression xs)) ≡ expression_text (expression x) ++ comma_text (argument_texts (map expression (drop 1 xs)))
 args_from [] x h e = absurd (omega arith)
@@ -23,14 +25,17 @@ args_from (y ∷ ys) x h e =
     ap (λ z. separated_text (expression_text (expression z) ∷ argument_texts (map expression ys))) (sym e)
     ∙ separated_is (expression_text (expression x)) (argument_texts (map expression ys))
 
+-- one level more
 pub indent_more : (n : ℕ) → indent (n + 1) ≡ indent n ++ codes "  "
 indent_more zero = refl
 indent_more (suc n) = rw add-one (ap (λ t. codes "  " ++ t) (rw add-one at (indent_more n)))
 
+-- an empty second arm is left out
 pub else_empty : (n : ℕ) (xs : List Stmt) (text : List ℕ) → length xs ≡ 0 → else_lines n (statements xs) text ≡ line n (codes "}")
 else_empty n [] text h = refl
 else_empty n (x ∷ xs) text h = absurd (omega arith)
 
+-- a second arm stands between its braces
 pub else_full : (n : ℕ) (xs : List Stmt) (text : List ℕ) → 0 < length xs → else_lines n (statements xs) text ≡ line n (codes "} else {") ++ text ++ line n (codes "}")
 else_full n [] text h = absurd (omega arith)
 else_full n (x ∷ xs) text h = refl

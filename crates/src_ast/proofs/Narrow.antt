@@ -9,7 +9,7 @@ use Rattle.src_ast.specs.declared.fault.RefusalKind.TheVariants.{Main}
 use Rattle.src_ast.specs.Syntax.{Expression, Number, Variable, Cell, Signed, Binary, Statement, Assign, Store, Print, Read, Give, Take, Call, If, While, Statements, Nothing, Then, Last, Procedure, Part, Array, Proc}
 use Rattle.src_ast.specs.Grammar.{level_of}
 use Rattle.src_ast.specs.Printed.{is_looser, is_no_tighter, is_binary}
-use Rattle.src_ast.specs.Written.{rounded, width, list_width, IsFit, AreFit, IsFitEnding, IsWritten}
+use Rattle.src_ast.specs.Written.{rounded, width, list_width, IsWrittenStatement, AreWrittenStatements, IsWrittenEnding, IsWritten}
 use Rattle.src_ast.specs.Bound.{nodes, nodes_of, most_nodes, most_nodes_of, ending_nodes, widest, most_variables}
 use Rattle.src_ast.specs.Rules.{Rule, Declared, variable, variables, is_visible, declared_by, has_main, is_main, procs_in, statements_in, size_of_all, parameter_rules, variable_rules, body_rules, ending_rules, part_rules, rules_behind, IsAccepted}
 
@@ -33,7 +33,7 @@ nodes_list_width (e ∷ []) = omega (arith, nodes_width e)
 nodes_list_width (e ∷ f ∷ es) = omega (arith, nodes_width e, nodes_list_width (f ∷ es))
 
 mutual
-  fit_narrow : (braces : ℕ) (s : Statement) → IsFit braces s → most_nodes s ≤ 255
+  fit_narrow : (braces : ℕ) (s : Statement) → IsWrittenStatement braces s → most_nodes s ≤ 255
   fit_narrow braces (Assign at x e) h = omega (arith, h.2, nodes_width e)
   fit_narrow braces (Store at a i e) h = omega (arith, h.3, nodes_width i, nodes_width e)
   fit_narrow braces (Print at e) h = omega (arith, h.1, nodes_width e)
@@ -45,20 +45,21 @@ mutual
   fit_narrow braces (If at e a b) h = omega (arith, h.1, nodes_width e, all_narrow (suc braces) a h.3, all_narrow (suc braces) b h.4)
   fit_narrow braces (While at e body) h = omega (arith, h.1, nodes_width e, all_narrow (suc braces) body h.3)
 
-  all_narrow : (braces : ℕ) (b : Statements) → AreFit braces b → most_nodes_of b ≤ 255
+  all_narrow : (braces : ℕ) (b : Statements) → AreWrittenStatements braces b → most_nodes_of b ≤ 255
   all_narrow braces Nothing h = omega arith
   all_narrow braces (Then s rest) h = omega (arith, fit_narrow braces s h.0, all_narrow braces rest h.1)
 
-ending_narrow : (e : Option Last) → IsFitEnding e → ending_nodes e ≤ 255
+ending_narrow : (e : Option Last) → IsWrittenEnding e → ending_nodes e ≤ 255
 ending_narrow None h = omega arith
 ending_narrow (Some last) h = omega (arith, h.1, nodes_width last.value)
 
+-- the statements of a written program have few nodes
 pub written_narrow : (all : List Part) → IsWritten all → widest all ≤ 255
 written_narrow [] h = omega arith
 written_narrow (Array x n at ∷ all) h = written_narrow all h.1
 written_narrow (Proc p ∷ all) h = omega (arith, all_narrow 1 p.body h.0.body, ending_narrow p.ending h.0.ending, written_narrow all h.1)
 
--- a parameter behind 8 others is refused
+-- a parameter after 8 others is refused
 few_params : (main : Bool) (visible : List Declared) (k : ℕ) (xs : List Name) → k ≤ 8 → list_all (λ r. r.kept) (parameter_rules main visible k xs) ≡ true
     → k + length xs ≤ 8
 few_params main visible k [] h e = omega (arith, h)
@@ -69,7 +70,7 @@ few_params main visible k (x ∷ xs) h e =
     let below = ltb-true k 8 third.0 in
     omega (arith, few_params main (record { text = x.text; sort = variable } ∷ visible) (suc k) xs (omega (arith, below)) third.1)
 
--- a variable behind 32 parameters and variables is refused
+-- a variable after 32 parameters and variables is refused
 few_vars : (visible : List Declared) (k : ℕ) (xs : List Name) → k ≤ 32 → list_all (λ r. r.kept) (variable_rules visible k xs) ≡ true → k + length xs ≤ 32
 few_vars visible k [] h e = omega (arith, h)
 few_vars visible k (x ∷ xs) h e =
@@ -108,6 +109,7 @@ few_from before (Proc p ∷ all) e =
     let both = and_parts (list_all kept here) (list_all kept behind) (sym (list_all-append kept here behind) ∙ e) in
     omega (arith, procedure_few before p both.0, few_from (before ++ Proc p ∷ []) all both.1)
 
+-- the procedures of an accepted program have few variables
 pub accepted_few : (all : List Part) (finish : Place) → IsAccepted all finish → most_variables all ≤ 32
 accepted_few all finish e =
     let kept : Rule → Bool = λ r. r.kept in

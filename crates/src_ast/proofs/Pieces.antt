@@ -6,8 +6,9 @@ use Rattle.src_ast.specs.declared.lexeme.Place.{Place}
 use Rattle.src_ast.specs.declared.lexeme.Lexeme.{Lexeme}
 use Rattle.src_ast.specs.declared.lexeme.Shape.{Shape}
 use Rattle.src_ast.specs.declared.lexeme.Shape.TheVariants as shape
-use Rattle.src_ast.specs.Lexemes.{spelling, start, after, past, is_blank, is_gap, is_comment, Spells, Leads, stop, next, Lex, IsShort, open_behind, row_behind, KeepLimits}
+use Rattle.src_ast.specs.Lexemes.{spelling, start, after, past, is_blank, is_gap, is_comment, Spells, Leads, stop, next, Lex, IsShort, open_past, row_past, KeepLimits}
 
+-- a gap or a lexeme of a printed text
 pub data Piece : Type 0 where
   gap : (bytes : List ℕ) → Piece
   lexeme : (s : Shape) → Piece
@@ -18,6 +19,7 @@ spelled (shape.Word w) = w
 spelled (shape.Number n) = decimal n
 spelled (shape.Mark m) = spelling m
 
+-- the text of pieces
 abbrev pub text_of : List Piece → List ℕ
 text_of [] = []
 text_of (gap bytes ∷ ps) = bytes ++ text_of ps
@@ -39,9 +41,10 @@ AreSpelled (lexeme s ∷ ps) = Spells s (spelled s) (text_of ps) × AreSpelled p
 pub data Keep : ℕ → ℕ → List Piece → Type 0 where
   over : {braces row : ℕ} → Keep braces row []
   behind_gap : {braces row : ℕ} {ps : List Piece} (bytes : List ℕ) → Keep braces row ps → Keep braces row (gap bytes ∷ ps)
-  behind : {braces row : ℕ} {ps : List Piece} (s : Shape) → IsShort s → open_behind braces s ≤ 32 → row_behind row s ≤ 256
-      → Keep (open_behind braces s) (row_behind row s) ps → Keep braces row (lexeme s ∷ ps)
+  behind : {braces row : ℕ} {ps : List Piece} (s : Shape) → IsShort s → open_past braces s ≤ 32 → row_past row s ≤ 256
+      → Keep (open_past braces s) (row_past row s) ps → Keep braces row (lexeme s ∷ ps)
 
+-- the lexemes of pieces keep the limits that the pieces keep
 pub keeps : {braces row : ℕ} {ps : List Piece} (at : Place) → Keep braces row ps → KeepLimits braces row (placed at ps)
 keeps at over = tt
 keeps at (behind_gap bytes k) = keeps (after at bytes) k

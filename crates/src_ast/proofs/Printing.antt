@@ -11,16 +11,20 @@ use Rattle.src_ast.specs.Syntax.{Expression, Number, Variable, Cell, Signed, Bin
 use Rattle.src_ast.specs.Printed.{round, is_looser, is_no_tighter, is_binary, expression_text, separated_text, argument_texts, name_texts, call_text, indent, line, else_lines, statement_lines, body_lines, variable_lines, ending_lines, part_lines, printed_form}
 use Rattle.src_ast.proofs.Pieces.{Piece, gap, lexeme, text_of}
 
+-- a space
 abbrev pub space : List ℕ
 space = codes " "
 
+-- the end of a line
 abbrev pub newline : List ℕ
 newline = codes "\n"
 
+-- parentheses where they are needed, before others
 abbrev pub wrapped : Bool → (List Piece → List Piece) → List Piece → List Piece
 wrapped true f ps = lexeme (Mark LParen) ∷ f (lexeme (Mark RParen) ∷ ps)
 wrapped false f ps = f ps
 
+-- the pieces of an expression, before others
 abbrev pub expression : Expression → List Piece → List Piece
 expression (Number n) ps = lexeme (shape.Number n) ∷ ps
 expression (Variable x) ps = lexeme (Word x.text) ∷ ps
@@ -30,11 +34,13 @@ expression (Binary op a b) ps =
     wrapped (is_looser a (level_of op)) (expression a)
     (gap space ∷ lexeme (Mark (mark_of op)) ∷ gap space ∷ wrapped (is_no_tighter b (level_of op)) (expression b) ps)
 
+-- those of arguments
 abbrev pub arguments : List Expression → List Piece → List Piece
 arguments [] ps = ps
 arguments (e ∷ []) ps = expression e ps
 arguments (e ∷ f ∷ es) ps = expression e (lexeme (Mark Comma) ∷ gap space ∷ arguments (f ∷ es) ps)
 
+-- those of names
 abbrev pub names : List Name → List Piece → List Piece
 names [] ps = ps
 names (x ∷ []) ps = lexeme (Word x.text) ∷ ps
@@ -44,12 +50,15 @@ names (x ∷ y ∷ xs) ps = lexeme (Word x.text) ∷ lexeme (Mark Comma) ∷ gap
 abbrev pub finish : List Piece → List Piece
 finish ps = lexeme (Mark Semi) ∷ gap newline ∷ ps
 
+-- those of a call, to the end of its line
 abbrev pub call : Name → List Expression → List Piece → List Piece
 call f es ps = lexeme (Word f.text) ∷ lexeme (Mark LParen) ∷ arguments es (lexeme (Mark RParen) ∷ finish ps)
 
+-- a line with a brace that closes a block
 abbrev pub closing : ℕ → List Piece → List Piece
 closing n ps = gap (indent n) ∷ lexeme (Mark RBrace) ∷ gap newline ∷ ps
 
+-- the first line of an `if` or a `while`
 abbrev pub test : List ℕ → Expression → List Piece → List Piece
 test word e ps =
     lexeme (Word word) ∷ gap space ∷ lexeme (Mark LParen) ∷ expression e (lexeme (Mark RParen) ∷ gap space ∷ lexeme (Mark LBrace) ∷ gap newline ∷ ps)
@@ -62,6 +71,7 @@ second_arm n (Then s rest) f ps =
     ∷ f (closing n ps)
 
 abbrev mutual
+  -- those of a statement
   pub statement : ℕ → Statement → List Piece → List Piece
   statement n (Assign at x e) ps = gap (indent n) ∷ lexeme (Word x.text) ∷ gap space ∷ lexeme (Mark mark.Assign) ∷ gap space ∷ expression e (finish ps)
   statement n (Store at a i e) ps =
@@ -78,18 +88,22 @@ abbrev mutual
   statement n (If at e a b) ps = gap (indent n) ∷ test (codes "if") e (body (suc n) a (second_arm n b (body (suc n) b) ps))
   statement n (While at e a) ps = gap (indent n) ∷ test (codes "while") e (body (suc n) a (closing n ps))
 
+  -- those of statements
   pub body : ℕ → Statements → List Piece → List Piece
   body n Nothing ps = ps
   body n (Then s rest) ps = statement n s (body n rest ps)
 
+-- those of the line of variables
 abbrev pub variables : List Name → List Piece → List Piece
 variables [] ps = ps
 variables (x ∷ xs) ps = gap (indent 1) ∷ lexeme (Word (codes "var")) ∷ gap space ∷ names (x ∷ xs) (finish ps)
 
+-- those of the line of `return`
 abbrev pub ending : Option Last → List Piece → List Piece
 ending None ps = ps
 ending (Some last) ps = gap (indent 1) ∷ lexeme (Word (codes "return")) ∷ gap space ∷ expression last.value (finish ps)
 
+-- those of an array or a procedure
 abbrev pub part : Part → List Piece → List Piece
 part (Array x n at) ps =
     lexeme (Word (codes "array")) ∷ gap space ∷ lexeme (Word x.text) ∷ lexeme (Mark LSquare) ∷ lexeme (shape.Number n) ∷ lexeme (Mark RSquare) ∷ finish ps
@@ -98,6 +112,7 @@ part (Proc p) ps =
     ∷ names p.params (lexeme (Mark RParen) ∷ gap space ∷ lexeme (Mark LBrace) ∷ gap newline
     ∷ variables p.vars (body 1 p.body (ending p.ending (closing 0 ps))))
 
+-- the pieces of a program
 abbrev pub parts : List Part → List Piece
 parts [] = []
 parts (p ∷ all) = part p (parts all)
@@ -199,6 +214,7 @@ part_is (Proc p) ps =
     (ending_is p.ending _ ∙ ap (λ t. ending_lines p.ending ++ t) (closing_is 0 ps))))
     ∙ five (line 0 (codes "proc " ++ p.name.text ++ codes "(" ++ separated_text (name_texts p.params) ++ codes ") {")) (variable_lines p.vars) (body_lines 1 p.body) (ending_lines p.ending) (line 0 (codes "}")) (text_of ps)
 
+-- the pieces of a program are its printed form
 pub printed_is : (all : List Part) → text_of (parts all) ≡ printed_form all
 printed_is [] = refl
 printed_is (p ∷ all) = part_is p (parts all) ∙ ap (λ t. part_lines p ++ t) (printed_is all)

@@ -9,18 +9,21 @@ use Rattle.src_ast.specs.declared.lexeme.Mark.TheVariants.{LParen, RParen, LSqua
 use Rattle.src_ast.specs.Grammar.{level_of, mark_of, sign_mark, IsName, Spelled, number, variable, cell, round, signed, binary, Separated, one, more, Listed, none, some, SpelledName, name}
 use Rattle.src_ast.specs.Syntax.{Expression}
 use Rattle.src_ast.specs.Printed.{is_looser, is_no_tighter}
-use Rattle.src_ast.specs.Written.{IsGoodName, AreGoodNames, IsGood, AreGood, rounded, width, list_width, names_width}
+use Rattle.src_ast.specs.Written.{IsWrittenName, AreWrittenNames, IsWrittenExpression, AreWrittenExpressions, rounded, width, list_width, names_width}
 use Rattle.src_ast.proofs.Kept.{op_inner, sign_inner}
-use Rattle.src_ast.proofs.Limits.{IsSound, AllSound, sound_here, sound_behind, sound_front, sound_back, AllPlain, no_plain, plain, plain_append, plain_word, plain_number, plain_mark}
+use Rattle.src_ast.proofs.RowLimits.{IsSound, AllSound, sound_here, sound_behind, sound_front, sound_back, AllPlain, no_plain, plain, plain_append, plain_word, plain_number, plain_mark}
 use Rattle.src_ast.proofs.Regrown.{loose_next, loose_eight}
 
-pub name_good : {x : Name} {l : Lexeme} → IsName x l → IsSound l.shape → IsGoodName x
+-- a name that is read is written
+pub name_good : {x : Name} {l : Lexeme} → IsName x l → IsSound l.shape → IsWrittenName x.text
 name_good {x = x} n h = let w = subst IsSound n.word h in record { word = w.0; free = n.free; short = w.1 }
 
+-- so is a number
 pub number_good : {n : ℕ} (l : Lexeme) → l.shape ≡ shape.Number n → IsSound l.shape → n < 2 ^ 64
 number_good l e h = subst IsSound e h
 
-pub expression_good : {n : ℕ} {ls : List Lexeme} {e : Expression} → Spelled n ls e → AllSound ls → IsGood e
+-- so is an expression
+pub expression_good : {n : ℕ} {ls : List Lexeme} {e : Expression} → Spelled n ls e → AllSound ls → IsWrittenExpression e
 expression_good (number l v is) h = number_good l is (sound_here h)
 expression_good (variable l x is) h = name_good is (sound_here h)
 expression_good (cell l first last ls a e eq is o s c) h =
@@ -34,6 +37,7 @@ expression_good (binary l ls rs op a b d eq is sa sb) h =
     let hs = subst AllSound eq h in
     (expression_good sa (sound_front ls (l ∷ rs) hs), expression_good sb (sound_behind (sound_back ls (l ∷ rs) hs)))
 
+-- the lexemes of an expression stand in a row
 pub expression_plain : {n : ℕ} {ls : List Lexeme} {e : Expression} → Spelled n ls e → AllPlain ls
 expression_plain (number l v is) = plain (plain_number l v is) no_plain
 expression_plain (variable l x is) = plain (plain_word l x.text is.word) no_plain
@@ -71,6 +75,7 @@ expression_width (binary {n = n} {ks = ks} l ls rs op a b d eq is sa sb) =
     let w : all ≤ length ks = omega (arith, expression_width sa, right, ap length eq, length-append ls (l ∷ rs)) in
     subst (λ c. rounded c all ≤ length ks) (sym free) w
 
+-- the printed form of an expression has no more lexemes than it was read from
 pub width_least : {ls : List Lexeme} {e : Expression} → Spelled 0 ls e → width e ≤ length ls
 width_least {ls} {e} s = omega (arith, expression_width s, rounded_least (is_looser e 0) (width e))
 
@@ -85,16 +90,18 @@ pub listed_plain : {A : Type 0} {L : List Lexeme → A → Type 0} {ks : List Le
 listed_plain h none = no_plain
 listed_plain h (some ls xs s) = separated_plain h s
 
+-- the lexemes of arguments stand in a row
 pub arguments_plain : {ks : List Lexeme} {es : List Expression} → Listed (Spelled 0) ks es → AllPlain ks
 arguments_plain s = listed_plain (λ ls e h. expression_plain h) s
 
-some_arguments_good : {ks : List Lexeme} {es : List Expression} → Separated (Spelled 0) ks es → AllSound ks → AreGood es
+some_arguments_good : {ks : List Lexeme} {es : List Expression} → Separated (Spelled 0) ks es → AllSound ks → AreWrittenExpressions es
 some_arguments_good (one ls e s) h = (expression_good s h, tt)
 some_arguments_good (more comma ls rs e es eq s c more') h =
     let hs = subst AllSound eq h in
     (expression_good s (sound_front ls (comma ∷ rs) hs), some_arguments_good more' (sound_behind (sound_back ls (comma ∷ rs) hs)))
 
-pub arguments_good : {ks : List Lexeme} {es : List Expression} → Listed (Spelled 0) ks es → AllSound ks → AreGood es
+-- arguments that are read are written
+pub arguments_good : {ks : List Lexeme} {es : List Expression} → Listed (Spelled 0) ks es → AllSound ks → AreWrittenExpressions es
 arguments_good none h = tt
 arguments_good (some ls es s) h = some_arguments_good s h
 
@@ -104,6 +111,7 @@ some_arguments_width (more comma ls rs e (f ∷ es) eq s c more') =
     omega (arith, width_least s, some_arguments_width more', ap length eq, length-append ls (comma ∷ rs))
 some_arguments_width (more comma ls rs e [] eq s c more') = omega (arith, width_least s, ap length eq, length-append ls (comma ∷ rs))
 
+-- the printed form of arguments has no more lexemes
 pub arguments_width : {ks : List Lexeme} {es : List Expression} → Listed (Spelled 0) ks es → list_width es ≤ length ks
 arguments_width none = omega arith
 arguments_width (some ls es s) = some_arguments_width s
@@ -111,22 +119,26 @@ arguments_width (some ls es s) = some_arguments_width s
 name_plain : (ls : List Lexeme) (x : Name) → SpelledName ls x → AllPlain ls
 name_plain ls x (name l x' is) = plain (plain_word l x'.text is.word) no_plain
 
+-- the lexemes of names stand in a row
 pub some_names_plain : {ks : List Lexeme} {xs : List Name} → Separated SpelledName ks xs → AllPlain ks
 some_names_plain s = separated_plain name_plain s
 
+-- so do those of no names
 pub names_plain : {ks : List Lexeme} {xs : List Name} → Listed SpelledName ks xs → AllPlain ks
 names_plain s = listed_plain name_plain s
 
-spelled_name_good : {ls : List Lexeme} {x : Name} → SpelledName ls x → AllSound ls → IsGoodName x
+spelled_name_good : {ls : List Lexeme} {x : Name} → SpelledName ls x → AllSound ls → IsWrittenName x.text
 spelled_name_good (name l x is) h = name_good is (sound_here h)
 
-pub some_names_good : {ks : List Lexeme} {xs : List Name} → Separated SpelledName ks xs → AllSound ks → AreGoodNames xs
+-- names that are read are written
+pub some_names_good : {ks : List Lexeme} {xs : List Name} → Separated SpelledName ks xs → AllSound ks → AreWrittenNames xs
 some_names_good (one ls x s) h = (spelled_name_good s h, tt)
 some_names_good (more comma ls rs x xs eq s c more') h =
     let hs = subst AllSound eq h in
     (spelled_name_good s (sound_front ls (comma ∷ rs) hs), some_names_good more' (sound_behind (sound_back ls (comma ∷ rs) hs)))
 
-pub names_good : {ks : List Lexeme} {xs : List Name} → Listed SpelledName ks xs → AllSound ks → AreGoodNames xs
+-- so are no names
+pub names_good : {ks : List Lexeme} {xs : List Name} → Listed SpelledName ks xs → AllSound ks → AreWrittenNames xs
 names_good none h = tt
 names_good (some ls xs s) h = some_names_good s h
 
@@ -139,6 +151,7 @@ some_names_width (more comma ls rs x (y ∷ xs) eq s c more') =
     omega (arith, name_width s, some_names_width more', ap length eq, length-append ls (comma ∷ rs))
 some_names_width (more comma ls rs x [] eq s c more') = omega (arith, name_width s, ap length eq, length-append ls (comma ∷ rs))
 
+-- the printed form of names has no more lexemes
 pub names_fit : {ks : List Lexeme} {xs : List Name} → Listed SpelledName ks xs → names_width xs ≤ length ks
 names_fit none = omega arith
 names_fit (some ls xs s) = some_names_width s

@@ -16,7 +16,7 @@ use Rattle.src_ast.specs.Grammar.{level_of, mark_of, sign_mark, IsName, Spelled,
 use Rattle.src_ast.specs.Syntax.{Expression, Number, Variable, Cell, Signed, Binary}
 use Rattle.src_ast.specs.Same.{bare, bare_expression, bare_expressions, bare_names}
 use Rattle.src_ast.specs.Printed.{is_looser, is_no_tighter, is_binary}
-use Rattle.src_ast.specs.Written.{IsGoodName, AreGoodNames, IsGood, AreGood}
+use Rattle.src_ast.specs.Written.{IsWrittenName, AreWrittenNames, IsWrittenExpression, AreWrittenExpressions}
 use Rattle.src_ast.proofs.Pieces.{Piece, gap, lexeme, placed}
 use Rattle.src_ast.proofs.Printing as print
 use Rattle.src_ast.proofs.Printing.{space, newline, wrapped, expression, finish}
@@ -42,27 +42,33 @@ next_level : (l n : ℕ) → nat_lt l (n + 1) ≡ nat_le l n
 next_level l n =
     ⊎_elim (λ h. le-ltb l (n + 1) (omega arith) ∙ sym (lt-leb l n h)) (λ h. lt-ltb l (n + 1) (omega arith) ∙ sym (le-leb l n h)) (cases_lt n l)
 
+-- a left operand of the next level is looser where a right one is no tighter
 pub loose_next : (e : Expression) (n : ℕ) → is_looser e (n + 1) ≡ is_no_tighter e n
 loose_next (Binary op a b) n = next_level (level_of op) n
 loose_next e n = refl
 
+-- all binary operands are looser than a sign's
 pub loose_eight : (e : Expression) → is_looser e 8 ≡ is_binary e
 loose_eight (Binary op a b) = lt-ltb (level_of op) 8 (level_low op)
 loose_eight e = refl
 
+-- the name at another place
 abbrev pub named : Name → Place → Name
 named x at = record { text = x.text; place = at }
 
+-- a lexeme at a place
 abbrev pub here : Place → Shape → Lexeme
 here at s = record { shape = s; place = at }
 
--- behind a mark, behind a word, behind a space and behind a line's end
+-- after a mark, after a word, after a space and after a line's end
 abbrev pub past_mark : Place → AnyMark → Place
 past_mark at m = after at (spelling m)
 
+-- after a space
 abbrev pub past_space : Place → Place
 past_space at = after at space
 
+-- after a line's end
 abbrev pub past_line : Place → Place
 past_line at = after at newline
 
@@ -87,7 +93,7 @@ wrapped_reads e true n d h f at qs =
     }
 wrapped_reads e false n d h f at qs = f n d h at qs
 
-expression_reads : (e : Expression) → IsGood e → (n : ℕ) → n ≤ 8 → is_looser e n ≡ false → (at : Place) (qs : List Piece) → ReadsExpression n e at (expression e qs) qs
+expression_reads : (e : Expression) → IsWrittenExpression e → (n : ℕ) → n ≤ 8 → is_looser e n ≡ false → (at : Place) (qs : List Piece) → ReadsExpression n e at (expression e qs) qs
 expression_reads (Number v) g n d h at qs =
     record {
       ls = here at (shape.Number v) ∷ [];
@@ -147,14 +153,15 @@ expression_reads (Binary op a b) g n d h at qs =
       same = ap (λ e. Binary op e (bare_expression b)) r.same ∙ ap (λ e. Binary op (bare_expression r.again) e) t.same;
     }
 
-pub good_name : (x : Name) (at : Place) → IsGoodName x → IsName (named x at) (here at (Word x.text))
+-- a written name is read as a name
+pub good_name : (x : Name) (at : Place) → IsWrittenName x.text → IsName (named x at) (here at (Word x.text))
 good_name x at g = record { word = refl; place = refl; free = g.free }
 
 -- an expression where any operator may stand
-pub loosest_reads : (e : Expression) → IsGood e → (at : Place) (qs : List Piece) → ReadsExpression 0 e at (expression e qs) qs
+pub loosest_reads : (e : Expression) → IsWrittenExpression e → (at : Place) (qs : List Piece) → ReadsExpression 0 e at (expression e qs) qs
 loosest_reads e g at qs = expression_reads e g 0 (omega arith) (loose_zero e) at qs
 
-some_arguments_read : (e : Expression) (es : List Expression) → IsGood e → AreGood es → (at : Place) (qs : List Piece)
+some_arguments_read : (e : Expression) (es : List Expression) → IsWrittenExpression e → AreWrittenExpressions es → (at : Place) (qs : List Piece)
     → Reads (Separated (Spelled 0)) (λ again. bare_expressions (e ∷ es) ≡ bare_expressions again) at (print.arguments (e ∷ es) qs) qs
 some_arguments_read e [] g gs at qs =
     let r = loosest_reads e g at qs in
@@ -172,14 +179,16 @@ some_arguments_read e (f ∷ es) g gs at qs =
       same = ap (λ x. x ∷ bare_expressions (f ∷ es)) r.same ∙ ap (λ xs. bare_expression r.again ∷ xs) t.same;
     }
 
-pub arguments_read : (es : List Expression) → AreGood es → (at : Place) (qs : List Piece)
+-- the pieces of arguments spell the same arguments
+pub arguments_read : (es : List Expression) → AreWrittenExpressions es → (at : Place) (qs : List Piece)
     → Reads (Listed (Spelled 0)) (λ again. bare_expressions es ≡ bare_expressions again) at (print.arguments es qs) qs
 arguments_read [] g at qs = record { ls = []; behind = at; is = refl; again = []; spelled = none; same = refl }
 arguments_read (e ∷ es) g at qs =
     let r = some_arguments_read e es g.0 g.1 at qs in
     record { ls = r.ls; behind = r.behind; is = r.is; again = r.again; spelled = some r.ls r.again r.spelled; same = r.same }
 
-pub some_names_read : (x : Name) (xs : List Name) → IsGoodName x → AreGoodNames xs → (at : Place) (qs : List Piece)
+-- those of names spell the same names
+pub some_names_read : (x : Name) (xs : List Name) → IsWrittenName x.text → AreWrittenNames xs → (at : Place) (qs : List Piece)
     → Reads (Separated SpelledName) (λ again. bare_names (x ∷ xs) ≡ bare_names again) at (print.names (x ∷ xs) qs) qs
 some_names_read x [] g gs at qs =
     let l = here at (Word x.text) in
@@ -197,7 +206,8 @@ some_names_read x (y ∷ xs) g gs at qs =
       same = ap (λ zs. bare x ∷ zs) t.same;
     }
 
-pub names_read : (xs : List Name) → AreGoodNames xs → (at : Place) (qs : List Piece)
+-- those of none, too
+pub names_read : (xs : List Name) → AreWrittenNames xs → (at : Place) (qs : List Piece)
     → Reads (Listed SpelledName) (λ again. bare_names xs ≡ bare_names again) at (print.names xs qs) qs
 names_read [] g at qs = record { ls = []; behind = at; is = refl; again = []; spelled = none; same = refl }
 names_read (x ∷ xs) g at qs =

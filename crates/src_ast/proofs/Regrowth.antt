@@ -12,7 +12,8 @@ use Rattle.src_ast.specs.Grammar.{Is, SpelledStatement, SpelledStatements, Spell
 use Rattle.src_ast.specs.Syntax.{Expression, Statement, Assign, Store, Print, Read, Give, Take, Call, If, While, Statements, Nothing, Then, Last, Procedure, Part, Array, Proc}
 use Rattle.src_ast.specs.Same.{bare, bare_expression, bare_names, bare_statement, bare_statements, bare_ending, bare_part, bare_parts}
 use Rattle.src_ast.specs.Printed.{indent}
-use Rattle.src_ast.specs.Written.{IsGoodName, AreGoodNames, IsGood, AreGood, IsFit, AreFit, IsFitEnding, IsFitProcedure, IsFitPart, IsWritten}
+use Rattle.src_ast.specs.Written.{IsWrittenName, AreWrittenNames, IsWrittenExpression, AreWrittenExpressions, IsWrittenStatement, AreWrittenStatements, IsWrittenEnding}
+use Rattle.src_ast.proofs.Nearly.{IsNearlyProcedure, IsNearlyPart, AreNearlyWritten}
 use Rattle.src_ast.proofs.Pieces.{Piece, gap, lexeme, placed}
 use Rattle.src_ast.proofs.Printing as p
 use Rattle.src_ast.proofs.Printing.{space, newline, finish}
@@ -24,7 +25,7 @@ ReadsStatement s = Reads SpelledStatement (λ again. bare_statement s ≡ bare_s
 abbrev ReadsBody : Statements → Place → List Piece → List Piece → Type 0
 ReadsBody b = Reads SpelledStatements (λ again. bare_statements b ≡ bare_statements again)
 
-assign_reads : (n : ℕ) (s : Place) (x : Name) (e : Expression) → IsGoodName x → IsGood e → (at : Place) (qs : List Piece)
+assign_reads : (n : ℕ) (s : Place) (x : Name) (e : Expression) → IsWrittenName x.text → IsWrittenExpression e → (at : Place) (qs : List Piece)
     → ReadsStatement (Assign s x e) at (p.statement n (Assign s x e) qs) qs
 assign_reads n s x e g h at qs =
     let l = here (after at (indent n)) (Word x.text) in
@@ -40,7 +41,7 @@ assign_reads n s x e g h at qs =
       same = ap (λ e. Assign start (bare x) e) r.same;
     }
 
-store_reads : (n : ℕ) (s : Place) (a : Name) (i e : Expression) → IsGoodName a → IsGood i → IsGood e → (at : Place) (qs : List Piece)
+store_reads : (n : ℕ) (s : Place) (a : Name) (i e : Expression) → IsWrittenName a.text → IsWrittenExpression i → IsWrittenExpression e → (at : Place) (qs : List Piece)
     → ReadsStatement (Store s a i e) at (p.statement n (Store s a i e) qs) qs
 store_reads n s a i e g gi ge at qs =
     let l = here (after at (indent n)) (Word a.text) in
@@ -60,7 +61,7 @@ store_reads n s a i e g gi ge at qs =
       same = ap (λ x. Store start (bare a) x (bare_expression e)) r.same ∙ ap (λ x. Store start (bare a) (bare_expression r.again) x) t.same;
     }
 
-print_reads : (n : ℕ) (s : Place) (e : Expression) → IsGood e → (at : Place) (qs : List Piece) → ReadsStatement (Print s e) at (p.statement n (Print s e) qs) qs
+print_reads : (n : ℕ) (s : Place) (e : Expression) → IsWrittenExpression e → (at : Place) (qs : List Piece) → ReadsStatement (Print s e) at (p.statement n (Print s e) qs) qs
 print_reads n s e h at qs =
     let l = here (after at (indent n)) (Word (codes "print")) in
     let r = loosest_reads e h (past_space (after l.place (codes "print"))) (finish qs) in
@@ -74,7 +75,7 @@ print_reads n s e h at qs =
       same = ap (λ e. Print start e) r.same;
     }
 
-read_reads : (n : ℕ) (s : Place) (x : Name) → IsGoodName x → (at : Place) (qs : List Piece) → ReadsStatement (Read s x) at (p.statement n (Read s x) qs) qs
+read_reads : (n : ℕ) (s : Place) (x : Name) → IsWrittenName x.text → (at : Place) (qs : List Piece) → ReadsStatement (Read s x) at (p.statement n (Read s x) qs) qs
 read_reads n s x g at qs =
     let l = here (after at (indent n)) (Word (codes "read")) in
     let m = here (past_space (after l.place (codes "read"))) (Word x.text) in
@@ -88,7 +89,7 @@ read_reads n s x g at qs =
       same = refl;
     }
 
-give_reads : (n : ℕ) (s : Place) (port : ℕ) (ps : Place) (x : Name) → IsGoodName x → (at : Place) (qs : List Piece)
+give_reads : (n : ℕ) (s : Place) (port : ℕ) (ps : Place) (x : Name) → IsWrittenName x.text → (at : Place) (qs : List Piece)
     → ReadsStatement (Give s port ps x) at (p.statement n (Give s port ps x) qs) qs
 give_reads n s port ps x g at qs =
     let l = here (after at (indent n)) (Word (codes "give")) in
@@ -105,7 +106,7 @@ give_reads n s port ps x g at qs =
       same = refl;
     }
 
-take_reads : (n : ℕ) (s : Place) (port : ℕ) (ps : Place) (e : Expression) → IsGood e → (at : Place) (qs : List Piece)
+take_reads : (n : ℕ) (s : Place) (port : ℕ) (ps : Place) (e : Expression) → IsWrittenExpression e → (at : Place) (qs : List Piece)
     → ReadsStatement (Take s port ps e) at (p.statement n (Take s port ps e) qs) qs
 take_reads n s port ps e h at qs =
     let l = here (after at (indent n)) (Word (codes "take")) in
@@ -122,7 +123,7 @@ take_reads n s port ps e h at qs =
       same = ap (λ e. Take start port start e) r.same;
     }
 
-call_reads : (n : ℕ) (s : Place) (f : Name) (es : List Expression) → IsGoodName f → AreGood es → (at : Place) (qs : List Piece)
+call_reads : (n : ℕ) (s : Place) (f : Name) (es : List Expression) → IsWrittenName f.text → AreWrittenExpressions es → (at : Place) (qs : List Piece)
     → ReadsStatement (Call s None f es) at (p.statement n (Call s None f es) qs) qs
 call_reads n s f es g h at qs =
     let m = here (after at (indent n)) (Word f.text) in
@@ -139,7 +140,7 @@ call_reads n s f es g h at qs =
       same = ap (λ es. Call start None (bare f) es) r.same;
     }
 
-called_reads : (n : ℕ) (s : Place) (x f : Name) (es : List Expression) → IsGoodName x → IsGoodName f → AreGood es → (at : Place) (qs : List Piece)
+called_reads : (n : ℕ) (s : Place) (x f : Name) (es : List Expression) → IsWrittenName x.text → IsWrittenName f.text → AreWrittenExpressions es → (at : Place) (qs : List Piece)
     → ReadsStatement (Call s (Some x) f es) at (p.statement n (Call s (Some x) f es) qs) qs
 called_reads n s x f es gx g h at qs =
     let l = here (after at (indent n)) (Word x.text) in
@@ -202,7 +203,7 @@ second_arm_reads n (Then s rest) f h at qs =
     }
 
 mutual
-  pub statement_reads : (n braces : ℕ) (s : Statement) → IsFit braces s → (at : Place) (qs : List Piece) → ReadsStatement s at (p.statement n s qs) qs
+  pub statement_reads : (n braces : ℕ) (s : Statement) → IsWrittenStatement braces s → (at : Place) (qs : List Piece) → ReadsStatement s at (p.statement n s qs) qs
   statement_reads n braces (Assign s x e) h at qs = assign_reads n s x e h.0 h.1 at qs
   statement_reads n braces (Store s a i e) h at qs = store_reads n s a i e h.0 h.1 h.2 at qs
   statement_reads n braces (Print s e) h at qs = print_reads n s e h.0 at qs
@@ -252,7 +253,7 @@ mutual
         same = ap (λ e. While start e (bare_statements a)) r.same ∙ ap (λ a. While start (bare_expression r.again) a) x.same;
       }
 
-  pub body_reads : (n braces : ℕ) (b : Statements) → AreFit braces b → (at : Place) (qs : List Piece) → ReadsBody b at (p.body n b qs) qs
+  pub body_reads : (n braces : ℕ) (b : Statements) → AreWrittenStatements braces b → (at : Place) (qs : List Piece) → ReadsBody b at (p.body n b qs) qs
   body_reads n braces Nothing h at qs = record { ls = []; behind = at; is = refl; again = Nothing; spelled = nothing; same = refl }
   body_reads n braces (Then s rest) h at qs =
       let r = statement_reads n braces s h.0 at (p.body n rest qs) in
@@ -266,7 +267,7 @@ mutual
         same = ap (λ s. Then s (bare_statements rest)) r.same ∙ ap (λ x. Then (bare_statement r.again) x) t.same;
       }
 
-variables_read : (xs : List Name) → AreGoodNames xs → (at : Place) (qs : List Piece)
+variables_read : (xs : List Name) → AreWrittenNames xs → (at : Place) (qs : List Piece)
     → Reads SpelledVars (λ again. bare_names xs ≡ bare_names again) at (p.variables xs qs) qs
 variables_read [] h at qs = record { ls = []; behind = at; is = refl; again = []; spelled = no_vars; same = refl }
 variables_read (x ∷ xs) h at qs =
@@ -282,7 +283,7 @@ variables_read (x ∷ xs) h at qs =
       same = r.same;
     }
 
-ending_reads : (e : Option Last) → IsFitEnding e → (at : Place) (qs : List Piece)
+ending_reads : (e : Option Last) → IsWrittenEnding e → (at : Place) (qs : List Piece)
     → Reads SpelledEnding (λ again. bare_ending e ≡ bare_ending again) at (p.ending e qs) qs
 ending_reads None h at qs = record { ls = []; behind = at; is = refl; again = None; spelled = no_ending; same = refl }
 ending_reads (Some last) h at qs =
@@ -301,7 +302,7 @@ ending_reads (Some last) h at qs =
 abbrev ReadsPart : Part → Place → List Piece → List Piece → Type 0
 ReadsPart a = Reads SpelledItem (λ again. bare_part a ≡ bare_part again)
 
-array_reads : (x : Name) (n : ℕ) (s : Place) → IsGoodName x → (at : Place) (qs : List Piece) → ReadsPart (Array x n s) at (p.part (Array x n s) qs) qs
+array_reads : (x : Name) (n : ℕ) (s : Place) → IsWrittenName x.text → (at : Place) (qs : List Piece) → ReadsPart (Array x n s) at (p.part (Array x n s) qs) qs
 array_reads x n s g at qs =
     let l = here at (Word (codes "array")) in
     let m = here (past_space (after at (codes "array"))) (Word x.text) in
@@ -322,7 +323,7 @@ same_procedure : (x : Name) (ps ps' vs vs' : List Name) (b b' : Statements) (e e
     → Proc (record { name = x; params = ps; vars = vs; body = b; ending = e }) ≡ Proc (record { name = x; params = ps'; vars = vs'; body = b'; ending = e' })
 same_procedure x ps ps' vs vs' b b' e e' i j k l = cc
 
-procedure_reads : (a : Procedure) → IsFitProcedure a → (at : Place) (qs : List Piece) → ReadsPart (Proc a) at (p.part (Proc a) qs) qs
+procedure_reads : (a : Procedure) → IsNearlyProcedure a → (at : Place) (qs : List Piece) → ReadsPart (Proc a) at (p.part (Proc a) qs) qs
 procedure_reads a h at qs =
     let f = a.name in
     let l = here at (Word (codes "proc")) in
@@ -351,11 +352,13 @@ procedure_reads a h at qs =
       same = same_procedure (bare f) _ _ _ _ _ _ _ _ ps.same vs.same bs.same es.same;
     }
 
-part_reads : (a : Part) → IsFitPart a → (at : Place) (qs : List Piece) → ReadsPart a at (p.part a qs) qs
+-- the pieces of an array or a procedure spell the same
+pub part_reads : (a : Part) → IsNearlyPart a → (at : Place) (qs : List Piece) → ReadsPart a at (p.part a qs) qs
 part_reads (Array x n s) h at qs = array_reads x n s h.0 at qs
 part_reads (Proc a) h at qs = procedure_reads a h at qs
 
-pub parts_read : (all : List Part) → IsWritten all → (at : Place) → (again : List Part) × Tree (placed at (p.parts all)) again × (bare_parts all ≡ bare_parts again)
+-- the pieces of a program spell the same program
+pub parts_read : (all : List Part) → AreNearlyWritten all → (at : Place) → (again : List Part) × Tree (placed at (p.parts all)) again × (bare_parts all ≡ bare_parts again)
 parts_read [] h at = ([], no_items, refl)
 parts_read (a ∷ all) h at =
     let r = part_reads a h.0 at (p.parts all) in

@@ -50,9 +50,11 @@ longest ShiftLeft text h = λ other more e. at_most_two other
 longest ShiftRight text h = λ other more e. at_most_two other
 longest m text h = λ other more e. one_byte other _ text more h e
 
+-- a mark before what makes it no longer
 pub spells_mark : (m : Mark) (text : List ℕ) → IsTrue (starts_without is_second text) → Spells (shape.Mark m) (spelling m) text
 spells_mark m text h = mark m refl (longest m text h)
 
+-- a word before what makes it no longer
 pub spells_word : (w text : List ℕ) → IsTrue (is_word w) → IsTrue (starts_without is_word_byte text) → Spells (shape.Word w) w text
 spells_word w text h k = word h k
 
@@ -88,6 +90,7 @@ no_digit : (text : List ℕ) → IsTrue (starts_without is_word_byte text) → I
 no_digit [] h = refl
 no_digit (b ∷ bytes) h = not_from_false (is_digit b) (or_parts (is_letter b) (is_digit b) (not-true (is_word_byte b) h)).1
 
+-- a number in decimal before what makes it no longer
 pub spells_number : (n : ℕ) (text : List ℕ) → n < 2 ^ 64 → IsTrue (starts_without is_word_byte text) → Spells (shape.Number n) (decimal n) text
 spells_number n text h k =
     let d = decimal_digits n h in
@@ -99,6 +102,7 @@ no_second p k l m b h =
     let other = λ (n : ℕ) (f : p n ≡ false). ne_eqb b n (λ e. true≢false (sym h ∙ ap p e ∙ f)) in
     or_from ((b == 60) || (b == 61)) (b == 62) (or_from (b == 60) (b == 61) (other 60 k) (other 61 l)) (other 62 m)
 
+-- a word makes no mark longer
 pub word_starts : (w text : List ℕ) → IsTrue (is_word w) → IsTrue (starts_without is_second (w ++ text))
 word_starts [] text h = absurd (true≢false (sym h))
 word_starts (b ∷ bytes) text h = not_from_false (is_second b) (no_second is_letter refl refl refl b (and_parts (is_letter b) (list_all is_word_byte bytes) h).0)
@@ -107,5 +111,6 @@ number_starts : (ds text : List ℕ) → is_number ds ≡ true → IsTrue (start
 number_starts [] text h = absurd (true≢false (sym h))
 number_starts (b ∷ bytes) text h = not_from_false (is_second b) (no_second is_digit refl refl refl b (and_parts (is_digit b) (list_all is_digit bytes) h).0)
 
+-- nor does a number
 pub decimal_starts : (n : ℕ) (text : List ℕ) → n < 2 ^ 64 → IsTrue (starts_without is_second (decimal n ++ text))
 decimal_starts n text h = number_starts (decimal n) text (decimal_digits n h).digits

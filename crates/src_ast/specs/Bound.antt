@@ -14,7 +14,8 @@ abbrev pub nodes_of : List Expression → ℕ
 nodes_of [] = 0
 nodes_of (e ∷ es) = nodes e + nodes_of es
 
--- The most expression nodes of one statement. Those of an `if` or `while` are its test's: the statements in it count each by itself.
+-- The most expression nodes of one statement. Those of an `if` or `while` are its test's: the
+-- statements in it count each by itself.
 abbrev mutual
   pub most_nodes : Statement → ℕ
   most_nodes (Assign at x e) = nodes e

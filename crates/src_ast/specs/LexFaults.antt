@@ -1,6 +1,7 @@
 -- Where a text's lexemes are wrong: the first fault, from the left.
 use Rattle.std.specs.Prelude.{◌≡◌, ℕ, ◌^◌, ◌<◌, ◌≤◌, length, ◌==◌, false, IsTrue, List, [], ◌∷◌, ◌++◌, Result, Ok, Err}
 use Rattle.ws_words.specs.Digits.{is_digit, is_number, value_of}
+use Rattle.src_ast.specs.LanguageLimits.{most_name_bytes, most_braces, most_in_row}
 use Rattle.src_ast.specs.declared.lexeme.Place.{Place}
 use Rattle.src_ast.specs.declared.lexeme.Lexeme.{Lexeme}
 use Rattle.src_ast.specs.declared.lexeme.Lexemes as lexemes
@@ -12,7 +13,7 @@ use Rattle.src_ast.specs.declared.fault.RefusalKind.TheVariants.{Byte, Wide, Lim
 use Rattle.src_ast.specs.declared.fault.Quantity.TheVariants.{NameBytes, Depth, Lexemes}
 use Rattle.src_ast.specs.declared.fault.TextFault.{TextFault}
 use Rattle.src_ast.specs.declared.fault.TextFault.TheVariants.{Refused, NoMemory}
-use Rattle.src_ast.specs.Lexemes.{start, is_blank, is_letter, is_word, is_word_byte, starts_without, spelling, Spells, Leads, IsShort, open_behind, row_behind, KeepLimits, open_after, row_after}
+use Rattle.src_ast.specs.Lexemes.{start, is_blank, is_letter, is_word, is_word_byte, starts_without, spelling, Spells, Leads, IsShort, open_past, row_past, Lex, KeepLimits, open_after, row_after}
 
 -- no lexeme and no gap begins with this byte
 pub record BeginsNothing (b : ℕ) : Type 0 where
@@ -22,19 +23,25 @@ pub record BeginsNothing (b : ℕ) : Type 0 where
   pub digit : is_digit b ≡ false
   pub mark : (m : Mark) (more : List ℕ) → b ∷ [] ≡ spelling m ++ more → ⊥
 
--- What is wrong at this rest of a text, behind so many open braces and so many lexemes in a row.
+-- What is wrong at this rest of a text, after this many open braces and this many lexemes in a row.
 pub data Wrong (open' row : ℕ) : List ℕ → RefusalKind → Type 0 where
-  byte : {rest : List ℕ} (b : ℕ) (bytes : List ℕ) → rest ≡ b ∷ bytes → BeginsNothing b → Wrong open' row rest Byte
-  wide : {rest : List ℕ} (digits behind : List ℕ) → rest ≡ digits ++ behind → IsTrue (is_number digits) → IsTrue (starts_without is_digit behind)
+  byte : {rest : List ℕ} (b : ℕ) (bytes : List ℕ) → rest ≡ b ∷ bytes → BeginsNothing b
+      → Wrong open' row rest Byte
+  wide : {rest : List ℕ} (digits behind : List ℕ) → rest ≡ digits ++ behind
+      → IsTrue (is_number digits) → IsTrue (starts_without is_digit behind)
       → 2 ^ 64 ≤ value_of digits → Wrong open' row rest Wide
-  long : {rest : List ℕ} (bytes behind : List ℕ) → rest ≡ bytes ++ behind → IsTrue (is_word bytes) → IsTrue (starts_without is_word_byte behind)
-      → 64 < length bytes → Wrong open' row rest (Limit NameBytes)
-  deep : {rest : List ℕ} (s : Shape) (bytes behind : List ℕ) → rest ≡ bytes ++ behind → Spells s bytes behind
-      → 32 < open_behind open' s → Wrong open' row rest (Limit Depth)
-  crowded : {rest : List ℕ} (s : Shape) (bytes behind : List ℕ) → rest ≡ bytes ++ behind → Spells s bytes behind → IsShort s
-      → 256 < row_behind row s → Wrong open' row rest (Limit Lexemes)
+  long : {rest : List ℕ} (bytes behind : List ℕ) → rest ≡ bytes ++ behind → IsTrue (is_word bytes)
+      → IsTrue (starts_without is_word_byte behind)
+      → most_name_bytes < length bytes → Wrong open' row rest (Limit NameBytes)
+  deep : {rest : List ℕ} (s : Shape) (bytes behind : List ℕ) → rest ≡ bytes ++ behind
+      → Spells s bytes behind
+      → most_braces < open_past open' s → Wrong open' row rest (Limit Depth)
+  crowded : {rest : List ℕ} (s : Shape) (bytes behind : List ℕ) → rest ≡ bytes ++ behind
+      → Spells s bytes behind → IsShort s
+      → most_in_row < row_past row s → Wrong open' row rest (Limit Lexemes)
 
--- The first fault of a text: the lexemes before its place are the text's and keep the limits, and this is wrong there.
+-- The first fault of a text: the lexemes before its place are the text's and keep the limits, and
+-- this is wrong there.
 pub record LexFault (text : List ℕ) (refusal : Refusal) : Type 0 where
   pub ls : List Lexeme
   pub rest : List ℕ
@@ -52,3 +59,8 @@ abbrev pub AnswersLexemes : Result lexemes.Lexemes TextFault → List Lexeme →
 AnswersLexemes (Ok l) ls finish = (l.items.items ≡ ls) × (l.finish ≡ finish)
 AnswersLexemes (Err NoMemory) ls finish = Unit {0}
 AnswersLexemes (Err (Refused r)) ls finish = ⊥
+
+-- what a text comes to: its lexemes within the limits and the place of its end, or its first fault
+abbrev pub IsLexAnswer : List ℕ → Result (List Lexeme × Place) Refusal → Type 0
+IsLexAnswer text (Ok l) = Lex text l.0 l.1 × KeepLimits 0 0 l.0
+IsLexAnswer text (Err r) = LexFault text r

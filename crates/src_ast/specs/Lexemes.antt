@@ -1,7 +1,9 @@
--- The lexemes of a text: gap, lexeme, gap, lexeme, and so on, and a gap or an open comment at the end.
+-- The lexemes of a text: gap, lexeme, gap, lexeme, and so on, and a gap or an open comment at the
+-- end.
 use Rattle.std.specs.Prelude.{◌≡◌, ℕ, zero, suc, ◌+◌, ◌^◌, ◌<◌, ◌≤◌, not, length, ◌==◌, ◌&&◌, ◌||◌, nat_le, Bool, true, false, IsTrue, List, [], ◌∷◌, ◌++◌, codes, if◌then◌else◌}
 use Rattle.std.specs.List.{list_all}
 use Rattle.ws_words.specs.Digits.{is_digit, is_number, value_of}
+use Rattle.src_ast.specs.LanguageLimits.{most_name_bytes, most_braces, most_in_row}
 use Rattle.src_ast.specs.declared.lexeme.Place.{Place}
 use Rattle.src_ast.specs.declared.lexeme.Lexeme.{Lexeme}
 use Rattle.src_ast.specs.declared.lexeme.Shape.{Shape}
@@ -42,11 +44,13 @@ spelling ShiftRight = codes ">>"
 abbrev pub start : Place
 start = record { line = 1; column = 1 }
 
--- where a byte behind this one stands
+-- where the byte after this one stands
 abbrev pub past : Place → ℕ → Place
-past at byte = if byte == 10 then record { line = at.line + 1; column = 1 } else record { line = at.line; column = at.column + 1 }
+past at byte =
+    if byte == 10 then record { line = at.line + 1; column = 1 }
+    else record { line = at.line; column = at.column + 1 }
 
--- where what stands behind these bytes begins
+-- where what stands after these bytes begins
 abbrev pub after : Place → List ℕ → Place
 after at [] = at
 after at (byte ∷ bytes) = after (past at byte) bytes
@@ -88,21 +92,30 @@ is_word (b ∷ bytes) = is_letter b && list_all is_word_byte bytes
 
 -- no longer mark begins this text
 abbrev pub IsLongest : List ℕ → List ℕ → Type 0
-IsLongest bytes text = (other : Mark) (more : List ℕ) → text ≡ spelling other ++ more → length (spelling other) ≤ length bytes
+IsLongest bytes text =
+    (other : Mark) (more : List ℕ) → text ≡ spelling other ++ more
+    → length (spelling other) ≤ length bytes
 
 -- These bytes, in front of this rest, are the longest spelling of the shape.
 pub data Spells : Shape → List ℕ → List ℕ → Type 0 where
-  word : {bytes rest : List ℕ} → IsTrue (is_word bytes) → IsTrue (starts_without is_word_byte rest) → Spells (shape.Word bytes) bytes rest
-  number : {bytes rest : List ℕ} (n : ℕ) → IsTrue (is_number bytes) → IsTrue (starts_without is_digit rest) → n ≡ value_of bytes → n < 2 ^ 64
+  word : {bytes rest : List ℕ} → IsTrue (is_word bytes) → IsTrue (starts_without is_word_byte rest)
+      → Spells (shape.Word bytes) bytes rest
+  number : {bytes rest : List ℕ} (n : ℕ) → IsTrue (is_number bytes)
+      → IsTrue (starts_without is_digit rest) → n ≡ value_of bytes → n < 2 ^ 64
       → Spells (shape.Number n) bytes rest
-  mark : {bytes rest : List ℕ} (m : Mark) → bytes ≡ spelling m → IsLongest bytes (bytes ++ rest) → Spells (shape.Mark m) bytes rest
+  mark : {bytes rest : List ℕ} (m : Mark) → bytes ≡ spelling m → IsLongest bytes (bytes ++ rest)
+      → Spells (shape.Mark m) bytes rest
 
--- From this place on the text begins with these lexemes, each behind a gap; behind them and a gap stands this rest, at its place.
+-- From this place on the text begins with these lexemes, each after a gap; after them and a gap
+-- stands this rest, at its place.
 pub data Leads : Place → List ℕ → List Lexeme → Place → List ℕ → Type 0 where
-  stop : {at place : Place} {text rest : List ℕ} (gap : List ℕ) → text ≡ gap ++ rest → IsTrue (is_gap gap) → place ≡ after at gap
+  stop : {at place : Place} {text rest : List ℕ} (gap : List ℕ) → text ≡ gap ++ rest
+      → IsTrue (is_gap gap) → place ≡ after at gap
       → Leads at text [] place rest
-  next : {at place : Place} {text rest : List ℕ} {ls : List Lexeme} (l : Lexeme) (gap bytes behind : List ℕ)
-      → text ≡ gap ++ (bytes ++ behind) → IsTrue (is_gap gap) → l.place ≡ after at gap → Spells l.shape bytes behind
+  next : {at place : Place} {text rest : List ℕ} {ls : List Lexeme} (l : Lexeme)
+      (gap bytes behind : List ℕ)
+      → text ≡ gap ++ (bytes ++ behind) → IsTrue (is_gap gap) → l.place ≡ after at gap
+      → Spells l.shape bytes behind
       → Leads (after l.place bytes) behind ls place rest → Leads at text (l ∷ ls) place rest
 
 -- the text has these lexemes, and its end stands at this place
@@ -113,41 +126,41 @@ pub record Lex (text : List ℕ) (ls : List Lexeme) (finish : Place) : Type 0 wh
   pub over : IsTrue (is_end rest)
   pub finish_is : finish ≡ after start text
 
--- how many braces are open behind a lexeme; a `}` where none is open leaves none
-abbrev pub open_behind : ℕ → Shape → ℕ
-open_behind open' (shape.Word w) = open'
-open_behind open' (shape.Number n) = open'
-open_behind open' (shape.Mark LBrace) = suc open'
-open_behind zero (shape.Mark RBrace) = zero
-open_behind (suc open') (shape.Mark RBrace) = open'
-open_behind open' (shape.Mark _) = open'
+-- how many braces are open after a lexeme; a `}` where none is open leaves none
+abbrev pub open_past : ℕ → Shape → ℕ
+open_past open' (shape.Word w) = open'
+open_past open' (shape.Number n) = open'
+open_past open' (shape.Mark LBrace) = suc open'
+open_past zero (shape.Mark RBrace) = zero
+open_past (suc open') (shape.Mark RBrace) = open'
+open_past open' (shape.Mark _) = open'
 
--- how many lexemes stand in a row behind a lexeme, none of which is `;`, `{` or `}`
-abbrev pub row_behind : ℕ → Shape → ℕ
-row_behind row (shape.Word w) = suc row
-row_behind row (shape.Number n) = suc row
-row_behind row (shape.Mark Semi) = 0
-row_behind row (shape.Mark LBrace) = 0
-row_behind row (shape.Mark RBrace) = 0
-row_behind row (shape.Mark _) = suc row
+-- how many lexemes stand in a row after a lexeme, none of which is `;`, `{` or `}`
+abbrev pub row_past : ℕ → Shape → ℕ
+row_past row (shape.Word w) = suc row
+row_past row (shape.Number n) = suc row
+row_past row (shape.Mark Semi) = 0
+row_past row (shape.Mark LBrace) = 0
+row_past row (shape.Mark RBrace) = 0
+row_past row (shape.Mark _) = suc row
 
 abbrev pub IsShort : Shape → Type 0
-IsShort (shape.Word w) = length w ≤ 64
+IsShort (shape.Word w) = length w ≤ most_name_bytes
 IsShort (shape.Number n) = Unit {0}
 IsShort (shape.Mark m) = Unit {0}
 
--- Behind so many open braces and so many lexemes in a row, these keep the limits: 64 bytes in a word, 32 open braces, 256 lexemes in a row.
+-- After this many open braces and this many lexemes in a row, these keep the limits.
 abbrev pub KeepLimits : ℕ → ℕ → List Lexeme → Type 0
 KeepLimits open' row [] = Unit {0}
 KeepLimits open' row (l ∷ ls) =
-    IsShort l.shape × (open_behind open' l.shape ≤ 32) × (row_behind row l.shape ≤ 256)
-    × KeepLimits (open_behind open' l.shape) (row_behind row l.shape) ls
+    IsShort l.shape × (open_past open' l.shape ≤ most_braces) × (row_past row l.shape ≤ most_in_row)
+    × KeepLimits (open_past open' l.shape) (row_past row l.shape) ls
 
--- the braces that are open, and the lexemes in a row, behind these
+-- the braces that are open, and the lexemes in a row, after these
 abbrev pub open_after : ℕ → List Lexeme → ℕ
 open_after open' [] = open'
-open_after open' (l ∷ ls) = open_after (open_behind open' l.shape) ls
+open_after open' (l ∷ ls) = open_after (open_past open' l.shape) ls
 
 abbrev pub row_after : ℕ → List Lexeme → ℕ
 row_after row [] = row
-row_after row (l ∷ ls) = row_after (row_behind row l.shape) ls
+row_after row (l ∷ ls) = row_after (row_past row l.shape) ls

@@ -1,5 +1,7 @@
 pub mod Syntax
+pub mod LanguageLimits
 pub mod View
+pub mod Once
 pub mod Lexemes
 pub mod LexFaults
 pub mod Grammar
@@ -11,5 +13,6 @@ pub mod Same
 pub mod Turns
 pub mod Meaning
 pub mod Runs
+pub mod Alike
 pub mod Commas
 pub mod Written

@@ -31,7 +31,8 @@ expression_text (Variable x) = x.text
 expression_text (Cell a e) = a.text ++ codes "[" ++ expression_text e ++ codes "]"
 expression_text (Signed s e) = spelling (sign_mark s) ++ round (is_binary e) (expression_text e)
 expression_text (Binary op a b) =
-    round (is_looser a (level_of op)) (expression_text a) ++ codes " " ++ spelling (mark_of op) ++ codes " "
+    round (is_looser a (level_of op)) (expression_text a) ++ codes " " ++ spelling (mark_of op)
+    ++ codes " "
     ++ round (is_no_tighter b (level_of op)) (expression_text b)
 
 -- with a comma and a space between them
@@ -68,17 +69,26 @@ else_lines n (Then s rest) text = line n (codes "} else {") ++ text ++ line n (c
 -- statements at a level
 abbrev mutual
   pub statement_lines : ℕ → Statement → List ℕ
-  statement_lines n (Assign at x e) = line n (x.text ++ codes " = " ++ expression_text e ++ codes ";")
-  statement_lines n (Store at a i e) = line n (a.text ++ codes "[" ++ expression_text i ++ codes "] = " ++ expression_text e ++ codes ";")
+  statement_lines n (Assign at x e) =
+      line n (x.text ++ codes " = " ++ expression_text e ++ codes ";")
+  statement_lines n (Store at a i e) =
+      line n (a.text ++ codes "[" ++ expression_text i ++ codes "] = " ++ expression_text e
+      ++ codes ";")
   statement_lines n (Print at e) = line n (codes "print " ++ expression_text e ++ codes ";")
   statement_lines n (Read at x) = line n (codes "read " ++ x.text ++ codes ";")
-  statement_lines n (Give at port p x) = line n (codes "give " ++ decimal port ++ codes ", " ++ x.text ++ codes ";")
-  statement_lines n (Take at port p e) = line n (codes "take " ++ decimal port ++ codes ", " ++ expression_text e ++ codes ";")
+  statement_lines n (Give at port p x) =
+      line n (codes "give " ++ decimal port ++ codes ", " ++ x.text ++ codes ";")
+  statement_lines n (Take at port p e) =
+      line n (codes "take " ++ decimal port ++ codes ", " ++ expression_text e ++ codes ";")
   statement_lines n (Call at None f es) = line n (call_text f es ++ codes ";")
-  statement_lines n (Call at (Some x) f es) = line n (x.text ++ codes " = " ++ call_text f es ++ codes ";")
+  statement_lines n (Call at (Some x) f es) =
+      line n (x.text ++ codes " = " ++ call_text f es ++ codes ";")
   statement_lines n (If at e a b) =
-      line n (codes "if (" ++ expression_text e ++ codes ") {") ++ body_lines (suc n) a ++ else_lines n b (body_lines (suc n) b)
-  statement_lines n (While at e body) = line n (codes "while (" ++ expression_text e ++ codes ") {") ++ body_lines (suc n) body ++ line n (codes "}")
+      line n (codes "if (" ++ expression_text e ++ codes ") {") ++ body_lines (suc n) a
+      ++ else_lines n b (body_lines (suc n) b)
+  statement_lines n (While at e body) =
+      line n (codes "while (" ++ expression_text e ++ codes ") {") ++ body_lines (suc n) body
+      ++ line n (codes "}")
 
   pub body_lines : ℕ → Statements → List ℕ
   body_lines n Nothing = []
@@ -93,9 +103,11 @@ ending_lines None = []
 ending_lines (Some last) = line 1 (codes "return " ++ expression_text last.value ++ codes ";")
 
 abbrev pub part_lines : Part → List ℕ
-part_lines (Array x n at) = line 0 (codes "array " ++ x.text ++ codes "[" ++ decimal n ++ codes "];")
+part_lines (Array x n at) =
+    line 0 (codes "array " ++ x.text ++ codes "[" ++ decimal n ++ codes "];")
 part_lines (Proc p) =
-    line 0 (codes "proc " ++ p.name.text ++ codes "(" ++ separated_text (name_texts p.params) ++ codes ") {")
+    line 0 (codes "proc " ++ p.name.text
+    ++ codes "(" ++ separated_text (name_texts p.params) ++ codes ") {")
     ++ variable_lines p.vars ++ body_lines 1 p.body ++ ending_lines p.ending ++ line 0 (codes "}")
 
 -- the printed form

@@ -36,7 +36,8 @@ abbrev mutual
   bare_statement (Give at n p x) = Give start n start (bare x)
   bare_statement (Take at n p e) = Take start n start (bare_expression e)
   bare_statement (Call at x f es) = Call start (bare_target x) (bare f) (bare_expressions es)
-  bare_statement (If at e a b) = If start (bare_expression e) (bare_statements a) (bare_statements b)
+  bare_statement (If at e a b) =
+      If start (bare_expression e) (bare_statements a) (bare_statements b)
   bare_statement (While at e body) = While start (bare_expression e) (bare_statements body)
 
   pub bare_statements : Statements → Statements
@@ -50,7 +51,13 @@ bare_ending (Some last) = Some (record { place = start; value = bare_expression 
 abbrev pub bare_part : Part → Part
 bare_part (Array x n at) = Array (bare x) n start
 bare_part (Proc p) =
-    Proc (record { name = bare p.name; params = bare_names p.params; vars = bare_names p.vars; body = bare_statements p.body; ending = bare_ending p.ending })
+    Proc (record {
+      name = bare p.name;
+      params = bare_names p.params;
+      vars = bare_names p.vars;
+      body = bare_statements p.body;
+      ending = bare_ending p.ending;
+    })
 
 abbrev pub bare_parts : List Part → List Part
 bare_parts [] = []

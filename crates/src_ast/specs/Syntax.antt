@@ -1,4 +1,5 @@
--- The tree of a program, with the places of its names and statements, and without boxes and buffers.
+-- The tree of a program, with the places of its names and statements, and without boxes and
+-- buffers.
 use Rattle.std.specs.Prelude.{ℕ, List, Option}
 use Rattle.ws_words.specs.declared.alu.Alu.{Alu}
 use Rattle.src_ast.specs.declared.lexeme.Place.{Place}

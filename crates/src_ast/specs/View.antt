@@ -43,7 +43,8 @@ statements (s ∷ rest) = syntax.Then (statement s) (statements rest)
 
 pub row_of_items : (n : _) (k : Row_of-Stmt n) → row_of k ≡ statements (items-the_row-Stmt n k)
 row_of_items n end_of-Stmt = refl
-row_of_items n (more_of-Stmt {n = m} at s rest) = ap (syntax.Then (statement_of at s)) (row_of_items m rest)
+row_of_items n (more_of-Stmt {n = m} at s rest) =
+    ap (syntax.Then (statement_of at s)) (row_of_items m rest)
 
 abbrev pub last : Ending → Last
 last e = record { place = e.place; value = expression e.value }
@@ -54,7 +55,15 @@ maybe_last (Some e) = Some (last e)
 
 abbrev pub part : Item → Part
 part (Array x n p) = syntax.Array x n p
-part (Proc x ps vs b e) = syntax.Proc (record { name = x; params = ps.items; vars = vs.items; body = statements b.items; ending = maybe_last e })
+part (Proc x ps vs b e) =
+    syntax.Proc
+    (record {
+      name = x;
+      params = ps.items;
+      vars = vs.items;
+      body = statements b.items;
+      ending = maybe_last e;
+    })
 
 abbrev pub parts : List Item → List Part
 parts = map part

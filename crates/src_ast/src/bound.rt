@@ -1,6 +1,7 @@
 //! How many firings a turn of a program is allowed.
 
 ghost use Rattle.std.specs.Prelude.{◌≡◌, ◌+◌, ◌≤◌, length, map};
+ghost use Rattle.src_ast.specs.LanguageLimits.{most_locals, most_statement_nodes};
 ghost use Rattle.src_ast.specs.View as view;
 ghost use Rattle.src_ast.specs.Bound as spec;
 
@@ -8,8 +9,8 @@ use crate::tree::{Ending, Expr, Form, Item, Program, Stmt};
 
 /// How many firings a turn of the program is allowed.
 pub fn bound_of(program: &Program) -> u64
-    requires narrow { spec.widest (view.parts program.now.items.items) ≤ 255 }
-    requires few { spec.most_variables (view.parts program.now.items.items) ≤ 32 }
+    requires narrow { spec.widest (view.parts program.now.items.items) ≤ most_statement_nodes }
+    requires few { spec.most_variables (view.parts program.now.items.items) ≤ most_locals }
     ensures { result ≡ spec.bound (view.parts program.now.items.items) }
 {
     2 * widest(&program.items) + 16 * (most_variables(&program.items) + 8)
@@ -17,7 +18,7 @@ pub fn bound_of(program: &Program) -> u64
 
 // The most expression nodes of a statement in these parts.
 fn widest(items: &[Item]) -> u64
-    requires { spec.widest (view.parts items.now) ≤ 255 }
+    requires { spec.widest (view.parts items.now) ≤ most_statement_nodes }
     ensures { result ≡ spec.widest (view.parts items.now) }
 {
     let mut most = 0;
@@ -31,7 +32,7 @@ fn widest(items: &[Item]) -> u64
 
 // The most parameters and variables of a procedure.
 fn most_variables(items: &[Item]) -> u64
-    requires { spec.most_variables (view.parts items.now) ≤ 32 }
+    requires { spec.most_variables (view.parts items.now) ≤ most_locals }
     ensures { result ≡ spec.most_variables (view.parts items.now) }
 {
     let mut most = 0;
@@ -44,7 +45,7 @@ fn most_variables(items: &[Item]) -> u64
 }
 
 fn ending_nodes(ending: &Option<Ending>) -> u64
-    requires { spec.ending_nodes (view.maybe_last ending.now) ≤ 255 }
+    requires { spec.ending_nodes (view.maybe_last ending.now) ≤ most_statement_nodes }
     ensures { result ≡ spec.ending_nodes (view.maybe_last ending.now) }
 {
     match ending {
@@ -56,7 +57,7 @@ fn ending_nodes(ending: &Option<Ending>) -> u64
 // The most expression nodes of one of these statements.
 #[cycle(most_nodes)]
 fn most_nodes(stmts: &[Stmt]) -> u64
-    requires { spec.most_nodes_of (view.statements stmts.now) ≤ 255 }
+    requires { spec.most_nodes_of (view.statements stmts.now) ≤ most_statement_nodes }
     ensures { result ≡ spec.most_nodes_of (view.statements stmts.now) }
 {
     let mut most = 0;
@@ -69,7 +70,7 @@ fn most_nodes(stmts: &[Stmt]) -> u64
 // Those of an `if` or a `while` are its test's, or those of a statement in it.
 #[cycle(most_nodes)]
 fn stmt_nodes(stmt: &Stmt) -> u64
-    requires { spec.most_nodes (view.statement stmt.now) ≤ 255 }
+    requires { spec.most_nodes (view.statement stmt.now) ≤ most_statement_nodes }
     ensures { result ≡ spec.most_nodes (view.statement stmt.now) }
 {
     match &stmt.form {
@@ -83,7 +84,7 @@ fn stmt_nodes(stmt: &Stmt) -> u64
 }
 
 fn all_nodes(args: &[Expr]) -> u64
-    requires { spec.nodes_of (map view.expression args.now) ≤ 255 }
+    requires { spec.nodes_of (map view.expression args.now) ≤ most_statement_nodes }
     ensures { result ≡ spec.nodes_of (map view.expression args.now) }
 {
     let mut sum = 0;
@@ -95,7 +96,7 @@ fn all_nodes(args: &[Expr]) -> u64
 
 // Each number, variable, array element and operator is a node.
 fn nodes(e: &Expr) -> u64
-    requires { spec.nodes (view.expression e.now) ≤ 255 }
+    requires { spec.nodes (view.expression e.now) ≤ most_statement_nodes }
     ensures { result ≡ spec.nodes (view.expression e.now) }
 {
     match e {

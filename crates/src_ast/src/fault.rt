@@ -3,30 +3,30 @@
 use crate::lexeme::Place;
 use ws_words::NoMemory;
 
-/// What a limit counts.
+/// What a limit of the language counts: see the constants `MOST_..`.
 #[derive(Clone, Copy, Debug, PartialEq, Eq)]
 pub enum Quantity {
-    /// Bytes in a word: at most 64.
+    /// Bytes in a word.
     NameBytes,
-    /// Open braces: at most 32.
+    /// Open braces.
     Depth,
-    /// Lexemes in a row none of which is `;`, `{` or `}`: at most 256.
+    /// Lexemes in a row, none of which is `;`, `{` or `}`.
     Lexemes,
-    /// Arrays: at most 64.
+    /// Arrays.
     Arrays,
-    /// Cells in an array: at most 65,536.
+    /// Cells of an array.
     Length,
-    /// Cells in all arrays together: at most 1,048,576.
+    /// Cells of all arrays together.
     CellSum,
-    /// Procedures, `main` included: at most 64.
+    /// Procedures, `main` included.
     Procs,
-    /// Parameters of a procedure: at most 8.
+    /// Parameters of a procedure.
     Params,
-    /// Parameters and variables of a procedure: at most 32.
+    /// Parameters and variables of a procedure together.
     Vars,
-    /// Statements in the program, `return` included: at most 1,024.
+    /// Statements of the program, `return` included.
     Statements,
-    /// The number of a port: from 1 to 7.
+    /// The number of a port, counted from 1.
     PortNumber,
 }
 

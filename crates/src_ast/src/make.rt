@@ -10,7 +10,9 @@ use crate::tree::{Expr, Form, Stmt};
 /// An `if` with its two arms.
 #[tactic(auto, using(crate::specs::View::row_of_items))]
 pub fn if_stmt(place: Place, test: Expr, first: Vec<Stmt>, second: Vec<Stmt>) -> Stmt
-    ensures { view.statement result ≡ If place (view.expression test) (view.statements first.items) (view.statements second.items) }
+    ensures { view.statement result
+        ≡ If place (view.expression test) (view.statements first.items)
+        (view.statements second.items) }
 {
     Stmt {
         place,
@@ -21,7 +23,8 @@ pub fn if_stmt(place: Place, test: Expr, first: Vec<Stmt>, second: Vec<Stmt>) ->
 /// A `while` with its body.
 #[tactic(auto, using(crate::specs::View::row_of_items))]
 pub fn while_stmt(place: Place, test: Expr, body: Vec<Stmt>) -> Stmt
-    ensures { view.statement result ≡ While place (view.expression test) (view.statements body.items) }
+    ensures { view.statement result
+        ≡ While place (view.expression test) (view.statements body.items) }
 {
     Stmt {
         place,

@@ -47,7 +47,9 @@ fn put_item(out: &mut Bytes, item: &Item) -> Result<(), NoMemory>
 
 fn put_array(out: &mut Bytes, name: &Name, length: u64) -> Result<(), NoMemory>
     ensures { OnOk result (out.new
-        ≡ out.old ++ spec.line 0 (codes "array " ++ name.now.text ++ codes "[" ++ decimal length ++ codes "];")) }
+        ≡ out.old
+        ++ spec.line 0
+        (codes "array " ++ name.now.text ++ codes "[" ++ decimal length ++ codes "];")) }
 {
     out.extend(b"array ")?;
     out.extend(name.text.as_slice())?;
@@ -59,7 +61,10 @@ fn put_array(out: &mut Bytes, name: &Name, length: u64) -> Result<(), NoMemory>
 // The first line of a procedure.
 fn put_head(out: &mut Bytes, name: &Name, params: &[Name]) -> Result<(), NoMemory>
     ensures { OnOk result (out.new
-        ≡ out.old ++ spec.line 0 (codes "proc " ++ name.now.text ++ codes "(" ++ spec.separated_text (spec.name_texts params.now) ++ codes ") {")) }
+        ≡ out.old
+        ++ spec.line 0
+        (codes "proc " ++ name.now.text
+        ++ codes "(" ++ spec.separated_text (spec.name_texts params.now) ++ codes ") {")) }
 {
     out.extend(b"proc ")?;
     out.extend(name.text.as_slice())?;
@@ -92,7 +97,7 @@ fn put_ending(out: &mut Bytes, ending: &Option<Ending>) -> Result<(), NoMemory>
     }
 }
 
-// Statements, each line behind so many levels.
+// Statements, each line after this many levels.
 #[cycle(put_stmts)]
 fn put_stmts(out: &mut Bytes, level: u64, stmts: &[Stmt]) -> Result<(), NoMemory>
     ensures { OnOk result (out.new ≡ out.old ++ spec.body_lines level (view.statements stmts.now)) }
@@ -105,7 +110,8 @@ fn put_stmts(out: &mut Bytes, level: u64, stmts: &[Stmt]) -> Result<(), NoMemory
 
 #[cycle(put_stmts)]
 fn put_stmt(out: &mut Bytes, level: u64, stmt: &Stmt) -> Result<(), NoMemory>
-    ensures { OnOk result (out.new ≡ out.old ++ spec.statement_lines level (view.statement stmt.now)) }
+    ensures { OnOk result
+        (out.new ≡ out.old ++ spec.statement_lines level (view.statement stmt.now)) }
 {
     put_indent(out, level)?;
     match &stmt.form {
@@ -137,7 +143,9 @@ fn put_stmt(out: &mut Bytes, level: u64, stmt: &Stmt) -> Result<(), NoMemory>
 #[tactic(auto, using(crate::proofs::Lines::else_empty, crate::proofs::Lines::else_full))]
 fn put_else(out: &mut Bytes, level: u64, inner: u64, stmts: &[Stmt]) -> Result<(), NoMemory>
     ensures { OnOk result (out.new
-        ≡ out.old ++ spec.else_lines level (view.statements stmts.now) (spec.body_lines inner (view.statements stmts.now))) }
+        ≡ out.old
+        ++ spec.else_lines level (view.statements stmts.now)
+        (spec.body_lines inner (view.statements stmts.now))) }
 {
     put_indent(out, level)?;
     if stmts.is_empty() {
@@ -162,7 +170,9 @@ fn put_indent(out: &mut Bytes, level: u64) -> Result<(), NoMemory>
 
 fn put_assign(out: &mut Bytes, x: &Name, value: &Expr) -> Result<(), NoMemory>
     ensures { OnOk result (out.new
-        ≡ out.old ++ (x.now.text ++ codes " = " ++ spec.expression_text (view.expression value.now) ++ codes ";") ++ codes "\n") }
+        ≡ out.old
+        ++ (x.now.text ++ codes " = " ++ spec.expression_text (view.expression value.now)
+        ++ codes ";") ++ codes "\n") }
 {
     out.extend(x.text.as_slice())?;
     out.extend(b" = ")?;
@@ -172,7 +182,9 @@ fn put_assign(out: &mut Bytes, x: &Name, value: &Expr) -> Result<(), NoMemory>
 
 fn put_store(out: &mut Bytes, array: &Name, index: &Expr, value: &Expr) -> Result<(), NoMemory>
     ensures { OnOk result (out.new
-        ≡ out.old ++ (array.now.text ++ codes "[" ++ spec.expression_text (view.expression index.now) ++ codes "] = "
+        ≡ out.old
+        ++ (array.now.text
+        ++ codes "[" ++ spec.expression_text (view.expression index.now) ++ codes "] = "
         ++ spec.expression_text (view.expression value.now) ++ codes ";") ++ codes "\n") }
 {
     out.extend(array.text.as_slice())?;
@@ -185,7 +197,9 @@ fn put_store(out: &mut Bytes, array: &Name, index: &Expr, value: &Expr) -> Resul
 
 fn put_print(out: &mut Bytes, value: &Expr) -> Result<(), NoMemory>
     ensures { OnOk result (out.new
-        ≡ out.old ++ (codes "print " ++ spec.expression_text (view.expression value.now) ++ codes ";") ++ codes "\n") }
+        ≡ out.old
+        ++ (codes "print " ++ spec.expression_text (view.expression value.now) ++ codes ";")
+        ++ codes "\n") }
 {
     out.extend(b"print ")?;
     put_expr(out, value)?;
@@ -193,7 +207,8 @@ fn put_print(out: &mut Bytes, value: &Expr) -> Result<(), NoMemory>
 }
 
 fn put_read(out: &mut Bytes, x: &Name) -> Result<(), NoMemory>
-    ensures { OnOk result (out.new ≡ out.old ++ (codes "read " ++ x.now.text ++ codes ";") ++ codes "\n") }
+    ensures { OnOk result
+        (out.new ≡ out.old ++ (codes "read " ++ x.now.text ++ codes ";") ++ codes "\n") }
 {
     out.extend(b"read ")?;
     out.extend(x.text.as_slice())?;
@@ -202,7 +217,8 @@ fn put_read(out: &mut Bytes, x: &Name) -> Result<(), NoMemory>
 
 fn put_give(out: &mut Bytes, port: u64, x: &Name) -> Result<(), NoMemory>
     ensures { OnOk result (out.new
-        ≡ out.old ++ (codes "give " ++ decimal port ++ codes ", " ++ x.now.text ++ codes ";") ++ codes "\n") }
+        ≡ out.old ++ (codes "give " ++ decimal port ++ codes ", " ++ x.now.text ++ codes ";")
+        ++ codes "\n") }
 {
     out.extend(b"give ")?;
     put_number(out, port)?;
@@ -213,7 +229,9 @@ fn put_give(out: &mut Bytes, port: u64, x: &Name) -> Result<(), NoMemory>
 
 fn put_take(out: &mut Bytes, port: u64, value: &Expr) -> Result<(), NoMemory>
     ensures { OnOk result (out.new
-        ≡ out.old ++ (codes "take " ++ decimal port ++ codes ", " ++ spec.expression_text (view.expression value.now) ++ codes ";") ++ codes "\n") }
+        ≡ out.old
+        ++ (codes "take " ++ decimal port ++ codes ", "
+        ++ spec.expression_text (view.expression value.now) ++ codes ";") ++ codes "\n") }
 {
     out.extend(b"take ")?;
     put_number(out, port)?;
@@ -229,7 +247,8 @@ fn put_call_line(
     args: &[Expr],
 ) -> Result<(), NoMemory>
     ensures { OnOk result (out.new
-        ≡ out.old ++ call_line target.now (spec.call_text callee.now (map view.expression args.now))) }
+        ≡ out.old
+        ++ call_line target.now (spec.call_text callee.now (map view.expression args.now))) }
 {
     if let Some(x) = target {
         out.extend(x.text.as_slice())?;
@@ -242,7 +261,8 @@ fn put_call_line(
 // The head of an `if` or a `while`, up to its brace.
 fn put_test(out: &mut Bytes, head: &[u8], test: &Expr) -> Result<(), NoMemory>
     ensures { OnOk result (out.new
-        ≡ out.old ++ (head.now ++ spec.expression_text (view.expression test.now) ++ codes ") {") ++ codes "\n") }
+        ≡ out.old ++ (head.now ++ spec.expression_text (view.expression test.now) ++ codes ") {")
+        ++ codes "\n") }
 {
     out.extend(head)?;
     put_expr(out, test)?;

@@ -3,11 +3,12 @@
 ghost use Rattle.std.specs.Prelude.{◌≡◌, ◌++◌, [], ◌∷◌, map, codes, decimal, OnOk};
 ghost use Rattle.src_ast.specs.View as view;
 ghost use Rattle.src_ast.specs.Lexemes.{spelling};
-ghost use Rattle.src_ast.specs.Grammar.{level_of, mark_of, sign_mark};
+ghost use Rattle.src_ast.specs.Grammar.{mark_of, sign_mark};
 ghost use Rattle.src_ast.specs.Printed as spec;
 ghost use Rattle.src_ast.specs.Commas.{comma_text};
 
 use crate::lexeme::Name;
+use crate::operator::level;
 use crate::tree::{Expr, Unary};
 use itoa::Buffer;
 use ws_words::{Alu, Bytes, NoMemory};
@@ -49,7 +50,8 @@ pub(crate) fn put_expr(out: &mut Bytes, e: &Expr) -> Result<(), NoMemory>
 // An operand, in parentheses where they are needed.
 #[cycle(put_expr)]
 fn put_round(out: &mut Bytes, needed: bool, e: &Expr) -> Result<(), NoMemory>
-    ensures { OnOk result (out.new ≡ out.old ++ spec.round needed (spec.expression_text (view.expression e.now))) }
+    ensures { OnOk result
+        (out.new ≡ out.old ++ spec.round needed (spec.expression_text (view.expression e.now))) }
 {
     if !needed {
         return put_expr(out, e);
@@ -80,22 +82,6 @@ fn is_no_tighter(e: &Expr, than: u8) -> bool
     match e {
         Expr::Binary(op, ..) => level(*op) <= than,
         _ => false,
-    }
-}
-
-// How tightly an operator binds, from the loosest.
-fn level(op: Alu) -> u8
-    ensures { result ≡ level_of op }
-{
-    match op {
-        Alu::Or => 0,
-        Alu::Xor => 1,
-        Alu::And => 2,
-        Alu::Eq | Alu::Ne => 3,
-        Alu::Lt | Alu::Le | Alu::Gt | Alu::Ge => 4,
-        Alu::Shl | Alu::Shr => 5,
-        Alu::Add | Alu::Sub => 6,
-        Alu::Mul | Alu::Div | Alu::Rem => 7,
     }
 }
 
@@ -133,7 +119,8 @@ fn sign_text(sign: Unary) -> &'static [u8]
 }
 
 pub(crate) fn put_call(out: &mut Bytes, callee: &Name, args: &[Expr]) -> Result<(), NoMemory>
-    ensures { OnOk result (out.new ≡ out.old ++ spec.call_text callee.now (map view.expression args.now)) }
+    ensures { OnOk result
+        (out.new ≡ out.old ++ spec.call_text callee.now (map view.expression args.now)) }
 {
     out.extend(callee.text.as_slice())?;
     out.extend(b"(")?;
@@ -143,7 +130,9 @@ pub(crate) fn put_call(out: &mut Bytes, callee: &Name, args: &[Expr]) -> Result<
 
 // Arguments with commas between them.
 fn put_args(out: &mut Bytes, args: &[Expr]) -> Result<(), NoMemory>
-    ensures { OnOk result (out.new ≡ out.old ++ spec.separated_text (spec.argument_texts (map view.expression args.now))) }
+    ensures { OnOk result
+        (out.new ≡ out.old
+        ++ spec.separated_text (spec.argument_texts (map view.expression args.now))) }
 {
     match args {
         [] => Ok(()),
@@ -156,7 +145,8 @@ fn put_args(out: &mut Bytes, args: &[Expr]) -> Result<(), NoMemory>
 
 // Arguments with a comma before each.
 fn put_more_args(out: &mut Bytes, args: &[Expr]) -> Result<(), NoMemory>
-    ensures { OnOk result (out.new ≡ out.old ++ comma_text (spec.argument_texts (map view.expression args.now))) }
+    ensures { OnOk result
+        (out.new ≡ out.old ++ comma_text (spec.argument_texts (map view.expression args.now))) }
 {
     for arg in args {
         out.extend(b", ")?;

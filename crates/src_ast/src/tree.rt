@@ -12,7 +12,7 @@ pub enum Unary {
 }
 
 /// An expression. Parentheses leave no trace.
-#[derive(Drop)]
+#[derive(Debug, Drop)]
 pub enum Expr {
     Number(u64),
     Var(Name),
@@ -24,7 +24,7 @@ pub enum Expr {
 pub type Exprs = Vec<Expr>;
 
 /// A statement, and the place of its first lexeme.
-#[derive(Drop)]
+#[derive(Debug, Drop)]
 #[cycle(statements)]
 pub struct Stmt {
     pub place: Place,
@@ -34,7 +34,7 @@ pub struct Stmt {
 pub type Stmts = Vec<Stmt>;
 
 /// What a statement does. `Give` and `Take` have the number of the port and its place.
-#[derive(Drop)]
+#[derive(Debug, Drop)]
 #[cycle(statements)]
 pub enum Form {
     Assign(Name, Expr),
@@ -49,7 +49,7 @@ pub enum Form {
 }
 
 /// The `return` that ends a procedure.
-#[derive(Drop)]
+#[derive(Debug, Drop)]
 pub struct Ending {
     pub place: Place,
     pub value: Expr,
@@ -58,7 +58,7 @@ pub struct Ending {
 pub type Names = Vec<Name>;
 
 /// An array or a procedure.
-#[derive(Drop)]
+#[derive(Debug, Drop)]
 pub enum Item {
     Array {
         name: Name,
@@ -77,7 +77,7 @@ pub enum Item {
 pub type Items = Vec<Item>;
 
 /// A program, and the place of the end of its text.
-#[derive(Drop)]
+#[derive(Debug, Drop)]
 pub struct Program {
     pub items: Items,
     pub finish: Place,

@@ -14,16 +14,17 @@ use Rattle.src_check.specs.declared.stop.Stop.{Stop}
 use Rattle.src_check.specs.declared.stop.Stop.TheVariants.{Memory, Broken}
 use Rattle.src_check.specs.Names.{StandsFor, passes}
 use Rattle.src_check.specs.Rule.{first_broken}
-use Rattle.src_check.specs.Walk.{Keeps, StopsAt, KeepsInMemory}
+use Rattle.src_check.specs.Keeps.{Keeps, StopsAt, KeepsInMemory}
 
 abbrev fault : Rule → Refusal
 fault r = record { kind = r.kind; place = r.place }
 
+-- no rule is broken where there is none
 pub none_broken : first_broken [] ≡ None
 unfolding first_broken
 none_broken = refl
 
--- behind rules that are kept, the rest decides
+-- after rules that are kept, the rest decides
 pub behind_kept : (xs ys : List Rule) → first_broken xs ≡ None → first_broken (xs ++ ys) ≡ first_broken ys
 unfolding first_broken
 behind_kept [] ys h = refl
@@ -31,7 +32,7 @@ behind_kept (r ∷ xs) ys h =
     elim r.kept as (λ b. (if b then first_broken xs else Some (fault r)) ≡ None → (if b then first_broken (xs ++ ys) else Some (fault r)) ≡ first_broken ys)
     [ true ↦ (λ e. behind_kept xs ys e) | false ↦ (λ e. cc) ] h
 
--- a broken rule stays the first, whatever comes behind it
+-- a broken rule stays the first, whatever comes after it
 pub before_broken : (xs ys : List Rule) (f : Refusal) → first_broken xs ≡ Some f → first_broken (xs ++ ys) ≡ Some f
 unfolding first_broken
 before_broken [] ys f h = cc
@@ -39,11 +40,12 @@ before_broken (r ∷ xs) ys f h =
     elim r.kept as (λ b. (if b then first_broken xs else Some (fault r)) ≡ Some f → (if b then first_broken (xs ++ ys) else Some (fault r)) ≡ Some f)
     [ true ↦ (λ e. before_broken xs ys f e) | false ↦ (λ e. e) ] h
 
--- what a walk over the rest answers is the answer for all
+-- what the checker answers on the rest is the answer for all
 pub answers_behind : {X : Type 0} (xs ys : List Rule) (r : Result X Refusal) → first_broken xs ≡ None → Keeps ys r → Keeps (xs ++ ys) r
 answers_behind xs ys (Ok x) h k = behind_kept xs ys h ∙ k
 answers_behind xs ys (Err f) h k = behind_kept xs ys h ∙ k
 
+-- a rule that is kept is not broken
 pub rule_kept : (place : Place) (any : RefusalKind) → first_broken (rule place any true ∷ []) ≡ None
 unfolding first_broken
 rule_kept place any = refl
@@ -60,12 +62,14 @@ pub visible_where_found : {find : _} {visible : List Declared} (text : List _) �
 visible_where_found {find} {visible} text st = sym (any_and_true text visible) ∙ st.agrees text (λ _. true)
 
 module _ {find : List _ → Option Sort} {visible : List Declared} (x : Name) (wanted : Sort) (stands : StandsFor find visible) where
+  -- a name that is not found is unknown
   pub use_where_none : find x.text ≡ None → first_broken (use_rules visible x wanted) ≡ Some (record { kind = Unknown; place = x.place })
   unfolding first_broken
   use_where_none e =
       let v : is_visible visible x.text ≡ false = visible_where_found x.text stands ∙ ap (passes (λ _. true)) e in
       rw v refl
 
+  -- the rules on a name that is found
   pub use_where_some : (s : Sort) (kind count : Bool) → find x.text ≡ Some s → kind ≡ same_kind s wanted → count ≡ same_sort s wanted
       → use_rules visible x wanted ≡ rule x.place Unknown true ∷ rule x.place Kind kind ∷ rule x.place Count count ∷ []
   use_where_some s kind count e k n =
@@ -74,7 +78,7 @@ module _ {find : List _ → Option Sort} {visible : List Declared} (x : Name) (w
       let is_count = stands.agrees x.text (λ t. same_sort t wanted) ∙ ap (passes (λ t. same_sort t wanted)) e ∙ sym n in
       λ i. rule x.place Unknown (v i) ∷ rule x.place Kind (is_kind i) ∷ rule x.place Count (is_count i) ∷ []
 
--- a walk that ends at a broken rule answers with it
+-- a checker that ends at a broken rule answers with it
 pub leaves : {Y : Type 0} (rules : List Rule) (r : Result Y Refusal) (f : Refusal) → IsErrAnd r (λ g. g ≡ f) → first_broken rules ≡ Some f → Keeps rules r
 leaves rules r f is h = let p = err_from_is_err_and r is in rw (p.1, p.2) h
 
@@ -86,18 +90,21 @@ keeps_as xs ys r e h = subst (λ zs. Keeps zs r) (sym e) h
 pub leaves_in_memory : {Y : Type 0} (rules : List Rule) (r : Result Y Stop) (f : Refusal) → IsErrAnd r (λ s. s ≡ Broken f) → first_broken rules ≡ Some f → KeepsInMemory rules r
 leaves_in_memory rules r f is h = let p = err_from_is_err_and r is in rw (p.1, p.2) h
 
--- a stop of a walk over some rules is passed on
+-- a stop at some rules is passed on
 pub passes_on : {Y : Type 0} (rules : List Rule) (r : Result Y Stop) (s : Stop) → IsErrAnd r (λ t. t ≡ s) → StopsAt rules s → KeepsInMemory rules r
 passes_on rules r s is h = let p = err_from_is_err_and r is in rw (p.1, p.2) h
 
+-- a stop after rules that are kept
 pub stop_behind : (xs ys : List Rule) (s : Stop) → first_broken xs ≡ None → StopsAt ys s → StopsAt (xs ++ ys) s
 stop_behind xs ys Memory h k = tt
 stop_behind xs ys (Broken f) h k = behind_kept xs ys h ∙ k
 
+-- a stop before others
 pub stop_before : (xs ys : List Rule) (s : Stop) → StopsAt xs s → StopsAt (xs ++ ys) s
 stop_before xs ys Memory h = tt
 stop_before xs ys (Broken f) h = before_broken xs ys f h
 
+-- a stop at rules with the same first broken one
 pub stop_as : (xs ys : List Rule) (s : Stop) → first_broken xs ≡ first_broken ys → StopsAt ys s → StopsAt xs s
 stop_as xs ys Memory e h = tt
 stop_as xs ys (Broken f) e h = e ∙ h

@@ -1,8 +1,12 @@
 -- What the first broken rule says of all the rules.
-use Rattle.std.proofs.Common.{◌≡◌, List, [], ◌∷◌, Some, None, true, false, ◌&&◌, if◌then◌else◌, IsTrue, refl, ap}
+use Rattle.std.proofs.Common.{◌≡◌, List, [], ◌∷◌, ◌++◌, Option, Some, None, true, false, ◌&&◌, if◌then◌else◌, IsTrue, refl, sym, ap, ◌∙◌}
 use Rattle.std.specs.List.{list_all}
+use Rattle.std.proofs.lemmas.Bool.{and_parts}
+use Rattle.src_ast.specs.declared.lexeme.Place.{Place}
+use Rattle.src_ast.specs.Once.{ExactlyOne}
+use Rattle.src_ast.specs.Syntax.{Part}
 use Rattle.src_ast.specs.declared.fault.Refusal.{Refusal}
-use Rattle.src_ast.specs.Rules.{Rule, IsFirstBroken}
+use Rattle.src_ast.specs.Rules.{Rule, rules_of, IsFirstBroken, IsRuleAnswer}
 use Rattle.src_check.specs.Rule.{first_broken}
 
 abbrev fault : Rule → Refusal
@@ -50,3 +54,31 @@ first_where_some [] f h = cc
 first_where_some (r ∷ rs) f h =
     elim r.kept as (λ b. r.kept ≡ b → (if b then first_broken rs else Some (fault r)) ≡ Some f → IsFirstBroken (r ∷ rs) f)
     [ true ↦ (λ k e. further r rs f k (first_where_some rs f e)) | false ↦ (λ k e. here r rs f k (same_fault (fault r) f e)) ] refl h
+
+past_kept : (before behind : List Rule) (r : Rule) → IsTrue (list_all (λ s. s.kept) before) → r.kept ≡ false → first_broken (before ++ r ∷ behind) ≡ Some (fault r)
+unfolding first_broken
+past_kept [] behind r h k = rw k refl
+past_kept (s ∷ before) behind r h k =
+    let parts = and_parts s.kept (list_all (λ s. s.kept) before) h in
+    rw parts.0 (past_kept before behind r parts.1 k)
+
+some_where_first : (rs : List Rule) (f : Refusal) → IsFirstBroken rs f → first_broken rs ≡ Some f
+some_where_first rs f b = ap first_broken b.is ∙ past_kept b.before b.behind (record { place = f.place; kind = f.kind; kept = false }) b.kept refl
+
+-- the answer to the rules of a program, by the first that isn't kept
+answer_is : (parts : List Part) (finish : Place) (answer : Option Refusal) → IsRuleAnswer parts finish answer → first_broken (rules_of parts finish) ≡ answer
+answer_is parts finish None h = none_where_kept (rules_of parts finish) h
+answer_is parts finish (Some f) h = some_where_first (rules_of parts finish) f h
+
+is_answer : (parts : List Part) (finish : Place) (answer : Option Refusal) → first_broken (rules_of parts finish) ≡ answer → IsRuleAnswer parts finish answer
+is_answer parts finish None h = kept_where_none (rules_of parts finish) h
+is_answer parts finish (Some f) h = first_where_some (rules_of parts finish) f h
+
+-- a program is accepted or has a first broken rule, and one of them alone
+pub checked_once : (parts : List Part) (finish : Place) → ExactlyOne (IsRuleAnswer parts finish)
+checked_once parts finish =
+    record {
+      answer = first_broken (rules_of parts finish);
+      holds = is_answer parts finish (first_broken (rules_of parts finish)) refl;
+      only = λ other h. sym (answer_is parts finish other h);
+    }

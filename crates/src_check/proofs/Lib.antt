@@ -1,5 +1,6 @@
 pub mod Tables
 pub mod Broken
+pub mod Chain
 pub mod Steps
 pub mod Blocks
 pub mod Stands

@@ -1,4 +1,4 @@
--- The rules of an array or a procedure, as tested; and what is known behind one more of them.
+-- The rules of an array or a procedure, as tested; and what is known after one more of them.
 use Rattle.std.proofs.Common.{◌≡◌, ℕ, ◌+◌, List, [], ◌∷◌, ◌++◌, Bool, true, false, not, ◌||◌, nat_lt, nat_le, nat_eq, Option, Some, if◌then◌else◌, length, refl, sym, ap, subst, ◌∙◌, arith}
 use lib.Pointwise.{pointwise}
 use Rattle.src_ast.specs.declared.lexeme.Place.{Place}
@@ -8,26 +8,28 @@ use Rattle.src_ast.specs.declared.fault.Quantity.TheVariants.{Arrays, Length, Ce
 use Rattle.src_ast.specs.Syntax.{Part, Array, Proc, Procedure}
 use Rattle.src_ast.specs.Rules.{array, procedure, variables, is_visible, declared_by, arrays_in, procs_in, cells_in, statements_in, has_main, is_main, size_of_all, size_of_ending, part_rules, parameter_rules, variable_rules, body_rules, ending_rules, rule}
 use Rattle.src_check.specs.Names.{found, passes, StandsFor}
-use Rattle.src_check.specs.Behind.{IsBehind}
-use Rattle.src_check.specs.declared.walk.Walk.{Walk}
+use Rattle.src_check.specs.After.{IsAfter}
+use Rattle.src_check.specs.declared.checker.Checker.{Checker}
 use Rattle.src_check.proofs.Stands.{stands_with, stands_moved}
 
-pub array_rules_as : (before : List Part) (x : Name) (n : ℕ) (at : Place) (known : Bool) (walk : Walk) → known ≡ is_visible (declared_by before) x.text → IsBehind walk before
-    → part_rules before (Array x n at) ≡ rule x.place Twice (not known) ∷ rule x.place (Limit Arrays) (nat_lt walk.arrays 64) ∷ rule at (Limit Length) (nat_le n 65536) ∷ rule at (Limit CellSum) (nat_le (walk.cells + n) 1048576) ∷ []
-array_rules_as before x n at known walk is_known b =
+-- the rules of an array by what the checker knows
+pub array_rules_as : (before : List Part) (x : Name) (n : ℕ) (at : Place) (known : Bool) (checker : Checker) → known ≡ is_visible (declared_by before) x.text → IsAfter checker before
+    → part_rules before (Array x n at) ≡ rule x.place Twice (not known) ∷ rule x.place (Limit Arrays) (nat_lt checker.arrays 64) ∷ rule at (Limit Length) (nat_le n 65536) ∷ rule at (Limit CellSum) (nat_le (checker.cells + n) 1048576) ∷ []
+array_rules_as before x n at known checker is_known b =
     λ i. rule x.place Twice (not (sym is_known i)) ∷ rule x.place (Limit Arrays) (nat_lt (sym b.arrays i) 64) ∷ rule at (Limit Length) (nat_le n 65536) ∷ rule at (Limit CellSum) (nat_le (sym b.cells i + n) 1048576) ∷ []
 
-pub procedure_rules_as : (before : List Part) (p : Procedure) (known : Bool) (walk : Walk) (main : Bool) (count : ℕ) → known ≡ is_visible (declared_by before) p.name.text → main ≡ is_main p → IsBehind walk before
-    → count ≡ walk.statements + size_of_all p.body
+-- the rules of a procedure by what the checker knows
+pub procedure_rules_as : (before : List Part) (p : Procedure) (known : Bool) (checker : Checker) (main : Bool) (count : ℕ) → known ≡ is_visible (declared_by before) p.name.text → main ≡ is_main p → IsAfter checker before
+    → count ≡ checker.statements + size_of_all p.body
     → part_rules before (Proc p)
-    ≡ (rule p.name.place Main (not walk.has_main) ∷ [])
+    ≡ (rule p.name.place Main (not checker.has_main) ∷ [])
     ++ ((rule p.name.place Twice (not known) ∷ [])
-    ++ ((rule p.name.place (Limit Procs) (nat_lt walk.procedures 64) ∷ [])
+    ++ ((rule p.name.place (Limit Procs) (nat_lt checker.procedures 64) ∷ [])
     ++ (parameter_rules main (declared_by before) 0 p.params
     ++ (variable_rules (variables p.params ++ declared_by before) (length p.params) p.vars
-    ++ (body_rules (variables (p.params ++ p.vars) ++ declared_by before) walk.statements p.body
+    ++ (body_rules (variables (p.params ++ p.vars) ++ declared_by before) checker.statements p.body
     ++ ending_rules (variables (p.params ++ p.vars) ++ declared_by before) count p.ending)))))
-procedure_rules_as before p known walk main count is_known at_main b at_count =
+procedure_rules_as before p known checker main count is_known at_main b at_count =
     let counted = at_count ∙ ap (λ n. n + size_of_all p.body) b.statements in
     λ i. rule p.name.place Main (not (sym b.main i))
     ∷ rule p.name.place Twice (not (sym is_known i))
@@ -75,6 +77,7 @@ or_false : (a : Bool) → (a || false) ≡ a
 or_false true = refl
 or_false false = refl
 
+-- what is not so is false
 pub not_true : (b : Bool) → not b ≡ true → b ≡ false
 not_true true e = cc
 not_true false e = refl
@@ -82,11 +85,12 @@ not_true false e = refl
 stands_behind : {find : List ℕ → Option _} (before : List Part) (p : Part) → StandsFor find (declared_by (p ∷ []) ++ declared_by before) → StandsFor find (declared_by (before ++ p ∷ []))
 stands_behind {find} before p st = subst (λ l. StandsFor find l) (sym (declared_by-append before (p ∷ []))) (stands_moved (declared_by (p ∷ [])) (declared_by before) st)
 
-module _ (old new : Walk) (before : List Part) (b : IsBehind old before) where
+module _ (old new : Checker) (before : List Part) (b : IsAfter old before) where
+  -- what the checker knows after an array
   pub behind_array : (x : Name) (n : ℕ) (at : Place) → passes (λ _. true) (found old.names.outer x.text) ≡ false
       → ((text : List ℕ) → found new.names.outer text ≡ (if pointwise nat_eq x.text text then Some array else found old.names.outer text))
       → new.arrays ≡ old.arrays + 1 → new.procedures ≡ old.procedures → new.cells ≡ old.cells + n → new.statements ≡ old.statements → new.has_main ≡ old.has_main
-      → IsBehind new (before ++ Array x n at ∷ [])
+      → IsAfter new (before ++ Array x n at ∷ [])
   behind_array x n at free puts arrays procedures cells statements main = record {
     names = stands_behind before (Array x n at) (stands_with x.text array b.names free puts);
     arrays = arrays ∙ ap (λ m. m + 1) b.arrays ∙ sym (arrays_in-append before (Array x n at ∷ []));
@@ -96,11 +100,12 @@ module _ (old new : Walk) (before : List Part) (b : IsBehind old before) where
     main = main ∙ b.main ∙ sym (or_false (has_main before)) ∙ sym (has_main-append before (Array x n at ∷ []));
   }
 
+  -- what the checker knows after a procedure
   pub behind_procedure : (p : Procedure) (count : ℕ) → passes (λ _. true) (found old.names.outer p.name.text) ≡ false → old.has_main ≡ false
       → ((text : List ℕ) → found new.names.outer text ≡ (if pointwise nat_eq p.name.text text then Some (procedure (length p.params)) else found old.names.outer text))
       → new.arrays ≡ old.arrays → new.procedures ≡ old.procedures + 1 → new.cells ≡ old.cells
       → count ≡ old.statements + size_of_all p.body → new.statements ≡ count + size_of_ending p.ending → new.has_main ≡ is_main p
-      → IsBehind new (before ++ Proc p ∷ [])
+      → IsAfter new (before ++ Proc p ∷ [])
   behind_procedure p count free no_main puts arrays procedures cells counted statements main = record {
     names = stands_behind before (Proc p) (stands_with p.name.text (procedure (length p.params)) b.names free puts);
     arrays = let h = arrays_in-append before (Proc p ∷ []) in let o = b.arrays in omega arith;

@@ -64,6 +64,7 @@ pushed-append : (xs : List Name) (x : Name) (visible : List Declared) → pushed
 pushed-append [] x visible = refl
 pushed-append (y ∷ xs) x visible = pushed-append xs x (record { text = y.text; sort = variable } ∷ visible)
 
+-- one more name put in
 pub pushed_next : (xs : List Name) (i : ℕ) (x : Name) (visible : List Declared) → i < length xs → x ≡ get_or xs i x → pushed (take (i + 1) xs) visible ≡ variables (x ∷ []) ++ pushed (take i xs) visible
 pushed_next xs i x visible h is =
     ap (λ n. pushed (take n xs) visible) (add-one i)
@@ -82,6 +83,7 @@ finds-pushed (x ∷ xs) visible text test =
     finds-pushed xs (record { text = x.text; sort = variable } ∷ visible) text test
     ∙ or_moved (finds (variables xs) text test) (pointwise nat_eq x.text text && test variable) (finds visible text test)
 
+-- names put in one after another are the variables
 pub stands_for_pushed : {f : List ℕ → Option Sort} (xs : List Name) (visible : List Declared) → StandsFor f (pushed xs visible) → StandsFor f (variables xs ++ visible)
 stands_for_pushed xs visible st = record {
   agrees = λ text test.

@@ -21,6 +21,7 @@ module _ {K X Y : Type 0} (items : K → List ℕ) (f : X → Y) (old new : List
   put_by text false is here others =
       ap (option_map f) (other_entries _ _ old new others (λ k. pointwise nat_eq text (items k)) (λ x y. nat_list_eq_equiv.congr text (items x) (items y)) (λ k. apart (items key) text (items k) (sym is)))
 
+  -- what is found after a name is put in
   pub found_after_put : (text : List ℕ)
       → lookup (λ k. pointwise nat_eq (items key) (items k)) new ≡ Some value
       → KeepsOthers (λ x y. pointwise nat_eq (items x) (items y)) (λ k. pointwise nat_eq (items key) (items k)) old new

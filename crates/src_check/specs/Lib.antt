@@ -1,4 +1,4 @@
 pub mod Names
 pub mod Rule
-pub mod Walk
-pub mod Behind
+pub mod Keeps
+pub mod After

@@ -1,4 +1,4 @@
--- What the names stand for that a walk has come by.
+-- What the names stand for that the checker has come by.
 use Rattle.std.specs.Prelude.{◌≡◌, ℕ, Bool, false, ◌&&◌, List, Option, Some, None, nat_eq}
 use Rattle.std.specs.List.{list_any}
 use Rattle.std.specs.Map.{lookup}
@@ -8,7 +8,7 @@ use Rattle.src_ast.specs.Rules.{Declared}
 use Rattle.src_ast.specs.Rules as rules
 use Rattle.src_check.specs.declared.names.Sort.{Sort}
 use Rattle.src_check.specs.declared.names.Sort.TheVariants.{Variable, Array, Procedure}
-use Rattle.src_check.specs.declared.names.Table.{Table}
+use Rattle.src_check.specs.declared.names.Sorts.{Sorts}
 use Rattle.src_check.specs.declared.names.Names.{Names}
 
 abbrev pub sort_of : Sort → rules.Sort
@@ -17,8 +17,9 @@ sort_of Array = rules.array
 sort_of (Procedure n) = rules.procedure n
 
 -- what a table has at a text
-unfoldable pub found : Table → List ℕ → Option rules.Sort
-found table text = option_map sort_of (lookup (λ k. pointwise nat_eq text k.items) table.sorts.entries)
+unfoldable pub found : Sorts → List ℕ → Option rules.Sort
+found table text =
+    option_map sort_of (lookup (λ k. pointwise nat_eq text k.items) table.sorts.entries)
 
 -- the first, or else the second
 abbrev pub or_else : {X : Type 0} → Option X → Option X → Option X
@@ -33,6 +34,9 @@ abbrev pub passes : {X : Type 0} → (X → Bool) → Option X → Bool
 passes test None = false
 passes test (Some x) = test x
 
--- What is found are these declared names: any test of what a name stands for has the same answer in both.
+-- What is found are these declared names: any test of what a name stands for has the same answer in
+-- both.
 pub record StandsFor (find : List ℕ → Option rules.Sort) (declared : List Declared) : Type 0 where
-  pub agrees : (text : List ℕ) (test : rules.Sort → Bool) → list_any (λ d. pointwise nat_eq d.text text && test d.sort) declared ≡ passes test (find text)
+  pub agrees : (text : List ℕ) (test : rules.Sort → Bool)
+      → list_any (λ d. pointwise nat_eq d.text text && test d.sort) declared
+      ≡ passes test (find text)

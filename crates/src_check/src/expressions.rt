@@ -4,7 +4,7 @@ ghost use Rattle.std.specs.Prelude.{List, map};
 ghost use Rattle.src_ast.specs.View as view;
 ghost use Rattle.src_ast.specs.Rules.{Declared, use_rules, expression_rules, argument_rules};
 ghost use Rattle.src_check.specs.Names.{sort_of, seen, StandsFor};
-ghost use Rattle.src_check.specs.Walk.{Keeps};
+ghost use Rattle.src_check.specs.Keeps.{Keeps};
 
 use crate::names::{Names, Sort};
 use crate::stop::require;
@@ -12,7 +12,8 @@ use src_ast::{Expr, Name, Refusal, RefusalKind};
 
 /// A name is used as this.
 pub fn name_use(names: &Names, name: &Name, wanted: Sort) -> Result<(), Refusal>
-    ensures { (visible : List Declared) → StandsFor (seen names.now) visible → Keeps (use_rules visible name.now (sort_of wanted)) result }
+    ensures { (visible : List Declared) → StandsFor (seen names.now) visible
+        → Keeps (use_rules visible name.now (sort_of wanted)) result }
 {
     let place = name.place;
     let Some(sort) = names.find(name.text.as_slice()) else {
@@ -27,7 +28,8 @@ pub fn name_use(names: &Names, name: &Name, wanted: Sort) -> Result<(), Refusal>
 
 /// An expression.
 pub fn expression(names: &Names, expr: &Expr) -> Result<(), Refusal>
-    ensures { (visible : List Declared) → StandsFor (seen names.now) visible → Keeps (expression_rules visible (view.expression expr.now)) result }
+    ensures { (visible : List Declared) → StandsFor (seen names.now) visible
+        → Keeps (expression_rules visible (view.expression expr.now)) result }
 {
     match expr {
         Expr::Number(_) => Ok(()),
@@ -46,7 +48,8 @@ pub fn expression(names: &Names, expr: &Expr) -> Result<(), Refusal>
 
 /// The arguments of a call.
 pub fn arguments(names: &Names, exprs: &[Expr]) -> Result<(), Refusal>
-    ensures { (visible : List Declared) → StandsFor (seen names.now) visible → Keeps (argument_rules visible (map view.expression exprs.now)) result }
+    ensures { (visible : List Declared) → StandsFor (seen names.now) visible
+        → Keeps (argument_rules visible (map view.expression exprs.now)) result }
 {
     for expr in exprs {
         expression(names, expr)?;

@@ -2,15 +2,14 @@
 #![tactic(auto)]
 
 mod accepted;
+mod checker;
 mod expressions;
+mod laws;
 mod locals;
 mod names;
 mod statements;
 mod stop;
-mod walk;
 
 pub use accepted::Accepted;
-pub use walk::check;
-
-#[cfg(test)]
-mod tests;
+pub use checker::check;
+pub use laws::each_program_is_checked_once;

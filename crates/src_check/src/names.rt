@@ -1,4 +1,4 @@
-//! The names that a walk has come by, and what they stand for.
+//! The names that the checker has come by, and what they stand for.
 
 ghost use Rattle.std.specs.Prelude.{◌≡◌, ℕ, List, None, Some, true, nat_eq, if◌then◌else◌, OnOk, OnErr};
 ghost use Rattle.std.specs.Option.{option_map};
@@ -11,7 +11,7 @@ use std::alloc::Global;
 use std::collections::HashMap;
 use ws_words::NoMemory;
 
-/// What a name stands for. A procedure has so many parameters.
+/// What a name stands for. A procedure has this many parameters.
 #[derive(Clone, Copy)]
 pub enum Sort {
     Variable,
@@ -46,17 +46,17 @@ impl Sort {
 
 /// Names with what each stands for.
 #[derive(Drop)]
-pub struct Table {
+pub struct Sorts {
     sorts: HashMap<Vec<u8>, Sort>,
 }
 
-impl Table {
+impl Sorts {
     /// No names.
     #[tactic(auto, unfolding(crate::specs::Names::found))]
-    pub fn new(alloc: Global) -> Table
+    pub fn new(alloc: Global) -> Sorts
         ensures { (text : List ℕ) → found result text ≡ None }
     {
-        Table {
+        Sorts {
             sorts: HashMap::new(alloc),
         }
     }
@@ -79,7 +79,9 @@ impl Table {
     /// Puts a name in, or gives it another meaning.
     #[tactic(auto, unfolding(crate::specs::Names::found))]
     pub fn put(&mut self, alloc: Global, name: &Name, sort: Sort) -> Result<(), NoMemory>
-        ensures ok { OnOk result ((text : List ℕ) → found self.new text ≡ (if pointwise nat_eq name.now.text text then Some (sort_of sort) else found self.old text)) }
+        ensures ok { OnOk result ((text : List ℕ) → found self.new text
+            ≡ (if pointwise nat_eq name.now.text text then Some (sort_of sort)
+            else found self.old text)) }
         ensures err { OnErr result ((text : List ℕ) → found self.new text ≡ found self.old text) }
     {
         let text = Vec::from_slice(alloc, name.text.as_slice())?;
@@ -91,8 +93,8 @@ impl Table {
 /// The names of arrays and procedures, and those of the variables of the procedure at hand.
 #[derive(Drop)]
 pub struct Names {
-    pub outer: Table,
-    pub inner: Table,
+    pub outer: Sorts,
+    pub inner: Sorts,
 }
 
 impl Names {
@@ -102,8 +104,8 @@ impl Names {
         ensures inner { (text : List ℕ) → found result.inner text ≡ None }
     {
         Names {
-            outer: Table::new(alloc),
-            inner: Table::new(alloc),
+            outer: Sorts::new(alloc),
+            inner: Sorts::new(alloc),
         }
     }
 
@@ -126,7 +128,8 @@ impl Names {
 
     /// Puts a variable of the procedure in.
     pub fn put_variable(&mut self, alloc: Global, name: &Name) -> Result<(), NoMemory>
-        ensures ok { OnOk result ((text : List ℕ) → seen self.new text ≡ (if pointwise nat_eq name.now.text text then Some variable else seen self.old text)) }
+        ensures ok { OnOk result ((text : List ℕ) → seen self.new text
+            ≡ (if pointwise nat_eq name.now.text text then Some variable else seen self.old text)) }
         ensures outer { self.new.outer ≡ self.old.outer }
     {
         self.inner.put(alloc, name, Sort::Variable)

@@ -5,21 +5,24 @@ ghost use Rattle.src_ast.specs.Syntax.{Assign, Store, Print, Read, Give, Take, C
 ghost use Rattle.src_ast.specs.View as view;
 ghost use Rattle.src_ast.specs.Rules.{Declared, statement_rule, port_rule, statement_rules, body_rules, ending_rules, size_of, size_of_all, size_of_ending};
 ghost use Rattle.src_check.specs.Names.{seen, StandsFor};
-ghost use Rattle.src_check.specs.Walk.{Keeps};
+ghost use Rattle.src_check.specs.Keeps.{Keeps};
 
 use crate::expressions::{arguments, expression, name_use};
 use crate::names::{Names, Sort};
 use crate::stop::require;
-use src_ast::{Ending, Expr, Form, Name, Place, Quantity, Refusal, RefusalKind, Stmt};
+use src_ast::{
+    Ending, Expr, Form, MOST_PORT, MOST_STATEMENTS, Name, Place, Quantity, Refusal, RefusalKind,
+    Stmt,
+};
 
-/// One more statement, behind so many: how many there are with it.
+/// One more statement, after this many: how many there are with it.
 #[tactic(auto, unfolding(crate::specs::Rule::first_broken))]
 fn counted(before: u64, place: Place) -> Result<u64, Refusal>
     ensures rules { Keeps (statement_rule before place ∷ []) result }
     ensures count { IfOk result (λ after. after ≡ before + 1) }
 {
     require(
-        before < 1024,
+        before < MOST_STATEMENTS,
         RefusalKind::Limit(Quantity::Statements),
         place,
     )?;
@@ -31,14 +34,15 @@ fn counted(before: u64, place: Place) -> Result<u64, Refusal>
 fn port_number(port: u64, place: Place) -> Result<(), Refusal>
     ensures { Keeps (port_rule port place ∷ []) result }
 {
-    let kept = 1 <= port && port <= 7;
+    let kept = 1 <= port && port <= MOST_PORT;
     require(kept, RefusalKind::Limit(Quantity::PortNumber), place)
 }
 
-/// A statement, behind so many: how many there are with those in it.
+/// A statement, after this many: how many there are with those in it.
 #[cycle(body)]
 pub fn statement(names: &Names, before: u64, stmt: &Stmt) -> Result<u64, Refusal>
-    ensures rules { (visible : List Declared) → StandsFor (seen names.now) visible → Keeps (statement_rules visible before (view.statement stmt.now)) result }
+    ensures rules { (visible : List Declared) → StandsFor (seen names.now) visible
+        → Keeps (statement_rules visible before (view.statement stmt.now)) result }
     ensures count { IfOk result (λ after. after ≡ before + size_of (view.statement stmt.now)) }
 {
     let place = stmt.place;
@@ -71,11 +75,13 @@ pub fn statement(names: &Names, before: u64, stmt: &Stmt) -> Result<u64, Refusal
     }
 }
 
-/// Statements, behind so many: how many there are with them.
+/// Statements, after this many: how many there are with them.
 #[cycle(body)]
 pub fn body(names: &Names, before: u64, stmts: &[Stmt]) -> Result<u64, Refusal>
-    ensures rules { (visible : List Declared) → StandsFor (seen names.now) visible → Keeps (body_rules visible before (view.statements stmts.now)) result }
-    ensures count { IfOk result (λ after. after ≡ before + size_of_all (view.statements stmts.now)) }
+    ensures rules { (visible : List Declared) → StandsFor (seen names.now) visible
+        → Keeps (body_rules visible before (view.statements stmts.now)) result }
+    ensures count { IfOk result (λ after. after ≡ before
+        + size_of_all (view.statements stmts.now)) }
 {
     let mut count = before;
     for stmt in stmts {
@@ -84,10 +90,12 @@ pub fn body(names: &Names, before: u64, stmts: &[Stmt]) -> Result<u64, Refusal>
     Ok(count)
 }
 
-/// The `return` that ends a procedure, behind so many statements.
+/// The `return` that ends a procedure, after this many statements.
 pub fn ending(names: &Names, before: u64, last: &Option<Ending>) -> Result<u64, Refusal>
-    ensures rules { (visible : List Declared) → StandsFor (seen names.now) visible → Keeps (ending_rules visible before (view.maybe_last last.now)) result }
-    ensures count { IfOk result (λ after. after ≡ before + size_of_ending (view.maybe_last last.now)) }
+    ensures rules { (visible : List Declared) → StandsFor (seen names.now) visible
+        → Keeps (ending_rules visible before (view.maybe_last last.now)) result }
+    ensures count { IfOk result (λ after. after ≡ before
+        + size_of_ending (view.maybe_last last.now)) }
 {
     let Some(last) = last else {
         return Ok(before);
@@ -98,6 +106,7 @@ pub fn ending(names: &Names, before: u64, last: &Option<Ending>) -> Result<u64, 
 }
 
 /// `x = e;`
+#[tactic(auto, using(crate::proofs::Chain::chain))]
 fn assign(
     names: &Names,
     before: u64,
@@ -105,7 +114,10 @@ fn assign(
     name: &Name,
     value: &Expr,
 ) -> Result<u64, Refusal>
-    ensures rules { (visible : List Declared) → StandsFor (seen names.now) visible → Keeps (statement_rules visible before (Assign place name.now (view.expression value.now))) result }
+    ensures rules { (visible : List Declared) → StandsFor (seen names.now) visible
+        → Keeps
+        (statement_rules visible before (Assign place name.now (view.expression value.now)))
+        result }
     ensures count { IfOk result (λ after. after ≡ before + 1) }
 {
     name_use(names, name, Sort::Variable)?;
@@ -115,6 +127,7 @@ fn assign(
 }
 
 /// `a[i] = e;`
+#[tactic(auto, using(crate::proofs::Chain::chain))]
 fn store(
     names: &Names,
     before: u64,
@@ -123,7 +136,11 @@ fn store(
     index: &Expr,
     value: &Expr,
 ) -> Result<u64, Refusal>
-    ensures rules { (visible : List Declared) → StandsFor (seen names.now) visible → Keeps (statement_rules visible before (Store place array.now (view.expression index.now) (view.expression value.now))) result }
+    ensures rules { (visible : List Declared) → StandsFor (seen names.now) visible
+        → Keeps
+        (statement_rules visible before
+        (Store place array.now (view.expression index.now) (view.expression value.now)))
+        result }
     ensures count { IfOk result (λ after. after ≡ before + 1) }
 {
     name_use(names, array, Sort::Array)?;
@@ -134,8 +151,10 @@ fn store(
 }
 
 /// `print e;`
+#[tactic(auto, using(crate::proofs::Chain::chain))]
 fn print(names: &Names, before: u64, place: Place, value: &Expr) -> Result<u64, Refusal>
-    ensures rules { (visible : List Declared) → StandsFor (seen names.now) visible → Keeps (statement_rules visible before (Print place (view.expression value.now))) result }
+    ensures rules { (visible : List Declared) → StandsFor (seen names.now) visible
+        → Keeps (statement_rules visible before (Print place (view.expression value.now))) result }
     ensures count { IfOk result (λ after. after ≡ before + 1) }
 {
     let count = counted(before, place)?;
@@ -144,8 +163,10 @@ fn print(names: &Names, before: u64, place: Place, value: &Expr) -> Result<u64, 
 }
 
 /// `read x;`
+#[tactic(auto, using(crate::proofs::Chain::chain))]
 fn read(names: &Names, before: u64, place: Place, name: &Name) -> Result<u64, Refusal>
-    ensures rules { (visible : List Declared) → StandsFor (seen names.now) visible → Keeps (statement_rules visible before (Read place name.now)) result }
+    ensures rules { (visible : List Declared) → StandsFor (seen names.now) visible
+        → Keeps (statement_rules visible before (Read place name.now)) result }
     ensures count { IfOk result (λ after. after ≡ before + 1) }
 {
     let count = counted(before, place)?;
@@ -154,6 +175,7 @@ fn read(names: &Names, before: u64, place: Place, name: &Name) -> Result<u64, Re
 }
 
 /// `give p, x;`
+#[tactic(auto, using(crate::proofs::Chain::chain))]
 fn give(
     names: &Names,
     before: u64,
@@ -162,7 +184,8 @@ fn give(
     port_place: Place,
     name: &Name,
 ) -> Result<u64, Refusal>
-    ensures rules { (visible : List Declared) → StandsFor (seen names.now) visible → Keeps (statement_rules visible before (Give place port port_place name.now)) result }
+    ensures rules { (visible : List Declared) → StandsFor (seen names.now) visible
+        → Keeps (statement_rules visible before (Give place port port_place name.now)) result }
     ensures count { IfOk result (λ after. after ≡ before + 1) }
 {
     let count = counted(before, place)?;
@@ -172,6 +195,7 @@ fn give(
 }
 
 /// `take p, e;`
+#[tactic(auto, using(crate::proofs::Chain::chain))]
 fn take(
     names: &Names,
     before: u64,
@@ -180,7 +204,11 @@ fn take(
     port_place: Place,
     value: &Expr,
 ) -> Result<u64, Refusal>
-    ensures rules { (visible : List Declared) → StandsFor (seen names.now) visible → Keeps (statement_rules visible before (Take place port port_place (view.expression value.now))) result }
+    ensures rules { (visible : List Declared) → StandsFor (seen names.now) visible
+        → Keeps
+        (statement_rules visible before
+        (Take place port port_place (view.expression value.now)))
+        result }
     ensures count { IfOk result (λ after. after ≡ before + 1) }
 {
     let count = counted(before, place)?;
@@ -198,7 +226,11 @@ fn call(
     procedure: &Name,
     args: &[Expr],
 ) -> Result<u64, Refusal>
-    ensures rules { (visible : List Declared) → StandsFor (seen names.now) visible → Keeps (statement_rules visible before (Call place target.now procedure.now (map view.expression args.now))) result }
+    ensures rules { (visible : List Declared) → StandsFor (seen names.now) visible
+        → Keeps
+        (statement_rules visible before
+        (Call place target.now procedure.now (map view.expression args.now)))
+        result }
     ensures count { IfOk result (λ after. after ≡ before + 1) }
 {
     let wanted = Sort::Procedure(args.len());

@@ -1,13 +1,13 @@
-//! Why a walk stops, and the test of one rule.
+//! Why the checker stops, and the test of one rule.
 
 ghost use Rattle.std.specs.Prelude.{◌≡◌, [], ◌∷◌, IsTrue, OnOk};
 ghost use Rattle.src_ast.specs.Rules.{rule};
-ghost use Rattle.src_check.specs.Walk.{Keeps};
+ghost use Rattle.src_check.specs.Keeps.{Keeps};
 
 use src_ast::{Place, Refusal, RefusalKind};
 use ws_words::NoMemory;
 
-/// Why a walk stops.
+/// Why the checker stops.
 #[derive(Clone, Copy)]
 pub enum Stop {
     Memory,

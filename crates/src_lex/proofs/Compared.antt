@@ -11,6 +11,7 @@ use Rattle.src_ast.specs.Lexemes.{after, is_end, is_letter, Spells, Leads}
 use Rattle.src_lex.specs.Reads.{begins_gap, ends_gap}
 use Rattle.src_lex.proofs.Unique.{gap_same, spelled_same, head_kind, spelled_kind}
 
+-- where a word, a number or a mark may begin, no gap is left
 pub kind_ends_gap : (xs : List ℕ) (k : ℕ) → head_kind xs ≡ suc k → ends_gap xs ≡ true
 kind_ends_gap [] k h = refl
 kind_ends_gap (b ∷ xs) k h =
@@ -19,11 +20,13 @@ kind_ends_gap (b ∷ xs) k h =
       | false ↦ λ h. refl
     ]) h)
 
+-- no gap is left before a lexeme
 pub spelled_ends_gap : (s : Shape) (a b : List ℕ) → Spells s a b → ends_gap (a ++ b) ≡ true
 spelled_ends_gap (shape.Word w) a b p = kind_ends_gap (a ++ b) 0 (spelled_kind (shape.Word w) a b p)
 spelled_ends_gap (shape.Number n) a b p = kind_ends_gap (a ++ b) 1 (spelled_kind (shape.Number n) a b p)
 spelled_ends_gap (shape.Mark m) a b p = kind_ends_gap (a ++ b) 2 (spelled_kind (shape.Mark m) a b p)
 
+-- two readings of one text are one, or one goes on with a lexeme where the other stops
 pub data Compared (ls : List Lexeme) (p : Place) (r : List ℕ) (ms : List Lexeme) (q : Place) (t : List ℕ) : Type 0 where
   same : ls ≡ ms → p ≡ q → r ≡ t → Compared ls p r ms q t
   ahead : (l : Lexeme) (more : List Lexeme) (bytes behind : List ℕ) → ls ≡ ms ++ (l ∷ more) → t ≡ bytes ++ behind → Spells l.shape bytes behind → Compared ls p r ms q t
@@ -37,6 +40,7 @@ compared_more l m ls ms p q r t e (Compared.short n more bytes behind a b s) = C
 same_lexeme : (l m : Lexeme) → l.shape ≡ m.shape → l.place ≡ m.place → l ≡ m
 same_lexeme l m e p = λ i. record { shape = e i; place = p i }
 
+-- any two readings of a text that leave no gap
 pub compare : (at : Place) (text : List ℕ) (ls : List Lexeme) (p : Place) (r : List ℕ) (ms : List Lexeme) (q : Place) (t : List ℕ)
     → Leads at text ls p r → Leads at text ms q t → ends_gap r ≡ true → ends_gap t ≡ true → Compared ls p r ms q t
 compare at text ls p r ms q t (Leads.stop gap x g h) (Leads.stop gap' x' g' h') k k' =

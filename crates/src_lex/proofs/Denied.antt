@@ -11,7 +11,7 @@ use Rattle.src_ast.specs.declared.lexeme.Shape.TheVariants as shape
 use Rattle.src_ast.specs.declared.fault.RefusalKind.{RefusalKind}
 use Rattle.src_ast.specs.declared.fault.RefusalKind.TheVariants.{Byte, Wide, Limit}
 use Rattle.src_ast.specs.declared.fault.Quantity.TheVariants.{NameBytes, Depth, Lexemes}
-use Rattle.src_ast.specs.Lexemes.{is_end, is_blank, is_word, is_word_byte, starts_without, spelling, Spells, IsShort, open_behind, row_behind}
+use Rattle.src_ast.specs.Lexemes.{is_end, is_blank, is_word, is_word_byte, starts_without, spelling, Spells, IsShort, open_past, row_past}
 use Rattle.src_ast.specs.LexFaults.{BeginsNothing, Wrong}
 use Rattle.src_lex.specs.Reads.{begins_gap, ends_gap}
 use Rattle.src_lex.proofs.Unique.{head_kind, spelled_kind, spelled_same, run_same, word_kind, number_kind}
@@ -22,6 +22,7 @@ pub end_kind : (xs : List ℕ) → is_end xs ≡ true → head_kind xs ≡ 0
 end_kind [] h = refl
 end_kind (b ∷ xs) h = rw (eqb-true b 35 ((and_parts (b == 35) (list_all (λ c. not (c == 10)) xs) h).0)) refl
 
+-- no gap is left at the end of the text
 pub end_ends_gap : (xs : List ℕ) → is_end xs ≡ true → ends_gap xs ≡ true
 end_ends_gap xs h = or_left (is_end xs) (starts_without begins_gap xs) h
 
@@ -34,6 +35,7 @@ end_denies (shape.Mark m) r bytes behind h e p = let k = spelled_kind (shape.Mar
 nothing_kind : (b : ℕ) (bytes : List ℕ) → BeginsNothing b → head_kind (b ∷ bytes) ≡ 3
 nothing_kind b bytes n = rw (or_from (is_blank b) (b == 35) n.blank n.comment, n.letter, n.digit) refl
 
+-- no gap is left before what is wrong
 pub wrong_ends_gap : (o w : ℕ) (r : List ℕ) (k : RefusalKind) → Wrong o w r k → ends_gap r ≡ true
 wrong_ends_gap o w r k (Wrong.byte b bytes e n) = rw e (kind_ends_gap (b ∷ bytes) 2 (nothing_kind b bytes n))
 wrong_ends_gap o w r k (Wrong.wide digits far e n s l) = rw e (kind_ends_gap (digits ++ far) 1 (number_kind digits far n))
@@ -88,17 +90,17 @@ long_is word far s bytes behind n t e p = sym ((spelled_same (shape.Word word) s
 
 -- where a lexeme stands within the limits, nothing is wrong
 pub wrong_denies : (o w : ℕ) (r : List ℕ) (k : RefusalKind) (s : Shape) (bytes behind : List ℕ) → Wrong o w r k → r ≡ bytes ++ behind → Spells s bytes behind
-    → IsShort s → open_behind o s ≤ 32 → row_behind w s ≤ 256 → ⊥
+    → IsShort s → open_past o s ≤ 32 → row_past w s ≤ 256 → ⊥
 wrong_denies o w r k s bytes behind (Wrong.byte b rest x n) e p q f g = byte_denies b rest s bytes behind n (sym x ∙ e) p
 wrong_denies o w r k s bytes behind (Wrong.wide digits far x n t l) e p q f g = wide_denies digits far s bytes behind n t l (sym x ∙ e) p
 wrong_denies o w r k s bytes behind (Wrong.long word far x n t l) e p q f g =
     let h : length word ≤ 64 = subst IsShort (long_is word far s bytes behind n t (sym x ∙ e) p) q in omega arith
 wrong_denies o w r k s bytes behind (Wrong.deep u word far x v l) e p q f g =
-    let same = (spelled_same u s word far bytes behind v p (sym x ∙ e)).0 in let h = ap (open_behind o) same in omega arith
+    let same = (spelled_same u s word far bytes behind v p (sym x ∙ e)).0 in let h = ap (open_past o) same in omega arith
 wrong_denies o w r k s bytes behind (Wrong.crowded u word far x v t l) e p q f g =
-    let same = (spelled_same u s word far bytes behind v p (sym x ∙ e)).0 in let h = ap (row_behind w) same in omega arith
+    let same = (spelled_same u s word far bytes behind v p (sym x ∙ e)).0 in let h = ap (row_past w) same in omega arith
 
-depth_in_row : (o w : ℕ) (s : Shape) → o ≤ 32 → 32 < open_behind o s → row_behind w s ≤ 256
+depth_in_row : (o w : ℕ) (s : Shape) → o ≤ 32 → 32 < open_past o s → row_past w s ≤ 256
 depth_in_row o w (shape.Word v) h k = absurd (omega arith)
 depth_in_row o w (shape.Number v) h k = absurd (omega arith)
 depth_in_row o w (shape.Mark LBrace) h k = omega arith
@@ -128,17 +130,17 @@ long_only o w r k word behind h e n t l (Wrong.byte b rest x m) = sym (byte_only
 long_only o w r k word behind h e n t l (Wrong.wide digits far x m t' l') = sym (wide_only o w r (Limit NameBytes) digits far x m t' l' (Wrong.long word behind e n t l))
 long_only o w r k word behind h e n t l (Wrong.long word' far x m t' l') = refl
 long_only o w r k word behind h e n t l (Wrong.deep s bytes far x p l') =
-    let same = ap (open_behind o) (long_is word behind s bytes far n t (sym e ∙ x) p) in absurd (omega arith)
+    let same = ap (open_past o) (long_is word behind s bytes far n t (sym e ∙ x) p) in absurd (omega arith)
 long_only o w r k word behind h e n t l (Wrong.crowded s bytes far x p q l') =
     let short : length word ≤ 64 = subst IsShort (long_is word behind s bytes far n t (sym e ∙ x) p) q in absurd (omega arith)
 
-deep_only : (o w : ℕ) (r : List ℕ) (k : RefusalKind) (s : Shape) (bytes behind : List ℕ) → o ≤ 32 → r ≡ bytes ++ behind → Spells s bytes behind → 32 < open_behind o s → Wrong o w r k → Limit Depth ≡ k
+deep_only : (o w : ℕ) (r : List ℕ) (k : RefusalKind) (s : Shape) (bytes behind : List ℕ) → o ≤ 32 → r ≡ bytes ++ behind → Spells s bytes behind → 32 < open_past o s → Wrong o w r k → Limit Depth ≡ k
 deep_only o w r k s bytes behind h e p l (Wrong.byte b rest x m) = sym (byte_only o w r (Limit Depth) b rest x m (Wrong.deep s bytes behind e p l))
 deep_only o w r k s bytes behind h e p l (Wrong.wide digits far x m t' l') = sym (wide_only o w r (Limit Depth) digits far x m t' l' (Wrong.deep s bytes behind e p l))
 deep_only o w r k s bytes behind h e p l (Wrong.long word far x m t' l') = sym (long_only o w r (Limit Depth) word far h x m t' l' (Wrong.deep s bytes behind e p l))
 deep_only o w r k s bytes behind h e p l (Wrong.deep t bytes' far x q l') = refl
 deep_only o w r k s bytes behind h e p l (Wrong.crowded t bytes' far x q short l') =
-    let same = ap (row_behind w) (spelled_same s t bytes behind bytes' far p q (sym e ∙ x)).0 in let few = depth_in_row o w s h l in absurd (omega arith)
+    let same = ap (row_past w) (spelled_same s t bytes behind bytes' far p q (sym e ∙ x)).0 in let few = depth_in_row o w s h l in absurd (omega arith)
 
 crowded_only : (o w : ℕ) (r : List ℕ) (k : RefusalKind) → o ≤ 32 → Wrong o w r (Limit Lexemes) → Wrong o w r k → Limit Lexemes ≡ k
 crowded_only o w r k h c (Wrong.byte b rest x n) = sym (byte_only o w r (Limit Lexemes) b rest x n c)
@@ -147,6 +149,7 @@ crowded_only o w r k h c (Wrong.long word far x n t l) = sym (long_only o w r (L
 crowded_only o w r k h c (Wrong.deep s bytes far x p l) = sym (deep_only o w r (Limit Lexemes) s bytes far h x p l c)
 crowded_only o w r k h c (Wrong.crowded s bytes far x p short l) = refl
 
+-- one thing alone is wrong at a place
 pub one_wrong : (o w : ℕ) (r : List ℕ) (j k : RefusalKind) → o ≤ 32 → Wrong o w r j → Wrong o w r k → j ≡ k
 one_wrong o w r j k h (Wrong.byte b rest x n) q = byte_only o w r k b rest x n q
 one_wrong o w r j k h (Wrong.wide digits far x n t l) q = wide_only o w r k digits far x n t l q

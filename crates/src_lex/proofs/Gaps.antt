@@ -11,6 +11,7 @@ abbrev not_feed : ℕ → Bool
 not_feed c = not (c == 10)
 
 mutual
+  -- two gaps in a row are a gap
   pub gap_append : (g h : List ℕ) → IsTrue (is_gap g) → IsTrue (is_gap h) → IsTrue (is_gap (g ++ h))
   gap_append [] h p q = q
   gap_append (b ∷ g) h p q =
@@ -56,6 +57,7 @@ comment_open (x ∷ xs) h =
       | false ↦ λ h. absurd (omega arith)
     ]) h
 
+-- a line that ends is no comment to the end of the text
 pub comment_ends : (xs : List ℕ) → prefix_len not_feed xs < length xs → list_all not_feed xs ≡ false
 comment_ends [] h = absurd (omega arith)
 comment_ends (x ∷ xs) h =

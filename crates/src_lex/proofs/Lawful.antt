@@ -8,7 +8,7 @@ use Rattle.src_ast.specs.declared.fault.Refusal.{Refusal}
 use Rattle.src_ast.specs.declared.fault.RefusalKind.{RefusalKind}
 use Rattle.src_ast.specs.declared.fault.TextFault.{TextFault}
 use Rattle.src_ast.specs.declared.fault.TextFault.TheVariants.{Refused, NoMemory}
-use Rattle.src_ast.specs.Lexemes.{start, Spells, Lex, IsShort, KeepLimits, open_behind, row_behind, open_after, row_after}
+use Rattle.src_ast.specs.Lexemes.{start, Spells, Lex, IsShort, KeepLimits, open_past, row_past, open_after, row_after}
 use Rattle.src_ast.specs.LexFaults.{Wrong, LexFault, IsLexFault, AnswersLexemes}
 use Rattle.src_lex.proofs.Compared.{Compared, compare}
 use Rattle.src_lex.proofs.Denied.{end_denies, end_ends_gap, end_right, wrong_ends_gap, wrong_denies, one_wrong}
@@ -16,16 +16,16 @@ use Rattle.src_lex.proofs.Denied.{end_denies, end_ends_gap, end_right, wrong_end
 -- the limits, at a lexeme in a list that keeps them
 pub record KeptAt (open' row : ℕ) (l : Lexeme) : Type 0 where
   pub short : IsShort l.shape
-  pub depth : open_behind open' l.shape ≤ 32
-  pub row_kept : row_behind row l.shape ≤ 256
+  pub depth : open_past open' l.shape ≤ 32
+  pub row_kept : row_past row l.shape ≤ 256
 
 kept_at : (o w : ℕ) (ls : List Lexeme) (l : Lexeme) (more : List Lexeme) → KeepLimits o w (ls ++ (l ∷ more)) → KeptAt (open_after o ls) (row_after w ls) l
 kept_at o w [] l more k = record { short = k.0; depth = k.1; row_kept = k.2 }
-kept_at o w (m ∷ ls) l more k = kept_at (open_behind o m.shape) (row_behind w m.shape) ls l more k.3
+kept_at o w (m ∷ ls) l more k = kept_at (open_past o m.shape) (row_past w m.shape) ls l more k.3
 
 depth_kept : (o w : ℕ) (ls : List Lexeme) → o ≤ 32 → KeepLimits o w ls → open_after o ls ≤ 32
 depth_kept o w [] h k = h
-depth_kept o w (m ∷ ls) h k = depth_kept (open_behind o m.shape) (row_behind w m.shape) ls k.1 k.3
+depth_kept o w (m ∷ ls) h k = depth_kept (open_past o m.shape) (row_past w m.shape) ls k.1 k.3
 
 -- a fault does not stand where another list within the limits goes on
 no_fault_inside : (ls ms : List Lexeme) (l : Lexeme) (more : List Lexeme) (r bytes behind : List ℕ) (k : RefusalKind) → KeepLimits 0 0 ms → ms ≡ ls ++ (l ∷ more)
@@ -34,6 +34,7 @@ no_fault_inside ls ms l more r bytes behind k kept e w t s =
     let at = kept_at 0 0 ls l more (rw e at kept) in
     wrong_denies (open_after 0 ls) (row_after 0 ls) r k l.shape bytes behind w t s at.short at.depth at.row_kept
 
+-- a text has one list of lexemes at most
 pub one_lexing_of : (text : List ℕ) (a b : List Lexeme) (p q : Place) → Lex text a p → Lex text b q → (a ≡ b) × (p ≡ q)
 one_lexing_of text a b p q x y =
     let finish : p ≡ q = x.finish_is ∙ sym y.finish_is in
@@ -44,6 +45,7 @@ one_lexing_of text a b p q x y =
       | Compared.short l more bytes behind e f s ↦ absurd (end_denies l.shape x.rest bytes behind x.over f s)
     ]
 
+-- a text whose lexemes keep the limits has no fault
 pub no_fault_of : (text : List ℕ) (ls : List Lexeme) (p : Place) (r : Refusal) → Lex text ls p → KeepLimits 0 0 ls → LexFault text r → ⊥
 no_fault_of text ls p r x kept y =
     let c = compare start text ls x.place x.rest y.ls r.place y.rest x.leads y.leads (end_ends_gap x.rest x.over) (wrong_ends_gap _ _ y.rest r.kind y.wrong) in
@@ -56,6 +58,7 @@ no_fault_of text ls p r x kept y =
 same_refusal : (a b : Refusal) → a.kind ≡ b.kind → a.place ≡ b.place → a ≡ b
 same_refusal a b e p = λ i. record { kind = e i; place = p i }
 
+-- a text has one first fault at most
 pub one_fault_of : (text : List ℕ) (a b : Refusal) → LexFault text a → LexFault text b → a ≡ b
 one_fault_of text a b x y =
     let c = compare start text x.ls a.place x.rest y.ls b.place y.rest x.leads y.leads (wrong_ends_gap _ _ x.rest a.kind x.wrong) (wrong_ends_gap _ _ y.rest b.kind y.wrong) in

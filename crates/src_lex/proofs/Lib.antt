@@ -9,3 +9,4 @@ pub mod Unique
 pub mod Compared
 pub mod Denied
 pub mod Lawful
+pub mod Exists

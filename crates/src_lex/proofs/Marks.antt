@@ -20,6 +20,7 @@ pub mark_of_spelling : (m : Mark) → mark_of (spelling m) ≡ Some m
 mark_of_spelling LParen = refl
 mark_of_spelling _ = refl
 
+-- a mark is known by its bytes
 pub one_mark : (m n : Mark) → spelling m ≡ spelling n → m ≡ n
 one_mark m n e =
     let same : Option.Some m ≡ Some n = sym (mark_of_spelling m) ∙ (ap mark_of e ∙ mark_of_spelling n) in cc
@@ -96,6 +97,7 @@ longest_one m xs (one x) e text more h k = omega arith
 longest_one m xs (two x y) e text more h k =
     let bad : Option.Some m ≡ None = sym (front_is m x y more e) ∙ (ap mark_of_front (sym k) ∙ h) in cc
 
+-- the mark of the first two bytes is the longest there
 pub reads_two : (text : List ℕ) (m : Mark) → mark_of_front text ≡ Some m → Reads (shape.Mark m) 2 text
 reads_two [] m e = cc
 reads_two (b ∷ []) m e = cc
@@ -106,6 +108,7 @@ reads_two (b ∷ c ∷ more) m e =
       spells = Spells.mark m (sym (two_sound b c m e)) (λ other behind k. most_two (spelling other) (one_or_two_bytes other));
     }
 
+-- where the first two bytes are no mark, the mark of the first is the longest
 pub reads_one : (text : List ℕ) (b : ℕ) (rest : List ℕ) (m : Mark) → text ≡ b ∷ rest → mark_of_front text ≡ None → mark_of_one b ≡ Some m → Reads (shape.Mark m) 1 text
 reads_one text b rest m t h e =
     let made : Reads (shape.Mark m) 1 (b ∷ rest) = record {
@@ -121,6 +124,7 @@ no_mark_of m xs (one x) e text b rest more t h k q =
 no_mark_of m xs (two x y) e text b rest more t h k q =
     let bad : Option.Some m ≡ None = sym (front_is m x y more e) ∙ (ap mark_of_front (sym q) ∙ h) in cc
 
+-- where neither is one, no mark begins the text
 pub no_mark : (text : List ℕ) (b : ℕ) (rest : List ℕ) → text ≡ b ∷ rest → mark_of_front text ≡ None → mark_of_one b ≡ None → (m : Mark) (more : List ℕ) → text ≡ spelling m ++ more → ⊥
 no_mark text b rest t h k m more q = no_mark_of m (spelling m) (one_or_two_bytes m) refl text b rest more t h k q
 

@@ -1,10 +1,11 @@
--- Places behind bytes.
+-- Places after bytes.
 use Rattle.std.specs.Prelude.{◌≡◌, ℕ, ◌+◌, ◌≤◌, ◌<◌, ◌==◌, length, cond, true, false, List, [], ◌∷◌, ◌++◌, refl}
 use Rattle.std.proofs.Common.{take, arith, get_or}
 use Rattle.std.proofs.lemmas.List.{take_more}
 use Rattle.src_ast.specs.declared.lexeme.Place.{Place}
 use Rattle.src_ast.specs.Lexemes.{after, past}
 
+-- the place after two lists of bytes
 pub after_append : (at : Place) (xs ys : List ℕ) → after at (xs ++ ys) ≡ after (after at xs) ys
 after_append at [] ys = refl
 after_append at (x ∷ xs) ys = after_append (past at x) xs ys
@@ -25,6 +26,7 @@ past_kept at b h k =
       | false ↦ record { line = omega arith; column = omega arith; room = omega arith }
     ]
 
+-- places stay in range
 pub after_kept : (at : Place) (xs : List ℕ) → 0 < at.line → 0 < at.column → Kept at (length xs) (after at xs)
 after_kept at [] h k = record { line = h; column = k; room = omega arith }
 after_kept at (x ∷ xs) h k =

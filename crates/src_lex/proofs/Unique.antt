@@ -41,7 +41,7 @@ both_kinds false false gap comment open' n f h k = both_ways false refl h
 hash_no_blank : (b : ℕ) → (b == 35) ≡ true → is_blank b ≡ false
 hash_no_blank b h = rw (eqb-true b 35 h) refl
 
--- behind a whole gap no gap begins
+-- after a whole gap no gap begins
 no_gap_more : (b : ℕ) (g r : List ℕ) → is_gap (b ∷ g) ≡ true → ends_gap (b ∷ (g ++ r)) ≡ true → ⊥
 no_gap_more b g r h k =
     both_kinds (is_blank b) (b == 35) (is_gap g) (is_comment g) (list_all (λ c. not (c == 10)) (g ++ r)) (hash_no_blank b) (comment_ends g r) h k
@@ -50,6 +50,7 @@ tails : (b d : ℕ) (x y : List ℕ) → b ∷ x ≡ d ∷ y → (b ≡ d) × (x
 tails b d x y e = (cc, cc)
 
 mutual
+  -- the longest gap in front of a text is one
   pub gap_same : (a c b d : List ℕ) → is_gap a ≡ true → is_gap c ≡ true → ends_gap b ≡ true → ends_gap d ≡ true → a ++ b ≡ c ++ d → Same a b c d
   gap_same [] [] b d h k p q e = record { front = refl; back = e }
   gap_same [] (y ∷ c) b d h k p q e = absurd (no_gap_more y c d k (rw e at p))
@@ -94,6 +95,7 @@ length_same (x ∷ a) (y ∷ c) b d h e =
 abbrev pub kind : ℕ → ℕ
 kind b = cond (begins_gap b) 0 (cond (is_letter b) 1 (cond (is_digit b) 2 3))
 
+-- what the first byte begins
 abbrev pub head_kind : List ℕ → ℕ
 head_kind [] = 0
 head_kind (b ∷ bytes) = kind b
@@ -142,14 +144,17 @@ shape_kind (shape.Word w) = 1
 shape_kind (shape.Number n) = 2
 shape_kind (shape.Mark m) = 3
 
+-- a word begins with a letter
 pub word_kind : (bytes rest : List ℕ) → is_word bytes ≡ true → head_kind (bytes ++ rest) ≡ 1
 word_kind [] rest h = absurd (both_ways false refl h)
 word_kind (b ∷ bytes) rest h = letter_kind b ((and_parts (is_letter b) (list_all is_word_byte bytes) h).0)
 
+-- a number begins with a digit
 pub number_kind : (bytes rest : List ℕ) → is_number bytes ≡ true → head_kind (bytes ++ rest) ≡ 2
 number_kind [] rest h = absurd (both_ways false refl h)
 number_kind (b ∷ bytes) rest h = digit_kind b ((and_parts (is_digit b) (list_all is_digit bytes) h).0)
 
+-- a lexeme begins as its shape does
 pub spelled_kind : (s : Shape) (bytes rest : List ℕ) → Spells s bytes rest → head_kind (bytes ++ rest) ≡ shape_kind s
 spelled_kind s bytes rest (Spells.word w stops) = word_kind bytes rest w
 spelled_kind s bytes rest (Spells.number n d stops e l) = number_kind bytes rest d

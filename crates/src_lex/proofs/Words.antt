@@ -59,30 +59,35 @@ run_word {n = n} {text = text} r = word_is (take n text) (let e = taken_length r
 run_number : {n : ℕ} {text : List ℕ} → RunAt is_digit is_digit n text → is_number (take n text) ≡ true
 run_number {n = n} {text = text} r = number_from (take n text) (let e = taken_length r in let h = r.some in omega arith) r.all
 
+-- a run of at most so many bytes from a letter on is a word
 pub word_read : (text : List ℕ) (n : ℕ) (name : List ℕ) → 0 < length text → is_letter (get_or text 0 0) ≡ true → n ≡ prefix_len is_word_byte text → name ≡ take n text
     → Reads (shape.Word name) n text
 word_read text n name h k e t =
     let made : RunAt is_letter is_word_byte n text = rw e (word_run text h k) in
     rw t (record { within = made.within; some = made.some; spells = Spells.word (run_word made) made.stops })
 
+-- a longer one is beyond the limit
 pub word_long : (text : List ℕ) (n : ℕ) → 0 < length text → is_letter (get_or text 0 0) ≡ true → n ≡ prefix_len is_word_byte text → 64 < n
     → (open' row : ℕ) → Wrong open' row text (Limit NameBytes)
 word_long text n h k e l open' row =
     let made : RunAt is_letter is_word_byte n text = rw e (word_run text h k) in
     Wrong.long (take n text) (drop n text) (sym (take-append-drop n text)) (run_word made) made.stops (let q = taken_length made in omega arith)
 
+-- a run of digits whose value is a word is a number
 pub number_read : (text : List ℕ) (n v : ℕ) → 0 < length text → is_digit (get_or text 0 0) ≡ true → n ≡ prefix_len is_digit text → value_of (take n text) ≡ v → v < 2 ^ 64
     → Reads (shape.Number v) n text
 number_read text n v h k e t l =
     let made : RunAt is_digit is_digit n text = rw e (number_run text h k) in
     record { within = made.within; some = made.some; spells = Spells.number v (run_number made) made.stops (sym t) l }
 
+-- one of a greater value is wide
 pub number_wide : (text : List ℕ) (n : ℕ) → 0 < length text → is_digit (get_or text 0 0) ≡ true → n ≡ prefix_len is_digit text → (is_number (take n text) ≡ true → 2 ^ 64 ≤ value_of (take n text))
     → (open' row : ℕ) → Wrong open' row text Wide
 number_wide text n h k e l open' row =
     let made : RunAt is_digit is_digit n text = rw e (number_run text h k) in
     Wrong.wide (take n text) (drop n text) (sym (take-append-drop n text)) (run_number made) made.stops (l (run_number made))
 
+-- a byte that begins no gap, word, number or mark is wrong
 pub byte_wrong : (text : List ℕ) → 0 < length text → begins_gap (get_or text 0 0) ≡ false → is_letter (get_or text 0 0) ≡ false → is_digit (get_or text 0 0) ≡ false
     → ((m : Mark) (more : List ℕ) → text ≡ spelling m ++ more → ⊥) → (open' row : ℕ) → Wrong open' row text Byte
 byte_wrong [] h g l d m open' row = absurd (omega arith)

@@ -32,7 +32,9 @@ mark_of_one b =
 -- the mark of two bytes
 abbrev pub mark_of_two : ℕ → ℕ → Option Mark
 mark_of_two b c =
-    if c == 61 then (if b == 60 then Some LessEq else if b == 62 then Some MoreEq else if b == 61 then Some Same else if b == 33 then Some Differs else None)
+    if c == 61
+    then (if b == 60 then Some LessEq else if b == 62 then Some MoreEq else if b == 61
+    then Some Same else if b == 33 then Some Differs else None)
     else if b == 60 then (if c == 60 then Some ShiftLeft else None)
     else if b == 62 then (if c == 62 then Some ShiftRight else None)
     else None

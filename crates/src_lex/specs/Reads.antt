@@ -16,7 +16,7 @@ begins_gap b = is_blank b || (b == 35)
 abbrev pub ends_gap : List ℕ → Bool
 ends_gap text = is_end text || starts_without begins_gap text
 
--- the first so many bytes are the longest spelling of the shape
+-- the first this many bytes are the longest spelling of the shape
 pub record Reads (s : Shape) (count : ℕ) (text : List ℕ) : Type 0 where
   pub within : count ≤ length text
   pub some : 0 < count
@@ -25,10 +25,13 @@ pub record Reads (s : Shape) (count : ℕ) (text : List ℕ) : Type 0 where
 -- why no lexeme is read here, whatever stood before it
 abbrev pub IsWrongHere : List ℕ → Place → TextFault → Type 0
 IsWrongHere text place NoMemory = Unit {0}
-IsWrongHere text place (Refused r) = (r.place ≡ place) × ((open' row : ℕ) → Wrong open' row text r.kind)
+IsWrongHere text place (Refused r) =
+    (r.place ≡ place) × ((open' row : ℕ) → Wrong open' row text r.kind)
 
 -- why a lexeme stands beyond a limit here
 abbrev pub Exceeds : ℕ → ℕ → Shape → Place → TextFault → Type 0
 Exceeds open' row s place NoMemory = ⊥
 Exceeds open' row s place (Refused r) =
-    (r.place ≡ place) × ((bytes behind : List ℕ) → Spells s bytes behind → IsShort s → Wrong open' row (bytes ++ behind) r.kind)
+    (r.place ≡ place)
+    × ((bytes behind : List ℕ) → Spells s bytes behind → IsShort s
+    → Wrong open' row (bytes ++ behind) r.kind)

@@ -14,7 +14,8 @@ fn line_length(text: &[u8]) -> usize
     text.iter().take_while(|b| **b != b'\n').count()
 }
 
-/// How many bytes a blank or a comment takes that the text begins with, or 0 if neither stands there.
+/// How many bytes a blank or a comment takes that the text begins with, or 0 if neither stands
+/// there.
 #[tactic(auto, using(crate::proofs::Gaps::pieces))]
 fn piece_length(text: &[u8]) -> usize
     ensures within { result ≤ length text.now }

@@ -7,13 +7,10 @@ ghost use Rattle.src_lex.specs.Reads.{Reads, IsWrongHere, begins_gap};
 
 use crate::class::{is_digit, is_letter, number_length, word_length};
 use crate::mark::mark;
-use src_ast::{Place, Quantity, Refusal, RefusalKind, Shape, TextFault};
+use src_ast::{MOST_NAME_BYTES, Place, Quantity, Refusal, RefusalKind, Shape, TextFault};
 use std::alloc::Global;
 use ws_io::decimal;
 use ws_words::Bytes;
-
-/// The most bytes that a word may have.
-const MOST_NAME_BYTES: usize = 64;
 
 /// The word that the text begins with, and how many bytes it takes.
 #[tactic(auto, using(crate::proofs::Words::words))]

@@ -10,7 +10,11 @@ mod mark;
 mod place;
 mod text;
 
-pub use laws::{no_fault_within_limits, one_fault, one_lexing};
+pub use class::is_blank;
+pub use laws::{
+    each_text_is_lexed_once, no_fault_within_limits, one_fault, one_lexing,
+    what_reads_the_same_is_written,
+};
 pub use place::place_behind;
 pub use text::lex;
 

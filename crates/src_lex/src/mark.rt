@@ -68,7 +68,8 @@ fn mark_of_front(text: &[u8]) -> Option<Mark>
 #[tactic(auto, using(crate::proofs::Marks::marks))]
 pub fn mark(text: &[u8]) -> Option<(Mark, usize)>
     ensures some { IfSome result (λ p. Reads (Shape.Mark p.0) p.1 text.now) }
-    ensures none { IfNone result ((m : Mark) (more : List ℕ) → text.now ≡ lexemes.spelling m ++ more → ⊥) }
+    ensures none { IfNone result ((m : Mark) (more : List ℕ) → text.now ≡ lexemes.spelling m
+        ++ more → ⊥) }
 {
     if let Some(mark) = mark_of_front(text) {
         return Some((mark, 2));

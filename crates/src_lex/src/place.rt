@@ -5,7 +5,7 @@ ghost use Rattle.src_ast.specs.Lexemes as lexemes;
 
 use src_ast::Place;
 
-/// Where a byte behind this one stands.
+/// Where the byte after this one stands.
 fn past(at: Place, byte: u8) -> Place
     requires line { 0 < at.line }
     requires column { 0 < at.column }
@@ -25,7 +25,7 @@ fn past(at: Place, byte: u8) -> Place
     }
 }
 
-/// Where what stands behind these bytes begins, where they begin at a place.
+/// Where what stands after these bytes begins, where they begin at a place.
 #[tactic(auto, using(crate::proofs::Places::places))]
 pub fn place_behind(at: Place, bytes: &[u8]) -> Place
     requires line { 0 < at.line }

@@ -32,7 +32,7 @@ fn read(alloc: Global, text: &[u8]) -> Result<Lexemes, TextFault>
             return Ok(Lexemes { items, finish });
         }
         let (shape, length) = read_shape(alloc, front, place)?;
-        counts = counts.behind(&shape, place)?;
+        counts = counts.past(&shape, place)?;
         if items.push(Lexeme { shape, place }).is_err() {
             return Err(TextFault::NoMemory);
         }
@@ -49,7 +49,9 @@ pub fn lex(alloc: Global, text: &[u8]) -> Result<Lexemes, TextFault>
     ensures found { IfOk result (λ l. lexemes.Lex text.now l.items.items l.finish) }
     ensures kept { IfOk result (λ l. lexemes.KeepLimits 0 0 l.items.items) }
     // A text's lexemes within the limits are answered, unless memory runs out.
-    ensures only { (ls : List Lexeme) (finish : Place) → lexemes.Lex text.now ls finish → lexemes.KeepLimits 0 0 ls → AnswersLexemes result ls finish }
+    ensures only { (ls : List Lexeme) (finish : Place)
+        → lexemes.Lex text.now ls finish → lexemes.KeepLimits 0 0 ls
+        → AnswersLexemes result ls finish }
     // A refusal is the first fault of the text.
     ensures refused { IfErr result (λ e. IsLexFault text.now e) }
 {

@@ -1,4 +1,4 @@
--- What is spelled so is read so, where what stands behind it doesn't continue it.
+-- What is spelled so is read so, where what stands after it doesn't continue it.
 use Rattle.std.specs.Prelude.{◌≡◌, ℕ, ◌+◌, ◌≤◌, List, [], ◌∷◌, ◌++◌, Option, Some, None, false, refl}
 use Rattle.std.proofs.Common.{sym, ◌∙◌, ap, subst, append_assoc, arith}
 use Rattle.std.proofs.lemmas.Bool.{lt-ltb, le-ltb}
@@ -24,7 +24,7 @@ abbrev pub NoIndex : List Lexeme → Type 0
 NoIndex [] = Unit {0}
 NoIndex (l ∷ ls) = is_mark mark.LSquare l.shape ≡ false
 
--- behind an expression this mark ends it
+-- after an expression this mark ends it
 pub record Closes (m : Mark) : Type 0 where
   pub operator : operator_of m ≡ None
   pub index : is_mark mark.LSquare (shape.Mark m) ≡ false
@@ -43,22 +43,25 @@ unfolding further
 further_stays whole again min left None l ls h = refl
 further_stays whole again min left (Some op) l ls h = rw (lt-ltb (level_of op) min h) refl
 
+-- no operator of this level stands there: the operand is all
 pub operators_stay : (min : ℕ) (left : Expression) (ts : List Lexeme) → Below min ts → operators_at min left ts ≡ Done left ts
 unfolding operators
 operators_stay min left [] h = operators_at_is min left []
 operators_stay min left (l ∷ ts) h = operators_at_is min left (l ∷ ts) ∙ further_stays expression_at (operators_at min) min left (operator_in l.shape) l ts h
 
+-- a mark that is no operator ends an expression
 pub below_mark : (m : Mark) (n : ℕ) (last : Lexeme) (ts : List Lexeme) → operator_of m ≡ None → Is m last → Below n (last ∷ ts)
 below_mark m n last ts o h = subst (OpBelow n) (sym (ap operator_in h ∙ o)) tt
 
 pub no_index_mark : (m : Mark) (last : Lexeme) (ts : List Lexeme) → is_mark mark.LSquare (shape.Mark m) ≡ false → Is m last → NoIndex (last ∷ ts)
 no_index_mark m last ts i h = ap (is_mark mark.LSquare) h ∙ i
 
+-- a mark that is there is read
 pub expect_mark : (m : Mark) (l : Lexeme) (ts : List Lexeme) → Is m l → expect m (l ∷ ts) ≡ Done tt ts
 unfolding expect
 expect_mark m l ts h = rw (is_mark-same m l.shape h) refl
 
--- an expression with a mark behind it
+-- an expression with a mark after it
 pub closed : (m : Mark) → Closes m → (ls : List Lexeme) (e : Expression) (last : Lexeme) (ts : List Lexeme) → Is m last
     → ((ts : List Lexeme) → Below 1 ts → NoIndex ts → expression_at 0 (ls ++ ts) ≡ operators_at 0 e ts)
     → expression_at 0 ((ls ++ last ∷ []) ++ ts) ≡ Done e (last ∷ ts)
@@ -66,7 +69,7 @@ closed m c ls e last ts h ih =
     rw append_assoc (ih (last ∷ ts) (below_mark m 1 last ts c.operator h) (no_index_mark m last ts c.index h)
     ∙ operators_stay 0 e (last ∷ ts) (below_mark m 0 last ts c.operator h))
 
--- behind an operand come the operators
+-- after an operand come the operators
 from_operand : (ls ts : List Lexeme) (e : Expression) (m : ℕ) → operand_at (ls ++ ts) ≡ Done e ts → expression_at m (ls ++ ts) ≡ operators_at m e ts
 unfolding expression_at
 from_operand ls ts e m h = ap (λ y. y |> operators_at m) h
@@ -84,11 +87,13 @@ named_index : (whole : Reader Expression) (a : Name) (first last : Lexeme) (rest
 unfolding named
 named_index whole a first last rest ts e f z h = rw (is_mark-same mark.LSquare first.shape f, h, expect_mark mark.RSquare last ts z) refl
 
+-- a name with no index is a variable
 pub named_alone : (whole : Reader Expression) (a : Name) (ts : List Lexeme) → NoIndex ts → named whole a ts ≡ Done (Variable a) ts
 unfolding named
 named_alone whole a [] h = refl
 named_alone whole a (l ∷ ts) h = rw h refl
 
+-- a name is an operand, with its index if it has one
 pub operand_name : (l : Lexeme) (x : Name) (ts : List Lexeme) → IsName x l → operand_at (l ∷ ts) ≡ named (expression_at 0) x ts
 unfolding operand_shape
 operand_name l x ts h = operand_behind (l ∷ ts) l ts refl ∙ rw (h.word, h.free, h.place) refl
@@ -157,18 +162,23 @@ operators_go min left right op l ls ts h le e =
     operators_at_is min left (l ∷ ls) ∙ ap (λ o. further expression_at (operators_at min) min left o l ls) o
     ∙ further_goes expression_at (operators_at min) min left right op l ls ts le e
 
+-- a semicolon ends an expression
 pub semi : Closes mark.Semi
 semi = record { operator = refl; index = refl }
 
+-- so does a comma
 pub comma : Closes mark.Comma
 comma = record { operator = refl; index = refl }
 
+-- so does a `]`
 pub square : Closes mark.RSquare
 square = record { operator = refl; index = refl }
 
+-- so does a `)`
 pub paren : Closes mark.RParen
 paren = record { operator = refl; index = refl }
 
+-- what is spelled as an expression is read as it
 pub complete : (n : ℕ) (ws : List Lexeme) (e : Expression) → Spelled n ws e
     → (m : ℕ) → m ≤ n → (ts : List Lexeme) → Below (n + 1) ts → NoIndex ts → expression_at m (ws ++ ts) ≡ operators_at m e ts
 complete n ws e (number l v h) m le ts b i = from_operand ws ts e m (operand_number l v ts h)

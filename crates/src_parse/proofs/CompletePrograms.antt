@@ -111,6 +111,7 @@ unfolding items_by item_at
 items_go [] r a all e k = cc
 items_go (l ∷ x) r a all e k = program_at_is (l ∷ x) ∙ ap (λ y. y |> λ a r. (program_at r |> λ all r. Done (a ∷ all) r)) e ∙ rw k refl
 
+-- what is spelled as a program is read as it
 pub complete_program : (ks : List Lexeme) (all : List Part) → Tree ks all → program_at ks ≡ Done all []
 unfolding items_by
 complete_program ks all no_items = program_at_is []

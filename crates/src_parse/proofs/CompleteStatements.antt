@@ -23,6 +23,7 @@ complete_ended : (ls : List Lexeme) (e : Expression) (last : Lexeme) (ts : List 
 unfolding ended_at
 complete_ended ls e last ts s z = rw (whole mark.Semi semi ls e last ts z s, expect_mark mark.Semi last ts z) refl
 
+-- an expression and its semicolon are read
 pub complete_value : {A : Type 0} (f : Expression → A) (ls : List Lexeme) (e : Expression) (last : Lexeme) (ts : List Lexeme) → Spelled 0 ls e → Is mark.Semi last → value_at f (ls ++ (last ∷ ts)) ≡ Done (f e) ts
 unfolding value_at
 complete_value f ls e last ts s z = rw (complete_ended ls e last ts s z) refl
@@ -32,7 +33,7 @@ complete_call : (f : List Expression → Statement) (ls : List Lexeme) (es : Lis
 unfolding call_at
 complete_call f ls es last end ts s z q = rw (complete_enclosed (Spelled 0) (expression_at 0) expressions ls es last (end ∷ ts) s z, expect_mark mark.Semi end ts q) refl
 
--- behind a name that an expression begins with, the rest of the expression
+-- after a name that an expression begins with, the rest of the expression
 pub named_rest : (l : Lexeme) (y : Name) (x : List Lexeme) → IsName y l → expression_at 0 (l ∷ x) ≡ (named (expression_at 0) y x |> operators_at 0)
 unfolding expression_at
 named_rest l y x h = ap (λ r. r |> operators_at 0) (operand_name l y x h)
@@ -40,7 +41,7 @@ named_rest l y x h = ap (λ r. r |> operators_at 0) (operand_name l y x h)
 Semi-not-LParen : (l : Lexeme) → Is mark.Semi l → is_mark mark.LParen l.shape ≡ true → ⊥
 Semi-not-LParen l h e = let bad : false ≡ true = sym (ap (is_mark mark.LParen) h) ∙ e in cc
 
--- an expression is read as one behind `x =`, whatever a call would be
+-- an expression is read as one after `x =`, whatever a call would be
 value_named : (f : Expression → Statement) (g : List Expression → Statement) (l : Lexeme) (y : Name) (x : List Lexeme) (e : Expression) (last : Lexeme) (ts : List Lexeme) → IsName y l → Is mark.Semi last
     → expression_at 0 (l ∷ x) ≡ Done e (last ∷ ts) → named_value f g y x ≡ Done (f e) ts
 unfolding named_value
@@ -133,6 +134,7 @@ unfolding stored_at
 stored_done x js i last equals es e end ts c d f g h =
     rw (whole mark.RSquare square js i last (equals ∷ (es ++ (end ∷ ts))) d c, expect_mark mark.RSquare last (equals ∷ (es ++ (end ∷ ts))) d, expect_mark mark.Assign equals (es ++ (end ∷ ts)) f, complete_value (Store x.place x i) es e end ts g h) refl
 
+-- a call after `x =` is read
 pub assigned_call : (f : Expression → Statement) (g : Name → List Expression → Statement) (l m : Lexeme) (y : Name) (ts : List Lexeme) → IsName y l → Is mark.LParen m → assigned_at f g (l ∷ m ∷ ts) ≡ call_at (g y) ts
 unfolding assigned_at assigned_by named_value
 assigned_call f g l m y ts h q = rw (h.word, h.free, h.place, q) refl
@@ -210,7 +212,7 @@ else_go : (l : Lexeme) (x : List Lexeme) → IsWord (codes "else") l → else_by
 unfolding else_by
 else_go l x h = rw h refl
 
--- in front of statements, and of what stands behind them, stands no word that starts none
+-- in front of statements, and of what stands after them, stands no word that starts none
 pub statements_other : (v : List ℕ) → starts (shape.Word v) ≡ false → (rs : List Lexeme) (b : Statements) → SpelledStatements rs b → (ts : List Lexeme) → NoWord v ts → NoWord v (rs ++ ts)
 statements_other v o rs b nothing ts n = n
 statements_other v o rs b (first_then ls qs s rest eq p k) ts n = subst (λ x. NoWord v (x ++ ts)) (sym eq) (other_behind v o (ls ++ qs) ts (starts_behind ls qs (begins ls s p)))
@@ -253,6 +255,7 @@ mutual
   complete_else ks b no_else ts n = else_stay ts n
   complete_else ks b (with_else l ls body h k) ts n = else_go l (ls ++ ts) h ∙ complete_block ls b k ts
 
+  -- what is spelled as statements is read as them
   pub complete_statements : (ks : List Lexeme) (b : Statements) → SpelledStatements ks b → (ts : List Lexeme) → NoWord (codes "else") ts → starts_at ts ≡ false → statements_at (ks ++ ts) ≡ Done b ts
   complete_statements ks b nothing ts n h = statements_stay ts h
   complete_statements ks b (first_then ls rs s rest eq p k) ts n h =

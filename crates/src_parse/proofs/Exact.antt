@@ -4,10 +4,12 @@ use Rattle.std.proofs.Common.{sym, ◌∙◌, ap, subst, append_assoc}
 use Rattle.src_ast.specs.declared.lexeme.Lexeme.{Lexeme}
 use Rattle.src_parse.specs.Reading.{Reading, Reader, Done, Stuck, ◌|>◌}
 
+-- the first lexeme
 abbrev pub head : List Lexeme → Option Lexeme
 head [] = None
 head (l ∷ ls) = Some l
 
+-- a phrase was read: a front of the lexemes, which is read so before any lexemes that begin alike
 pub record Good {A : Type 0} (L : List Lexeme → A → Type 0) (P : Reader A) (input : List Lexeme) (a : A) (rest : List Lexeme) : Type 0 where
   pub front : List Lexeme
   pub is : input ≡ front ++ rest
@@ -22,21 +24,26 @@ pub record Bad {A : Type 0} (L : List Lexeme → A → Type 0) (P : Reader A) (i
   pub spelled : L (front ++ more) tree
   pub local : (c : List Lexeme) → head c ≡ head rest → P (front ++ c) ≡ Stuck c
 
+-- what was read is a phrase, or a front that some phrase begins with
 abbrev pub ExactAt : {A : Type 0} → (List Lexeme → A → Type 0) → Reader A → List Lexeme → Reading A → Type 0
 ExactAt L P input (Done a rest) = Good L P input a rest
 ExactAt L P input (Stuck rest) = Bad L P input rest
 
+-- so it is for this input
 abbrev pub Exact : {A : Type 0} → (List Lexeme → A → Type 0) → Reader A → List Lexeme → Type 0
 Exact L P input = ExactAt L P input (P input)
 
+-- lexemes with no first are none
 pub head-nil : (c : List Lexeme) → head c ≡ None → c ≡ []
 head-nil [] e = refl
 head-nil (l ∷ c) e = cc
 
+-- lexemes with a first begin with it
 pub head-cons : (c : List Lexeme) (l : Lexeme) → head c ≡ Some l → (d : List Lexeme) × (c ≡ l ∷ d)
 head-cons [] l e = cc
 head-cons (x ∷ c) l e = (c, cc)
 
+-- the first of two lists is that of the first list, or else of the second
 pub head-behind : (vs c r : List Lexeme) → head c ≡ head r → head (vs ++ c) ≡ head (vs ++ r)
 head-behind [] c r e = e
 head-behind (v ∷ vs) c r e = refl
@@ -46,10 +53,12 @@ pub exact_done_end : {A : Type 0} (L : List Lexeme → A → Type 0) (P : Reader
 exact_done_end L P a e h =
     subst (ExactAt L P []) (sym e) (record { front = []; is = refl; spelled = h; local = λ c s. subst (λ d. P d ≡ Done a d) (sym (head-nil c s)) e })
 
+-- stuck at the end
 pub exact_stuck_end : {A : Type 0} (L : List Lexeme → A → Type 0) (P : Reader A) (more : List Lexeme) (a : A) → P [] ≡ Stuck [] → L more a → Exact L P []
 exact_stuck_end L P more a e h =
     subst (ExactAt L P []) (sym e) (record { front = []; is = refl; more = more; tree = a; spelled = h; local = λ c s. subst (λ d. P d ≡ Stuck d) (sym (head-nil c s)) e })
 
+-- done before a lexeme
 pub exact_done : {A : Type 0} (L : List Lexeme → A → Type 0) (P : Reader A) (a : A) (l : Lexeme) (ls : List Lexeme)
     → ((x : List Lexeme) → P (l ∷ x) ≡ Done a (l ∷ x)) → L [] a → Exact L P (l ∷ ls)
 exact_done L P a l ls e h =
@@ -60,6 +69,7 @@ exact_done L P a l ls e h =
       local = λ c s. let d = head-cons c l s in subst (λ d. P d ≡ Done a d) (sym d.1) (e d.0);
     })
 
+-- stuck at a lexeme
 pub exact_stuck : {A : Type 0} (L : List Lexeme → A → Type 0) (P : Reader A) (more : List Lexeme) (a : A) (l : Lexeme) (ls : List Lexeme)
     → ((x : List Lexeme) → P (l ∷ x) ≡ Stuck (l ∷ x)) → L more a → Exact L P (l ∷ ls)
 exact_stuck L P more a l ls e h =
@@ -103,12 +113,13 @@ shift_at L M P Q l ls e m (Stuck rest) h = record {
   local = λ c s. e (h.front ++ c) ∙ h.local c s;
 }
 
+-- a reader that reads one lexeme more
 pub exact_shift : {A : Type 0} (L M : List Lexeme → A → Type 0) (P Q : Reader A) (l : Lexeme) (ls : List Lexeme)
     → ((x : List Lexeme) → P (l ∷ x) ≡ Q x) → ((ws : List Lexeme) (a : A) → M ws a → L (l ∷ ws) a)
     → Exact M Q ls → Exact L P (l ∷ ls)
 exact_shift L M P Q l ls e m h = subst (ExactAt L P (l ∷ ls)) (sym (e ls)) (shift_at L M P Q l ls e m (Q ls) h)
 
--- one reader behind another
+-- one reader after another
 bind_behind : {A B : Type 0} (L : List Lexeme → A → Type 0) (M : List Lexeme → B → Type 0) (N : List Lexeme → B → Type 0)
     (P : Reader A) (Q : A → Reader B) (input : List Lexeme) (a : A) (rest : List Lexeme)
     → Good L P input a rest
@@ -149,7 +160,7 @@ bind_at L M N P Q input join fill (Stuck rest) e g q =
       local = λ c s. rw (g.local c s) refl;
     }
 
--- Where both are exact. A phrase of the first has something behind it that makes a whole one.
+-- Where both are exact. A phrase of the first has something after it that makes a whole one.
 pub exact_bind : {A B : Type 0} (L : List Lexeme → A → Type 0) (M : A → List Lexeme → B → Type 0) (N : List Lexeme → B → Type 0)
     (P : Reader A) (Q : A → Reader B) (input : List Lexeme)
     → ((us vs : List Lexeme) (a : A) (b : B) → L us a → M a vs b → N (us ++ vs) b)

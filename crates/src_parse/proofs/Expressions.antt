@@ -27,6 +27,7 @@ looser m n ls e le (round first last js eq f s z) = round first last js eq f s z
 looser m n ls e le (signed l js s i lt h k) = signed l js s i (omega arith) h k
 looser m n ls e le (binary l js rs op a b lt eq h p q) = binary l js rs op a b (omega arith) eq h p q
 
+-- levels go to 7
 pub level-bound : (op : Alu) → level_of op ≤ 7
 level-bound Add = omega arith
 level-bound Sub = omega arith
@@ -50,6 +51,7 @@ abbrev pub OpBelow : ℕ → Option Alu → Type 0
 OpBelow bound None = Unit {0}
 OpBelow bound (Some op) = level_of op < bound
 
+-- no operator of this level or tighter is in front
 abbrev pub Below : ℕ → List Lexeme → Type 0
 Below bound [] = Unit {0}
 Below bound (l ∷ ls) = OpBelow bound (operator_in l.shape)
@@ -58,6 +60,7 @@ op_below_8 : (o : Option Alu) → OpBelow 8 o
 op_below_8 None = tt
 op_below_8 (Some op) = omega (arith, level-bound op)
 
+-- no operator is of level 8
 pub below_8 : (ls : List Lexeme) → Below 8 ls
 below_8 [] = tt
 below_8 (l ∷ ls) = op_below_8 (operator_in l.shape)
@@ -66,6 +69,7 @@ op_below_9 : (o : Option Alu) → OpBelow 9 o
 op_below_9 None = tt
 op_below_9 (Some op) = omega (arith, level-bound op)
 
+-- nor of level 9
 pub below_9 : (ls : List Lexeme) → Below 9 ls
 below_9 [] = tt
 below_9 (l ∷ ls) = op_below_9 (operator_in l.shape)
@@ -77,6 +81,7 @@ name_at w l = record { text = w; place = l.place }
 spelled_nought : (n : ℕ) → Spelled n (lexeme_with (shape.Number 0) ∷ []) (Number 0)
 spelled_nought n = number (lexeme_with (shape.Number 0)) 0 refl
 
+-- a name, with its index if it has one
 pub exact_named : (n : ℕ) (whole : Reader Expression) → ((x : List Lexeme) → Exact (Spelled 0) whole x)
     → (l : Lexeme) (x : Name) → IsName x l → (ls : List Lexeme) → Exact (λ ws e. Spelled n (l ∷ ws) e) (named whole x) ls
 unfolding named
@@ -139,10 +144,11 @@ unfolding operand
 exact_operand part whole p w [] = exact_stuck_end (Spelled 8) (operand part whole) (lexeme_with (shape.Number 0) ∷ []) (Number 0) refl (spelled_nought 8)
 exact_operand part whole p w (l ∷ ls) = exact_operand_shape part whole p w l.shape l refl (operand part whole) (λ x. refl) ls
 
--- what operators and operands behind an operand of level t make of it
+-- what operators and operands after an operand of level t make of it
 abbrev pub Behind : ℕ → ℕ → Expression → List Lexeme → Expression → Type 0
 Behind t min left vs e = (us : List Lexeme) → Spelled t us left → Spelled min (us ++ vs) e
 
+-- an operand with nothing after it
 pub behind_nothing : (t min : ℕ) (left : Expression) → min ≤ t → Behind t min left [] left
 behind_nothing t min left le us h = rw append-nil (looser min t us left le h)
 
@@ -163,7 +169,7 @@ abbrev rest_of : {A : Type 0} → Reading A → List Lexeme
 rest_of (Done a r) = r
 rest_of (Stuck r) = r
 
--- Behind an expression stands no operator of its level or a tighter one.
+-- After an expression stands no operator of its level or a tighter one.
 further_below : (k min : ℕ) (left : Expression) (o : Option Alu) (l : Lexeme) → operator_in l.shape ≡ o
     → ((e left : Expression) (x r : List Lexeme) → operators_in k min left x ≡ Done e r → Below min r)
     → (ls : List Lexeme) (e : Expression) (r : List Lexeme)
@@ -225,12 +231,14 @@ exact_further k min t left le le8 (Some op) l h b whole again P e ls = go (nat_l
 mutual
   unfolding operand_in operators_in operators
 
+  -- an operand
   pub exact_operand_in : (k : ℕ) (ls : List Lexeme) → Exact (Spelled 8) (operand_in k) ls
   exact_operand_in zero ls = exact_never (Spelled 8) (operand_in zero) (lexeme_with (shape.Number 0) ∷ []) (Number 0) ls (λ x. refl) (spelled_nought 8)
   exact_operand_in (suc k) ls =
       exact_operand (operand_in k) (λ r. operand_in k r |> operators_in k 0) (exact_operand_in k)
       (exact_expression_of (operand_in k) (operators_in k) (exact_operand_in k) (λ min left x le. exact_operators_in k min 8 left le (omega arith) x (below_9 x)) 0 (omega arith)) ls
 
+  -- operators after an operand
   pub exact_operators_in : (k min t : ℕ) (left : Expression) → min ≤ t → t ≤ 8 → (ls : List Lexeme) → Below (t + 1) ls → Exact (Behind t min left) (operators_in k min left) ls
   exact_operators_in zero min t left le le8 ls b = exact_never (Behind t min left) (operators_in zero min left) [] left ls (λ x. refl) (behind_nothing t min left le)
   exact_operators_in (suc k) min t left le le8 [] b = exact_done_end (Behind t min left) (operators_in (suc k) min left) left refl (behind_nothing t min left le)
@@ -240,6 +248,7 @@ mutual
       (λ t left x le le8 b. exact_operators_in k min t left le le8 x b)
       (operators_in (suc k) min left) (λ x. refl) ls
 
+-- an expression
 pub exact_expression : (k min : ℕ) → min ≤ 8 → (ls : List Lexeme) → Exact (Spelled min) (expression_in k min) ls
 unfolding expression_in
 exact_expression k min le ls =

@@ -18,6 +18,7 @@ keyword_in-is (j ∷ ks) w k e = go (keyword_in-is ks w k) (pointwise nat_eq w (
         same_text w (spelling_of j) (sym q) ∙ ap spelling_of one
     go ih false q = ih (sym (rw q refl) ∙ e)
 
+-- a word of the language is spelled as it is
 pub keyword_of-is : (w : List ℕ) (k : Keyword) → keyword_of w ≡ Some k → w ≡ spelling_of k
 keyword_of-is w k e = keyword_in-is keywords w k e
 
@@ -59,6 +60,7 @@ keyword_reserved w k e = reserved_by w ∙ ap is_one e
 pub keyword_free : (w : List ℕ) → keyword_of w ≡ None → is_reserved w ≡ false
 keyword_free w e = reserved_by w ∙ ap is_one e
 
+-- a word that is not reserved is none of the language
 pub keyword_none : (w : List ℕ) → is_reserved w ≡ false → keyword_of w ≡ None
 keyword_none w f = go (keyword_of w) refl
   where

@@ -1,26 +1,31 @@
 -- What the reader of programs says of the grammar.
-use Rattle.std.specs.Prelude.{◌≡◌, List, [], ◌∷◌, ◌++◌, refl}
+use Rattle.std.specs.Prelude.{◌≡◌, ℕ, zero, suc, length, Result, Ok, Err, List, [], ◌∷◌, ◌++◌, refl}
 use Rattle.std.proofs.Common.{sym, ◌∙◌, ap, subst, append_assoc}
 use Rattle.src_ast.specs.declared.lexeme.Place.{Place}
 use Rattle.src_ast.specs.declared.lexeme.Lexeme.{Lexeme}
 use Rattle.src_ast.specs.Syntax.{Part}
 use Rattle.src_ast.specs.Grammar.{Tree, Begins}
-use Rattle.src_ast.specs.Faults.{SyntaxAt, here, at_end}
-use Rattle.src_parse.specs.Programs.{program_at, place_of}
-use Rattle.src_parse.specs.Reading.{Reading, Done, Stuck}
+use Rattle.src_ast.specs.Faults.{SyntaxAt, here, at_end, IsTreeAnswer}
+use Rattle.src_ast.specs.Once.{ExactlyOne}
+use Rattle.src_parse.specs.Programs.{item_at, items_by, items_in, program_at, place_of}
+use Rattle.src_parse.specs.Reading.{Reading, Reader, Done, Stuck, ◌|>◌}
 use Rattle.src_parse.proofs.Programs.{ready_program}
 use Rattle.src_parse.proofs.CompletePrograms.{complete_program}
 use Rattle.src_parse.proofs.Whole.{whole_found, whole_place, whole_end, whole_one}
 
+-- what is read as a program is spelled as it
 pub parse_found : (ls : List Lexeme) (all : List Part) → program_at ls ≡ Done all [] → Tree ls all
 parse_found ls all e = whole_found Tree program_at ready_program ls all e
 
+-- what is spelled is what was read
 pub parse_same : (ls : List Lexeme) (all parts : List Part) → program_at ls ≡ Done all [] → Tree ls parts → all ≡ parts
 parse_same ls all parts e t = let same : (Reading.Done all []) ≡ Done parts [] = sym e ∙ complete_program ls parts t in cc
 
+-- where the reader is stuck, no program is spelled
 pub parse_never : (ls r : List Lexeme) (parts : List Part) → program_at ls ≡ Stuck r → Tree ls parts → ⊥
 parse_never ls r parts e t = let bad : (Reading.Done parts []) ≡ Stuck r = sym (complete_program ls parts t) ∙ e in cc
 
+-- where the reader is stuck, the lexemes are wrong
 pub parse_fault : (ls r : List Lexeme) (finish : Place) → program_at ls ≡ Stuck r → SyntaxAt ls finish (place_of r finish)
 parse_fault ls [] finish e = let h = whole_end Tree program_at ready_program complete_program ls e in at_end h.0 h.1
 parse_fault ls (l ∷ behind) finish e = let h = whole_place Tree program_at ready_program complete_program ls l behind e in here h.front behind l h.is h.begins h.no_more
@@ -62,3 +67,41 @@ one_place ls finish a b (here f r l e g n) (here f' r' m e' g' n') = ap (λ l. l
 one_place ls finish a b (here f r l e g n) (at_end g' n') = absurd (n (front_begins ls f r l e g'))
 one_place ls finish a b (at_end g n) (here f' r' m e' g' n') = absurd (n' (front_begins ls f' r' m e' g))
 one_place ls finish a b (at_end g n) (at_end g' n') = refl
+
+none_left : (a : Part) (y : Reading (List Part)) (all : List Part) (rest : List Lexeme) → ((b : List Part) (r : List Lexeme) → y ≡ Done b r → r ≡ [])
+    → (y |> λ b r. Done (a ∷ b) r) ≡ Done all rest → rest ≡ []
+none_left a (Stuck r) all rest h e = cc
+none_left a (Done b r) all rest h e = let same : r ≡ rest = cc in sym same ∙ h b r refl
+
+none_left_behind : (f : Reader (List Part)) → ((ls : List Lexeme) (b : List Part) (r : List Lexeme) → f ls ≡ Done b r → r ≡ [])
+    → (x : Reading Part) (all : List Part) (rest : List Lexeme) → (x |> λ a r. (f r |> λ b r. Done (a ∷ b) r)) ≡ Done all rest → rest ≡ []
+none_left_behind f h (Stuck r) all rest e = cc
+none_left_behind f h (Done a r) all rest e = none_left a (f r) all rest (h r) e
+
+-- the reader of a program leaves no lexeme
+nothing_left : (k : ℕ) (ls : List Lexeme) (all : List Part) (rest : List Lexeme) → items_in k ls ≡ Done all rest → rest ≡ []
+unfolding items_in items_by
+nothing_left zero ls all rest e = cc
+nothing_left (suc k) [] all rest e = cc
+nothing_left (suc k) (l ∷ ls) all rest e = none_left_behind (items_in k) (nothing_left k) (item_at (l ∷ ls)) all rest e
+
+whole_program : (ls : List Lexeme) (all : List Part) (rest : List Lexeme) → program_at ls ≡ Done all rest → program_at ls ≡ Done all []
+unfolding program_at
+whole_program ls all rest e = e ∙ ap (λ r. Done all r) (nothing_left (suc (length ls)) ls all rest e)
+
+-- a tree, or a place where the lexemes are wrong, by what the reader gives
+answer_by : (ls : List Lexeme) (finish : Place) (r : Reading (List Part)) → program_at ls ≡ r → (answer : Result (List Part) Place) × IsTreeAnswer ls finish answer
+answer_by ls finish (Done all rest) e = (Ok all, parse_found ls all (whole_program ls all rest e))
+answer_by ls finish (Stuck r) e = (Err (place_of r finish), parse_fault ls r finish e)
+
+same_answer : (ls : List Lexeme) (finish : Place) (a b : Result (List Part) Place) → IsTreeAnswer ls finish a → IsTreeAnswer ls finish b → a ≡ b
+same_answer ls finish (Ok a) (Ok b) x y = ap (λ t. Ok t) (one_tree ls a b x y)
+same_answer ls finish (Ok a) (Err q) x y = absurd (no_fault_in_a_tree ls finish q a x y)
+same_answer ls finish (Err p) (Ok b) x y = absurd (no_fault_in_a_tree ls finish p b y x)
+same_answer ls finish (Err p) (Err q) x y = ap (λ t. Err t) (one_place ls finish p q x y)
+
+-- lexemes have one tree, or one place where they are wrong
+pub parsed_once : (ls : List Lexeme) (finish : Place) → ExactlyOne (IsTreeAnswer ls finish)
+parsed_once ls finish =
+    let a = answer_by ls finish (program_at ls) refl in
+    record { answer = a.0; holds = a.1; only = λ other h. same_answer ls finish other a.0 h a.1 }

@@ -66,6 +66,7 @@ steady_separated item s (suc k) x lt =
     bind_alike (suc k) item item (comma_or_end (separated_in item (suc k))) (comma_or_end (separated_in item k)) s (λ x _. refl)
     (λ a. alike_comma k (separated_in item (suc k)) (separated_in item k) (steady_separated item s k) a) x lt
 
+-- one or more, with commas between them
 pub ready_separated : {A : Type 0} (L : List Lexeme → A → Type 0) (item : Reader A) → Ready L item → Ready (Separated L) (separated_at item)
 unfolding separated_at
 ready_separated L item g = record {
@@ -76,6 +77,7 @@ ready_separated L item g = record {
       (alike_unbounded (separated_in item) (steady_separated item (shrinks L item g.exact)));
 }
 
+-- the list reader, one item on
 pub separated_at_is : {A : Type 0} (L : List Lexeme → A → Type 0) (item : Reader A) → Ready L item → (x : List Lexeme) → separated_at item x ≡ (item x |> comma_or_end (separated_at item))
 unfolding separated_at separated_in
 separated_at_is L item g x =
@@ -98,6 +100,7 @@ ready_some L item g =
     (λ vs u k. ready_done (λ ws b. Enclosed L (us ++ (vs ++ ws)) b) all
     (record { inside = us; last = k.lexeme; is = ap (λ v. us ++ (v ++ [])) k.one; spelled = some us all h; closing = k.mark })))
 
+-- a list and its closing parenthesis
 pub ready_enclosed : {A : Type 0} (L : List Lexeme → A → Type 0) (item : Reader A) → Ready L item → Ready (Enclosed L) (enclosed_at item)
 unfolding enclosed_at
 ready_enclosed {A} L item g = record { phrase = inner.phrase; tree = inner.tree; spelled = inner.spelled; exact = all }
@@ -144,6 +147,7 @@ opens_expression n ls e (round first last js eq f s z) = subst Opens (sym eq) (a
 opens_expression n ls e (signed l js s i lt h k) = ap (is_mark mark.RParen) h ∙ opens_sign s
 opens_expression n ls e (binary l js rs op a b lt eq h p q) = subst Opens (sym eq) (opens_behind js (l ∷ rs) (opens_expression _ js a p))
 
+-- expressions can be listed
 pub expressions : Listable (Spelled 0) (expression_at 0)
 expressions = record { ready = ready_expression; whole = whole; opens = opens_expression 0 }
 
@@ -153,9 +157,11 @@ whole_name ls x last ts (name l y h) = name_done x l (last ∷ ts) h
 opens_name : (ls : List Lexeme) (x : Name) → SpelledName ls x → Opens ls
 opens_name ls x (name l y h) = ap (is_mark mark.RParen) h.word
 
+-- names can be listed
 pub names : Listable SpelledName name_at
 names = record { ready = ready_spelled_name; whole = λ m c ls x last ts z h. whole_name ls x last ts h; opens = opens_name }
 
+-- a list that is spelled is read
 pub complete_separated : {A : Type 0} (L : List Lexeme → A → Type 0) (item : Reader A) → Listable L item → (m : Mark) → Closes m → is_mark mark.Comma (shape.Mark m) ≡ false
     → (ls : List Lexeme) (all : List A) (last : Lexeme) (ts : List Lexeme) → Separated L ls all → Is m last → separated_at item (ls ++ (last ∷ ts)) ≡ Done all (last ∷ ts)
 unfolding comma_or_end
@@ -181,6 +187,7 @@ enclosed_nothing : {A : Type 0} (item : Reader A) (last : Lexeme) (ts : List Lex
 unfolding enclosed_at
 enclosed_nothing item last ts z = rw (is_mark-same mark.RParen last.shape z) refl
 
+-- so is one with its closing parenthesis
 pub complete_enclosed : {A : Type 0} (L : List Lexeme → A → Type 0) (item : Reader A) → Listable L item
     → (ls : List Lexeme) (all : List A) (last : Lexeme) (ts : List Lexeme) → Listed L ls all → Is mark.RParen last → enclosed_at item (ls ++ (last ∷ ts)) ≡ Done all ts
 complete_enclosed L item g ls all last ts none z = enclosed_nothing item last ts z

@@ -42,7 +42,7 @@ list_first : {A : Type 0} (L : List Lexeme → A → Type 0) (item : Reader A) �
     → separated_at item ls ≡ going_on item (a ∷ []) r
 list_first L item g ls a r h = separated_at_is L item g ls ∙ ap (λ y. y |> comma_or_end (separated_at item)) h ∙ going_on_one item a r
 
--- more items behind those that were read
+-- more items after those that were read
 going_on_more : {A : Type 0} (item : Reader A) (all : List A) (a : A) (r : List Lexeme) → before all (going_on item (a ∷ []) r) ≡ going_on item (all ++ a ∷ []) r
 going_on_more item all a [] = refl
 going_on_more {A} item all a (l ∷ r) = go (is_mark mark.Comma l.shape) refl
@@ -86,6 +86,7 @@ pub expressions_first : (ls : List Lexeme) (e : Expr) (r : List Lexeme) → expr
     → separated_at (expression_at 0) ls ≡ going_on (expression_at 0) (map view.expression ([] ++ e ∷ [])) r
 expressions_first ls e r h = list_first (Spelled 0) (expression_at 0) ready_expression ls (view.expression e) r h
 
+-- one more expression of a list
 pub expressions_more : (all : List Expr) (ls behind : List Lexeme) (e : Expr) (r : List Lexeme)
     → IsBehind mark.Comma ls behind → expression_at 0 behind ≡ Done (view.expression e) r
     → going_on (expression_at 0) (map view.expression all) ls ≡ going_on (expression_at 0) (map view.expression (all ++ e ∷ [])) r
@@ -93,30 +94,37 @@ expressions_more all ls behind e r b h =
     list_more (Spelled 0) (expression_at 0) ready_expression (map view.expression all) ls behind (view.expression e) r b h
     ∙ ap (λ x. going_on (expression_at 0) x r) (sym (map-append view.expression all (e ∷ [])))
 
+-- a list ends where no comma stands
 pub expressions_end : (all : List Expression) (ls : List Lexeme) → has_mark mark.Comma ls ≡ false → going_on (expression_at 0) all ls ≡ Done all ls
 expressions_end = list_end (expression_at 0)
 
+-- a list stops after a comma
 pub expressions_stop : (all : List Expression) (ls behind : List Lexeme) (e : Stop)
     → IsBehind mark.Comma ls behind → Stops e (expression_at 0 behind) → Stops e (going_on (expression_at 0) all ls)
 expressions_stop = list_stop (Spelled 0) (expression_at 0) ready_expression
 
+-- a list stops at its first expression
 pub expressions_stop_first : (ls : List Lexeme) (e : Stop) → Stops e (expression_at 0 ls) → Stops e (separated_at (expression_at 0) ls)
 expressions_stop_first = stop_first (Spelled 0) (expression_at 0) ready_expression
 
--- names with commas, behind others
+-- names with commas, after others
 pub names_first : (all : List Name) (ls : List Lexeme) (x : Name) (r : List Lexeme) → name_at ls ≡ Done x r → before all (separated_at name_at ls) ≡ going_on name_at (all ++ x ∷ []) r
 names_first all ls x r h = ap (before all) (list_first SpelledName name_at ready_spelled_name ls x r h) ∙ going_on_more name_at all x r
 
+-- one more name of a list
 pub names_more : (all : List Name) (ls behind : List Lexeme) (x : Name) (r : List Lexeme)
     → IsBehind mark.Comma ls behind → name_at behind ≡ Done x r → going_on name_at all ls ≡ going_on name_at (all ++ x ∷ []) r
 names_more = list_more SpelledName name_at ready_spelled_name
 
+-- a list ends where no comma stands
 pub names_end : (all : List Name) (ls : List Lexeme) → has_mark mark.Comma ls ≡ false → going_on name_at all ls ≡ Done all ls
 names_end = list_end name_at
 
+-- a list stops after a comma
 pub names_stop : (all : List Name) (ls behind : List Lexeme) (e : Stop) → IsBehind mark.Comma ls behind → Stops e (name_at behind) → Stops e (going_on name_at all ls)
 names_stop = list_stop SpelledName name_at ready_spelled_name
 
+-- a list stops at its first name
 pub names_stop_first : (all : List Name) (ls : List Lexeme) (e : Stop) → Stops e (name_at ls) → Stops e (before all (separated_at name_at ls))
 names_stop_first all ls e h = stop_before all (separated_at name_at ls) e (stop_first SpelledName name_at ready_spelled_name ls e h)
 
@@ -125,25 +133,29 @@ pub arguments_none : (all : List Expr) (ls r : List Lexeme) → IsBehind mark.RP
 unfolding enclosed_at
 arguments_none all ls r b e = ap (enclosed_at (expression_at 0)) b.is ∙ rw (b.mark, e) refl
 
+-- arguments, where no parenthesis closes them at once
 pub arguments_some : (ls : List Lexeme) → has_mark mark.RParen ls ≡ false → enclosed_at (expression_at 0) ls ≡ some_enclosed (expression_at 0) ls
 unfolding enclosed_at
 arguments_some [] h = refl
 arguments_some (l ∷ ls) h = rw h refl
 
+-- no parameters
 pub parameters_none : (all : List Name) (ls r : List Lexeme) → IsBehind mark.RParen ls r → all ≡ [] → enclosed_at name_at ls ≡ Done all r
 unfolding enclosed_at
 parameters_none all ls r b e = ap (enclosed_at name_at) b.is ∙ rw (b.mark, e) refl
 
+-- parameters, where no parenthesis closes them at once
 pub parameters_some : (ls : List Lexeme) → has_mark mark.RParen ls ≡ false → enclosed_at name_at ls ≡ some_enclosed name_at ls
 unfolding enclosed_at
 parameters_some [] h = refl
 parameters_some (l ∷ ls) h = rw h refl
 
+-- nothing was read before
 pub before_nothing : (y : Reading (List Name)) → before [] y ≡ y
 before_nothing (Done b r) = refl
 before_nothing (Stuck r) = refl
 
--- behind `x =`
+-- after `x =`
 pub assigned_calls : (f : Expression → Statement) (g : Name → List Expression → Statement) (ls : List Lexeme) (y : Name) (r : List Lexeme) → IsCallee ls y r → assigned_at f g ls ≡ call_at (g y) r
 assigned_calls f g ls y r h = ap (assigned_at f g) h.is ∙ assigned_call f g h.name h.open' y r h.called (is_mark-true mark.LParen h.open'.shape h.mark)
 
@@ -168,6 +180,7 @@ value_plain f g l y (m ∷ x) h q = rw (q, named_rest l y (m ∷ x) h) (go (name
         deep (Stuck r) = refl
     go (Stuck r) = refl
 
+-- what is assigned is no call
 pub assigned_plain : (f : Expression → Statement) (g : Name → List Expression → Statement) (ls : List Lexeme) → NoCall ls → assigned_at f g ls ≡ value_at f ls
 unfolding assigned_at assigned_by
 assigned_plain f g [] h = refl
@@ -177,14 +190,17 @@ assigned_plain f g (l ∷ x) h = go (name_in l.shape l) refl
     go None q = ap (λ o. assigned_by f g o l x) q
     go (Some y) q = let n = name_in-is l.shape l y refl q in ap (λ o. assigned_by f g o l x) q ∙ value_plain f (g y) l y x n (h y n)
 
+-- a name and `=`
 pub named_assigns : (x : Name) (ls r : List Lexeme) → IsBehind mark.Assign ls r → named_statement x ls ≡ assigned_at (Assign x.place x) (Call x.place (Some x)) r
 unfolding named_statement
 named_assigns x ls r b = ap (named_statement x) b.is ∙ rw b.mark refl
 
+-- a name and `[`
 pub named_stores : (x : Name) (ls r : List Lexeme) → IsBehind mark.LSquare ls r → has_mark mark.Assign ls ≡ false → named_statement x ls ≡ stored_at x r
 unfolding named_statement
 named_stores x ls r b n = let n' : is_mark mark.Assign b.lexeme.shape ≡ false = sym (ap (has_mark mark.Assign) b.is) ∙ n in ap (named_statement x) b.is ∙ rw (n', b.mark) refl
 
+-- a name and `(`
 pub named_calls : (x : Name) (ls r : List Lexeme) → IsBehind mark.LParen ls r → has_mark mark.Assign ls ≡ false → has_mark mark.LSquare ls ≡ false → named_statement x ls ≡ call_at (Call x.place None x) r
 unfolding named_statement
 named_calls x ls r b n o =
@@ -192,6 +208,7 @@ named_calls x ls r b n o =
     let o' : is_mark mark.LSquare b.lexeme.shape ≡ false = sym (ap (has_mark mark.LSquare) b.is) ∙ o in
     ap (named_statement x) b.is ∙ rw (n', o', b.mark) refl
 
+-- a name that begins no statement
 pub named_stops : (x : Name) (ls : List Lexeme) → has_mark mark.Assign ls ≡ false → has_mark mark.LSquare ls ≡ false → has_mark mark.LParen ls ≡ false → named_statement x ls ≡ Stuck ls
 unfolding named_statement
 named_stops x [] n o q = refl
@@ -249,11 +266,13 @@ vars_step a b ls behind r w e =
         deep xs (vars_at q) ∙ ap (λ z. before z (vars_at q)) one ∙ ap (λ q. before b (vars_at q)) two
     go (Stuck q) h = cc
 
+-- lines of variables end where no `var` stands
 pub vars_end : (a : List Name) (ls : List Lexeme) → has_word (codes "var") ls ≡ false → before a (vars_at ls) ≡ Done a ls
 unfolding vars_by
 vars_end a [] h = ap (before a) (vars_at_is []) ∙ ap (λ x. Done x []) (append-nil a)
 vars_end a (l ∷ ls) h = ap (before a) (vars_at_is (l ∷ ls)) ∙ rw h (ap (λ x. Done x (l ∷ ls)) (append-nil a))
 
+-- a line of variables stops
 pub vars_stop : (a : List Name) (ls behind : List Lexeme) (e : Stop) → IsBehindWord (codes "var") ls behind → Stops e (before a (line_at behind)) → Stops e (before a (vars_at ls))
 unfolding vars_by
 vars_stop a ls behind Memory w h = tt
@@ -275,28 +294,31 @@ items_step a (l ∷ ls) i r e =
     go (Done b r) = ap (λ x. Done x r) (sym (ap (λ x. x ++ b) (map-append view.part a (i ∷ [])) ∙ append_assoc (view.parts a) (view.part i ∷ []) b))
     go (Stuck r) = refl
 
+-- a program ends with its lexemes
 pub items_end : (a : List Item) (ls : List Lexeme) → length ls ≡ 0 → before (view.parts a) (program_at ls) ≡ Done (view.parts a) []
 unfolding items_by
 items_end a [] h = ap (before (view.parts a)) (program_at_is []) ∙ ap (λ x. Done x []) (append-nil (view.parts a))
 items_end a (l ∷ ls) h = absurd (omega arith)
 
+-- a program stops at an item
 pub items_stop : (a : List Item) (ls : List Lexeme) (e : Stop) → 0 < length ls → Stops e (item_at ls) → Stops e (before (view.parts a) (program_at ls))
 unfolding items_by
 items_stop a ls Memory h s = tt
 items_stop a [] (Here x) h s = absurd (omega arith)
 items_stop a (l ∷ ls) (Here x) h s = ap (before (view.parts a)) (program_at_is (l ∷ ls) ∙ ap (λ y. y |> λ a r. (program_at r |> λ all r. Done (a ∷ all) r)) s)
 
--- behind an `if`
+-- after an `if`
 pub else_goes : (body : Reader Statements) (ls r : List Lexeme) → IsBehindWord (codes "else") ls r → else_by body ls ≡ block_by body r
 unfolding else_by
 else_goes body ls r b = ap (else_by body) b.is ∙ rw b.word refl
 
+-- no second arm
 pub else_stays : (body : Reader Statements) (ls : List Lexeme) (a : List Stmt) → has_word (codes "else") ls ≡ false → a ≡ [] → else_by body ls ≡ Done (view.statements a) ls
 unfolding else_by
 else_stays body [] a h e = rw e refl
 else_stays body (l ∷ ls) a h e = rw (h, e) refl
 
--- a line of variables, behind others
+-- a line of variables, after others
 pub line_done : (a b : List Name) (ls r q : List Lexeme) → before a (separated_at name_at ls) ≡ Done b r → expect mark.Semi r ≡ Done tt q → before a (line_at ls) ≡ Done b q
 unfolding line_at
 line_done a b ls r q h s = go (separated_at name_at ls) h
@@ -308,6 +330,7 @@ line_done a b ls r q h s = go (separated_at name_at ls) h
         ap (λ x. before a (expect mark.Semi x |> λ _ r. Done xs r)) two ∙ rw s (ap (λ z. Done z q) one)
     go (Stuck x) e = cc
 
+-- a line of variables stops at its names
 pub line_unnamed : (a : List Name) (ls : List Lexeme) (e : Stop) → Stops e (before a (separated_at name_at ls)) → Stops e (before a (line_at ls))
 unfolding line_at
 line_unnamed a ls Memory h = tt
@@ -317,6 +340,7 @@ line_unnamed a ls (Here x) h = go (separated_at name_at ls) h
     go (Done xs r) e = cc
     go (Stuck r) e = e
 
+-- a line of variables stops at its semicolon
 pub line_open : (a b : List Name) (ls r : List Lexeme) (e : Stop) → before a (separated_at name_at ls) ≡ Done b r → Stops e (expect mark.Semi r) → Stops e (before a (line_at ls))
 unfolding line_at
 line_open a b ls r Memory h s = tt

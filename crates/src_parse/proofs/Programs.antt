@@ -206,6 +206,7 @@ unfolding items_in
 steady_items zero x lt = absurd (omega arith)
 steady_items (suc k) x lt = alike_items k (items_in (suc k)) (items_in k) (steady_items k) x lt
 
+-- a program
 pub ready_program : Ready Tree program_at
 unfolding program_at
 ready_program = record {
@@ -215,6 +216,7 @@ ready_program = record {
   exact = exact_unbounded Tree items_in program_at (λ k. (ready_items_in k).exact) (alike_unbounded items_in steady_items);
 }
 
+-- the program reader, one item on
 pub program_at_is : (x : List Lexeme) → program_at x ≡ items_by program_at x
 unfolding program_at items_in
 program_at_is x = alike_items (length x) (items_in (length x)) program_at (alike_unbounded items_in steady_items (length x)) x (omega arith)

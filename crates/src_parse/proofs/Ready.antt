@@ -14,13 +14,14 @@ use Rattle.src_parse.proofs.Tokens.{Alone, exact_expect, lexeme_with}
 use Rattle.src_parse.proofs.Expressions.{exact_expression}
 use Rattle.src_parse.proofs.Steady.{Alike, alike_expression_at}
 
+-- a reader of a phrase that some lexemes spell, exact on any input
 pub record Ready {A : Type 0} (L : List Lexeme → A → Type 0) (P : Reader A) : Type 0 where
   pub phrase : List Lexeme
   pub tree : A
   pub spelled : L phrase tree
   pub exact : (x : List Lexeme) → Exact L P x
 
--- one reader behind another, where what is spelled behind a phrase is what makes the whole
+-- one reader after another, where what is spelled after a phrase is what makes the whole
 next_behind : {A B : Type 0} (L : List Lexeme → A → Type 0) (N : List Lexeme → B → Type 0)
     (P : Reader A) (Q : A → Reader B) (input : List Lexeme) (a : A) (rest : List Lexeme)
     → (g : Good L P input a rest)
@@ -55,15 +56,18 @@ next_at L N P Q input q (Stuck rest) g e =
       local = λ c s. rw (g.local c s) refl;
     }
 
+-- a reader after another
 pub ready_next : {A B : Type 0} (L : List Lexeme → A → Type 0) (N : List Lexeme → B → Type 0) (P : Reader A) (Q : A → Reader B)
     → Ready L P → ((us : List Lexeme) (a : A) → L us a → Ready (λ vs b. N (us ++ vs) b) (Q a)) → Ready N (λ i. P i |> Q)
 ready_next L N P Q p q =
     let f = q p.phrase p.tree p.spelled in
     record { phrase = p.phrase ++ f.phrase; tree = f.tree; spelled = f.spelled; exact = λ x. next_at L N P Q x q (P x) (p.exact x) refl }
 
+-- a reader of nothing
 pub ready_done : {A : Type 0} (L : List Lexeme → A → Type 0) (a : A) → L [] a → Ready L (Done a)
 ready_done L a h = record { phrase = []; tree = a; spelled = h; exact = λ x. exact_always L (Done a) a x (λ _. refl) h }
 
+-- a mark
 pub ready_token : (m : Mark) → Ready (Alone m) (expect m)
 ready_token m = record {
   phrase = lexeme_with (shape.Mark m) ∷ [];
@@ -125,11 +129,13 @@ unbounded_at L R P g e input (Stuck rest) q h = record {
       sym (e k (h.front ++ c) (omega arith)) ∙ ap (λ f. R k (f ++ c)) (sym same) ∙ g'.local c s;
 }
 
+-- a reader with fuel enough is exact
 pub exact_unbounded : {A : Type 0} (L : List Lexeme → A → Type 0) (R : ℕ → Reader A) (P : Reader A) → ((k : ℕ) (x : List Lexeme) → Exact L (R k) x) → ((k : ℕ) → Alike k (R k) P)
     → (input : List Lexeme) → Exact L P input
 exact_unbounded L R P g e input =
     unbounded_at L R P g e input (P input) refl (subst (ExactAt L (R (length input + 1)) input) (e (length input + 1) input (omega arith)) (g (length input + 1) input))
 
+-- an expression
 pub ready_expression : Ready (Spelled 0) (expression_at 0)
 ready_expression = record {
   phrase = lexeme_with (shape.Number 0) ∷ [];
@@ -144,6 +150,7 @@ as_at : {A : Type 0} (L M : List Lexeme → A → Type 0) (P : Reader A) → ((u
 as_at L M P h input (Done a rest) g = record { front = g.front; is = g.is; spelled = h g.front a g.spelled; local = g.local }
 as_at L M P h input (Stuck rest) g = record { front = g.front; is = g.is; more = g.more; tree = g.tree; spelled = h (g.front ++ g.more) g.tree g.spelled; local = g.local }
 
+-- the same reader of another phrase
 pub ready_as : {A : Type 0} (L M : List Lexeme → A → Type 0) (P : Reader A) → ((us : List Lexeme) (a : A) → L us a → M us a) → Ready L P → Ready M P
 ready_as L M P h g = record { phrase = g.phrase; tree = g.tree; spelled = h g.phrase g.tree g.spelled; exact = λ x. as_at L M P h x (P x) (g.exact x) }
 
@@ -152,11 +159,14 @@ enough : {A : Type 0} (R : ℕ → Reader A) → ((k : ℕ) → Alike k (R (suc 
 enough R s zero x = rw zero-add refl
 enough R s (suc d) x = rw suc-add (s (d + suc (length x)) x (omega arith) ∙ enough R s d x)
 
+-- fuel enough is enough
 pub alike_unbounded : {A : Type 0} (R : ℕ → Reader A) → ((k : ℕ) → Alike k (R (suc k)) (R k)) → (k : ℕ) → Alike k (R k) (λ x. R (suc (length x)) x)
 alike_unbounded R s k x lt = let e : k ≡ (k - suc (length x)) + suc (length x) = omega arith in ap (λ n. R n x) e ∙ enough R s (k - suc (length x)) x
 
+-- readers that agree at the end
 pub exact_as_end : {A : Type 0} (L : List Lexeme → A → Type 0) (P Q : Reader A) → P [] ≡ Q [] → Exact L Q [] → Exact L P []
 exact_as_end L P Q e g = exact_same_head L P Q [] (λ x s. subst (λ x. P x ≡ Q x) (sym (head-nil x s)) e) g
 
+-- readers that agree before a lexeme
 pub exact_as_cons : {A : Type 0} (L : List Lexeme → A → Type 0) (P Q : Reader A) (l : Lexeme) (ls : List Lexeme) → ((x : List Lexeme) → P (l ∷ x) ≡ Q (l ∷ x)) → Exact L Q (l ∷ ls) → Exact L P (l ∷ ls)
 exact_as_cons L P Q l ls e g = exact_same_head L P Q (l ∷ ls) (λ x s. let d = head-cons x l s in subst (λ x. P x ≡ Q x) (sym d.1) (e d.0)) g

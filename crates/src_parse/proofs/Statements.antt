@@ -40,6 +40,7 @@ ready_ended =
     (λ us e h. ready_next (Alone mark.Semi) (λ vs b. Ended (us ++ vs) b) (expect mark.Semi) (λ _ r. Done e r) (ready_token mark.Semi)
     (λ vs u k. ready_done (λ ws b. Ended (us ++ (vs ++ ws)) b) e (record { inside = us; last = k.lexeme; is = ap (λ v. us ++ (v ++ [])) k.one; spelled = h; closing = k.mark })))
 
+-- an expression and its semicolon
 pub ready_value : {A : Type 0} (N : List Lexeme → A → Type 0) (f : Expression → A)
     → ((us : List Lexeme) (e : Expression) (last : Lexeme) → Spelled 0 us e → Is mark.Semi last → N (us ++ last ∷ []) (f e)) → Ready N (value_at f)
 unfolding value_at
@@ -252,7 +253,7 @@ ready_while body g l q =
     (λ xs a ha. ready_done (λ ws s. SpelledStatement (l ∷ (us ++ (xs ++ ws))) s) (While l.place e a)
     (rw (t.is, append-nil) (while l t.first t.last t.inside xs e a (ap (λ v. l ∷ t.first ∷ v) (append_assoc t.inside (t.last ∷ []) xs)) q t.opening t.spelled t.closing ha))))
 
--- the first lexeme is read, and what is behind it goes by another reader
+-- the first lexeme is read, and what is after it goes by another reader
 begun : (l : Lexeme) (P Q : Reader Statement) → ((x : List Lexeme) → P (l ∷ x) ≡ Q x) → Ready (λ ws s. SpelledStatement (l ∷ ws) s) Q → (ls : List Lexeme) → Exact SpelledStatement P (l ∷ ls)
 begun l P Q p g ls = exact_shift SpelledStatement (λ ws s. SpelledStatement (l ∷ ws) s) P Q l ls p (λ ws b k. k) (g.exact ls)
 
@@ -396,6 +397,7 @@ unfolding statements_in
 steady_statements zero x lt = absurd (omega arith)
 steady_statements (suc k) x lt = alike_statements k (statements_in (suc k)) (statements_in k) (ready_statements_in (suc k)) (steady_statements k) x lt
 
+-- statements
 pub ready_statements : Ready SpelledStatements statements_at
 unfolding statements_at
 ready_statements = record {

@@ -27,11 +27,13 @@ Alike n P Q = (x : List Lexeme) → length x < n → P x ≡ Q x
 abbrev pub Shrinks : {A : Type 0} → Reader A → Type 0
 Shrinks {A} P = (x : List Lexeme) (a : A) (r : List Lexeme) → P x ≡ Done a r → length r ≤ length x
 
+-- an exact reader leaves no more lexemes
 pub shrinks : {A : Type 0} (L : List Lexeme → A → Type 0) (P : Reader A) → ((x : List Lexeme) → Exact L P x) → Shrinks P
 shrinks L P g x a r e =
     let h = subst (ExactAt L P x) e (g x) in
     omega (arith, length-append h.front r, ap length h.is)
 
+-- readers in a row that agree
 pub bind_alike : {A B : Type 0} (n : ℕ) (P P' : Reader A) (Q Q' : A → Reader B) → Shrinks P → Alike n P P' → ((a : A) → Alike n (Q a) (Q' a))
     → Alike n (λ x. P x |> Q) (λ x. P' x |> Q')
 bind_alike {A} {B} n P P' Q Q' s p q x lt = ap (λ y. y |> Q) (p x lt) ∙ go (P' x) (sym (p x lt))
@@ -127,9 +129,11 @@ enough_operators (suc d) min left x = rw suc-add (steady_operators (d + suc (len
 pub alike_operand_at : (k : ℕ) → Alike k (operand_in k) operand_at
 alike_operand_at k x lt = let e : k ≡ (k - suc (length x)) + suc (length x) = omega arith in ap (λ n. operand_in n x) e ∙ enough_operand (k - suc (length x)) x
 
+-- fuel enough for operators
 pub alike_operators_at : (k min : ℕ) (left : Expression) → Alike k (operators_in k min left) (operators_at min left)
 alike_operators_at k min left x lt = let e : k ≡ (k - suc (length x)) + suc (length x) = omega arith in ap (λ n. operators_in n min left x) e ∙ enough_operators (k - suc (length x)) min left x
 
+-- fuel enough for an expression
 pub alike_expression_at : (k min : ℕ) → Alike k (expression_in k min) (expression_at min)
 unfolding expression_in expression_at
 alike_expression_at k min = bind_alike k (operand_in k) operand_at (operators_in k min) (operators_at min) (shrinks_operand k) (alike_operand_at k) (alike_operators_at k min)
@@ -143,6 +147,7 @@ pub operand_at_is : (x : List Lexeme) → operand_at x ≡ operand operand_at (e
 unfolding operand_at operand_in
 operand_at_is x = alike_operand (length x) (operand_in (length x)) operand_at (λ r. operand_in (length x) r |> operators_in (length x) 0) (expression_at 0) (alike_operand_at (length x)) (alike_whole (length x) 0) x (omega arith)
 
+-- the operator reader, one operator on
 pub operators_at_is : (min : ℕ) (left : Expression) (x : List Lexeme) → operators_at min left x ≡ operators expression_at (operators_at min) min left x
 unfolding operators_at operators_in
 operators_at_is min left x =
@@ -154,11 +159,13 @@ pub operand_behind : (ls : List Lexeme) (l : Lexeme) (r : List Lexeme) → ls �
 unfolding operand
 operand_behind ls l r e = operand_at_is ls ∙ ap (operand operand_at (expression_at 0)) e
 
+-- no operand stands at the end
 pub operand_at_end : (ls : List Lexeme) → length ls ≡ 0 → operand_at ls ≡ Stuck ls
 unfolding operand
 operand_at_end [] e = operand_at_is []
 operand_at_end (l ∷ ls) e = absurd (omega arith)
 
+-- operators stop at a right operand
 pub operators_stop : (min : ℕ) (left : Expression) (ls : List Lexeme) (op : Alu) (l : Lexeme) (behind : List Lexeme) (n : ℕ) (e : Stop)
     → ls ≡ l ∷ behind → operator_at ls ≡ Some op → min ≤ n → n ≡ level_of op → Stops e (expression_at (n + 1) behind) → Stops e (operators_at min left ls)
 unfolding operators further

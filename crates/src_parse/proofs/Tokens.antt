@@ -45,12 +45,14 @@ back mark.Differs = refl
 back mark.ShiftLeft = refl
 back mark.ShiftRight = refl
 
+-- a mark that passes the test is it
 pub is_mark-true : (m : Mark) (s : Shape) → is_mark m s ≡ true → s ≡ shape.Mark m
 is_mark-true m (shape.Word w) e = cc
 is_mark-true m (shape.Number n) e = cc
 is_mark-true m (shape.Mark k) e =
     ap (λ x. shape.Mark x) (sym (back k) ∙ ap (λ n. get_or marks n mark.LParen) (eqb-true (number_of k) (number_of m) e) ∙ back m)
 
+-- a mark passes its own test
 pub is_mark-same : (m : Mark) (s : Shape) → s ≡ shape.Mark m → is_mark m s ≡ true
 is_mark-same m s e = ap (is_mark m) e ∙ eq-eqb (number_of m) (number_of m) refl
 
@@ -103,6 +105,7 @@ pub record Alone (m : Mark) (ls : List Lexeme) (u : Unit {0}) : Type 0 where
   pub one : ls ≡ lexeme ∷ []
   pub mark : Is m lexeme
 
+-- a mark
 pub exact_expect : (m : Mark) (ls : List Lexeme) → Exact (Alone m) (expect m) ls
 unfolding expect
 exact_expect m [] = exact_stuck_end (Alone m) (expect m) (lexeme_with (shape.Mark m) ∷ []) tt refl (record { lexeme = lexeme_with (shape.Mark m); one = refl; mark = refl })
@@ -115,7 +118,7 @@ exact_expect m (l ∷ ls) = go (is_mark m l.shape) refl
         (exact_always (λ ws a. ws ≡ []) (λ x. Done tt x) tt ls (λ x. refl) refl)
     go false e = exact_stuck (Alone m) (expect m) (lexeme_with (shape.Mark m) ∷ []) tt l ls (λ x. rw e refl) (record { lexeme = lexeme_with (shape.Mark m); one = refl; mark = refl })
 
--- A phrase with a mark behind it, and what is made of it.
+-- A phrase with a mark after it, and what is made of it.
 pub exact_closed : {A B : Type 0} (m : Mark) (f : A → B) (L : List Lexeme → A → Type 0) (N : List Lexeme → B → Type 0) (P : Reader A) (input : List Lexeme)
     → ((us : List Lexeme) (a : A) (last : Lexeme) → L us a → Is m last → N (us ++ last ∷ []) (f a))
     → Exact L P input

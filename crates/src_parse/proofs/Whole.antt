@@ -17,11 +17,13 @@ pub record Stops_at {A : Type 0} (L : List Lexeme → A → Type 0) (input : Lis
   pub begins : Begins L front
   pub no_more : Begins L (front ++ (l ∷ [])) → ⊥
 
+-- what is read to the end is spelled
 pub whole_found : {A : Type 0} (L : List Lexeme → A → Type 0) (P : Reader A) → Ready L P → (input : List Lexeme) (a : A) → P input ≡ Done a [] → L input a
 whole_found L P g input a e =
     let h = subst (ExactAt L P input) e (g.exact input) in
     subst (λ x. L x a) (sym (h.is ∙ append-nil h.front)) h.spelled
 
+-- where a reader is stuck, no phrase goes on
 pub whole_place : {A : Type 0} (L : List Lexeme → A → Type 0) (P : Reader A) → Ready L P → ((ws : List Lexeme) (a : A) → L ws a → P ws ≡ Done a [])
     → (input : List Lexeme) (l : Lexeme) (behind : List Lexeme) → P input ≡ Stuck (l ∷ behind) → Stops_at L input l behind
 whole_place {A} L P g complete input l behind e =
@@ -36,6 +38,7 @@ whole_place {A} L P g complete input l behind e =
           let bad : (Reading.Done b.1 []) ≡ Stuck (l ∷ b.0) = sym found ∙ stuck in cc;
     }
 
+-- where a reader is stuck at the end, only a rest is missing
 pub whole_end : {A : Type 0} (L : List Lexeme → A → Type 0) (P : Reader A) → Ready L P → ((ws : List Lexeme) (a : A) → L ws a → P ws ≡ Done a [])
     → (input : List Lexeme) → P input ≡ Stuck [] → Begins L input × ((a : A) → L input a → ⊥)
 whole_end {A} L P g complete input e =

@@ -41,7 +41,7 @@ abbrev pub operator_at : List Lexeme → Option Alu
 operator_at [] = None
 operator_at (l ∷ ls) = operator_in l.shape
 
--- behind a name: an index in brackets, or nothing
+-- after a name: an index in brackets, or nothing
 unfoldable pub named : Reader Expression → Name → Reader Expression
 named whole x [] = Done (Variable x) []
 named whole x (l ∷ ls) =
@@ -49,14 +49,17 @@ named whole x (l ∷ ls) =
     then (whole ls |> λ e rest. (expect mark.RSquare rest |> λ _ rest. Done (Cell x e) rest))
     else Done (Variable x) (l ∷ ls)
 
-unfoldable pub operand_mark : Reader Expression → Reader Expression → Mark → Lexeme → Reader Expression
-operand_mark part whole mark.LParen l ls = whole ls |> λ e rest. (expect mark.RParen rest |> λ _ rest. Done e rest)
+unfoldable pub operand_mark : Reader Expression → Reader Expression → Mark → Lexeme
+    → Reader Expression
+operand_mark part whole mark.LParen l ls =
+    whole ls |> λ e rest. (expect mark.RParen rest |> λ _ rest. Done e rest)
 operand_mark part whole mark.Tilde l ls = part ls |> λ e rest. Done (Signed Flip e) rest
 operand_mark part whole mark.Bang l ls = part ls |> λ e rest. Done (Signed Not e) rest
 operand_mark part whole mark.Minus l ls = part ls |> λ e rest. Done (Signed Neg e) rest
 operand_mark part whole _ l ls = Stuck (l ∷ ls)
 
-unfoldable pub operand_shape : Reader Expression → Reader Expression → Shape → Lexeme → Reader Expression
+unfoldable pub operand_shape : Reader Expression → Reader Expression → Shape → Lexeme
+    → Reader Expression
 operand_shape part whole (shape.Number n) l ls = Done (Number n) ls
 operand_shape part whole (shape.Word w) l ls =
     if is_reserved w then Stuck (l ∷ ls) else named whole (record { text = w; place = l.place }) ls
@@ -67,15 +70,17 @@ unfoldable pub operand : Reader Expression → Reader Expression → Reader Expr
 operand part whole [] = Stuck []
 operand part whole (l ∷ ls) = operand_shape part whole l.shape l ls
 
--- behind the left operand, in front of a lexeme that may be an operator
-unfoldable pub further : (ℕ → Reader Expression) → (Expression → Reader Expression) → ℕ → Expression → Option Alu → Lexeme → Reader Expression
+-- after the left operand, in front of a lexeme that may be an operator
+unfoldable pub further : (ℕ → Reader Expression) → (Expression → Reader Expression) → ℕ
+    → Expression → Option Alu → Lexeme → Reader Expression
 further whole again min left None l ls = Done left (l ∷ ls)
 further whole again min left (Some op) l ls =
     if nat_lt (level_of op) min
     then Done left (l ∷ ls)
     else (whole (level_of op + 1) ls |> λ right. again (Binary op left right))
 
-unfoldable pub operators : (ℕ → Reader Expression) → (Expression → Reader Expression) → ℕ → Expression → Reader Expression
+unfoldable pub operators : (ℕ → Reader Expression) → (Expression → Reader Expression) → ℕ
+    → Expression → Reader Expression
 operators whole again min left [] = Done left []
 operators whole again min left (l ∷ ls) = further whole again min left (operator_in l.shape) l ls
 
@@ -87,7 +92,8 @@ unfoldable mutual
 
   pub operators_in : ℕ → ℕ → Expression → Reader Expression
   operators_in zero min left ls = Stuck ls
-  operators_in (suc k) min left ls = operators (λ n r. operand_in k r |> operators_in k n) (λ e. operators_in k min e) min left ls
+  operators_in (suc k) min left ls =
+      operators (λ n r. operand_in k r |> operators_in k n) (λ e. operators_in k min e) min left ls
 
 unfoldable pub expression_in : ℕ → ℕ → Reader Expression
 expression_in k min ls = operand_in k ls |> operators_in k min

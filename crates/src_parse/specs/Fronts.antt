@@ -15,24 +15,24 @@ abbrev pub has_word : List ℕ → List Lexeme → Bool
 has_word w [] = false
 has_word w (l ∷ ls) = is_word w l.shape
 
--- the rest stands behind this mark
+-- the rest stands after this mark
 pub record IsBehind (m : Mark) (ls rest : List Lexeme) : Type 0 where
   pub lexeme : Lexeme
   pub is : ls ≡ lexeme ∷ rest
   pub mark : is_mark m lexeme.shape ≡ true
 
--- the rest stands behind this word
+-- the rest stands after this word
 pub record IsBehindWord (w : List ℕ) (ls rest : List Lexeme) : Type 0 where
   pub lexeme : Lexeme
   pub is : ls ≡ lexeme ∷ rest
   pub word : is_word w lexeme.shape ≡ true
 
--- no call begins here: no name with an opening parenthesis behind it
+-- no call begins here: no name with an opening parenthesis after it
 abbrev pub NoCall : List Lexeme → Type 0
 NoCall [] = Unit {0}
 NoCall (l ∷ ls) = (y : Name) → IsName y l → has_mark mark.LParen ls ≡ false
 
--- the name of a call and what stands behind its opening parenthesis
+-- the name of a call and what stands after its opening parenthesis
 pub record IsCallee (ls : List Lexeme) (y : Name) (rest : List Lexeme) : Type 0 where
   pub name : Lexeme
   pub open' : Lexeme

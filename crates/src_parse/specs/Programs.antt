@@ -9,19 +9,30 @@ use Rattle.src_parse.specs.Reading.{Reader, Done, Stuck, ◌|>◌, is_word, expe
 use Rattle.src_parse.specs.Lists.{separated_at, enclosed_at}
 use Rattle.src_parse.specs.Statements.{value_at, statements_at}
 
--- behind `array`
+-- after `array`
 unfoldable pub array_at : Reader Part
 array_at ls =
-    name_at ls |> λ x r. (expect mark.LSquare r |> λ _ r. (count_at r |> λ n r. (expect mark.RSquare r |> λ _ r. (expect mark.Semi r |> λ _ r. Done (Array x n.number n.place) r))))
+    name_at ls
+    |> λ x r.
+    (expect mark.LSquare r
+    |> λ _ r.
+    (count_at r
+    |> λ n r.
+    (expect mark.RSquare r
+    |> λ _ r.
+    (expect mark.Semi r
+    |> λ _ r. Done (Array x n.number n.place) r))))
 
--- behind `var`
+-- after `var`
 unfoldable pub line_at : Reader (List Name)
 line_at ls = separated_at name_at ls |> λ xs r. (expect mark.Semi r |> λ _ r. Done xs r)
 
 -- lines of variables
 unfoldable pub vars_by : Reader (List Name) → Reader (List Name)
 vars_by rest [] = Done [] []
-vars_by rest (l ∷ ls) = if is_word (codes "var") l.shape then (line_at ls |> λ xs r. (rest r |> λ ys r. Done (xs ++ ys) r)) else Done [] (l ∷ ls)
+vars_by rest (l ∷ ls) =
+    if is_word (codes "var") l.shape
+    then (line_at ls |> λ xs r. (rest r |> λ ys r. Done (xs ++ ys) r)) else Done [] (l ∷ ls)
 
 unfoldable pub vars_in : ℕ → Reader (List Name)
 vars_in zero ls = Stuck ls
@@ -33,16 +44,38 @@ vars_at ls = vars_in (suc (length ls)) ls
 -- `return` and its expression, or nothing
 unfoldable pub ending_at : Reader (Option Last)
 ending_at [] = Done None []
-ending_at (l ∷ ls) = if is_word (codes "return") l.shape then value_at (λ e. Some (record { place = l.place; value = e })) ls else Done None (l ∷ ls)
+ending_at (l ∷ ls) =
+    if is_word (codes "return") l.shape
+    then value_at (λ e. Some (record { place = l.place; value = e })) ls else Done None (l ∷ ls)
 
 -- a procedure with this name and these parameters, between its braces and with the closing one
 unfoldable pub inside_at : Name → List Name → Reader Part
 inside_at x ps ls =
-    vars_at ls |> λ vs r. (statements_at r |> λ b r. (ending_at r |> λ e r. (expect mark.RBrace r |> λ _ r. Done (Proc (record { name = x; params = ps; vars = vs; body = b; ending = e })) r)))
+    vars_at ls
+    |> λ vs r.
+    (statements_at r
+    |> λ b r.
+    (ending_at r
+    |> λ e r.
+    (expect mark.RBrace r
+    |> λ _ r. Done
+    (Proc (record {
+      name = x;
+      params = ps;
+      vars = vs;
+      body = b;
+      ending = e;
+    })) r)))
 
--- behind `proc`
+-- after `proc`
 unfoldable pub proc_at : Reader Part
-proc_at ls = name_at ls |> λ x r. (expect mark.LParen r |> λ _ r. (enclosed_at name_at r |> λ ps r. (expect mark.LBrace r |> λ _ r. inside_at x ps r)))
+proc_at ls =
+    name_at ls
+    |> λ x r.
+    (expect mark.LParen r
+    |> λ _ r.
+    (enclosed_at name_at r
+    |> λ ps r. (expect mark.LBrace r |> λ _ r. inside_at x ps r)))
 
 unfoldable pub item_at : Reader Part
 item_at [] = Stuck []

@@ -1,4 +1,5 @@
--- How a parser goes over lexemes: it reads some and answers, or stops in front of the first that doesn't fit.
+-- How a parser goes over lexemes: it reads some and answers, or stops in front of the first that
+-- doesn't fit.
 use Rattle.std.specs.Prelude.{ℕ, ◌==◌, nat_eq, List, [], ◌∷◌, ◌++◌, Option, Some, None, Bool, false, if◌then◌else◌}
 use lib.Pointwise.{pointwise}
 use Rattle.src_ast.specs.declared.lexeme.Place.{Place}
@@ -10,7 +11,7 @@ use Rattle.src_ast.specs.declared.lexeme.Mark.{Mark}
 use Rattle.src_ast.specs.declared.lexeme.Mark.TheVariants as mark
 use Rattle.src_ast.specs.Grammar.{is_reserved}
 
--- What was read and the lexemes behind it, or the lexemes from the first one on that doesn't fit.
+-- What was read and the lexemes after it, or the lexemes from the first one on that doesn't fit.
 pub data Reading (A : Type 0) : Type 0 where
   Done : (a : A) (rest : List Lexeme) → Reading A
   Stuck : (rest : List Lexeme) → Reading A
@@ -69,7 +70,8 @@ is_word v (shape.Number n) = false
 is_word v (shape.Mark m) = false
 
 abbrev pub name_in : Shape → Lexeme → Option Name
-name_in (shape.Word w) l = if is_reserved w then None else Some (record { text = w; place = l.place })
+name_in (shape.Word w) l =
+    if is_reserved w then None else Some (record { text = w; place = l.place })
 name_in (shape.Number n) l = None
 name_in (shape.Mark m) l = None
 

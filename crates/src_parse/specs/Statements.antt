@@ -21,31 +21,42 @@ ended_at ls = expression_at 0 ls |> λ e r. (expect mark.Semi r |> λ _ r. Done 
 unfoldable pub value_at : {A : Type 0} → (Expression → A) → Reader A
 value_at f ls = ended_at ls |> λ e r. Done (f e) r
 
--- behind `f(`
+-- after `f(`
 unfoldable pub call_at : (List Expression → Statement) → Reader Statement
-call_at f ls = enclosed_at (expression_at 0) ls |> λ es r. (expect mark.Semi r |> λ _ r. Done (f es) r)
+call_at f ls =
+    enclosed_at (expression_at 0) ls |> λ es r. (expect mark.Semi r |> λ _ r. Done (f es) r)
 
--- behind `x = y`: the arguments of a call, or the rest of an expression
-unfoldable pub named_value : (Expression → Statement) → (List Expression → Statement) → Name → Reader Statement
-named_value f g y [] = (named (expression_at 0) y [] |> operators_at 0) |> λ e r. (expect mark.Semi r |> λ _ r. Done (f e) r)
+-- after `x = y`: the arguments of a call, or the rest of an expression
+unfoldable pub named_value : (Expression → Statement) → (List Expression → Statement) → Name
+    → Reader Statement
+named_value f g y [] =
+    (named (expression_at 0) y [] |> operators_at 0)
+    |> λ e r. (expect mark.Semi r |> λ _ r. Done (f e) r)
 named_value f g y (l ∷ ls) =
     if is_mark mark.LParen l.shape then call_at g ls
-    else ((named (expression_at 0) y (l ∷ ls) |> operators_at 0) |> λ e r. (expect mark.Semi r |> λ _ r. Done (f e) r))
+    else ((named (expression_at 0) y (l ∷ ls) |> operators_at 0)
+    |> λ e r. (expect mark.Semi r |> λ _ r. Done (f e) r))
 
--- behind `x =`
-unfoldable pub assigned_by : (Expression → Statement) → (Name → List Expression → Statement) → Option Name → Lexeme → Reader Statement
+-- after `x =`
+unfoldable pub assigned_by : (Expression → Statement) → (Name → List Expression → Statement)
+    → Option Name → Lexeme → Reader Statement
 assigned_by f g None l ls = value_at f (l ∷ ls)
 assigned_by f g (Some y) l ls = named_value f (g y) y ls
 
-unfoldable pub assigned_at : (Expression → Statement) → (Name → List Expression → Statement) → Reader Statement
+unfoldable pub assigned_at : (Expression → Statement) → (Name → List Expression → Statement)
+    → Reader Statement
 assigned_at f g [] = value_at f []
 assigned_at f g (l ∷ ls) = assigned_by f g (name_in l.shape l) l ls
 
--- behind `x[`
+-- after `x[`
 unfoldable pub stored_at : Name → Reader Statement
-stored_at x ls = expression_at 0 ls |> λ i r. (expect mark.RSquare r |> λ _ r. (expect mark.Assign r |> λ _ r. value_at (Store x.place x i) r))
+stored_at x ls =
+    expression_at 0 ls
+    |> λ i r.
+    (expect mark.RSquare r
+    |> λ _ r. (expect mark.Assign r |> λ _ r. value_at (Store x.place x i) r))
 
--- behind a name that begins a statement
+-- after a name that begins a statement
 unfoldable pub named_statement : Name → Reader Statement
 named_statement x [] = Stuck []
 named_statement x (l ∷ ls) =
@@ -54,40 +65,54 @@ named_statement x (l ∷ ls) =
     else if is_mark mark.LParen l.shape then call_at (Call x.place None x) ls
     else Stuck (l ∷ ls)
 
--- behind `read`
+-- after `read`
 unfoldable pub read_at : Place → Reader Statement
 read_at at ls = name_at ls |> λ x r. (expect mark.Semi r |> λ _ r. Done (Read at x) r)
 
--- behind `give`
+-- after `give`
 unfoldable pub give_at : Place → Reader Statement
-give_at at ls = count_at ls |> λ n r. (expect mark.Comma r |> λ _ r. (name_at r |> λ x r. (expect mark.Semi r |> λ _ r. Done (Give at n.number n.place x) r)))
+give_at at ls =
+    count_at ls
+    |> λ n r.
+    (expect mark.Comma r
+    |> λ _ r.
+    (name_at r
+    |> λ x r.
+    (expect mark.Semi r |> λ _ r. Done (Give at n.number n.place x) r)))
 
--- behind `take`
+-- after `take`
 unfoldable pub take_at : Place → Reader Statement
-take_at at ls = count_at ls |> λ n r. (expect mark.Comma r |> λ _ r. value_at (Take at n.number n.place) r)
+take_at at ls =
+    count_at ls |> λ n r. (expect mark.Comma r |> λ _ r. value_at (Take at n.number n.place) r)
 
 unfoldable pub block_by : Reader Statements → Reader Statements
-block_by body ls = expect mark.LBrace ls |> λ _ r. (body r |> λ b r. (expect mark.RBrace r |> λ _ r. Done b r))
+block_by body ls =
+    expect mark.LBrace ls |> λ _ r. (body r |> λ b r. (expect mark.RBrace r |> λ _ r. Done b r))
 
 -- the test of an `if` or a `while`, in parentheses
 unfoldable pub test_at : Reader Expression
-test_at ls = expect mark.LParen ls |> λ _ r. (expression_at 0 r |> λ e r. (expect mark.RParen r |> λ _ r. Done e r))
+test_at ls =
+    expect mark.LParen ls
+    |> λ _ r. (expression_at 0 r |> λ e r. (expect mark.RParen r |> λ _ r. Done e r))
 
 -- an `else` and its block, or nothing
 unfoldable pub else_by : Reader Statements → Reader Statements
 else_by body [] = Done Nothing []
-else_by body (l ∷ ls) = if is_word (codes "else") l.shape then block_by body ls else Done Nothing (l ∷ ls)
+else_by body (l ∷ ls) =
+    if is_word (codes "else") l.shape then block_by body ls else Done Nothing (l ∷ ls)
 
--- behind `if`
+-- after `if`
 unfoldable pub if_by : Reader Statements → Place → Reader Statement
-if_by body at ls = test_at ls |> λ e r. (block_by body r |> λ a r. (else_by body r |> λ b r. Done (If at e a b) r))
+if_by body at ls =
+    test_at ls |> λ e r. (block_by body r |> λ a r. (else_by body r |> λ b r. Done (If at e a b) r))
 
--- behind `while`
+-- after `while`
 unfoldable pub while_by : Reader Statements → Place → Reader Statement
 while_by body at ls = test_at ls |> λ e r. (block_by body r |> λ b r. Done (While at e b) r)
 
 -- a statement that begins with a word: one of the language, or a name
-unfoldable pub statement_word : Reader Statements → Option Keyword → List ℕ → Lexeme → Reader Statement
+unfoldable pub statement_word : Reader Statements → Option Keyword → List ℕ → Lexeme
+    → Reader Statement
 statement_word body (Some keyword.Print) w l ls = value_at (Print l.place) ls
 statement_word body (Some keyword.Read) w l ls = read_at l.place ls
 statement_word body (Some keyword.Give) w l ls = give_at l.place ls
@@ -126,7 +151,9 @@ starts (shape.Mark m) = false
 unfoldable pub statements_by : Reader Statements → Reader Statements
 statements_by body [] = Done Nothing []
 statements_by body (l ∷ ls) =
-    if starts l.shape then (statement_by body (l ∷ ls) |> λ s r. (body r |> λ rest r. Done (Then s rest) r)) else Done Nothing (l ∷ ls)
+    if starts l.shape
+    then (statement_by body (l ∷ ls) |> λ s r. (body r |> λ rest r. Done (Then s rest) r))
+    else Done Nothing (l ∷ ls)
 
 unfoldable pub statements_in : ℕ → Reader Statements
 statements_in zero ls = Stuck ls

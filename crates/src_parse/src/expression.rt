@@ -2,7 +2,6 @@
 
 ghost use Rattle.std.specs.Prelude.{◌≡◌, ◌+◌, ◌<◌, ◌≤◌, ◌↔◌, length, IfOk, IsTrue, IfSome, IsNone, Some, None, ◌∷◌};
 ghost use Rattle.src_ast.specs.declared.lexeme.Lexeme.{Lexeme};
-ghost use Rattle.src_ast.specs.Grammar.{level_of};
 ghost use Rattle.src_ast.specs.View as view;
 ghost use Rattle.src_ast.specs.Syntax.{Signed};
 ghost use Rattle.src_parse.specs.Gives.{Gives};
@@ -12,25 +11,9 @@ ghost use Rattle.src_parse.specs.Reading.{Done, ◌|>◌};
 use crate::keyword::is_reserved_word;
 use crate::stop::Stop;
 use crate::token::expect;
-use src_ast::{Expr, Lexeme, Mark, Name, Shape, Unary};
+use src_ast::{Expr, Lexeme, Mark, Name, Shape, Unary, level};
 use std::alloc::Global;
 use ws_words::Alu;
-
-/// How tightly an operator binds, from the loosest.
-pub fn level(op: Alu) -> u8
-    ensures { result ≡ level_of op }
-{
-    match op {
-        Alu::Or => 0,
-        Alu::Xor => 1,
-        Alu::And => 2,
-        Alu::Eq | Alu::Ne => 3,
-        Alu::Lt | Alu::Le | Alu::Gt | Alu::Ge => 4,
-        Alu::Shl | Alu::Shr => 5,
-        Alu::Add | Alu::Sub => 6,
-        Alu::Mul | Alu::Div | Alu::Rem => 7,
-    }
-}
 
 fn operator_of_mark(mark: Mark) -> Option<Alu>
     ensures { result ≡ operator_of mark }
@@ -56,10 +39,12 @@ fn operator_of_mark(mark: Mark) -> Option<Alu>
     }
 }
 
-/// The operator in front, and what stands behind it.
+/// The operator in front, and what stands after it.
 fn operator(lexemes: &[Lexeme]) -> Option<(Alu, &[Lexeme])>
     ensures none { IsNone result ↔ (operator_at lexemes.now ≡ None) }
-    ensures some { IfSome result (λ x. (operator_at lexemes.now ≡ Some x.0) × (length x.1.now + 1 ≡ length lexemes.now) × ((l : Lexeme) × (lexemes.now ≡ l ∷ x.1.now))) }
+    ensures some { IfSome result (λ x. (operator_at lexemes.now ≡ Some x.0)
+        × (length x.1.now + 1 ≡ length lexemes.now)
+        × ((l : Lexeme) × (lexemes.now ≡ l ∷ x.1.now))) }
 {
     match lexemes {
         [first, rest @ ..] => match first.shape {
@@ -79,7 +64,8 @@ pub fn expression<'a>(
     min: u8,
 ) -> Result<(Expr, &'a [Lexeme]), Stop<'a>>
     requires { min ≤ 8 }
-    ensures read { Gives (λ x. (view.expression x.0, x.1.now)) result (expression_at min lexemes.now) }
+    ensures read { Gives (λ x. (view.expression x.0, x.1.now)) result
+        (expression_at min lexemes.now) }
     ensures shorter { IfOk result (λ x. length x.1.now < length lexemes.now) }
 {
     let (mut left, mut rest) = operand(alloc, lexemes)?;
@@ -118,7 +104,8 @@ fn operand_of<'a>(
     rest: &'a [Lexeme],
 ) -> Result<(Expr, &'a [Lexeme]), Stop<'a>>
     requires { lexemes.now ≡ first.now ∷ rest.now }
-    ensures read { Gives (λ x. (view.expression x.0, x.1.now)) result (operand_shape operand_at (expression_at 0) first.now.shape first.now rest.now) }
+    ensures read { Gives (λ x. (view.expression x.0, x.1.now)) result
+        (operand_shape operand_at (expression_at 0) first.now.shape first.now rest.now) }
     ensures shorter { IfOk result (λ x. length x.1.now < length lexemes.now) }
 {
     match &first.shape {
@@ -145,21 +132,22 @@ fn operand_of<'a>(
     }
 }
 
-// An operand behind a sign.
+// An operand after a sign.
 #[cycle(expressions)]
 fn signed<'a>(
     alloc: Global,
     sign: Unary,
     lexemes: &'a [Lexeme],
 ) -> Result<(Expr, &'a [Lexeme]), Stop<'a>>
-    ensures read { Gives (λ x. (view.expression x.0, x.1.now)) result (operand_at lexemes.now |> λ e rest. Done (Signed sign e) rest) }
+    ensures read { Gives (λ x. (view.expression x.0, x.1.now)) result
+        (operand_at lexemes.now |> λ e rest. Done (Signed sign e) rest) }
     ensures shorter { IfOk result (λ x. length x.1.now < length lexemes.now) }
 {
     let (part, rest) = operand(alloc, lexemes)?;
     Ok((Expr::Unary(sign, Box::new(alloc, part)?), rest))
 }
 
-// A cell of an array where an index stands behind the name, else the variable.
+// A cell of an array where an index stands after the name, else the variable.
 #[cycle(expressions)]
 #[tactic(auto, unfolding(crate::specs::Expressions::named))]
 fn named<'a>(
@@ -167,7 +155,8 @@ fn named<'a>(
     name: Name,
     lexemes: &'a [Lexeme],
 ) -> Result<(Expr, &'a [Lexeme]), Stop<'a>>
-    ensures read { Gives (λ x. (view.expression x.0, x.1.now)) result (named (expression_at 0) name lexemes.now) }
+    ensures read { Gives (λ x. (view.expression x.0, x.1.now)) result
+        (named (expression_at 0) name lexemes.now) }
     ensures shorter { IfOk result (λ x. length x.1.now ≤ length lexemes.now) }
 {
     match lexemes {

@@ -13,4 +13,4 @@ mod stop;
 mod tests;
 mod token;
 
-pub use program::{no_fault_in_a_tree, one_place, one_tree, parse};
+pub use program::{lexemes_are_parsed_once, no_fault_in_a_tree, one_place, one_tree, parse};

@@ -16,7 +16,8 @@ use std::alloc::Global;
 /// Expressions with commas between them, at least one.
 #[tactic(auto, using(crate::proofs::Loops::expressions_first, crate::proofs::Loops::expressions_more, crate::proofs::Loops::expressions_end, crate::proofs::Loops::expressions_stop, crate::proofs::Loops::expressions_stop_first))]
 fn expressions<'a>(alloc: Global, lexemes: &'a [Lexeme]) -> Result<(Exprs, &'a [Lexeme]), Stop<'a>>
-    ensures read { Gives (λ x. (map view.expression x.0.items, x.1.now)) result (separated_at (expression_at 0) lexemes.now) }
+    ensures read { Gives (λ x. (map view.expression x.0.items, x.1.now)) result
+        (separated_at (expression_at 0) lexemes.now) }
     ensures shorter { IfOk result (λ x. length x.1.now < length lexemes.now) }
 {
     let mut all = Vec::new(alloc);
@@ -30,13 +31,14 @@ fn expressions<'a>(alloc: Global, lexemes: &'a [Lexeme]) -> Result<(Exprs, &'a [
     Ok((all, rest))
 }
 
-/// What stands behind the opening parenthesis of a call, with the closing one.
+/// What stands after the opening parenthesis of a call, with the closing one.
 #[tactic(auto, using(crate::proofs::Loops::arguments_none, crate::proofs::Loops::arguments_some))]
 pub fn arguments<'a>(
     alloc: Global,
     lexemes: &'a [Lexeme],
 ) -> Result<(Exprs, &'a [Lexeme]), Stop<'a>>
-    ensures read { Gives (λ x. (map view.expression x.0.items, x.1.now)) result (enclosed_at (expression_at 0) lexemes.now) }
+    ensures read { Gives (λ x. (map view.expression x.0.items, x.1.now)) result
+        (enclosed_at (expression_at 0) lexemes.now) }
     ensures shorter { IfOk result (λ x. length x.1.now < length lexemes.now) }
 {
     if let Some(rest) = behind(lexemes, Mark::RParen) {
@@ -47,14 +49,15 @@ pub fn arguments<'a>(
     Ok((all, rest))
 }
 
-/// Names with commas between them, at least one, put behind these.
+/// Names with commas between them, at least one, put after these.
 #[tactic(auto, using(crate::proofs::Loops::names_first, crate::proofs::Loops::names_more, crate::proofs::Loops::names_end, crate::proofs::Loops::names_stop, crate::proofs::Loops::names_stop_first))]
 pub fn names<'a>(
     alloc: Global,
     mut all: Names,
     lexemes: &'a [Lexeme],
 ) -> Result<(Names, &'a [Lexeme]), Stop<'a>>
-    ensures read { Gives (λ x. (x.0.items, x.1.now)) result (before all.items (separated_at name_at lexemes.now)) }
+    ensures read { Gives (λ x. (x.0.items, x.1.now)) result
+        (before all.items (separated_at name_at lexemes.now)) }
     ensures shorter { IfOk result (λ x. length x.1.now < length lexemes.now) }
 {
     let (first, mut rest) = name(alloc, lexemes)?;
@@ -67,7 +70,7 @@ pub fn names<'a>(
     Ok((all, rest))
 }
 
-/// What stands behind the opening parenthesis of a procedure, with the closing one.
+/// What stands after the opening parenthesis of a procedure, with the closing one.
 #[tactic(auto, using(crate::proofs::Loops::parameters_none, crate::proofs::Loops::parameters_some, crate::proofs::Loops::before_nothing))]
 pub fn parameters<'a>(
     alloc: Global,

@@ -15,7 +15,7 @@ use crate::token::{behind_word, count, expect, is_word, name};
 use src_ast::{Ending, Item, Lexeme, Mark, Name, Names};
 use std::alloc::Global;
 
-/// What stands behind `array`.
+/// What stands after `array`.
 #[tactic(auto, unfolding(crate::specs::Programs::array_at))]
 pub fn array<'a>(alloc: Global, lexemes: &'a [Lexeme]) -> Result<(Item, &'a [Lexeme]), Stop<'a>>
     ensures read { Gives (λ x. (view.part x.0, x.1.now)) result (array_at lexemes.now) }
@@ -36,14 +36,15 @@ pub fn array<'a>(alloc: Global, lexemes: &'a [Lexeme]) -> Result<(Item, &'a [Lex
     ))
 }
 
-// The names behind `var`, put behind these, and the semicolon.
+// The names after `var`, put after these, and the semicolon.
 #[tactic(auto, using(crate::proofs::Loops::line_done, crate::proofs::Loops::line_unnamed, crate::proofs::Loops::line_open))]
 fn line<'a>(
     alloc: Global,
     all: Names,
     lexemes: &'a [Lexeme],
 ) -> Result<(Names, &'a [Lexeme]), Stop<'a>>
-    ensures read { Gives (λ x. (x.0.items, x.1.now)) result (before all.items (line_at lexemes.now)) }
+    ensures read { Gives (λ x. (x.0.items, x.1.now)) result
+        (before all.items (line_at lexemes.now)) }
     ensures shorter { IfOk result (λ x. length x.1.now < length lexemes.now) }
 {
     let (all, rest) = names(alloc, all, lexemes)?;
@@ -87,7 +88,7 @@ fn ending<'a>(
     Ok((Some(Ending { place, value }), rest))
 }
 
-/// What stands behind `proc`.
+/// What stands after `proc`.
 #[tactic(auto, unfolding(crate::specs::Programs::proc_at))]
 pub fn procedure<'a>(alloc: Global, lexemes: &'a [Lexeme]) -> Result<(Item, &'a [Lexeme]), Stop<'a>>
     ensures read { Gives (λ x. (view.part x.0, x.1.now)) result (proc_at lexemes.now) }
@@ -108,7 +109,8 @@ fn inside<'a>(
     params: Names,
     lexemes: &'a [Lexeme],
 ) -> Result<(Item, &'a [Lexeme]), Stop<'a>>
-    ensures read { Gives (λ x. (view.part x.0, x.1.now)) result (inside_at name params.items lexemes.now) }
+    ensures read { Gives (λ x. (view.part x.0, x.1.now)) result
+        (inside_at name params.items lexemes.now) }
     ensures shorter { IfOk result (λ x. length x.1.now < length lexemes.now) }
 {
     let (vars, rest) = variables(alloc, lexemes)?;

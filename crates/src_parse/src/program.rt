@@ -6,7 +6,8 @@ ghost use Rattle.src_ast.specs.declared.lexeme.Place.{Place};
 ghost use Rattle.src_ast.specs.View as view;
 ghost use Rattle.src_ast.specs.Syntax.{Part};
 ghost use Rattle.src_ast.specs.Grammar.{Tree};
-ghost use Rattle.src_ast.specs.Faults.{IsSyntaxFault, SyntaxAt, Answers};
+ghost use Rattle.src_ast.specs.Faults.{IsSyntaxFault, SyntaxAt, Answers, IsTreeAnswer};
+ghost use Rattle.src_ast.specs.Once.{ExactlyOne};
 ghost use Rattle.src_parse.specs.Gives.{Gives};
 ghost use Rattle.src_parse.specs.Programs.{item_at, program_at, place_of};
 
@@ -71,9 +72,12 @@ pub fn parse(alloc: Global, lexemes: &Lexemes) -> Result<Program, TextFault>
     ensures found { IfOk result (λ p. Tree lexemes.now.items.items (view.parts p.items.items)) }
     ensures finish { IfOk result (λ p. p.finish ≡ lexemes.now.finish) }
     // What is spelled so is answered, unless memory runs out.
-    ensures only { (all : List Part) → Tree lexemes.now.items.items all → Answers (λ p. view.parts p.items.items) result all }
-    // A refusal is at the first lexeme that no program continues, or at the text's end where only a rest is missing.
-    ensures refused { IfErr result (λ e. IsSyntaxFault lexemes.now.items.items lexemes.now.finish e) }
+    ensures only { (all : List Part) → Tree lexemes.now.items.items all
+        → Answers (λ p. view.parts p.items.items) result all }
+    // A refusal is at the first lexeme that no program continues, or at the text's end where only a
+    // rest is missing.
+    ensures refused { IfErr result
+        (λ e. IsSyntaxFault lexemes.now.items.items lexemes.now.finish e) }
 {
     let finish = lexemes.finish;
     match items(alloc, &lexemes.items) {
@@ -98,11 +102,18 @@ pub fn one_tree()
 /// There is at most one place where lexemes are wrong.
 #[tactic(auto, using(crate::proofs::Laws::one_place))]
 pub fn one_place()
-    ensures { (ls : List Lexeme) (finish a b : Place) → SyntaxAt ls finish a → SyntaxAt ls finish b → a ≡ b }
+    ensures { (ls : List Lexeme) (finish a b : Place) → SyntaxAt ls finish a → SyntaxAt ls finish b
+        → a ≡ b }
 {}
 
 /// Lexemes that have a tree are wrong nowhere.
 #[tactic(auto, using(crate::proofs::Laws::no_fault_in_a_tree))]
 pub fn no_fault_in_a_tree()
-    ensures { (ls : List Lexeme) (finish p : Place) (all : List Part) → Tree ls all → SyntaxAt ls finish p → ⊥ }
+    ensures { (ls : List Lexeme) (finish p : Place) (all : List Part) → Tree ls all
+        → SyntaxAt ls finish p → ⊥ }
+{}
+
+/// Lexemes come to one thing alone: a tree, or a place where they are wrong.
+pub fn lexemes_are_parsed_once()
+    ensures { (ls : List Lexeme) (finish : Place) → ExactlyOne (IsTreeAnswer ls finish) }
 {}

@@ -27,14 +27,15 @@ pub fn ended<'a>(alloc: Global, lexemes: &'a [Lexeme]) -> Result<(Expr, &'a [Lex
     Ok((value, rest))
 }
 
-/// What stands behind `print`.
+/// What stands after `print`.
 #[tactic(auto, unfolding(crate::specs::Statements::value_at))]
 pub fn print<'a>(
     alloc: Global,
     place: Place,
     lexemes: &'a [Lexeme],
 ) -> Result<(Stmt, &'a [Lexeme]), Stop<'a>>
-    ensures read { Gives (λ x. (view.statement x.0, x.1.now)) result (value_at (Print place) lexemes.now) }
+    ensures read { Gives (λ x. (view.statement x.0, x.1.now)) result
+        (value_at (Print place) lexemes.now) }
     ensures shorter { IfOk result (λ x. length x.1.now < length lexemes.now) }
 {
     let (value, rest) = ended(alloc, lexemes)?;
@@ -42,7 +43,7 @@ pub fn print<'a>(
     Ok((Stmt { place, form }, rest))
 }
 
-/// What stands behind `read`.
+/// What stands after `read`.
 #[tactic(auto, unfolding(crate::specs::Statements::read_at))]
 pub fn read<'a>(
     alloc: Global,
@@ -58,7 +59,7 @@ pub fn read<'a>(
     Ok((Stmt { place, form }, rest))
 }
 
-/// What stands behind `give`.
+/// What stands after `give`.
 #[tactic(auto, unfolding(crate::specs::Statements::give_at))]
 pub fn give<'a>(
     alloc: Global,
@@ -76,7 +77,7 @@ pub fn give<'a>(
     Ok((Stmt { place, form }, rest))
 }
 
-/// What stands behind `take`.
+/// What stands after `take`.
 #[tactic(auto, unfolding(crate::specs::Statements::take_at, crate::specs::Statements::value_at))]
 pub fn take<'a>(
     alloc: Global,
@@ -93,14 +94,15 @@ pub fn take<'a>(
     Ok((Stmt { place, form }, rest))
 }
 
-/// A statement behind the name that it begins with.
+/// A statement after the name that it begins with.
 #[tactic(auto, using(crate::proofs::Loops::named_assigns, crate::proofs::Loops::named_stores, crate::proofs::Loops::named_calls, crate::proofs::Loops::named_stops))]
 pub fn named_behind<'a>(
     alloc: Global,
     name: Name,
     lexemes: &'a [Lexeme],
 ) -> Result<(Stmt, &'a [Lexeme]), Stop<'a>>
-    ensures read { Gives (λ x. (view.statement x.0, x.1.now)) result (named_statement name lexemes.now) }
+    ensures read { Gives (λ x. (view.statement x.0, x.1.now)) result
+        (named_statement name lexemes.now) }
     ensures shorter { IfOk result (λ x. length x.1.now ≤ length lexemes.now) }
 {
     if let Some(rest) = behind(lexemes, Mark::Assign) {
@@ -116,7 +118,7 @@ pub fn named_behind<'a>(
     Err(Stop::Here(lexemes))
 }
 
-// What stands behind `x[`.
+// What stands after `x[`.
 #[tactic(auto, unfolding(crate::specs::Statements::stored_at, crate::specs::Statements::value_at))]
 fn stored<'a>(
     alloc: Global,
@@ -135,14 +137,15 @@ fn stored<'a>(
     Ok((Stmt { place, form }, rest))
 }
 
-// What stands behind `x =`.
+// What stands after `x =`.
 #[tactic(auto, using(crate::proofs::Loops::assigned_calls, crate::proofs::Loops::assigned_plain), unfolding(crate::specs::Statements::value_at))]
 fn assigned<'a>(
     alloc: Global,
     name: Name,
     lexemes: &'a [Lexeme],
 ) -> Result<(Stmt, &'a [Lexeme]), Stop<'a>>
-    ensures read { Gives (λ x. (view.statement x.0, x.1.now)) result (assigned_at (Assign name.place name) (Call name.place (Some name)) lexemes.now) }
+    ensures read { Gives (λ x. (view.statement x.0, x.1.now)) result
+        (assigned_at (Assign name.place name) (Call name.place (Some name)) lexemes.now) }
     ensures shorter { IfOk result (λ x. length x.1.now ≤ length lexemes.now) }
 {
     let place = name.place;
@@ -154,9 +157,10 @@ fn assigned<'a>(
     Ok((Stmt { place, form }, rest))
 }
 
-// The name of a call and what stands behind its opening parenthesis, if a call begins here.
+// The name of a call and what stands after its opening parenthesis, if a call begins here.
 fn callee(alloc: Global, lexemes: &[Lexeme]) -> Result<Option<(Name, &[Lexeme])>, NoMemory>
-    ensures { IfOk result (λ o. MatchOption o (NoCall lexemes.now) (λ x. IsCallee lexemes.now x.0 x.1.now)) }
+    ensures { IfOk result
+        (λ o. MatchOption o (NoCall lexemes.now) (λ x. IsCallee lexemes.now x.0 x.1.now)) }
 {
     let Some((first, rest)) = lexemes.split_first() else {
         return Ok(None);
@@ -189,7 +193,8 @@ fn call<'a>(
     callee: Name,
     lexemes: &'a [Lexeme],
 ) -> Result<(Stmt, &'a [Lexeme]), Stop<'a>>
-    ensures read { Gives (λ x. (view.statement x.0, x.1.now)) result (call_at (Call place target callee) lexemes.now) }
+    ensures read { Gives (λ x. (view.statement x.0, x.1.now)) result
+        (call_at (Call place target callee) lexemes.now) }
     ensures shorter { IfOk result (λ x. length x.1.now ≤ length lexemes.now) }
 {
     let (all, rest) = arguments(alloc, lexemes)?;

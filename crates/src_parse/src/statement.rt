@@ -10,7 +10,7 @@ use crate::keyword::{Keyword, as_keyword};
 use crate::simple::{give, named_behind, print, read, take};
 use crate::stop::Stop;
 use crate::token::{behind_word, expect};
-use src_ast::{Expr, Lexeme, Mark, Name, Place, Shape, Stmt, Stmts, make};
+use src_ast::{Expr, Lexeme, Mark, Name, Place, Shape, Stmt, Stmts, if_stmt, while_stmt};
 use std::alloc::Global;
 
 /// A test in parentheses.
@@ -50,7 +50,8 @@ pub fn statements<'a>(
     alloc: Global,
     lexemes: &'a [Lexeme],
 ) -> Result<(Stmts, &'a [Lexeme]), Stop<'a>>
-    ensures read { Gives (λ x. (view.statements x.0.items, x.1.now)) result (statements_at lexemes.now) }
+    ensures read { Gives (λ x. (view.statements x.0.items, x.1.now)) result
+        (statements_at lexemes.now) }
     ensures shorter { IfOk result (λ x. length x.1.now ≤ length lexemes.now) }
 {
     let mut all = Vec::new(alloc);
@@ -67,7 +68,8 @@ pub fn statements<'a>(
 #[cycle(statements)]
 #[tactic(auto, unfolding(crate::specs::Statements::block_by))]
 fn block<'a>(alloc: Global, lexemes: &'a [Lexeme]) -> Result<(Stmts, &'a [Lexeme]), Stop<'a>>
-    ensures read { Gives (λ x. (view.statements x.0.items, x.1.now)) result (block_by statements_at lexemes.now) }
+    ensures read { Gives (λ x. (view.statements x.0.items, x.1.now)) result
+        (block_by statements_at lexemes.now) }
     ensures shorter { IfOk result (λ x. length x.1.now < length lexemes.now) }
 {
     let rest = expect(lexemes, Mark::LBrace)?;
@@ -80,7 +82,8 @@ fn block<'a>(alloc: Global, lexemes: &'a [Lexeme]) -> Result<(Stmts, &'a [Lexeme
 #[cycle(statements)]
 #[tactic(auto, using(crate::proofs::Loops::else_goes, crate::proofs::Loops::else_stays))]
 fn otherwise<'a>(alloc: Global, lexemes: &'a [Lexeme]) -> Result<(Stmts, &'a [Lexeme]), Stop<'a>>
-    ensures read { Gives (λ x. (view.statements x.0.items, x.1.now)) result (else_by statements_at lexemes.now) }
+    ensures read { Gives (λ x. (view.statements x.0.items, x.1.now)) result
+        (else_by statements_at lexemes.now) }
     ensures shorter { IfOk result (λ x. length x.1.now ≤ length lexemes.now) }
 {
     match behind_word(lexemes, Keyword::Else) {
@@ -93,7 +96,8 @@ fn otherwise<'a>(alloc: Global, lexemes: &'a [Lexeme]) -> Result<(Stmts, &'a [Le
 #[cycle(statements)]
 #[tactic(auto, unfolding(crate::specs::Statements::statement_by))]
 fn statement<'a>(alloc: Global, lexemes: &'a [Lexeme]) -> Result<(Stmt, &'a [Lexeme]), Stop<'a>>
-    ensures read { Gives (λ x. (view.statement x.0, x.1.now)) result (statement_by statements_at lexemes.now) }
+    ensures read { Gives (λ x. (view.statement x.0, x.1.now)) result
+        (statement_by statements_at lexemes.now) }
     ensures shorter { IfOk result (λ x. length x.1.now < length lexemes.now) }
 {
     match lexemes.split_first() {
@@ -112,7 +116,8 @@ fn statement_behind<'a>(
     rest: &'a [Lexeme],
 ) -> Result<(Stmt, &'a [Lexeme]), Stop<'a>>
     requires { lexemes.now ≡ first.now ∷ rest.now }
-    ensures read { Gives (λ x. (view.statement x.0, x.1.now)) result (statement_shape statements_at first.now.shape first.now rest.now) }
+    ensures read { Gives (λ x. (view.statement x.0, x.1.now)) result
+        (statement_shape statements_at first.now.shape first.now rest.now) }
     ensures shorter { IfOk result (λ x. length x.1.now < length lexemes.now) }
 {
     let place = first.place;
@@ -124,8 +129,8 @@ fn statement_behind<'a>(
         Some(Keyword::Read) => read(alloc, place, rest),
         Some(Keyword::Give) => give(alloc, place, rest),
         Some(Keyword::Take) => take(alloc, place, rest),
-        Some(Keyword::If) => if_stmt(alloc, place, rest),
-        Some(Keyword::While) => while_stmt(alloc, place, rest),
+        Some(Keyword::If) => if_statement(alloc, place, rest),
+        Some(Keyword::While) => while_statement(alloc, place, rest),
         Some(_) => Err(Stop::Here(lexemes)),
         None => {
             let text = word.copy(alloc)?;
@@ -134,35 +139,37 @@ fn statement_behind<'a>(
     }
 }
 
-// What stands behind `if`.
+// What stands after `if`.
 #[cycle(statements)]
 #[tactic(auto, unfolding(crate::specs::Statements::if_by))]
-fn if_stmt<'a>(
+fn if_statement<'a>(
     alloc: Global,
     place: Place,
     lexemes: &'a [Lexeme],
 ) -> Result<(Stmt, &'a [Lexeme]), Stop<'a>>
-    ensures read { Gives (λ x. (view.statement x.0, x.1.now)) result (if_by statements_at place lexemes.now) }
+    ensures read { Gives (λ x. (view.statement x.0, x.1.now)) result
+        (if_by statements_at place lexemes.now) }
     ensures shorter { IfOk result (λ x. length x.1.now < length lexemes.now) }
 {
     let (test, rest) = test(alloc, lexemes)?;
     let (first, rest) = block(alloc, rest)?;
     let (second, rest) = otherwise(alloc, rest)?;
-    Ok((make::if_stmt(place, test, first, second), rest))
+    Ok((if_stmt(place, test, first, second), rest))
 }
 
-// What stands behind `while`.
+// What stands after `while`.
 #[cycle(statements)]
 #[tactic(auto, unfolding(crate::specs::Statements::while_by))]
-fn while_stmt<'a>(
+fn while_statement<'a>(
     alloc: Global,
     place: Place,
     lexemes: &'a [Lexeme],
 ) -> Result<(Stmt, &'a [Lexeme]), Stop<'a>>
-    ensures read { Gives (λ x. (view.statement x.0, x.1.now)) result (while_by statements_at place lexemes.now) }
+    ensures read { Gives (λ x. (view.statement x.0, x.1.now)) result
+        (while_by statements_at place lexemes.now) }
     ensures shorter { IfOk result (λ x. length x.1.now < length lexemes.now) }
 {
     let (test, rest) = test(alloc, lexemes)?;
     let (body, rest) = block(alloc, rest)?;
-    Ok((make::while_stmt(place, test, body), rest))
+    Ok((while_stmt(place, test, body), rest))
 }

@@ -11,7 +11,7 @@ use crate::stop::Stop;
 use src_ast::{Lexeme, Mark, Name, Place, Shape};
 use std::alloc::Global;
 
-/// What stands behind this mark.
+/// What stands after this mark.
 #[tactic(auto, unfolding(crate::specs::Reading::expect))]
 pub fn expect<'a>(lexemes: &'a [Lexeme], mark: Mark) -> Result<&'a [Lexeme], Stop<'a>>
     ensures read { Gives (λ x. (tt, x.now)) result (expect mark lexemes.now) }
@@ -26,7 +26,7 @@ pub fn expect<'a>(lexemes: &'a [Lexeme], mark: Mark) -> Result<&'a [Lexeme], Sto
     }
 }
 
-/// What stands behind this mark, if it stands in front.
+/// What stands after this mark, if it stands in front.
 pub fn behind<'a>(lexemes: &'a [Lexeme], mark: Mark) -> Option<&'a [Lexeme]>
     ensures some { IfSome result (λ x. IsBehind mark lexemes.now x.now) }
     ensures none { IfNone result (has_mark mark lexemes.now ≡ false) }
@@ -51,7 +51,7 @@ pub fn is_word(lexeme: &Lexeme, word: Keyword) -> bool
     }
 }
 
-/// What stands behind this word, if it stands in front.
+/// What stands after this word, if it stands in front.
 pub fn behind_word<'a>(lexemes: &'a [Lexeme], word: Keyword) -> Option<&'a [Lexeme]>
     ensures some { IfSome result (λ x. IsBehindWord (spelling_of word) lexemes.now x.now) }
     ensures none { IfNone result (has_word (spelling_of word) lexemes.now ≡ false) }
@@ -96,7 +96,8 @@ pub fn name<'a>(alloc: Global, lexemes: &'a [Lexeme]) -> Result<(Name, &'a [Lexe
 /// A number and its place.
 #[tactic(auto, unfolding(crate::specs::Reading::count_at))]
 pub fn count(lexemes: &[Lexeme]) -> Result<((u64, Place), &[Lexeme]), Stop<'_>>
-    ensures read { Gives (λ x. (record { number = x.0.0; place = x.0.1 }, x.1.now)) result (count_at lexemes.now) }
+    ensures read { Gives (λ x. (record { number = x.0.0; place = x.0.1 }, x.1.now)) result
+        (count_at lexemes.now) }
     ensures shorter { IfOk result (λ x. length x.1.now < length lexemes.now) }
 {
     match lexemes.split_first() {

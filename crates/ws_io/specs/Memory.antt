@@ -9,8 +9,8 @@ one_more n = min (n + 1) (2 ^ 64 - 1)
 abbrev pub room : ℕ
 room = 2 ^ 20
 
--- The bytes still to come, how many a call gives at most, the calls so far, the numbers of the calls that fail, and how
--- many have failed. Calls are numbered from 1.
+-- The bytes still to come, how many a call gives at most, the calls so far, the numbers of the
+-- calls that fail, and how many have failed. Calls are numbered from 1.
 pub record Supply : Type 0 where
   pub left : List ℕ
   pub piece : ℕ
@@ -18,8 +18,9 @@ pub record Supply : Type 0 where
   pub fail_at : List ℕ
   pub faults : ℕ
 
--- The bytes written, how many of them the last good flush covered, how many a call takes at most, the calls so far, the
--- numbers of the calls that fail, and how many have failed. Calls are numbered from 1, writes and flushes together.
+-- The bytes written, how many of them the last good flush covered, how many a call takes at most,
+-- the calls so far, the numbers of the calls that fail, and how many have failed. Calls are
+-- numbered from 1, writes and flushes together.
 pub record Store : Type 0 where
   pub held : List ℕ
   pub flushed : ℕ

@@ -1,4 +1,5 @@
--- What sources and sinks of bytes do: what a read takes away, what a write adds, and how their faults are counted.
+-- What sources and sinks of bytes do: what a read takes away, what a write adds, and how their
+-- faults are counted.
 use Rattle.std.specs.Prelude.{◌≡◌, ◌⊎◌, ℕ, ◌-◌, ◌^◌, ◌<◌, List, [], ◌++◌, length, Option, Some, None, IsSome}
 
 -- a count of faults rose: it is greater than before, or stands at its end

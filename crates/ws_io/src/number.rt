@@ -7,7 +7,7 @@ ghost use Rattle.ws_words.specs.Digits.{is_digit, is_number, value_of};
 use itoa::Buffer;
 use ws_words::{Bytes, NoMemory};
 
-/// Puts a number behind a text, in decimal digits with no leading zeros.
+/// Puts a number at the end of a text, in decimal digits with no leading zeros.
 pub fn put_decimal(text: &mut Bytes, word: u64) -> Result<(), NoMemory>
     ensures ok { OnOk result (text.new ≡ text.old ++ digits word) }
     ensures err { OnErr result (text.new ≡ text.old) }
@@ -35,7 +35,7 @@ pub fn decimal(text: &[u8]) -> Option<u64>
     Some(value)
 }
 
-// The number with one digit more behind.
+// The number with one digit more at its end.
 fn with_digit(value: u64, digit: u8) -> Option<u64>
     requires { IsTrue (is_digit digit) }
     ensures { let more = 10 * value + (digit - 48) in SomeIff result (more < 2 ^ 64) more }

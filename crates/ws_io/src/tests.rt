@@ -1,136 +1,94 @@
-ghost use Rattle.std.specs.Prelude.{◌<◌};
-
 use super::*;
-use std::alloc::Global;
 use std::io;
 use std::io::{Read, Write};
 use std::test::Fail;
-use ws_words::{Bytes, NoMemory, Words};
+use ws_words::{Bytes, Words};
 
-fn source_of(
-    alloc: Global,
-    text: &[u8],
-    piece: usize,
-    fail_at: &[u64],
-) -> Result<MemSource, NoMemory>
-    requires { 0 < piece }
-{
-    Ok(MemSource::new(
-        Bytes::from_slice(alloc, text)?,
-        piece,
-        Words::from_slice(alloc, fail_at)?,
-    ))
-}
+// A text, how many bytes a read gives, the limit, the read that fails, the answer, and the bytes
+// that are still to come after it.
+type Reading = (
+    &'static [u8],
+    usize,
+    usize,
+    u64,
+    Option<ReadEnd>,
+    &'static [u8],
+);
+
+const READINGS: [Reading; 7] = [
+    (b"wave", 1, 4, 0, None, b""),
+    (b"", 3, 0, 0, None, b""),
+    (b"waves!", 2, 4, 0, Some(ReadEnd::TooLong), b"!"),
+    (b"wave", 1, 4, 1, Some(ReadEnd::Failed), b"wave"),
+    (b"wave", 1, 4, 2, Some(ReadEnd::Failed), b"ave"),
+    (b"wave", 1, 4, 4, Some(ReadEnd::Failed), b"e"),
+    (b"wave", 1, 4, 5, Some(ReadEnd::Failed), b""),
+];
 
 #[test]
-fn a_text_is_read_whole(rt: HostRuntime) -> Result<(), Fail> {
+fn texts_are_read(rt: HostRuntime) -> Result<(), Fail> {
     let alloc = rt.alloc();
-    let mut source = source_of(alloc, b"wave", 1, &[])?;
-    let text = read_all(alloc, &mut source, 4)?;
-    assert_eq!(rt; text.as_slice(), b"wave".as_slice());
-    assert_eq!(rt; source.left(), b"".as_slice());
-    assert_eq!(rt; source.faults(), 0);
+    for (text, piece, limit, failing, end, left) in READINGS {
+        let bytes = Bytes::from_slice(alloc, text)?;
+        let fail_at = Words::from_slice(alloc, &[failing])?;
+        let mut source = MemSource::new(bytes, piece.max(1), fail_at);
+        let answer = read_all(alloc, &mut source, limit);
+        assert_eq!(rt; source.left(), left, "read {failing} of {text:?}");
+        match answer {
+            Ok(read) => assert_eq!(rt; (read.as_slice(), None), (text, end)),
+            Err(e) => assert_eq!(rt; Some(e), end),
+        }
+    }
     Ok(())
 }
 
-#[test]
-fn an_empty_text_is_read(rt: HostRuntime) -> Result<(), Fail> {
-    let alloc = rt.alloc();
-    let mut source = source_of(alloc, b"", 3, &[])?;
-    let text = read_all(alloc, &mut source, 0)?;
-    assert!(rt; text.is_empty());
-    Ok(())
-}
+// A text, how many bytes a write takes, the call that fails, the bytes held after it, and how many
+// of them are flushed.
+type Writing = (&'static [u8], usize, u64, &'static [u8], usize);
+
+const WRITINGS: [Writing; 6] = [
+    (b"waves", 2, 0, b"waves", 5),
+    (b"", 1, 1, b"", 0),
+    (b"", 1, 2, b"", 0),
+    (b"wave", 1, 1, b"", 0),
+    (b"wave", 1, 4, b"wav", 0),
+    (b"wave", 1, 5, b"wave", 0),
+];
 
 #[test]
-fn one_byte_more_is_too_long(rt: HostRuntime) -> Result<(), Fail> {
+fn texts_are_written(rt: HostRuntime) -> Result<(), Fail> {
     let alloc = rt.alloc();
-    let mut source = source_of(alloc, b"waves!", 2, &[])?;
-    assert_eq!(rt;
-        read_all(alloc, &mut source, 4).err(),
-        Some(ReadEnd::TooLong)
-    );
-    assert_eq!(rt; source.left(), b"!".as_slice());
-    Ok(())
-}
-
-#[test]
-fn each_failing_read_ends_it(rt: HostRuntime) -> Result<(), Fail> {
-    let alloc = rt.alloc();
-    for number in 1..6u64 {
-        let mut source = source_of(alloc, b"wave", 1, &[number])?;
+    for (text, piece, failing, held, flushed) in WRITINGS {
+        let fail_at = Words::from_slice(alloc, &[failing])?;
+        let mut sink = MemSink::new(alloc, piece.max(1), fail_at)?;
+        let answer = write_all(&mut sink, text);
+        assert_eq!(rt; sink.held(), held, "call {failing} of {text:?}");
+        assert_eq!(rt; sink.flushed(), flushed, "call {failing} of {text:?}");
         assert_eq!(rt;
-            read_all(alloc, &mut source, 4).err(),
-            Some(ReadEnd::Failed)
+            answer.is_err(),
+            sink.faults() == 1,
+            "call {failing} of {text:?}"
         );
-        assert_eq!(rt; source.faults(), 1);
-        assert_eq!(rt; source.left().len() as u64, 5 - number);
     }
     Ok(())
 }
 
-#[test]
-fn a_text_is_written_in_short_writes(rt: HostRuntime) -> Result<(), Fail> {
-    let alloc = rt.alloc();
-    let mut sink = MemSink::new(alloc, 2, Words::empty(alloc))?;
-    write_all(&mut sink, b"waves")?;
-    assert_eq!(rt; sink.held(), b"waves".as_slice());
-    assert_eq!(rt; sink.flushed(), 5);
-    assert_eq!(rt; sink.faults(), 0);
-    Ok(())
-}
+const NUMBERS: [(&[u8], Option<u64>); 7] = [
+    (b"0", Some(0)),
+    (b"0042", Some(42)),
+    (b"18446744073709551615", Some(u64::MAX)),
+    (b"18446744073709551616", None),
+    (b"", None),
+    (b"4 2", None),
+    (b"+4", None),
+];
 
 #[test]
-fn each_failing_write_or_flush_ends_it(rt: HostRuntime) -> Result<(), Fail> {
-    let alloc = rt.alloc();
-    for number in 1..6u64 {
-        let mut sink = MemSink::new(alloc, 1, Words::from_slice(alloc, &[number])?)?;
-        assert_eq!(rt; write_all(&mut sink, b"wave"), Err(WriteEnd::Failed));
-        assert_eq!(rt; sink.held().len() as u64, number - 1);
-        assert_eq!(rt; sink.flushed(), 0);
-        assert_eq!(rt; sink.faults(), 1);
+fn numbers_are_read_and_written(rt: HostRuntime) -> Result<(), Fail> {
+    for (text, number) in NUMBERS {
+        assert_eq!(rt; decimal(text), number, "{text:?}");
     }
-    Ok(())
-}
-
-#[test]
-fn an_empty_text_is_flushed(rt: HostRuntime) -> Result<(), Fail> {
-    let alloc = rt.alloc();
-    let mut sink = MemSink::new(alloc, 1, Words::from_slice(alloc, &[1])?)?;
-    assert_eq!(rt; write_all(&mut sink, b""), Err(WriteEnd::Failed));
-    assert_eq!(rt; write_all(&mut sink, b""), Ok(()));
-    Ok(())
-}
-
-#[test]
-fn a_full_sink_fails(rt: HostRuntime) -> Result<(), Fail> {
-    let alloc = rt.alloc();
-    let mut sink = MemSink::new(alloc, 5000, Words::empty(alloc))?;
-    let block = [b'w'; 4096];
-    for _ in 0..256 {
-        write_all(&mut sink, &block)?;
-    }
-    assert_eq!(rt; sink.held().len(), 1048576);
-    assert_eq!(rt; sink.write(b"w"), Err(Failed));
-    assert_eq!(rt; sink.faults(), 1);
-    Ok(())
-}
-
-#[test]
-fn numbers_are_read(rt: HostRuntime) {
-    assert_eq!(rt; decimal(b"0"), Some(0));
-    assert_eq!(rt; decimal(b"0042"), Some(42));
-    assert_eq!(rt; decimal(b"18446744073709551615"), Some(u64::MAX));
-    assert_eq!(rt; decimal(b"18446744073709551616"), None);
-    assert_eq!(rt; decimal(b""), None);
-    assert_eq!(rt; decimal(b"4 2"), None);
-    assert_eq!(rt; decimal(b"+4"), None);
-}
-
-#[test]
-fn numbers_are_written(rt: HostRuntime) -> Result<(), Fail> {
-    let alloc = rt.alloc();
-    let mut text = Bytes::from_slice(alloc, b"x ")?;
+    let mut text = Bytes::from_slice(rt.alloc(), b"x ")?;
     put_decimal(&mut text, 120)?;
     assert_eq!(rt; text.as_slice(), b"x 120".as_slice());
     Ok(())

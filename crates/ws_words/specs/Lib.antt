@@ -3,3 +3,4 @@ pub mod Digits
 pub mod Outside
 pub mod Plain
 pub mod Past
+pub mod Memory

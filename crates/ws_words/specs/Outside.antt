@@ -1,7 +1,9 @@
--- What a run has outside its variables, and its acts. The source and every form that it is compiled to share these.
+-- What a run has outside its variables, and its acts. The source and every form that it is compiled
+-- to share these.
 use Rattle.std.specs.Prelude.{ℕ, zero, suc, ◌-◌, List, [], ◌∷◌, ◌++◌, slice_set}
 
--- What a run does outside its variables. Arrays are by number from 1, hidden ones too; ports are from 1 to 7.
+-- What a run does outside its variables. Arrays are by number from 1, hidden ones too; ports are
+-- from 1 to 7.
 pub data Act : Type 0 where
   loads : (array index : ℕ) → Act
   stores : (array index word : ℕ) → Act
@@ -61,11 +63,21 @@ abbrev pub array_of : Outside → ℕ → List ℕ
 array_of o a = row o.cells (a - 1)
 
 abbrev pub with_acts : State → List Act → State
-with_acts s acts = record { vars = s.vars; out = record { cells = s.out.cells; input = s.out.input; left = s.out.left; acts = s.out.acts ++ acts } }
+with_acts s acts = with_out s (record {
+  cells = s.out.cells;
+  input = s.out.input;
+  left = s.out.left;
+  acts = s.out.acts ++ acts;
+})
 
 -- past the end a store changes no cell
 abbrev pub stored : State → ℕ → ℕ → ℕ → State
-stored s a i v = with_out s (record { cells = with_row s.out.cells (a - 1) (slice_set (array_of s.out a) i v); input = s.out.input; left = s.out.left; acts = s.out.acts ++ stores a i v ∷ [] })
+stored s a i v = with_out s (record {
+  cells = with_row s.out.cells (a - 1) (slice_set (array_of s.out a) i v);
+  input = s.out.input;
+  left = s.out.left;
+  acts = s.out.acts ++ stores a i v ∷ [];
+})
 
 abbrev pub printed : State → ℕ → State
 printed s v = with_out s (with_act s.out (prints v))
@@ -74,10 +86,26 @@ abbrev pub taken : State → ℕ → ℕ → State
 taken s p v = with_out s (with_act s.out (takes p v))
 
 abbrev pub has_read : State → ℕ → State
-has_read s x = record { vars = slice_set s.vars x (head_or_zero s.out.input); out = record { cells = s.out.cells; input = rest_of s.out.input; left = s.out.left; acts = s.out.acts ++ reads ∷ [] } }
+has_read s x = record {
+  vars = slice_set s.vars x (head_or_zero s.out.input);
+  out = record {
+    cells = s.out.cells;
+    input = rest_of s.out.input;
+    left = s.out.left;
+    acts = s.out.acts ++ reads ∷ [];
+  };
+}
 
 abbrev pub given : State → ℕ → ℕ → State
-given s p x = record { vars = slice_set s.vars x (head_or_zero (row s.out.left (p - 1))); out = record { cells = s.out.cells; input = s.out.input; left = with_row s.out.left (p - 1) (rest_of (row s.out.left (p - 1))); acts = s.out.acts ++ gives p ∷ [] } }
+given s p x = record {
+  vars = slice_set s.vars x (head_or_zero (row s.out.left (p - 1)));
+  out = record {
+    cells = s.out.cells;
+    input = s.out.input;
+    left = with_row s.out.left (p - 1) (rest_of (row s.out.left (p - 1)));
+    acts = s.out.acts ++ gives p ∷ [];
+  };
+}
 
 -- so many variables or cells at the start
 abbrev pub zeros : ℕ → List ℕ
@@ -86,7 +114,8 @@ zeros (suc n) = 0 ∷ zeros n
 
 -- before the first turn, with these cells
 abbrev pub opening_out : List (List ℕ) → World → Outside
-opening_out cells world = record { cells = cells; input = world.input; left = world.left; acts = [] }
+opening_out cells world =
+    record { cells = cells; input = world.input; left = world.left; acts = [] }
 
 -- the words that the acts print, in order
 abbrev pub printed_words : List Act → List ℕ

@@ -4,7 +4,7 @@ use Rattle.ws_words.specs.Outside as outside
 use Rattle.ws_words.specs.Outside.{Act, takes}
 use Rattle.ws_words.specs.declared.plain.World.{World}
 use Rattle.ws_words.specs.declared.plain.Plain.{Plain}
-use Rattle.ws_words.specs.declared.plain.Plain.TheVariants.{Ended, Going}
+use Rattle.ws_words.specs.declared.plain.Plain.TheVariants.{Ended, Fault, Going}
 
 abbrev pub world_of : World → outside.World
 world_of w = record { input = w.input; left = w.left }
@@ -12,7 +12,8 @@ world_of w = record { input = w.input; left = w.left }
 -- the words that acts take for a port, in order
 abbrev pub took_words : ℕ → List Act → List ℕ
 took_words port [] = []
-took_words port (takes p w ∷ acts) = if p == port then w ∷ took_words port acts else took_words port acts
+took_words port (takes p w ∷ acts) =
+    if p == port then w ∷ took_words port acts else took_words port acts
 took_words port (_ ∷ acts) = took_words port acts
 
 -- the same for so many ports, from this one on
@@ -27,13 +28,27 @@ took_by_ports acts = took_from 1 7 acts
 -- a fact of an answer that ended: of what it printed, its arrays, what its ports took and its turns
 abbrev pub IfEnded : Plain → (List ℕ → List (List ℕ) → List (List ℕ) → ℕ → Type 0) → Type 0
 IfEnded (Ended printed arrays took turns) P = P printed arrays took turns
+IfEnded (Fault array printed arrays took turns) P = Unit {0}
 IfEnded (Going printed) P = Unit {0}
+
+-- a fact of an answer of a fault: of its array's number from 1, and of the same as above
+abbrev pub IfFaulted : Plain → (ℕ → List ℕ → List (List ℕ) → List (List ℕ) → ℕ → Type 0) → Type 0
+IfFaulted (Ended printed arrays took turns) P = Unit {0}
+IfFaulted (Fault array printed arrays took turns) P = P array printed arrays took turns
+IfFaulted (Going printed) P = Unit {0}
 
 -- a fact of an answer that is going: of what it printed
 abbrev pub IfGoing : Plain → (List ℕ → Type 0) → Type 0
 IfGoing (Ended printed arrays took turns) P = Unit {0}
+IfGoing (Fault array printed arrays took turns) P = Unit {0}
 IfGoing (Going printed) P = P printed
 
 abbrev pub has_ended : Plain → Bool
 has_ended (Ended printed arrays took turns) = true
+has_ended (Fault array printed arrays took turns) = false
 has_ended (Going printed) = false
+
+abbrev pub has_faulted : Plain → Bool
+has_faulted (Ended printed arrays took turns) = false
+has_faulted (Fault array printed arrays took turns) = true
+has_faulted (Going printed) = false

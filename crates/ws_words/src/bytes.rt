@@ -1,13 +1,16 @@
 //! A list of bytes.
 
-ghost use Rattle.std.specs.Prelude.{◌≡◌, ◌==◌, ℕ, List, [], ◌∷◌, ◌++◌, length, slice_get, IfOk, OnOk, OnErr};
+ghost use Rattle.std.specs.Prelude.{nat_eq, ◌≡◌, ◌==◌, ℕ, List, [], ◌∷◌, ◌++◌, length, slice_get, IfOk, OnOk, OnErr};
+ghost use Rattle.std.proofs.Common.{rules};
+ghost use Rattle.std.specs.Cmp.Rules.{comparing};
+ghost use Rattle.std.specs.Cmp.Lexicographic.{pointwise};
 
-use crate::memory::NoMemory;
+use crate::no_memory::NoMemory;
 use std::alloc::Global;
 use std::marker::Model;
 
 /// A list of bytes.
-#[derive(Drop)]
+#[derive(Debug, Drop)]
 pub struct Bytes {
     items: Vec<u8>,
 }
@@ -16,6 +19,20 @@ impl Model for Bytes {
     ghost Value = { List ℕ };
 
     ghost view = { λ list. list.items.items };
+}
+
+impl PartialEq for Bytes {
+    ghost eq = { pointwise nat_eq };
+
+    ghost laws = { Prim.search (comparing, rules) };
+
+    fn eq(&self, other: &Bytes) -> bool {
+        self.items == other.items
+    }
+}
+
+impl Eq for Bytes {
+    ghost laws = { Prim.search (comparing, rules) };
 }
 
 impl Bytes {

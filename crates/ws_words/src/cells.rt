@@ -1,15 +1,18 @@
 //! A list of lists of words.
 
-ghost use Rattle.std.specs.Prelude.{◌≡◌, ◌==◌, ℕ, List, [], ◌∷◌, ◌++◌, length, slice_get, slice_index, slice_set, option_copied, IfOk, OnOk, OnErr};
+ghost use Rattle.std.specs.Prelude.{nat_eq, ◌≡◌, ◌==◌, ℕ, List, [], ◌∷◌, ◌++◌, length, slice_get, slice_index, slice_set, option_copied, IfOk, OnOk, OnErr};
 ghost use Rattle.ws_words.specs.Outside.{row, with_row};
+ghost use Rattle.std.proofs.Common.{rules};
+ghost use Rattle.std.specs.Cmp.Rules.{comparing};
+ghost use Rattle.std.specs.Cmp.Lexicographic.{pointwise};
 
-use crate::memory::NoMemory;
+use crate::no_memory::NoMemory;
 use crate::words::Words;
 use std::alloc::Global;
 use std::marker::Model;
 
 /// A list of lists of words, as the cells of arrays in order, or the words of ports.
-#[derive(Drop)]
+#[derive(Debug, Drop)]
 pub struct Cells {
     rows: Vec<Words>,
 }
@@ -18,6 +21,20 @@ impl Model for Cells {
     ghost Value = { List (List ℕ) };
 
     ghost view = { λ list. list.rows.items };
+}
+
+impl PartialEq for Cells {
+    ghost eq = { pointwise (pointwise nat_eq) };
+
+    ghost laws = { Prim.search (comparing, rules) };
+
+    fn eq(&self, other: &Cells) -> bool {
+        self.rows == other.rows
+    }
+}
+
+impl Eq for Cells {
+    ghost laws = { Prim.search (comparing, rules) };
 }
 
 impl Cells {
@@ -44,6 +61,13 @@ impl Cells {
         ensures { result ≡ length self.now }
     {
         self.rows.len()
+    }
+
+    /// Whether there are none.
+    pub fn is_empty(&self) -> bool
+        ensures { result ≡ (length self.now == 0) }
+    {
+        self.rows.is_empty()
     }
 
     /// The list at a place, counted from 0.
@@ -75,7 +99,8 @@ impl Cells {
 
     /// Puts a word at the end of the list at a place, counted from 0; past the end nothing changes.
     pub fn add(&mut self, list: usize, word: u64) -> Result<(), NoMemory>
-        ensures ok { OnOk result (self.new ≡ with_row self.old list (row self.old list ++ word ∷ [])) }
+        ensures ok { OnOk result (
+            self.new ≡ with_row self.old list (row self.old list ++ word ∷ [])) }
         ensures err { OnErr result (self.new ≡ self.old) }
     {
         if list < self.rows.len() {
@@ -93,26 +118,5 @@ impl Cells {
             rows.push(words.copy(alloc)?)?;
         }
         Ok(Cells { rows })
-    }
-}
-
-#[cfg(test)]
-mod tests {
-    use super::*;
-    use std::test::Fail;
-
-    #[test]
-    fn writes_and_copies(rt: HostRuntime) -> Result<(), Fail> {
-        let alloc = rt.alloc();
-        let mut cells = Cells::empty(alloc);
-        cells.push(Words::zeros(alloc, 2)?)?;
-        cells.set(0, 1, 7);
-        cells.set(0, 2, 9);
-        cells.add(0, 5)?;
-        let same = cells.copy(alloc)?;
-        assert_eq!(rt; same.len(), 1);
-        assert_eq!(rt; same.word(0, 1), 7);
-        assert_eq!(rt; same.word(0, 2), 5);
-        Ok(())
     }
 }

@@ -1,15 +1,18 @@
 //! A list of words.
 
-ghost use Rattle.std.specs.Prelude.{◌≡◌, ◌==◌, ℕ, List, [], ◌∷◌, ◌++◌, length, slice_get, slice_index, slice_set, IfOk, OnOk, OnErr};
+ghost use Rattle.std.specs.Prelude.{nat_eq, ◌≡◌, ◌==◌, ℕ, List, [], ◌∷◌, ◌++◌, length, slice_get, slice_index, slice_set, IfOk, OnOk, OnErr};
 ghost use Rattle.ws_words.specs.Outside.{zeros};
+ghost use Rattle.std.proofs.Common.{rules};
+ghost use Rattle.std.specs.Cmp.Rules.{comparing};
+ghost use Rattle.std.specs.Cmp.Lexicographic.{pointwise};
 
-use crate::memory::NoMemory;
+use crate::no_memory::NoMemory;
 use std::alloc::Global;
 use std::marker::Model;
 use std::mem::swap;
 
 /// A list of words.
-#[derive(Drop)]
+#[derive(Debug, Drop)]
 pub struct Words {
     items: Vec<u64>,
 }
@@ -18,6 +21,20 @@ impl Model for Words {
     ghost Value = { List ℕ };
 
     ghost view = { λ list. list.items.items };
+}
+
+impl PartialEq for Words {
+    ghost eq = { pointwise nat_eq };
+
+    ghost laws = { Prim.search (comparing, rules) };
+
+    fn eq(&self, other: &Words) -> bool {
+        self.items == other.items
+    }
+}
+
+impl Eq for Words {
+    ghost laws = { Prim.search (comparing, rules) };
 }
 
 impl Words {
@@ -57,15 +74,6 @@ impl Words {
         ensures err { OnErr result (self.new ≡ self.old) }
     {
         self.items.push(word)?;
-        Ok(())
-    }
-
-    /// Puts words at the end.
-    pub fn extend(&mut self, words: &[u64]) -> Result<(), NoMemory>
-        ensures ok { OnOk result (self.new ≡ self.old ++ words.now) }
-        ensures err { OnErr result (self.new ≡ self.old) }
-    {
-        self.items.extend_from_slice(words)?;
         Ok(())
     }
 

@@ -17,8 +17,8 @@ use Rattle.src_ast.specs.Meaning.{signed_value}
 use Rattle.df_core.specs.declared.piece.Piece.{Piece}
 use Rattle.df_core.specs.declared.piece.Piece.TheVariants as piece
 use Rattle.df_core.specs.Built.{Computes, number, apply, Prints, halt, print}
-use Rattle.wsc_top.specs.Numbers.{is_closed, closed_value, is_print, only_prints, word_of, words_of}
-use Rattle.wsc_top.specs.Pieces.{GrowsBy, EndsInApply, GrowsByPrint, AreBegun}
+use Rattle.wsc_top.specs.Straights.{is_closed, closed_value, is_print, only_prints, word_of, words_of}
+use Rattle.wsc_top.specs.Straights.{GrowsBy, EndsInApply, GrowsByPrint, AreBegun}
 
 flag_fits : (b : Bool) → flag b < 2 ^ 64
 flag_fits true = omega arith
@@ -130,7 +130,7 @@ pub begun_next : (old new : List Piece) (body : List Stmt) (s : Stmt) (k : ℕ) 
     → AreBegun old (view.statements (drop k body)) all → drop k body ≡ s ∷ drop (k + 1) body → GrowsByPrint old new (view.statement s) → AreBegun new (view.statements (drop (k + 1) body)) all
 begun_next old new body s k all b e g = begun_more old new (view.statement s) (view.statements (drop (k + 1) body)) all (subst (λ (xs : List Stmt). AreBegun old (view.statements xs) all) e b) g
 
--- nothing is left, and the halt stands behind
+-- nothing is left, and the halt stands after
 pub begun_halts : (old new : List Piece) (body : List Stmt) (k : ℕ) (all : Statements)
     → AreBegun old (view.statements (drop k body)) all → length body ≤ k → new ≡ old ++ piece.Halt ∷ [] → Prints 0 new (words_of all)
 begun_halts old new body k all b h e =

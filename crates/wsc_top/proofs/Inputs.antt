@@ -1,13 +1,15 @@
 -- The words of an input section: how they are read, and that they are the only ones.
-use Rattle.std.specs.Prelude.{◌≡◌, ℕ, zero, suc, ◌+◌, ◌==◌, ◌^◌, ◌<◌, ◌≤◌, Bool, true, false, not, ◌&&◌, IsTrue, List, [], ◌∷◌, ◌++◌, length, take, drop, cond, refl}
-use Rattle.std.proofs.Common.{sym, ap, ◌∙◌, subst, arith, append_assoc, append-nil, length-append}
+use Rattle.std.specs.Prelude.{◌≡◌, ℕ, zero, suc, ◌+◌, ◌==◌, ◌^◌, ◌<◌, ◌≤◌, Bool, true, false, not, ◌&&◌, IsTrue, List, [], ◌∷◌, ◌++◌, length, take, drop, cond, ◌⊎◌, Result, Ok, Err, refl}
+use Rattle.std.proofs.Common.{sym, ap, ◌∙◌, subst, arith, append_assoc, append-nil, length-append, inl, inr}
 use Rattle.std.specs.List.{list_all, prefix_len}
-use Rattle.std.proofs.lemmas.List.{nil_from_length}
-use Rattle.std.proofs.lemmas.Bool.{eqb-true}
+use Rattle.std.proofs.Math.Dec.{ltb}
+use Rattle.std.proofs.lemmas.List.{nil_from_length, take-append-drop}
+use Rattle.std.proofs.lemmas.Bool.{eqb-true, ltb-true, lt-ltb}
 use Rattle.ws_words.specs.Digits.{is_number, value_of}
 use Rattle.src_ast.specs.declared.lexeme.Place.{Place}
 use Rattle.src_ast.specs.Lexemes.{after, is_blank, starts_without}
-use Rattle.wsc_top.specs.Sections.{IsItem, IsWordText, Items, stop, next, InputWords, InputFault}
+use Rattle.src_ast.specs.Once.{ExactlyOne}
+use Rattle.wsc_top.specs.Sections.{IsItem, IsWordText, Items, stop, next, InputWords, InputFault, IsInputAnswer}
 
 abbrev is_dense : ℕ → Bool
 is_dense b = not (is_blank b)
@@ -20,7 +22,7 @@ right_true : (a b : Bool) → IsTrue (a && b) → IsTrue b
 right_true true b h = h
 right_true false b h = cc
 
--- a run and what stands behind it are the longest run
+-- a run and what stands after it are the longest run
 pub record Same (a b x y : List ℕ) : Type 0 where
   pub run : a ≡ b
   pub rest : x ≡ y
@@ -56,43 +58,43 @@ word_same a b v w e h k = sym h.1 ∙ (ap value_of e ∙ k.1)
 -- two readings of a text have the same words, where the first comes to its end
 same_words : (at : Place) (text ws vs : List ℕ) (p q : Place) (r s : List ℕ) → Items at text ws p r → Items at text vs q s → r ≡ [] → s ≡ [] → ws ≡ vs
 same_words at text ws vs p q r s (stop a e h n o) (stop b f k m u) x y = refl
-same_words at text ws vs p q r s (stop a e h n o) (next w b bytes behind f k i t more) x y =
-    let same = run_same is_blank a b r (bytes ++ behind) h k n (item_starts bytes behind i) (sym e ∙ f) in
-    absurd (no_item bytes behind i (sym same.rest ∙ x))
-same_words at text ws vs p q r s (next w b bytes behind f k i t more) (stop a e h n o) x y =
-    let same = run_same is_blank a b s (bytes ++ behind) h k n (item_starts bytes behind i) (sym e ∙ f) in
-    absurd (no_item bytes behind i (sym same.rest ∙ y))
-same_words at text ws vs p q r s (next {words = us} w b bytes behind f k i t more) (next {words = zs} v c others far g l j u rest) x y =
-    let same = run_same is_blank b c (bytes ++ behind) (others ++ far) k l (item_starts bytes behind i) (item_starts others far j) (sym f ∙ g) in
-    let items = run_same is_dense bytes others behind far i.dense j.dense i.longest j.longest same.rest in
-    let again : Items (after (after at b) bytes) behind zs q s = subst (λ z. Items (after (after at z) bytes) behind zs q s) (sym same.run)
-    (subst (λ z. Items (after (after at c) z) behind zs q s) (sym items.run) (subst (λ z. Items (after (after at c) others) z zs q s) (sym items.rest) rest)) in
-    ap (λ n. n ∷ us) (word_same bytes others w v items.run t u) ∙ ap (λ z. v ∷ z) (same_words _ behind us zs p q r s more again x y)
+same_words at text ws vs p q r s (stop a e h n o) (next w b bytes further f k i t more) x y =
+    let same = run_same is_blank a b r (bytes ++ further) h k n (item_starts bytes further i) (sym e ∙ f) in
+    absurd (no_item bytes further i (sym same.rest ∙ x))
+same_words at text ws vs p q r s (next w b bytes further f k i t more) (stop a e h n o) x y =
+    let same = run_same is_blank a b s (bytes ++ further) h k n (item_starts bytes further i) (sym e ∙ f) in
+    absurd (no_item bytes further i (sym same.rest ∙ y))
+same_words at text ws vs p q r s (next {words = us} w b bytes further f k i t more) (next {words = zs} v c others far g l j u rest) x y =
+    let same = run_same is_blank b c (bytes ++ further) (others ++ far) k l (item_starts bytes further i) (item_starts others far j) (sym f ∙ g) in
+    let items = run_same is_dense bytes others further far i.dense j.dense i.longest j.longest same.rest in
+    let again : Items (after (after at b) bytes) further zs q s = subst (λ z. Items (after (after at z) bytes) further zs q s) (sym same.run)
+    (subst (λ z. Items (after (after at c) z) further zs q s) (sym items.run) (subst (λ z. Items (after (after at c) others) z zs q s) (sym items.rest) rest)) in
+    ap (λ n. n ∷ us) (word_same bytes others w v items.run t u) ∙ ap (λ z. v ∷ z) (same_words _ further us zs p q r s more again x y)
 
 -- a text of words has no item that is none
 no_fault : (at : Place) (text ws vs : List ℕ) (p q : Place) (r s bad far : List ℕ) → Items at text ws p r → Items at text vs q s → r ≡ [] → s ≡ bad ++ far → IsItem bad far → ((w : ℕ) → IsWordText bad w → ⊥) → ⊥
 no_fault at text ws vs p q r s bad far (stop a e h n o) (stop b f k m u) x y item wrong =
     let same = run_same is_blank a b r s h k n m (sym e ∙ f) in
     no_item bad far item (sym y ∙ sym same.rest ∙ x)
-no_fault at text ws vs p q r s bad far (stop a e h n o) (next w b bytes behind f k i t more) x y item wrong =
-    let same = run_same is_blank a b r (bytes ++ behind) h k n (item_starts bytes behind i) (sym e ∙ f) in
-    no_item bytes behind i (sym same.rest ∙ x)
-no_fault at text ws vs p q r s bad far (next w b bytes behind f k i t more) (stop a e h n o) x y item wrong =
-    let same = run_same is_blank b a (bytes ++ behind) s k h (item_starts bytes behind i) n (sym f ∙ e) in
-    let items = run_same is_dense bytes bad behind far i.dense item.dense i.longest item.longest (same.rest ∙ y) in
+no_fault at text ws vs p q r s bad far (stop a e h n o) (next w b bytes further f k i t more) x y item wrong =
+    let same = run_same is_blank a b r (bytes ++ further) h k n (item_starts bytes further i) (sym e ∙ f) in
+    no_item bytes further i (sym same.rest ∙ x)
+no_fault at text ws vs p q r s bad far (next w b bytes further f k i t more) (stop a e h n o) x y item wrong =
+    let same = run_same is_blank b a (bytes ++ further) s k h (item_starts bytes further i) n (sym f ∙ e) in
+    let items = run_same is_dense bytes bad further far i.dense item.dense i.longest item.longest (same.rest ∙ y) in
     wrong w (subst (λ z. IsWordText z w) items.run t)
-no_fault at text ws vs p q r s bad far (next {words = us} w b bytes behind f k i t more) (next {words = zs} v c others away g l j u rest) x y item wrong =
-    let same = run_same is_blank b c (bytes ++ behind) (others ++ away) k l (item_starts bytes behind i) (item_starts others away j) (sym f ∙ g) in
-    let items = run_same is_dense bytes others behind away i.dense j.dense i.longest j.longest same.rest in
-    let again : Items (after (after at b) bytes) behind zs q s = subst (λ z. Items (after (after at z) bytes) behind zs q s) (sym same.run)
-    (subst (λ z. Items (after (after at c) z) behind zs q s) (sym items.run) (subst (λ z. Items (after (after at c) others) z zs q s) (sym items.rest) rest)) in
-    no_fault _ behind us zs p q r s bad far more again x y item wrong
+no_fault at text ws vs p q r s bad far (next {words = us} w b bytes further f k i t more) (next {words = zs} v c others away g l j u rest) x y item wrong =
+    let same = run_same is_blank b c (bytes ++ further) (others ++ away) k l (item_starts bytes further i) (item_starts others away j) (sym f ∙ g) in
+    let items = run_same is_dense bytes others further away i.dense j.dense i.longest j.longest same.rest in
+    let again : Items (after (after at b) bytes) further zs q s = subst (λ z. Items (after (after at z) bytes) further zs q s) (sym same.run)
+    (subst (λ z. Items (after (after at c) z) further zs q s) (sym items.run) (subst (λ z. Items (after (after at c) others) z zs q s) (sym items.rest) rest)) in
+    no_fault _ further us zs p q r s bad far more again x y item wrong
 
 pub one_list : (at : Place) (text ws vs : List ℕ) → InputWords at text ws → InputWords at text vs → ws ≡ vs
 one_list at text ws vs a b = same_words at text ws vs a.place b.place [] [] a.items b.items refl refl
 
 pub no_fault_in_words : (at : Place) (text ws : List ℕ) (p : Place) → InputWords at text ws → InputFault at text p → ⊥
-no_fault_in_words at text ws p a b = no_fault at text ws b.words a.place p [] (b.bytes ++ b.behind) b.bytes b.behind a.items b.items refl refl b.item b.wrong
+no_fault_in_words at text ws p a b = no_fault at text ws b.words a.place p [] (b.bytes ++ b.further) b.bytes b.further a.items b.items refl refl b.item b.wrong
 
 -- Whatever the rest leads to, the whole does.
 pub record Reading (at : Place) (text words : List ℕ) (place : Place) (rest : List ℕ) : Type 0 where
@@ -136,27 +138,138 @@ reads_end at place text words rest blanks front r e h n = record {
 }
 
 -- an item that is no word
-pub reads_fault : (at place behind_blanks : Place) (text words rest blanks front bytes behind : List ℕ) → Reading at text words place rest → rest ≡ blanks ++ front → IsTrue (list_all is_blank blanks)
-    → IsTrue (starts_without is_blank front) → behind_blanks ≡ after place blanks → front ≡ bytes ++ behind → IsItem bytes behind → ((word : ℕ) → IsWordText bytes word → ⊥) → InputFault at text behind_blanks
-reads_fault at place behind_blanks text words rest blanks front bytes behind r e h s p f i wrong = record {
+pub reads_fault : (at place after_blanks : Place) (text words rest blanks front bytes further : List ℕ) → Reading at text words place rest → rest ≡ blanks ++ front → IsTrue (list_all is_blank blanks)
+    → IsTrue (starts_without is_blank front) → after_blanks ≡ after place blanks → front ≡ bytes ++ further → IsItem bytes further → ((word : ℕ) → IsWordText bytes word → ⊥) → InputFault at text after_blanks
+reads_fault at place after_blanks text words rest blanks front bytes further r e h s p f i wrong = record {
   words = words;
   bytes = bytes;
-  behind = behind;
-  items = subst (λ ws. Items at text ws behind_blanks (bytes ++ behind)) (append-nil words)
-      (r.leads [] behind_blanks (bytes ++ behind) (stop blanks (e ∙ ap (λ x. blanks ++ x) f) h (subst (λ x. IsTrue (starts_without is_blank x)) f s) p));
+  further = further;
+  items = subst (λ ws. Items at text ws after_blanks (bytes ++ further)) (append-nil words)
+      (r.leads [] after_blanks (bytes ++ further) (stop blanks (e ∙ ap (λ x. blanks ++ x) f) h (subst (λ x. IsTrue (starts_without is_blank x)) f s) p));
   item = i;
   wrong = wrong;
 }
 
 -- one more word
-pub reads_word : (at place behind_blanks behind_item : Place) (text words more rest blanks front bytes behind : List ℕ) (word : ℕ) → Reading at text words place rest → rest ≡ blanks ++ front → IsTrue (list_all is_blank blanks)
-    → behind_blanks ≡ after place blanks → front ≡ bytes ++ behind → IsItem bytes behind → IsWordText bytes word → behind_item ≡ after behind_blanks bytes → more ≡ words ++ word ∷ []
-    → Reading at text more behind_item behind
-reads_word at place behind_blanks behind_item text words more rest blanks front bytes behind word r e h p f i t q m = record {
+pub reads_word : (at place after_blanks after_item : Place) (text words more rest blanks front bytes further : List ℕ) (word : ℕ) → Reading at text words place rest → rest ≡ blanks ++ front → IsTrue (list_all is_blank blanks)
+    → after_blanks ≡ after place blanks → front ≡ bytes ++ further → IsItem bytes further → IsWordText bytes word → after_item ≡ after after_blanks bytes → more ≡ words ++ word ∷ []
+    → Reading at text more after_item further
+reads_word at place after_blanks after_item text words more rest blanks front bytes further word r e h p f i t q m = record {
   leads = λ others far x items.
       subst (λ ws. Items at text ws far x) (sym (append_assoc words (word ∷ []) others) ∙ ap (λ z. z ++ others) (sym m))
-      (r.leads (word ∷ others) far x (next word blanks bytes behind (e ∙ ap (λ z. blanks ++ z) f) h i t (subst (λ z. Items z behind others far x) (q ∙ ap (λ z. after z bytes) p) items)));
+      (r.leads (word ∷ others) far x (next word blanks bytes further (e ∙ ap (λ z. blanks ++ z) f) h i t (subst (λ z. Items z further others far x) (q ∙ ap (λ z. after z bytes) p) items)));
 }
 
 pub empty_is : (xs : List ℕ) (b : Bool) → b ≡ (length xs == 0) → b ≡ true → xs ≡ []
 empty_is xs b e h = nil_from_length xs (eqb-true (length xs) 0 (sym e ∙ h))
+
+-- two readings that end at items that are no words end at one place
+same_fault : (at : Place) (text ws vs : List ℕ) (p q : Place) (r s bad far ill away : List ℕ) → Items at text ws p r → Items at text vs q s → r ≡ bad ++ far → s ≡ ill ++ away
+    → IsItem bad far → IsItem ill away → ((w : ℕ) → IsWordText bad w → ⊥) → ((w : ℕ) → IsWordText ill w → ⊥) → p ≡ q
+same_fault at text ws vs p q r s bad far ill away (stop a e h n o) (stop b f k m u) x y item other wrong mistaken =
+    let same = run_same is_blank a b r s h k n m (sym e ∙ f) in
+    o ∙ ap (after at) same.run ∙ sym u
+same_fault at text ws vs p q r s bad far ill away (stop a e h n o) (next w b bytes further f k i t more) x y item other wrong mistaken =
+    let same = run_same is_blank a b r (bytes ++ further) h k n (item_starts bytes further i) (sym e ∙ f) in
+    let items = run_same is_dense bytes bad further far i.dense item.dense i.longest item.longest (sym same.rest ∙ x) in
+    absurd (wrong w (subst (λ z. IsWordText z w) items.run t))
+same_fault at text ws vs p q r s bad far ill away (next w b bytes further f k i t more) (stop a e h n o) x y item other wrong mistaken =
+    let same = run_same is_blank a b s (bytes ++ further) h k n (item_starts bytes further i) (sym e ∙ f) in
+    let items = run_same is_dense bytes ill further away i.dense other.dense i.longest other.longest (sym same.rest ∙ y) in
+    absurd (mistaken w (subst (λ z. IsWordText z w) items.run t))
+same_fault at text ws vs p q r s bad far ill away (next {words = us} w b bytes further f k i t more) (next {words = zs} v c others along g l j u rest) x y item other wrong mistaken =
+    let same = run_same is_blank b c (bytes ++ further) (others ++ along) k l (item_starts bytes further i) (item_starts others along j) (sym f ∙ g) in
+    let items = run_same is_dense bytes others further along i.dense j.dense i.longest j.longest same.rest in
+    let again : Items (after (after at b) bytes) further zs q s = subst (λ z. Items (after (after at z) bytes) further zs q s) (sym same.run)
+    (subst (λ z. Items (after (after at c) z) further zs q s) (sym items.run) (subst (λ z. Items (after (after at c) others) z zs q s) (sym items.rest) rest)) in
+    same_fault _ further us zs p q r s bad far ill away more again x y item other wrong mistaken
+
+-- an input section has at most one first item that is no word
+pub one_fault : (at : Place) (text : List ℕ) (p q : Place) → InputFault at text p → InputFault at text q → p ≡ q
+one_fault at text p q a b =
+    same_fault at text a.words b.words p q (a.bytes ++ a.further) (b.bytes ++ b.further) a.bytes a.further b.bytes b.further a.items b.items refl refl a.item b.item a.wrong b.wrong
+
+-- an input section has words, or a first item that is none
+abbrev Found : Place → List ℕ → Type 0
+Found at text = ((words : List ℕ) × InputWords at text words) ⊎ ((p : Place) × InputFault at text p)
+
+module _ (at : Place) (text blanks bytes further : List ℕ) (split : text ≡ blanks ++ (bytes ++ further)) (blank : IsTrue (list_all is_blank blanks)) (item : IsItem bytes further) where
+  -- an item that is no word
+  found_fault : ((w : ℕ) → IsWordText bytes w → ⊥) → Found at text
+  found_fault wrong = inr (
+    after at blanks,
+    record {
+      words = [];
+      bytes = bytes;
+      further = further;
+      items = stop blanks split blank (item_starts bytes further item) refl;
+      item = item;
+      wrong = wrong;
+    },
+  )
+
+  -- a word, and what is found after it
+  found_more : (w : ℕ) → IsWordText bytes w → Found (after (after at blanks) bytes) further → Found at text
+  found_more w t (inl f) = inl (w ∷ f.0, record { place = f.1.place; items = next w blanks bytes further split blank item t f.1.items })
+  found_more w t (inr f) = inr (
+    f.0,
+    record {
+      words = w ∷ f.1.words;
+      bytes = f.1.bytes;
+      further = f.1.further;
+      items = next w blanks bytes further split blank item t f.1.items;
+      item = f.1.item;
+      wrong = f.1.wrong;
+    },
+  )
+
+  -- an item is a word, or none
+  found_item : (b c : Bool) → is_number bytes ≡ b → ltb (value_of bytes) (2 ^ 64) ≡ c → Found (after (after at blanks) bytes) further → Found at text
+  found_item false c e f rest = found_fault (λ w t. let bad : false ≡ true = sym e ∙ t.0 in cc)
+  found_item true false e f rest = found_fault (λ w t. let bad : false ≡ true = sym f ∙ lt-ltb (value_of bytes) (2 ^ 64) (omega (arith, t.1, t.2)) in cc)
+  found_item true true e f rest = found_more (value_of bytes) (e, refl, ltb-true (value_of bytes) (2 ^ 64) f) rest
+
+-- a text without items
+found_end : (at : Place) (text blanks front : List ℕ) → text ≡ blanks ++ front → IsTrue (list_all is_blank blanks) → front ≡ [] → Found at text
+found_end at text blanks front e h n =
+    inl ([], record { place = after at blanks; items = stop blanks (e ∙ ap (λ x. blanks ++ x) n) h refl refl })
+
+-- what is found where blanks are over, if it is known what is found in shorter texts
+found_front : (fuel : ℕ) → ((at : Place) (text : List ℕ) → length text ≤ fuel → Found at text) → (at : Place) (text blanks front : List ℕ) → text ≡ blanks ++ front
+    → IsTrue (list_all is_blank blanks) → IsTrue (starts_without is_blank front) → length front ≤ suc fuel → Found at text
+found_front fuel shorter at text blanks [] e h s short = found_end at text blanks [] e h refl
+found_front fuel shorter at text blanks (b ∷ rest) e h s short =
+    let n = prefix_len is_dense (b ∷ rest) in
+    let bytes = take n (b ∷ rest) in
+    let further = drop n (b ∷ rest) in
+    let split : bytes ++ further ≡ b ∷ rest = take-append-drop n (b ∷ rest) in
+    let item = item_run (b ∷ rest) bytes further n (omega arith) s refl refl refl in
+    let whole : text ≡ blanks ++ (bytes ++ further) = e ∙ ap (λ x. blanks ++ x) (sym split) in
+    let less : length further ≤ fuel = omega (arith, short, item.0, length-append bytes further, ap length split) in
+    found_item at text blanks bytes further whole h item.1 (is_number bytes) (ltb (value_of bytes) (2 ^ 64)) refl refl (shorter (after (after at blanks) bytes) further less)
+
+-- what is found in a text of at most so many bytes
+found_in : (fuel : ℕ) (at : Place) (text : List ℕ) → length text ≤ fuel → Found at text
+found_in zero at [] h = found_end at [] [] [] refl refl refl
+found_in zero at (b ∷ text) h = absurd (omega arith)
+found_in (suc fuel) at text h =
+    let n = prefix_len is_blank text in
+    let split : take n text ++ drop n text ≡ text = take-append-drop n text in
+    let less : length (drop n text) ≤ suc fuel = omega (arith, h, length-append (take n text) (drop n text), ap length split) in
+    found_front fuel (found_in fuel) at text (take n text) (drop n text) (sym split) (prefix_all is_blank text) (prefix_stops is_blank text) less
+
+-- each input section comes to one thing alone
+pub one_answer : (at : Place) (text : List ℕ) → ExactlyOne (IsInputAnswer at text)
+one_answer at text = go (found_in (length text) at text (omega arith))
+  where
+    only_words : (ws : List ℕ) → InputWords at text ws → (other : Result (List ℕ) Place) → IsInputAnswer at text other → other ≡ Ok ws
+    only_words ws h (Ok vs) k = ap Ok (one_list at text vs ws k h)
+    only_words ws h (Err p) k = absurd (no_fault_in_words at text ws p h k)
+
+    only_fault : (p : Place) → InputFault at text p → (other : Result (List ℕ) Place) → IsInputAnswer at text other → other ≡ Err p
+    only_fault p h (Ok ws) k = absurd (no_fault_in_words at text ws p k h)
+    only_fault p h (Err q) k = ap Err (one_fault at text q p k h)
+
+    go : Found at text → ExactlyOne (IsInputAnswer at text)
+    go (inl f) = record { answer = Ok f.0; holds = f.1; only = only_words f.0 f.1 }
+    go (inr f) = record { answer = Err f.0; holds = f.1; only = only_fault f.0 f.1 }

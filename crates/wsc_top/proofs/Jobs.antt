@@ -16,10 +16,9 @@ use Rattle.src_ast.specs.Written.{IsWritten}
 use Rattle.wsc_top.specs.declared.line.Command.{Command}
 use Rattle.wsc_top.specs.declared.status.Status.{Status}
 use Rattle.wsc_top.specs.declared.status.Status.TheVariants.{Refused}
-use Rattle.wsc_top.specs.Numbers.{first_of}
 use Rattle.wsc_top.specs.Sections.{program_of, input_of, input_place, InputWords, IsInputFault, AnswersWords}
 use Rattle.wsc_top.specs.Texts.{refusal_text}
-use Rattle.wsc_top.specs.Job.{Unfit, Reads, IsJob, Refuses, program, unbuilt, input, IsRefused, IsProgramFault, AnswersParts}
+use Rattle.wsc_top.specs.Job.{Unfit, first_of, Reads, IsJob, Refuses, program, unbuilt, input, IsRefused, IsProgramFault, AnswersParts}
 use Rattle.wsc_top.specs.Answers.{unfit_for, Yields, EndsSo, Answered, refused, done}
 
 -- a program that is refused is no job

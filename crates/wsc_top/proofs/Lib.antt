@@ -5,7 +5,9 @@ pub mod Growing
 pub mod Printing
 pub mod Mains
 pub mod Jobs
+pub mod TextAnswers
 pub mod Lines
 pub mod Calls
 pub mod PlainTexts
 pub mod Outcomes
+pub mod AnswersOnce

@@ -10,8 +10,8 @@ use Rattle.std.proofs.Common.{inl, inr, sym, ap, ◌∙◌, subst}
 use Rattle.ws_words.specs.Digits.{is_number, value_of}
 use Rattle.wsc_top.specs.declared.line.Command.{Command}
 use Rattle.wsc_top.specs.declared.line.Command.TheVariants.{Run, Format, Plain}
-use Rattle.wsc_top.specs.declared.options.Asked.{Asked}
-use Rattle.wsc_top.specs.declared.options.PlainOptions.{PlainOptions}
+use Rattle.wsc_top.specs.declared.line.options.Asked.{Asked}
+use Rattle.wsc_top.specs.declared.line.options.PlainOptions.{PlainOptions}
 use Rattle.wsc_top.specs.Lines.{IsTurns, BeginsWithTurns, Asks, turns, memory, stats, Options, end, next, nothing_asked, plain_of, IsPlain, IsLine}
 
 -- words begin with the digits of one number of turns alone
@@ -114,7 +114,7 @@ only_turns a words b r m s t (turns d n p q h) = t d _ p
 only_turns a words b r m s t (memory p h) = m _ p
 only_turns a words b r m s t (stats p h) = s _ p
 
--- options behind the first one
+-- options after the first one
 pub step_some : (a b : Asked) (words rest : List (List ℕ)) (found : Option Asked) → Asks a words b rest → IfSome found (λ all. Options b rest all) → IfSome found (λ all. Options a words all)
 step_some a b words rest None s h = h
 step_some a b words rest (Some c) s h = next s h

@@ -10,8 +10,8 @@ use Rattle.src_ast.specs.Rules.{Rule, rules_behind, rules_of, part_rules, is_mai
 use Rattle.src_ast.specs.View as view
 use Rattle.df_core.specs.declared.piece.Piece.{Piece}
 use Rattle.df_core.specs.Built.{Prints}
-use Rattle.wsc_top.specs.Numbers.{is_print, only_prints, words_of, place_of, unbuilt_in, unbuilt_ending, unbuilt_part, unbuilt_places}
-use Rattle.wsc_top.specs.Pieces.{IsMainAlone, IsMainBody, ArePieces}
+use Rattle.wsc_top.specs.Straights.{is_print, only_prints, words_of, place_of, unbuilt_in, unbuilt_ending, unbuilt_part, unbuilt_places}
+use Rattle.wsc_top.specs.Straights.{IsMainAlone, IsMainBody, ArePieces}
 
 left_true : (a b : Bool) → IsTrue (a && b) → IsTrue a
 left_true true b h = refl
@@ -32,7 +32,7 @@ right_none : (xs ys : List Place) → xs ++ ys ≡ [] → ys ≡ []
 right_none [] ys e = e
 right_none (x ∷ xs) ys e = cc
 
--- the rules behind some are kept where all are
+-- the rules after some are kept where all are
 rules_right : (xs ys : List Rule) → IsTrue (list_all (λ r. r.kept) (xs ++ ys)) → IsTrue (list_all (λ r. r.kept) ys)
 rules_right [] ys h = h
 rules_right (x ∷ xs) ys h = rules_right xs ys (right_true x.kept (list_all (λ r. r.kept) (xs ++ ys)) h)
@@ -71,7 +71,7 @@ main_alone p e =
     let rest = right_none name (unbuilt_in p.body ++ unbuilt_ending p.ending) e in
     record { main = p; alone = refl; prints = all_print p.body (left_none (unbuilt_in p.body) (unbuilt_ending p.ending) rest); ending = no_ending p.ending (right_none (unbuilt_in p.body) (unbuilt_ending p.ending) rest) }
 
--- behind a `main` no other may stand
+-- after a `main` no other may stand
 no_second : (p q : Procedure) → IsTrue (is_main p) → IsTrue (list_all (λ r. r.kept) (part_rules (Proc p ∷ []) (Proc q))) → ⊥
 no_second p q h k = let first : IsTrue (not (is_main p || false)) = left_true (not (is_main p || false)) _ k in let bad : IsTrue (not (true || false)) = subst (λ b. IsTrue (not (b || false))) h first in cc
 
@@ -83,8 +83,8 @@ one_main (Proc p ∷ Array x n at ∷ parts) finish h e = let bad : x.place ∷ 
 one_main (Proc p ∷ Proc q ∷ parts) finish h e =
     let name = main_name p (unbuilt_in p.body ++ unbuilt_ending p.ending) (left_none (unbuilt_part (Proc p)) (unbuilt_part (Proc q) ++ unbuilt_places parts) e) in
     let all = rules_left (rules_behind [] (Proc p ∷ Proc q ∷ parts)) (_ ∷ []) h in
-    let behind = rules_right (part_rules [] (Proc p)) (part_rules (Proc p ∷ []) (Proc q) ++ rules_behind (Proc p ∷ Proc q ∷ []) parts) all in
-    absurd (no_second p q name (rules_left (part_rules (Proc p ∷ []) (Proc q)) (rules_behind (Proc p ∷ Proc q ∷ []) parts) behind))
+    let further = rules_right (part_rules [] (Proc p)) (part_rules (Proc p ∷ []) (Proc q) ++ rules_behind (Proc p ∷ Proc q ∷ []) parts) all in
+    absurd (no_second p q name (rules_left (part_rules (Proc p ∷ []) (Proc q)) (rules_behind (Proc p ∷ Proc q ∷ []) parts) further))
 
 pub only_prints_body : (parts : List Part) (body : Statements) → (h : IsMainAlone parts) → IsMainBody parts body → IsTrue (only_prints body)
 only_prints_body parts body h b = subst (λ s. IsTrue (only_prints s)) (sym (b h.main h.alone)) h.prints

@@ -5,22 +5,23 @@ use Rattle.ws_words.specs.Outside.{Outside, World, printed_words}
 use Rattle.ws_words.specs.declared.plain.Plain.{Plain as Reply}
 use Rattle.ws_words.specs.declared.plain.Plain.TheVariants as replies
 use Rattle.src_ast.specs.Syntax.{Part}
-use Rattle.src_ast.specs.Meaning.{Passes, Flows, arrays_of}
+use Rattle.src_ast.specs.Meaning.{arrays_of}
+use Rattle.src_ast.specs.Runs.{Runs, Goes, Faults}
 use Rattle.src_ast.specs.Written.{ReadsTheSame}
 use Rattle.src_ast.specs.Printed.{printed_form}
 use Rattle.df_core.specs.declared.piece.Piece.{Piece}
 use Rattle.df_core.specs.Built.{Prints}
 use Rattle.df_core.specs.Straight.{IsStraight, printed_by}
-use Rattle.seq_run.specs.Answer.{SaysEnded, SaysGoing, HasEnded, IsGoing}
+use Rattle.seq_run.specs.Answer.{SaysEnded, SaysFault, SaysGoing, HasEnded, HasFaulted, IsGoing}
 use Rattle.wsc_top.specs.declared.line.Command.TheVariants.{Run, Format, Plain}
-use Rattle.wsc_top.specs.declared.options.PlainOptions.{PlainOptions}
+use Rattle.wsc_top.specs.declared.line.options.PlainOptions.{PlainOptions}
 use Rattle.wsc_top.specs.declared.status.Status.{Status}
-use Rattle.wsc_top.specs.declared.status.Status.TheVariants.{Done, Budget}
-use Rattle.wsc_top.specs.Numbers.{words_of}
-use Rattle.wsc_top.specs.Texts.{done_text, ended_text, going_text}
-use Rattle.wsc_top.specs.Pieces.{IsMainAlone, ArePieces}
+use Rattle.wsc_top.specs.declared.status.Status.TheVariants.{Done, Budget, Fault}
+use Rattle.wsc_top.specs.Straights.{words_of}
+use Rattle.wsc_top.specs.Texts.{done_text, ended_text, faulted_text, going_text}
+use Rattle.wsc_top.specs.Straights.{IsMainAlone, ArePieces}
 use Rattle.wsc_top.specs.Job.{world_of}
-use Rattle.wsc_top.specs.Answers.{Yields, ran, formatted, ended, going, Ends, EndsSo}
+use Rattle.wsc_top.specs.Answers.{Yields, ran, formatted, ended, faulted, going, Ends, MeetsFault, WantsTurns, EndsSo}
 use Rattle.wsc_top.proofs.Printing.{numbers_run}
 
 -- The words of the pieces of a program are what its sequential run prints.
@@ -39,26 +40,45 @@ pub pieces_are_straight : (pieces : List Piece) (parts : List Part) → ((ps : L
     → ArePieces pieces parts → IsStraight pieces
 pieces_are_straight pieces parts law a = (law pieces (words_of a.main.main.body) a.prints).0
 
+-- these two always come to their end
+pub run_so : (parts : List Part) (input : List ℕ) → EndsSo Run parts input Done
+run_so parts input = record { done = λ h. refl; fault = λ h. absurd h; budget = λ h. absurd h }
+
+pub format_so : (parts : List Part) (input : List ℕ) → EndsSo Format parts input Done
+format_so parts input = record { done = λ h. refl; fault = λ h. absurd h; budget = λ h. absurd h }
+
 -- so many empty lists
 abbrev pub empties : ℕ → List (List ℕ)
 empties zero = []
 empties (suc n) = empties n ++ [] ∷ []
 
+-- how the sequential run of a program answers
+abbrev Says : List Part → World → ℕ → Reply → Type 0
+Says parts world most plain = HasEnded parts world most plain ⊎ (HasFaulted parts world most plain ⊎ IsGoing parts world most plain)
+
 -- where the answer says that the run ended, it did, in time
-pub ended_run : (parts : List Part) (world : World) (most : ℕ) (printed : List ℕ) (arrays took : List (List ℕ)) (turns : ℕ)
-    → HasEnded parts world most (replies.Ended printed arrays took turns) ⊎ IsGoing parts world most (replies.Ended printed arrays took turns)
-    → HasEnded parts world most (replies.Ended printed arrays took turns)
+ended_run : (parts : List Part) (world : World) (most : ℕ) (printed : List ℕ) (arrays took : List (List ℕ)) (turns : ℕ)
+    → Says parts world most (replies.Ended printed arrays took turns) → HasEnded parts world most (replies.Ended printed arrays took turns)
 ended_run parts world most printed arrays took turns (inl h) = h
-ended_run parts world most printed arrays took turns (inr h) = absurd h.says
+ended_run parts world most printed arrays took turns (inr (inl h)) = absurd h.says
+ended_run parts world most printed arrays took turns (inr (inr h)) = absurd h.says
 
-pub going_run : (parts : List Part) (world : World) (most : ℕ) (printed : List ℕ)
-    → HasEnded parts world most (replies.Going printed) ⊎ IsGoing parts world most (replies.Going printed) → IsGoing parts world most (replies.Going printed)
+-- where it says that the run met an index fault, it did, in time
+faulted_run : (parts : List Part) (world : World) (most array : ℕ) (printed : List ℕ) (arrays took : List (List ℕ)) (turns : ℕ)
+    → Says parts world most (replies.Fault array printed arrays took turns) → HasFaulted parts world most (replies.Fault array printed arrays took turns)
+faulted_run parts world most array printed arrays took turns (inl h) = absurd h.says
+faulted_run parts world most array printed arrays took turns (inr (inl h)) = h
+faulted_run parts world most array printed arrays took turns (inr (inr h)) = absurd h.says
+
+-- where it says that the run goes on, it does
+going_run : (parts : List Part) (world : World) (most : ℕ) (printed : List ℕ) → Says parts world most (replies.Going printed) → IsGoing parts world most (replies.Going printed)
 going_run parts world most printed (inl h) = absurd h.says
-going_run parts world most printed (inr h) = h
+going_run parts world most printed (inr (inl h)) = absurd h.says
+going_run parts world most printed (inr (inr h)) = h
 
+-- the text of a run that ended
 pub ended_yields : (options : PlainOptions) (parts : List Part) (input : List ℕ) (world : World) (printed : List ℕ) (arrays took : List (List ℕ)) (turns : ℕ) (out : List ℕ)
-    → world ≡ world_of input
-    → HasEnded parts world options.turns (replies.Ended printed arrays took turns) ⊎ IsGoing parts world options.turns (replies.Ended printed arrays took turns)
+    → world ≡ world_of input → Says parts world options.turns (replies.Ended printed arrays took turns)
     → out ≡ ended_text options.memory options.stats (arrays_of parts) printed arrays turns → Yields (Plain options) parts input Done out
 ended_yields options parts input world printed arrays took turns out w r e =
     let h = ended_run parts world options.turns printed arrays took turns r in
@@ -66,26 +86,59 @@ ended_yields options parts input world printed arrays took turns out w r e =
     ap (λ n. ended_text options.memory options.stats (arrays_of parts) printed arrays n) h.says.0
     ∙ ap (λ ws. ended_text options.memory options.stats (arrays_of parts) ws arrays h.taken) h.says.1
     ∙ ap (λ cells. ended_text options.memory options.stats (arrays_of parts) (printed_words h.end.acts) cells h.taken) h.says.2 in
-    subst (λ o. Yields (Plain options) parts input Done o) (sym (e ∙ text)) (ended h.taken h.end (subst (λ x. Passes parts x h.taken h.end) w h.runs) h.within)
+    subst (λ o. Yields (Plain options) parts input Done o) (sym (e ∙ text)) (ended h.taken h.end (subst (λ x. Runs parts x h.taken h.end) w h.runs) h.within)
 
+-- the text of a run that met an index fault
+pub faulted_yields : (options : PlainOptions) (parts : List Part) (input : List ℕ) (world : World) (array : ℕ) (printed : List ℕ) (arrays took : List (List ℕ)) (turns : ℕ) (out : List ℕ)
+    → world ≡ world_of input → Says parts world options.turns (replies.Fault array printed arrays took turns)
+    → out ≡ faulted_text options.memory (arrays_of parts) array printed arrays → Yields (Plain options) parts input Fault out
+faulted_yields options parts input world array printed arrays took turns out w r e =
+    let h = faulted_run parts world options.turns array printed arrays took turns r in
+    let text : faulted_text options.memory (arrays_of parts) array printed arrays ≡ faulted_text options.memory (arrays_of parts) h.array (printed_words h.state.acts) h.state.cells =
+    ap (λ n. faulted_text options.memory (arrays_of parts) n printed arrays) h.says.0
+    ∙ ap (λ ws. faulted_text options.memory (arrays_of parts) h.array ws arrays) h.says.2
+    ∙ ap (λ cells. faulted_text options.memory (arrays_of parts) h.array (printed_words h.state.acts) cells) h.says.3 in
+    subst (λ o. Yields (Plain options) parts input Fault o) (sym (e ∙ text)) (faulted h.turn h.array h.state (subst (λ x. Faults parts x h.turn h.array h.state) w h.faults) h.within)
+
+-- the text of a run that goes on
 pub going_yields : (options : PlainOptions) (parts : List Part) (input : List ℕ) (world : World) (printed : List ℕ) (out : List ℕ) → world ≡ world_of input
-    → HasEnded parts world options.turns (replies.Going printed) ⊎ IsGoing parts world options.turns (replies.Going printed)
-    → out ≡ going_text printed → Yields (Plain options) parts input Budget out
+    → Says parts world options.turns (replies.Going printed) → out ≡ going_text printed → Yields (Plain options) parts input Budget out
 going_yields options parts input world printed out w r e =
     let h = going_run parts world options.turns printed r in
-    subst (λ o. Yields (Plain options) parts input Budget o) (sym (e ∙ ap going_text h.says)) (going h.now (subst (λ x. Flows parts x options.turns h.now) w h.goes))
+    subst (λ o. Yields (Plain options) parts input Budget o) (sym (e ∙ ap going_text h.says)) (going h.now (subst (λ x. Goes parts x options.turns h.now) w h.goes))
 
--- a run that ended comes to its end in time
-pub ended_so : (options : PlainOptions) (parts : List Part) (input : List ℕ) (world : World) (printed : List ℕ) (arrays took : List (List ℕ)) (turns : ℕ)
-    → world ≡ world_of input
-    → HasEnded parts world options.turns (replies.Ended printed arrays took turns) ⊎ IsGoing parts world options.turns (replies.Ended printed arrays took turns)
-    → EndsSo (Plain options) parts input Done
-ended_so options parts input world printed arrays took turns w r =
-    let h = ended_run parts world options.turns printed arrays took turns r in
-    (λ _. refl, λ none. absurd (none (h.taken, h.end, subst (λ x. Passes parts x h.taken h.end) w h.runs, h.within)))
+-- each cause has its answer
+module _ (options : PlainOptions) (parts : List Part) (input : List ℕ) (world : World) (w : world ≡ world_of input) (plain : Reply)
+    (ended : (n : ℕ) (end : Outside) → Runs parts world n end → n ≤ options.turns → SaysEnded n end plain)
+    (faulted : (n array : ℕ) (state : Outside) → Faults parts world n array state → n ≤ options.turns → SaysFault n array state plain)
+    (going : (now : Outside) → Goes parts world options.turns now → SaysGoing now plain) where
+  -- so no run that comes to its end is answered otherwise
+  ends_says : Ends (Plain options) parts input → (n : ℕ) × (end : Outside) × SaysEnded n end plain
+  ends_says e = (e.0, e.1, ended e.0 e.1 (subst (λ x. Runs parts x e.0 e.1) (sym w) e.2) e.3)
 
--- and one that is going doesn't
-pub going_so : (options : PlainOptions) (parts : List Part) (input : List ℕ) (world : World) (printed : List ℕ) → world ≡ world_of input
-    → ((n : ℕ) (end : Outside) → Passes parts world n end → n ≤ options.turns → SaysEnded n end (replies.Going printed)) → EndsSo (Plain options) parts input Budget
-going_so options parts input world printed w h =
-    (λ e. absurd (h e.0 e.1 (subst (λ x. Passes parts x e.0 e.1) (sym w) e.2) e.3), λ _. refl)
+  meets_says : MeetsFault (Plain options) parts input → (n : ℕ) × (array : ℕ) × (state : Outside) × SaysFault n array state plain
+  meets_says e = (e.0, e.1, e.2, faulted e.0 e.1 e.2 (subst (λ x. Faults parts x e.0 e.1 e.2) (sym w) e.3) e.4)
+
+  wants_says : WantsTurns (Plain options) parts input → (now : Outside) × SaysGoing now plain
+  wants_says e = (e.0, going e.0 (subst (λ x. Goes parts x options.turns e.0) (sym w) e.1))
+
+  pub ended_so : (printed : List ℕ) (arrays took : List (List ℕ)) (turns : ℕ) → plain ≡ replies.Ended printed arrays took turns → EndsSo (Plain options) parts input Done
+  ended_so printed arrays took turns e = record {
+    done = λ h. refl;
+    fault = λ h. let m = meets_says h in absurd (subst (SaysFault m.0 m.1 m.2) e m.3);
+    budget = λ h. let m = wants_says h in absurd (subst (SaysGoing m.0) e m.1);
+  }
+
+  pub faulted_so : (array : ℕ) (printed : List ℕ) (arrays took : List (List ℕ)) (turns : ℕ) → plain ≡ replies.Fault array printed arrays took turns → EndsSo (Plain options) parts input Fault
+  faulted_so array printed arrays took turns e = record {
+    done = λ h. let m = ends_says h in absurd (subst (SaysEnded m.0 m.1) e m.2);
+    fault = λ h. refl;
+    budget = λ h. let m = wants_says h in absurd (subst (SaysGoing m.0) e m.1);
+  }
+
+  pub going_so : (printed : List ℕ) → plain ≡ replies.Going printed → EndsSo (Plain options) parts input Budget
+  going_so printed e = record {
+    done = λ h. let m = ends_says h in absurd (subst (SaysEnded m.0 m.1) e m.2);
+    fault = λ h. let m = meets_says h in absurd (subst (SaysFault m.0 m.1 m.2) e m.3);
+    budget = λ h. refl;
+  }

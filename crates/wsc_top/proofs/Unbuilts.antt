@@ -7,7 +7,8 @@ use Rattle.src_ast.specs.declared.tree.Form.{Form, Assign, Store, Print, Read, G
 use Rattle.src_ast.specs.declared.tree.Stmt.{Stmt}
 use Rattle.src_ast.specs.Syntax.{Statements, Then}
 use Rattle.src_ast.specs.View as view
-use Rattle.wsc_top.specs.Numbers.{is_print, unbuilt_in, place_of, first_of}
+use Rattle.wsc_top.specs.Straights.{is_print, unbuilt_in, place_of}
+use Rattle.wsc_top.specs.Job.{first_of}
 
 pub place_same : (at : Place) (f : Form) → place_of (view.statement_of at f) ≡ at
 place_same at (Assign x e) = refl
@@ -24,9 +25,9 @@ pub first_in_front : (xs ys : List Place) (p : Place) → first_of xs ≡ Some p
 first_in_front [] ys p e = cc
 first_in_front (x ∷ xs) ys p e = e
 
-pub first_behind : (xs ys : List Place) → first_of xs ≡ None → first_of (xs ++ ys) ≡ first_of ys
-first_behind [] ys e = refl
-first_behind (x ∷ xs) ys e = cc
+pub first_after : (xs ys : List Place) → first_of xs ≡ None → first_of (xs ++ ys) ≡ first_of ys
+first_after [] ys e = refl
+first_after (x ∷ xs) ys e = cc
 
 first_other : (s : Stmt) (rest : Statements) → is_print (view.statement s) ≡ false → first_of (unbuilt_in (Then (view.statement s) rest)) ≡ Some s.place
 first_other s rest h = rw h (ap Some (place_same s.place s.form))

@@ -1,7 +1,7 @@
 -- The status codes of the process.
 use Rattle.std.specs.Prelude.{ℕ}
 use Rattle.wsc_top.specs.declared.status.Status.{Status}
-use Rattle.wsc_top.specs.declared.status.Status.TheVariants.{Done, Usage, Refused, Budget, ReadFault, WriteFault, PortFault, NoMemory}
+use Rattle.wsc_top.specs.declared.status.Status.TheVariants.{Done, Usage, Refused, Budget, ReadFault, WriteFault, PortFault, NoMemory, Fault}
 
 abbrev pub code_of : Status → ℕ
 code_of Done = 0
@@ -12,3 +12,4 @@ code_of ReadFault = 4
 code_of WriteFault = 5
 code_of (PortFault p) = 6
 code_of NoMemory = 7
+code_of Fault = 8

@@ -1,5 +1,5 @@
 -- What the text of a job says, and why it is refused.
-use Rattle.std.specs.Prelude.{◌≡◌, ℕ, List, [], ◌∷◌, Result, Ok, Err}
+use Rattle.std.specs.Prelude.{◌≡◌, ℕ, List, [], ◌∷◌, Option, Some, None, Result, Ok, Err}
 use Rattle.ws_words.specs.Outside.{World}
 use Rattle.src_ast.specs.declared.lexeme.Place.{Place}
 use Rattle.src_ast.specs.declared.lexeme.Lexeme.{Lexeme}
@@ -26,17 +26,26 @@ pub record Reads (text : List ℕ) (parts : List Part) : Type 0 where
   pub tree : Tree ls parts
   pub accepted : IsAccepted parts finish
 
--- the program section is refused so: by its first fault of lexemes, else of syntax, else of the rules
+-- the program section is refused so: by its first fault of lexemes, else of syntax, else of the
+-- rules
 pub data ProgramFault (text : List ℕ) : Refusal → Type 0 where
   lexemes : (r : Refusal) → LexFault (program_of text) r → ProgramFault text r
-  syntax : (ls : List Lexeme) (finish place : Place) → Lex (program_of text) ls finish → KeepLimits 0 0 ls → SyntaxAt ls finish place
+  syntax : (ls : List Lexeme) (finish place : Place) → Lex (program_of text) ls finish
+      → KeepLimits 0 0 ls → SyntaxAt ls finish place
       → ProgramFault text (record { kind = Syntax; place = place })
-  rules : (ls : List Lexeme) (finish : Place) (parts : List Part) (r : Refusal) → Lex (program_of text) ls finish → KeepLimits 0 0 ls → Tree ls parts
+  rules : (ls : List Lexeme) (finish : Place) (parts : List Part) (r : Refusal)
+      → Lex (program_of text) ls finish → KeepLimits 0 0 ls → Tree ls parts
       → IsFirstBroken (rules_of parts finish) r → ProgramFault text r
 
--- A command can't take some programs: these are the places of what it can't take, in the order of the text.
+-- A command can't take some programs: these are the places of what it can't take, in the order of
+-- the text.
 abbrev pub Unfit : Type 0
 Unfit = List Part → List Place
+
+-- the first place of some
+abbrev pub first_of : List Place → Option Place
+first_of [] = None
+first_of (p ∷ ps) = Some p
 
 -- the text is a program that a command takes, and the words that it reads
 pub record IsJob (unfit : Unfit) (text : List ℕ) (parts : List Part) (input : List ℕ) : Type 0 where
@@ -44,13 +53,21 @@ pub record IsJob (unfit : Unfit) (text : List ℕ) (parts : List Part) (input : 
   pub fit : unfit parts ≡ []
   pub words : InputWords (input_place text) (input_of text) input
 
--- the text is refused so: by the fault of its program, else by what the command can't take, else by its input section
+-- the text is refused so: by the fault of its program, else by what the command can't take, else by
+-- its input section
 pub data Refuses (unfit : Unfit) (text : List ℕ) : Refusal → Type 0 where
   program : (r : Refusal) → ProgramFault text r → Refuses unfit text r
-  unbuilt : (parts : List Part) (place : Place) (more : List Place) → Reads text parts → unfit parts ≡ place ∷ more
+  unbuilt : (parts : List Part) (place : Place) (more : List Place)
+      → Reads text parts → unfit parts ≡ place ∷ more
       → Refuses unfit text (record { kind = Unbuilt; place = place })
-  input : (parts : List Part) (place : Place) → Reads text parts → unfit parts ≡ [] → InputFault (input_place text) (input_of text) place
+  input : (parts : List Part) (place : Place) → Reads text parts → unfit parts ≡ []
+      → InputFault (input_place text) (input_of text) place
       → Refuses unfit text (record { kind = Input; place = place })
+
+-- what a text comes to for a command: the program and the words of a job, or why it is refused
+abbrev pub IsTextAnswer : Unfit → List ℕ → Result (List Part × List ℕ) Refusal → Type 0
+IsTextAnswer unfit text (Ok job) = IsJob unfit text job.0 job.1
+IsTextAnswer unfit text (Err refusal) = Refuses unfit text refusal
 
 -- why a text has no answer: memory, or it is refused
 abbrev pub IsRefused : Unfit → List ℕ → TextFault → Type 0

@@ -1,8 +1,7 @@
 pub mod Codes
-pub mod Numbers
+pub mod Lines
 pub mod Sections
+pub mod Straights
 pub mod Job
 pub mod Texts
-pub mod Pieces
-pub mod Lines
 pub mod Answers

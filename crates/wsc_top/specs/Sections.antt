@@ -1,4 +1,4 @@
--- The sections of a job: the program, and behind the first line `%input` the words that it reads.
+-- The sections of a job: the program, and after the first line `%input` the words that it reads.
 use Rattle.std.specs.Prelude.{◌≡◌, ℕ, ◌+◌, ◌^◌, ◌<◌, ◌≤◌, ◌==◌, nat_eq, Bool, true, false, not, ◌&&◌, ◌||◌, IsTrue, List, [], ◌∷◌, ◌++◌, codes, if◌then◌else◌, Result, Ok, Err}
 use Rattle.std.specs.List.{list_all}
 use Rattle.ws_words.specs.Digits.{is_number, value_of}
@@ -8,7 +8,8 @@ use Rattle.src_ast.specs.declared.fault.TextFault.{TextFault}
 use Rattle.src_ast.specs.declared.fault.TextFault.TheVariants.{Refused, NoMemory}
 use Rattle.src_ast.specs.Lexemes.{start, after, is_blank, starts_without}
 
--- a line ends here: at the text's end, at a line feed, or at a carriage return in front of one of these
+-- a line ends here: at the text's end, at a line feed, or at a carriage return in front of one of
+-- these
 abbrev pub ends_line : List ℕ → Bool
 ends_line [] = true
 ends_line (b ∷ []) = (b == 10) || (b == 13)
@@ -24,27 +25,30 @@ is_line (m ∷ ms) (b ∷ text) = (b == m) && is_line ms text
 abbrev pub is_marker : List ℕ → Bool
 is_marker text = is_line (codes "%input") text
 
--- what stands behind the first line feed
-abbrev pub behind_line : List ℕ → List ℕ
-behind_line [] = []
-behind_line (b ∷ bytes) = if b == 10 then bytes else behind_line bytes
+-- what stands after the first line feed
+abbrev pub after_line : List ℕ → List ℕ
+after_line [] = []
+after_line (b ∷ bytes) = if b == 10 then bytes else after_line bytes
 
--- The bytes in front of the first line that is exactly `%input`, or all; the flag says that a line begins here.
+-- The bytes in front of the first line that is exactly `%input`, or all; the flag says that a line
+-- begins here.
 abbrev pub front_of : Bool → List ℕ → List ℕ
 front_of at_line [] = []
-front_of at_line (b ∷ bytes) = if at_line && is_marker (b ∷ bytes) then [] else b ∷ front_of (b == 10) bytes
+front_of at_line (b ∷ bytes) =
+    if at_line && is_marker (b ∷ bytes) then [] else b ∷ front_of (b == 10) bytes
 
--- that line and what stands behind it, or nothing
+-- that line and what stands after it, or nothing
 abbrev pub rest_of : Bool → List ℕ → List ℕ
 rest_of at_line [] = []
-rest_of at_line (b ∷ bytes) = if at_line && is_marker (b ∷ bytes) then b ∷ bytes else rest_of (b == 10) bytes
+rest_of at_line (b ∷ bytes) =
+    if at_line && is_marker (b ∷ bytes) then b ∷ bytes else rest_of (b == 10) bytes
 
 abbrev pub program_of : List ℕ → List ℕ
 program_of text = front_of true text
 
 -- the input section without its marker
 abbrev pub input_of : List ℕ → List ℕ
-input_of text = behind_line (rest_of true text)
+input_of text = after_line (rest_of true text)
 
 -- the place where it begins
 abbrev pub input_place : List ℕ → Place
@@ -60,13 +64,17 @@ pub record IsItem (bytes rest : List ℕ) : Type 0 where
 abbrev pub IsWordText : List ℕ → ℕ → Type 0
 IsWordText bytes word = IsTrue (is_number bytes) × (value_of bytes ≡ word) × (word < 2 ^ 64)
 
--- From this place on the text begins with items that are these words, blanks in front of each; behind them and blanks stands this rest, at its place.
+-- From this place on the text begins with items that are these words, blanks in front of each;
+-- after them and blanks stands this rest, at its place.
 pub data Items : Place → List ℕ → List ℕ → Place → List ℕ → Type 0 where
-  stop : {at place : Place} {text rest : List ℕ} (blanks : List ℕ) → text ≡ blanks ++ rest → IsTrue (list_all is_blank blanks)
-      → IsTrue (starts_without is_blank rest) → place ≡ after at blanks → Items at text [] place rest
-  next : {at place : Place} {text rest words : List ℕ} (word : ℕ) (blanks bytes behind : List ℕ)
-      → text ≡ blanks ++ (bytes ++ behind) → IsTrue (list_all is_blank blanks) → IsItem bytes behind → IsWordText bytes word
-      → Items (after (after at blanks) bytes) behind words place rest → Items at text (word ∷ words) place rest
+  stop : {at place : Place} {text rest : List ℕ} (blanks : List ℕ) → text ≡ blanks ++ rest
+      → IsTrue (list_all is_blank blanks) → IsTrue (starts_without is_blank rest)
+      → place ≡ after at blanks → Items at text [] place rest
+  next : {at place : Place} {text rest words : List ℕ} (word : ℕ) (blanks bytes further : List ℕ)
+      → text ≡ blanks ++ (bytes ++ further) → IsTrue (list_all is_blank blanks)
+      → IsItem bytes further → IsWordText bytes word
+      → Items (after (after at blanks) bytes) further words place rest
+      → Items at text (word ∷ words) place rest
 
 -- the words of an input section that begins at this place
 pub record InputWords (at : Place) (text words : List ℕ) : Type 0 where
@@ -77,10 +85,15 @@ pub record InputWords (at : Place) (text words : List ℕ) : Type 0 where
 pub record InputFault (at : Place) (text : List ℕ) (place : Place) : Type 0 where
   pub words : List ℕ
   pub bytes : List ℕ
-  pub behind : List ℕ
-  pub items : Items at text words place (bytes ++ behind)
-  pub item : IsItem bytes behind
+  pub further : List ℕ
+  pub items : Items at text words place (bytes ++ further)
+  pub item : IsItem bytes further
   pub wrong : (word : ℕ) → IsWordText bytes word → ⊥
+
+-- what an input section comes to: its words, or the place of its first item that is no word
+abbrev pub IsInputAnswer : Place → List ℕ → Result (List ℕ) Place → Type 0
+IsInputAnswer at text (Ok words) = InputWords at text words
+IsInputAnswer at text (Err place) = InputFault at text place
 
 -- why an input section has no words: memory, or its first item that is none
 abbrev pub IsInputFault : Place → List ℕ → TextFault → Type 0

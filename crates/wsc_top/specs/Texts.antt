@@ -1,5 +1,5 @@
 -- The texts of answers.
-use Rattle.std.specs.Prelude.{ℕ, Bool, List, [], ◌∷◌, ◌++◌, Option, Some, None, if◌then◌else◌, codes, decimal, flat_map}
+use Rattle.std.specs.Prelude.{ℕ, zero, suc, ◌-◌, Bool, List, [], ◌∷◌, ◌++◌, Option, Some, None, if◌then◌else◌, codes, decimal, flat_map}
 use Rattle.src_ast.specs.declared.fault.Quantity.{Quantity}
 use Rattle.src_ast.specs.declared.fault.Quantity.TheVariants.{NameBytes, Depth, Lexemes, Arrays, Length, CellSum, Procs, Params, Vars, Statements, PortNumber}
 use Rattle.src_ast.specs.declared.fault.Refusal.{Refusal}
@@ -18,8 +18,8 @@ done_text ws = flat_map word_line ws ++ codes "halt\n"
 abbrev pub usage_text : List ℕ
 usage_text = codes "usage: wsc run|plain|format|compile|check|exec|list|trace|replay|gen|bench [--workers N] [--budget N] [--turns N] [--memory] [--stats] [NUMBER]\n"
 
-abbrev pub fault_text : List ℕ
-fault_text = codes "fault read\n"
+abbrev pub unread_text : List ℕ
+unread_text = codes "fault read\n"
 
 abbrev pub long_text : List ℕ
 long_text = codes "refused long\n"
@@ -53,9 +53,11 @@ kind_word Unbuilt = codes "unbuilt"
 
 -- a refusal at its place
 abbrev pub refusal_text : Refusal → List ℕ
-refusal_text r = codes "refused " ++ decimal r.place.line ++ codes ":" ++ decimal r.place.column ++ codes " " ++ kind_word r.kind ++ codes "\n"
+refusal_text r =
+    codes "refused " ++ decimal r.place.line ++ codes ":" ++ decimal r.place.column
+    ++ codes " " ++ kind_word r.kind ++ codes "\n"
 
--- a word in decimal behind a comma and a space
+-- a word in decimal after a comma and a space
 abbrev pub further_word : ℕ → List ℕ
 further_word w = codes ", " ++ decimal w
 
@@ -86,7 +88,28 @@ turns_line n = codes "turns " ++ decimal n ++ codes "\n"
 -- the answer of a sequential run that came to its end
 abbrev pub ended_text : Bool → Bool → List Name → List ℕ → List (List ℕ) → ℕ → List ℕ
 ended_text memory stats names words arrays turns =
-    done_text words ++ (if memory then array_lines names arrays else []) ++ (if stats then turns_line turns else [])
+    done_text words ++ (if memory then array_lines names arrays else [])
+    ++ (if stats then turns_line turns else [])
+
+-- the name of the array that stands at a place, counted from 0
+abbrev pub name_at : List Name → ℕ → List ℕ
+name_at [] k = []
+name_at (n ∷ ns) zero = n.text
+name_at (n ∷ ns) (suc k) = name_at ns k
+
+-- the name of an array by its number from 1; none where there is no such array
+abbrev pub array_name : List Name → ℕ → List ℕ
+array_name names array = name_at names (array - 1)
+
+-- a line for an index fault on this array
+abbrev pub fault_line : List ℕ → List ℕ
+fault_line name = codes "fault " ++ name ++ codes "\n"
+
+-- the answer of one that met an index fault
+abbrev pub faulted_text : Bool → List Name → ℕ → List ℕ → List (List ℕ) → List ℕ
+faulted_text memory names array words arrays =
+    flat_map word_line words ++ fault_line (array_name names array)
+    ++ (if memory then array_lines names arrays else [])
 
 -- the answer of one that wants more turns
 abbrev pub going_text : List ℕ → List ℕ

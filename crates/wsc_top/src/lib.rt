@@ -1,22 +1,19 @@
-//! The top call: from the words of the command line and the bytes of a job to the bytes of the answer.
+//! The top call: from the words of the command line and the bytes of a job to the bytes of the
+//! answer.
 #![tactic(auto)]
 
-pub mod call;
-pub mod input;
-pub mod job;
-pub mod line;
-pub mod options;
-pub mod pieces;
-pub mod plain_texts;
-pub mod program;
-pub mod sections;
-pub mod status;
-pub mod texts;
-pub mod unbuilt;
-pub mod yields;
+mod answer;
+mod call;
+mod job;
+mod laws;
+mod line;
+mod status;
+mod straight;
+mod texts;
+mod yields;
 
 pub use call::wsc;
+pub use laws::{
+    each_input_is_read_once, each_text_is_a_job_or_refused, every_text_is_answered_once,
+};
 pub use status::{Outcome, Status};
-
-#[cfg(test)]
-mod tests;

@@ -3,7 +3,10 @@
 ghost use Rattle.std.specs.Prelude.{◌≡◌, map, string_bytes, IfSome, IfNone};
 ghost use Rattle.wsc_top.specs.Lines.{IsLine};
 
-use crate::options::{PlainOptions, plain};
+mod options;
+
+pub use options::PlainOptions;
+use options::plain;
 
 /// What a line asks for.
 #[derive(Clone, Copy, Debug, PartialEq, Eq)]

@@ -22,10 +22,12 @@ pub enum Status {
     PortFault(u8),
     /// Memory ran out.
     NoMemory,
+    /// The run met a load or store past the end of its array.
+    Fault,
 }
 
 impl Status {
-    /// The status code of the process, from 0 to 7 in the order of the variants.
+    /// The status code of the process, from 0 to 8 in the order of the variants.
     pub fn code(self) -> u8
         ensures { result ≡ code_of self }
     {
@@ -38,6 +40,7 @@ impl Status {
             Status::WriteFault => 5,
             Status::PortFault(_) => 6,
             Status::NoMemory => 7,
+            Status::Fault => 8,
         }
     }
 }

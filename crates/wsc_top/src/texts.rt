@@ -1,16 +1,19 @@
 //! The texts of answers.
 
-ghost use Rattle.std.specs.Prelude.{◌≡◌, ◌++◌, flat_map, IfOk, OnOk};
-ghost use Rattle.wsc_top.specs.Texts.{word_line, done_text, kind_word, refusal_text};
+ghost use Rattle.std.specs.Prelude.{◌≡◌, ◌++◌, List, [], ◌∷◌, flat_map, slice_get, IfOk, OnOk};
+ghost use Rattle.src_ast.specs.View as view;
+ghost use Rattle.src_ast.specs.Meaning.{arrays_of};
+ghost use Rattle.wsc_top.specs.Texts.{word_line, done_text, kind_word, refusal_text, separated_words, further_word, maybe_line, array_line, array_lines, turns_line, array_name, ended_text, faulted_text, going_text};
 
-use src_ast::{Quantity, Refusal, RefusalKind};
+use src_ast::{Item, Name, Program, Quantity, Refusal, RefusalKind};
 use std::alloc::Global;
 use ws_io::put_decimal;
-use ws_words::{Bytes, NoMemory, Words};
+use ws_words::{Bytes, Cells, NoMemory, Words};
 
 /// The line that says which command lines there are.
 pub const USAGE: &[u8] =
-    b"usage: wsc run|plain|format|compile|check|exec|list|trace|replay|gen|bench [--workers N] [--budget N] [--turns N] [--memory] [--stats] [NUMBER]\n";
+    b"usage: wsc run|plain|format|compile|check|exec|list|trace|replay|gen|bench \
+    [--workers N] [--budget N] [--turns N] [--memory] [--stats] [NUMBER]\n";
 
 /// The answer where reading failed.
 pub const FAULT: &[u8] = b"fault read\n";
@@ -18,8 +21,8 @@ pub const FAULT: &[u8] = b"fault read\n";
 /// The answer where a text has too many bytes.
 pub const LONG: &[u8] = b"refused long\n";
 
-/// Puts a line for each word behind a text.
-pub fn put_words(text: &mut Bytes, words: &Words) -> Result<(), NoMemory>
+// Puts a line for each word after a text.
+fn put_words(text: &mut Bytes, words: &Words) -> Result<(), NoMemory>
     ensures { OnOk result (text.new ≡ text.old ++ flat_map word_line words.now) }
 {
     for word in words.as_slice() {
@@ -80,5 +83,152 @@ pub fn refused(alloc: Global, refusal: Refusal) -> Result<Bytes, NoMemory>
     text.push(b' ')?;
     text.extend(word(refusal.kind))?;
     text.push(b'\n')?;
+    Ok(text)
+}
+
+// Puts words after a text, each after a comma and a space.
+fn put_further(text: &mut Bytes, words: &[u64]) -> Result<(), NoMemory>
+    ensures { OnOk result (text.new ≡ text.old ++ flat_map further_word words.now) }
+{
+    for word in words {
+        text.extend(b", ")?;
+        put_decimal(text, *word)?;
+    }
+    Ok(())
+}
+
+// Puts words after a text, with a comma and a space between them.
+fn put_separated(text: &mut Bytes, words: &[u64]) -> Result<(), NoMemory>
+    ensures { OnOk result (text.new ≡ text.old ++ separated_words words.now) }
+{
+    match words {
+        [] => Ok(()),
+        [first, further @ ..] => {
+            put_decimal(text, *first)?;
+            put_further(text, further)
+        }
+    }
+}
+
+// Puts a line for an array with these cells after a text.
+fn put_array(text: &mut Bytes, name: &Name, cells: &Words) -> Result<(), NoMemory>
+    ensures { OnOk result (text.new ≡ text.old ++ array_line name.now.text cells.now) }
+{
+    text.extend(name.text.as_slice())?;
+    text.extend(b" = [")?;
+    put_separated(text, cells.as_slice())?;
+    text.extend(b"]\n")
+}
+
+// Puts a line for the array of this number, counted from 0, after a text; nothing where it has no
+// cells.
+fn put_array_at(text: &mut Bytes, name: &Name, arrays: &Cells, place: usize) -> Result<(), NoMemory>
+    ensures { OnOk result
+        (text.new ≡ text.old ++ maybe_line name.now.text (slice_get arrays.now place)) }
+{
+    match arrays.get(place) {
+        Some(cells) => put_array(text, name, cells),
+        None => Ok(()),
+    }
+}
+
+// Puts a line for each array of a program that has cells after a text, in order of declaration.
+fn put_arrays(text: &mut Bytes, items: &[Item], arrays: &Cells) -> Result<(), NoMemory>
+    ensures { OnOk result
+        (text.new ≡ text.old ++ array_lines (arrays_of (view.parts items.now)) arrays.now) }
+{
+    let mut count = 0;
+    for item in items {
+        if let Item::Array { name, .. } = item {
+            put_array_at(text, name, arrays, count)?;
+            count += 1;
+        }
+    }
+    Ok(())
+}
+
+// Puts a line for the turns of a run after a text.
+fn put_turns(text: &mut Bytes, turns: u64) -> Result<(), NoMemory>
+    ensures { OnOk result (text.new ≡ text.old ++ turns_line turns) }
+{
+    text.extend(b"turns ")?;
+    put_decimal(text, turns)?;
+    text.push(b'\n')
+}
+
+/// The answer of a sequential run that came to its end: a line for each word, and `halt`; then,
+/// where they are asked for, a line for each array, and a line for the turns.
+pub fn ended(
+    alloc: Global,
+    memory: bool,
+    stats: bool,
+    program: &Program,
+    words: &Words,
+    arrays: &Cells,
+    turns: u64,
+) -> Result<Bytes, NoMemory>
+    ensures { IfOk result (λ text. text ≡ ended_text memory stats
+        (arrays_of (view.parts program.now.items.items)) words.now arrays.now turns) }
+{
+    let mut text = done(alloc, words)?;
+    if memory {
+        put_arrays(&mut text, &program.items, arrays)?;
+    }
+    if stats {
+        put_turns(&mut text, turns)?;
+    }
+    Ok(text)
+}
+
+// Puts the name of an array after a text, by its number from 1; nothing where there is no such
+// array.
+fn put_array_name(text: &mut Bytes, items: &[Item], array: u32) -> Result<(), NoMemory>
+    ensures { OnOk result
+        (text.new ≡ text.old ++ array_name (arrays_of (view.parts items.now)) array) }
+{
+    let mut before = array.saturating_sub(1);
+    for item in items {
+        if let Item::Array { name, .. } = item {
+            if before == 0 {
+                return text.extend(name.text.as_slice());
+            }
+            before -= 1;
+        }
+    }
+    Ok(())
+}
+
+/// The answer of a sequential run that met an index fault on the array of this number, counted from
+/// 1: a line for each word, and `fault` with the array's name; then, where they are asked for, a
+/// line for each array.
+pub fn faulted(
+    alloc: Global,
+    memory: bool,
+    program: &Program,
+    array: u32,
+    words: &Words,
+    arrays: &Cells,
+) -> Result<Bytes, NoMemory>
+    ensures { IfOk result (λ text. text ≡ faulted_text memory
+        (arrays_of (view.parts program.now.items.items)) array words.now arrays.now) }
+{
+    let mut text = Bytes::empty(alloc);
+    put_words(&mut text, words)?;
+    text.extend(b"fault ")?;
+    put_array_name(&mut text, &program.items, array)?;
+    text.push(b'\n')?;
+    if memory {
+        put_arrays(&mut text, &program.items, arrays)?;
+    }
+    Ok(text)
+}
+
+/// The answer of a sequential run that wants a further turn: a line for each word, and `turns`.
+pub fn going(alloc: Global, words: &Words) -> Result<Bytes, NoMemory>
+    ensures { IfOk result (λ text. text ≡ going_text words.now) }
+{
+    let mut text = Bytes::empty(alloc);
+    put_words(&mut text, words)?;
+    text.extend(b"turns\n")?;
     Ok(text)
 }

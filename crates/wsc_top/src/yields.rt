@@ -4,17 +4,15 @@ ghost use Rattle.std.specs.Prelude.{◌≡◌, ℕ, List, [], IfOk};
 ghost use Rattle.ws_words.specs.Plain as given;
 ghost use Rattle.src_ast.specs.View as view;
 ghost use Rattle.src_ast.specs.Written.{IsWritten};
-ghost use Rattle.wsc_top.specs.Numbers.{unbuilt_places};
+ghost use Rattle.wsc_top.specs.Straights.{unbuilt_places};
 ghost use Rattle.wsc_top.specs.Job.{world_of};
 ghost use Rattle.wsc_top.specs.Answers.{unfit_for, Yields, EndsSo};
-ghost use Rattle.wsc_top.specs.declared.line.Command.{Command as Asked};
-ghost use Rattle.wsc_top.specs.declared.status.Status.{Status as End};
+ghost use Rattle.wsc_top.specs.declared.line.Command.{Command};
+ghost use Rattle.wsc_top.specs.declared.status.Status.{Status};
 
-use crate::line::Command;
-use crate::options::PlainOptions;
-use crate::pieces::straight;
-use crate::plain_texts::{ended, going};
+use crate::line::{Command, PlainOptions};
 use crate::status::Status;
+use crate::straight::straight_image;
 use crate::texts;
 use df_core::{Core, built_is_straight};
 use seq_run::run_plain;
@@ -27,10 +25,11 @@ use ws_words::{Bytes, Cells, NoMemory, Plain, Words, World};
 #[tactic(auto, using(crate::proofs::Outcomes::pieces_are_straight, crate::proofs::Outcomes::run_yields))]
 fn run(alloc: Global, accepted: &Accepted) -> Result<Bytes, NoMemory>
     requires { unbuilt_places (view.parts accepted.now.program.items.items) ≡ [] }
-    ensures { IfOk result (λ out. (input : List ℕ) → Yields Asked.Run (view.parts accepted.now.program.items.items) input End.Done out) }
+    ensures { IfOk result (λ out. (input : List ℕ)
+        → Yields Command.Run (view.parts accepted.now.program.items.items) input Status.Done out) }
 {
     built_is_straight();
-    let straight = straight(alloc, accepted)?;
+    let straight = straight_image(alloc, accepted)?;
     let mut core = Core::begin(alloc, &straight)?;
     core.run();
     texts::done(alloc, core.printed())
@@ -54,8 +53,11 @@ fn plainly(
     accepted: &Accepted,
     input: Words,
 ) -> Result<(Status, Bytes), NoMemory>
-    ensures yields { IfOk result (λ y. Yields (Asked.Plain options) (view.parts accepted.now.program.items.items) input y.0 y.1) }
-    ensures ends { IfOk result (λ y. EndsSo (Asked.Plain options) (view.parts accepted.now.program.items.items) input y.0) }
+    ensures yields { IfOk result (λ y.
+        Yields (Command.Plain options)
+        (view.parts accepted.now.program.items.items) input y.0 y.1) }
+    ensures ends { IfOk result (λ y.
+        EndsSo (Command.Plain options) (view.parts accepted.now.program.items.items) input y.0) }
 {
     let PlainOptions {
         turns,
@@ -70,7 +72,7 @@ fn plainly(
             took: _,
             turns,
         } => {
-            let text = ended(
+            let text = texts::ended(
                 alloc,
                 memory,
                 stats,
@@ -81,12 +83,22 @@ fn plainly(
             )?;
             Ok((Status::Done, text))
         }
-        Plain::Going { printed } => Ok((Status::Budget, going(alloc, &printed)?)),
+        Plain::Fault {
+            array,
+            printed,
+            arrays,
+            took: _,
+            turns: _,
+        } => {
+            let text = texts::faulted(alloc, memory, &accepted.program, array, &printed, &arrays)?;
+            Ok((Status::Fault, text))
+        }
+        Plain::Going { printed } => Ok((Status::Budget, texts::going(alloc, &printed)?)),
     }
 }
 
 /// The status and the text of what comes of a command to a program that it takes.
-#[tactic(auto, using(crate::proofs::Outcomes::format_yields))]
+#[tactic(auto, using(crate::proofs::Outcomes::format_yields, crate::proofs::Outcomes::run_so, crate::proofs::Outcomes::format_so))]
 pub fn yielded(
     alloc: Global,
     command: Command,
@@ -95,8 +107,10 @@ pub fn yielded(
 ) -> Result<(Status, Bytes), NoMemory>
     requires fit { unfit_for command (view.parts accepted.now.program.items.items) ≡ [] }
     requires written { IsWritten (view.parts accepted.now.program.items.items) }
-    ensures yields { IfOk result (λ y. Yields command (view.parts accepted.now.program.items.items) input y.0 y.1) }
-    ensures ends { IfOk result (λ y. EndsSo command (view.parts accepted.now.program.items.items) input y.0) }
+    ensures yields { IfOk result (λ y.
+        Yields command (view.parts accepted.now.program.items.items) input y.0 y.1) }
+    ensures ends { IfOk result (λ y.
+        EndsSo command (view.parts accepted.now.program.items.items) input y.0) }
 {
     printed_reads_the_same();
     match command {

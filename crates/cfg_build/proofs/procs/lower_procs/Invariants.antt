@@ -3,7 +3,7 @@ use Rattle.std.specs.List.{AllByRecursion}
 use Rattle.seq_run.specs.View as source
 use Rattle.cfg_core.specs.View as view
 use Rattle.cfg_build.specs.Lowered as lowered
-use Rattle.cfg_build.specs.Drafts.{ProcFits, blocks_of}
+use Rattle.cfg_build.specs.Building.{ProcFits, blocks_of}
 use Rattle.cfg_build.proofs.procs.lower_procs.Given as goal
 
 abbrev pub invariant-loop-proc : goal.invariant-loop-proc

@@ -22,7 +22,7 @@ returns-then-branch-clause-ended c =
     let answer = opened c.in_ok-table.table.graph.now c.args.graph.now world c.args.turns c.saturating_sub.result c.room-main.result.entry c.room-main.result.vars c.in_ok-walk.field-0 w c.in_ok-table.ensures.graph main c.room-main.ensures.entry c.room-main.ensures.vars
     (c.in_ok-walk.ensures _ _ _ c.in_ok-walker.ensures) in
     ends_so g world c.args.turns w c.in_ok-arrays.arrays (ended_is g world c.args.turns w c.in_ok-walk.field-0 c.if-branch.true answer)
-    (c.in_ok-arrays.ensures ∙ ap (λ (arrays : List GraphArray). shown_cells (map view.array arrays) w.cells) c.deref.ensures.value)
+    (c.in_ok-arrays.ensures ∙ ap (λ (arrays : List GraphArray). shown_cells (map view.array arrays) w.memory.cells) c.deref.ensures.value)
 
 pub returns-clause-going : goal.returns-clause-going
 returns-clause-going c =

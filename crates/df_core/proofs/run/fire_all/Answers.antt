@@ -22,7 +22,7 @@ pub returns-clause-data_first : goal.returns-clause-data_first
 returns-clause-data_first c =
     let f = c.loop-flow.flow in
     let i = c.loop-flow.invariant.0 in
-    record { behind = λ k l. i.fires.behind k (omega (arith, f.order.ok.0, c.len.ensures, c.loop-flow-test.false)) }
+    record { after = λ k l. i.fires.after k (omega (arith, f.order.ok.0, c.len.ensures, c.loop-flow-test.false)) }
 
 pub returns-clause-fired : goal.returns-clause-fired
 returns-clause-fired c =

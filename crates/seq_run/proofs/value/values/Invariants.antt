@@ -1,7 +1,12 @@
-use Rattle.std.proofs.Common.{◌≡◌, take}
-use Rattle.seq_run.specs.Resolved.{values as values_on}
-use Rattle.seq_run.specs.View as view
+use Rattle.std.proofs.Common.{◌≡◌, map, take}
+use Rattle.ws_words.specs.Memory.{lengths_of}
+use Rattle.cfg_core.specs.Walk as walks
+use Rattle.cfg_core.specs.View as graph
+use Rattle.seq_run.specs.Firsts.{or_else, first_past}
 use Rattle.seq_run.proofs.value.values.Given as goal
 
 abbrev pub invariant-loop-term : goal.invariant-loop-term
-invariant-loop-term l = l.words ≡ values_on (view.terms (take l.term-index l.terms)) l.vars l.cells
+invariant-loop-term l = record {
+  words : l.words ≡ walks.values (map graph.term (take l.term-index l.terms)) l.vars l.memory.cells;
+  past : l.past ≡ or_else l.initial.past (first_past (lengths_of l.memory.cells) (walks.all_loads (map graph.term (take l.term-index l.terms)) l.vars l.memory.cells));
+}

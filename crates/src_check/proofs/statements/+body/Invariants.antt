@@ -5,7 +5,7 @@ use Rattle.src_check.specs.Names.{seen, StandsFor}
 use Rattle.src_check.specs.Rule.{first_broken}
 use Rattle.src_check.proofs.statements.+body.Given as goal
 
--- the statements that are left decide, behind so many
+-- the statements that are left decide, after this many
 abbrev pub invariant-body-loop-stmt : goal.invariant-body-loop-stmt
 invariant-body-loop-stmt l = record {
   rules : (visible : List Declared) → StandsFor (seen l.fn.names) visible →

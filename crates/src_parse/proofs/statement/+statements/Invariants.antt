@@ -13,11 +13,11 @@ decreases-statement l = 4 * length l.lexemes.now + 2
 abbrev pub decreases-statement_behind : goal.decreases-statement_behind
 decreases-statement_behind l = 4 * length l.lexemes.now + 1
 
-abbrev pub decreases-if_stmt : goal.decreases-if_stmt
-decreases-if_stmt l = 4 * length l.lexemes.now + 2
+abbrev pub decreases-if_statement : goal.decreases-if_statement
+decreases-if_statement l = 4 * length l.lexemes.now + 2
 
-abbrev pub decreases-while_stmt : goal.decreases-while_stmt
-decreases-while_stmt l = 4 * length l.lexemes.now + 2
+abbrev pub decreases-while_statement : goal.decreases-while_statement
+decreases-while_statement l = 4 * length l.lexemes.now + 2
 
 abbrev pub decreases-otherwise : goal.decreases-otherwise
 decreases-otherwise l = 4 * length l.lexemes.now + 1

@@ -38,7 +38,7 @@ pub returns-in_ok-push-in-Call : goal.returns-in_ok-push-in-Call
 returns-in_ok-push-in-Call c = λ s frames k sh.
     let w = c.args.self.now in
     let g = view.graph c.args.table.now.graph.now in
-    let words : c.in_ok-words-in-Call.words ≡ walks.values (map term_of c.in-Call.terms.items) w.vars w.cells = c.in_ok-words-in-Call.ensures ∙ ap (λ (ts : List CodeTerm). walks.values (map term_of ts) w.vars w.cells) c.deref.ensures.value in
+    let words : c.in_ok-words-in-Call.words ≡ walks.values (map term_of c.in-Call.terms.items) w.vars w.memory.cells = c.in_ok-words-in-Call.ensures ∙ ap (λ (ts : List CodeTerm). walks.values (map term_of ts) w.vars w.memory.cells) c.deref.ensures.value in
     from_exit g (code.Call c.in-Call.result c.in-Call.callee c.in-Call.terms c.in-Call.back) c.args.exit.now s frames k _ _ c.in-Call.is
     (called g s frames k w sh c.in-Call.result c.in-Call.callee (map term_of c.in-Call.terms.items) c.in-Call.back c.room-room.result c.in_ok-words-in-Call.words c.replace-vars.new.dest c.push.new.self
     c.room-room.ensures.entry c.room-room.ensures.params c.room-room.ensures.vars words (c.replace-vars.ensures.after ∙ c.in_ok-fresh-in-Call.ensures)
@@ -48,7 +48,7 @@ pub returns-in_ok-self-in-Send : goal.returns-in_ok-self-in-Send
 returns-in_ok-self-in-Send c = λ s frames k sh.
     let w = c.args.self.now in
     let g = view.graph c.args.table.now.graph.now in
-    let words : c.in_ok-words-in-Send.words ≡ walks.values (map term_of c.in-Send.terms.items) w.vars w.cells = c.in_ok-words-in-Send.ensures ∙ ap (λ (ts : List CodeTerm). walks.values (map term_of ts) w.vars w.cells) c.deref-in-Send.ensures.value in
+    let words : c.in_ok-words-in-Send.words ≡ walks.values (map term_of c.in-Send.terms.items) w.vars w.memory.cells = c.in_ok-words-in-Send.ensures ∙ ap (λ (ts : List CodeTerm). walks.values (map term_of ts) w.vars w.memory.cells) c.deref-in-Send.ensures.value in
     from_exit g (code.Send c.in-Send.address c.in-Send.terms c.in-Send.landings) c.args.exit.now s frames k _ _ c.in-Send.is
     (sent g s frames k w sh (term_of c.in-Send.address) (map term_of c.in-Send.terms.items) c.in-Send.landings.items c.value-place.result c.choose-b.result c.in_ok-words-in-Send.words c.in_ok-self-in-Send.field-0
     c.value-place.ensures words (c.choose-b.ensures ∙ ap (λ (ls : List ℕ). walks.landing c.value-place.result ls) c.deref-in-Send-2.ensures.value) c.in_ok-self-in-Send.ensures)

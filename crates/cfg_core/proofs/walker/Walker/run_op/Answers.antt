@@ -1,11 +1,11 @@
 use Rattle.std.proofs.Common.{◌≡◌, ◌∙◌, ◌-◌, ◌==◌, ◌++◌, ◌∷◌, [], slice_set, ap, subst, arith}
-use Rattle.ws_words.specs.Outside.{taken, row, with_row, head_or_zero, rest_of}
+use Rattle.ws_words.specs.Outside.{stored, printed, taken, has_read, given}
+use Rattle.ws_words.specs.Memory.{OutIs}
 use Rattle.cfg_core.specs.Walk.{value_of}
-use Rattle.cfg_core.specs.Shows.{Shows}
 use Rattle.cfg_core.specs.View.{term as term_of}
 use Rattle.cfg_core.specs.declared.blocks.GraphOp.TheVariants as code
 use Rattle.cfg_core.specs.declared.walker.Pace.TheVariants as pace
-use Rattle.cfg_core.proofs.Follows.{value_is, loaded, written_is, stored_is, printed_is, read_is, given_is, chosen_is, from_op, if_true, if_false, zero_test, other_test}
+use Rattle.cfg_core.proofs.Follows.{value_is, loaded, written_is, acted_is, got_is, chosen_is, from_op, if_true, if_false, zero_test, other_test}
 use Rattle.cfg_core.proofs.walker.Walker.run_op.Goals as goal
 
 pub returns-in-Assign : goal.returns-in-Assign
@@ -20,46 +20,47 @@ pub returns-in-Store : goal.returns-in-Store
 returns-in-Store c = λ s frames k sh.
     let w = c.args.self.now in
     let t = term_of c.in-Store.t in let u = term_of c.in-Store.u in
+    let s1 = (value_of t s).1 in let s2 = (value_of u s1).1 in
+    let sh2 = loaded s1 frames k w (loaded s frames k w sh t) u in
     let i : c.value-index.result ≡ (value_of t s).0 = c.value-index.ensures ∙ value_is s frames k w sh t in
     let v : c.value-word-in-Store.result ≡ (value_of u s).0 = c.value-word-in-Store.ensures ∙ value_is s frames k w sh u in
-    let place : c.saturating_sub-place.result ≡ c.in-Store.a - 1 = omega arith in
     from_op (code.Store c.in-Store.a c.in-Store.t c.in-Store.u) c.args.op.now s frames k pace.Done _ c.in-Store.is
-    (stored_is (value_of u (value_of t s).1).1 frames k w (loaded (value_of t s).1 frames k w (loaded s frames k w sh t) u) c.in-Store.a (value_of t s).0 (value_of u s).0 c.set-in-Store.new.self
-    (c.set-in-Store.ensures
-    ∙ ap (λ n. with_row w.cells n (slice_set (row w.cells n) c.value-index.result c.value-word-in-Store.result)) place
-    ∙ ap (λ n. with_row w.cells (c.in-Store.a - 1) (slice_set (row w.cells (c.in-Store.a - 1)) n c.value-word-in-Store.result)) i
-    ∙ ap (λ n. with_row w.cells (c.in-Store.a - 1) (slice_set (row w.cells (c.in-Store.a - 1)) (value_of t s).0 n)) v))
+    (acted_is s2 frames k w sh2 _ c.store.new.self
+    (subst (λ n. OutIs (stored s2 c.in-Store.a n (value_of u s).0).out c.store.new.self) i
+    (subst (λ n. OutIs (stored s2 c.in-Store.a c.value-index.result n).out c.store.new.self) v
+    (c.store.ensures s2.out sh2.outside))))
 
-pub returns-in_ok-push-in-Print : goal.returns-in_ok-push-in-Print
-returns-in_ok-push-in-Print c = λ s frames k sh.
+pub returns-in_ok-print-in-Print : goal.returns-in_ok-print-in-Print
+returns-in_ok-print-in-Print c = λ s frames k sh.
     let w = c.args.self.now in
     let t = term_of c.in-Print.t in
+    let s1 = (value_of t s).1 in let sh1 = loaded s frames k w sh t in
     let v : c.value-word-in-Print.result ≡ (value_of t s).0 = c.value-word-in-Print.ensures ∙ value_is s frames k w sh t in
     from_op (code.Print c.in-Print.t) c.args.op.now s frames k pace.Done _ c.in-Print.is
-    (printed_is (value_of t s).1 frames k w (loaded s frames k w sh t) (value_of t s).0 c.push.new.self (c.in_ok-push-in-Print.ensures.ok ∙ ap (λ n. w.printed ++ n ∷ []) v))
+    (acted_is s1 frames k w sh1 _ c.print.new.self
+    (subst (λ n. OutIs (printed s1 n).out c.print.new.self) v (c.in_ok-print-in-Print.ensures s1.out sh1.outside)))
 
 pub returns-in-Read : goal.returns-in-Read
 returns-in-Read c = λ s frames k sh.
     from_op (code.Read c.in-Read.x) c.args.op.now s frames k pace.Done _ c.in-Read.is
-    (read_is s frames k c.args.self.now sh c.in-Read.x c.next-word.result c.set-in-Read.new.self c.next-word.new.self c.next-word.ensures.word c.next-word.ensures.rest c.set-in-Read.ensures)
+    (got_is s frames k c.args.self.now sh (has_read s c.in-Read.x).out c.read-word.new.self c.in-Read.x _ c.read-word.result c.set-in-Read.new.self
+    (c.read-word.ensures.acts s.out sh.outside) (c.read-word.ensures.word s.out sh.outside) c.set-in-Read.ensures)
 
 pub returns-in-Give : goal.returns-in-Give
 returns-in-Give c = λ s frames k sh.
-    let w = c.args.self.now in
-    let place : c.saturating_sub-place-in-Give.result ≡ c.in-Give.port - 1 = omega arith in
     from_op (code.Give c.in-Give.port c.in-Give.x) c.args.op.now s frames k pace.Done _ c.in-Give.is
-    (given_is s frames k w sh c.in-Give.port c.in-Give.x c.next_of-word.result c.set-in-Give.new.self c.next_of-word.new.tapes
-    (c.next_of-word.ensures.word ∙ ap (λ n. head_or_zero (row w.left.items n)) place)
-    (c.next_of-word.ensures.rest ∙ ap (λ n. with_row w.left.items n (rest_of (row w.left.items n))) place)
-    c.set-in-Give.ensures)
+    (got_is s frames k c.args.self.now sh (given s c.in-Give.port c.in-Give.x).out c.give-word.new.self c.in-Give.x _ c.give-word.result c.set-in-Give.new.self
+    (c.give-word.ensures.acts s.out sh.outside) (c.give-word.ensures.word s.out sh.outside) c.set-in-Give.ensures)
 
 pub returns-in_ok-take-in-Take : goal.returns-in_ok-take-in-Take
 returns-in_ok-take-in-Take c = λ s frames k sh.
     let w = c.args.self.now in
     let t = term_of c.in-Take.t in
+    let s1 = (value_of t s).1 in let sh1 = loaded s frames k w sh t in
     let v : c.value-word-in-Take.result ≡ (value_of t s).0 = c.value-word-in-Take.ensures ∙ value_is s frames k w sh t in
     from_op (code.Take c.in-Take.port c.in-Take.t) c.args.op.now s frames k pace.Done _ c.in-Take.is
-    (subst (λ n. Shows (taken (value_of t s).1 c.in-Take.port n) frames k c.take.new.self) v (c.in_ok-take-in-Take.ensures (value_of t s).1 frames k (loaded s frames k w sh t)))
+    (acted_is s1 frames k w sh1 _ c.take.new.self
+    (subst (λ n. OutIs (taken s1 c.in-Take.port n).out c.take.new.self) v (c.in_ok-take-in-Take.ensures s1.out sh1.outside)))
 
 pub returns-in-Choose : goal.returns-in-Choose
 returns-in-Choose c = λ s frames k sh.

@@ -1,0 +1,20 @@
+-- The first act that is past, as a function of the acts.
+use Rattle.std.specs.Prelude.{ℕ, nat_lt, List, [], ◌∷◌, Option, Some, None, if◌then◌else◌}
+use Rattle.ws_words.specs.Outside.{Act, loads, stores}
+use Rattle.ws_words.specs.Past.{length_of}
+
+-- the first of two, if it is there
+abbrev pub or_else : Option ℕ → Option ℕ → Option ℕ
+or_else (Some a) b = Some a
+or_else None b = b
+
+-- the array of an act that is past
+abbrev pub past_array : List ℕ → Act → Option ℕ
+past_array lengths (loads a i) = if nat_lt i (length_of lengths a) then None else Some a
+past_array lengths (stores a i w) = if nat_lt i (length_of lengths a) then None else Some a
+past_array lengths _ = None
+
+-- the array of the first act that is past
+abbrev pub first_past : List ℕ → List Act → Option ℕ
+first_past lengths [] = None
+first_past lengths (act ∷ acts) = or_else (past_array lengths act) (first_past lengths acts)

@@ -1,0 +1,198 @@
+-- What does not see the places of a program: how it is written and how it is printed.
+use Rattle.std.proofs.Common.{◌≡◌, ℕ, suc, ◌+◌, ◌≤◌, List, [], ◌∷◌, ◌++◌, Option, Some, None, codes, decimal, refl, sym, ap, ◌∙◌, subst}
+use Rattle.src_ast.specs.declared.lexeme.Name.{Name}
+use Rattle.src_ast.specs.LanguageLimits.{most_braces}
+use Rattle.src_ast.specs.Lexemes.{spelling}
+use Rattle.src_ast.specs.Grammar.{level_of, mark_of, sign_mark}
+use Rattle.src_ast.specs.Printed.{round, is_looser, is_no_tighter, is_binary, expression_text, separated_text, argument_texts, name_texts, call_text, line, else_lines, statement_lines, body_lines, variable_lines, ending_lines, part_lines, printed_form}
+use Rattle.src_ast.specs.Same.{bare, bare_names, bare_expression, bare_expressions, bare_statement, bare_statements, bare_ending, bare_part, bare_parts, Same}
+use Rattle.src_ast.specs.Syntax.{Expression, Number, Variable, Cell, Signed, Binary, Statement, Assign, Store, Print, Read, Give, Take, Call, If, While, Statements, Nothing, Then, Last, Procedure, Part, Array, Proc}
+use Rattle.src_ast.specs.Written.{IsWrittenName, AreWrittenNames, IsWrittenNumber, IsWrittenExpression, AreWrittenExpressions, rounded, width, list_width, names_width, FitsRow, IsWrittenStatement, AreWrittenStatements, IsWrittenEnding}
+use Rattle.src_ast.proofs.Nearly.{IsNearlyProcedure, AreNearlyWritten}
+
+binary_bare : (e : Expression) → is_binary (bare_expression e) ≡ is_binary e
+binary_bare (Binary op a b) = refl
+binary_bare (Number n) = refl
+binary_bare (Variable x) = refl
+binary_bare (Cell a e) = refl
+binary_bare (Signed s e) = refl
+
+looser_bare : (e : Expression) (level : ℕ) → is_looser (bare_expression e) level ≡ is_looser e level
+looser_bare (Binary op a b) level = refl
+looser_bare (Number n) level = refl
+looser_bare (Variable x) level = refl
+looser_bare (Cell a e) level = refl
+looser_bare (Signed s e) level = refl
+
+tighter_bare : (e : Expression) (level : ℕ) → is_no_tighter (bare_expression e) level ≡ is_no_tighter e level
+tighter_bare (Binary op a b) level = refl
+tighter_bare (Number n) level = refl
+tighter_bare (Variable x) level = refl
+tighter_bare (Cell a e) level = refl
+tighter_bare (Signed s e) level = refl
+
+width_bare : (e : Expression) → width (bare_expression e) ≡ width e
+width_bare (Number n) = refl
+width_bare (Variable x) = refl
+width_bare (Cell a e) = ap (λ n. n + 3) (width_bare e)
+width_bare (Signed s e) = λ i. rounded (binary_bare e i) (width_bare e i) + 1
+width_bare (Binary op a b) =
+    λ i. rounded (looser_bare a (level_of op) i) (width_bare a i) + 1 + rounded (tighter_bare b (level_of op) i) (width_bare b i)
+
+list_width_bare : (es : List Expression) → list_width (bare_expressions es) ≡ list_width es
+list_width_bare [] = refl
+list_width_bare (e ∷ []) = width_bare e
+list_width_bare (e ∷ f ∷ es) = λ i. width_bare e i + 1 + list_width_bare (f ∷ es) i
+
+-- as many lexemes
+pub names_width_bare : (xs : List Name) → names_width (bare_names xs) ≡ names_width xs
+names_width_bare [] = refl
+names_width_bare (x ∷ []) = refl
+names_width_bare (x ∷ y ∷ xs) = ap (λ n. 2 + n) (names_width_bare (y ∷ xs))
+
+names_written : (xs : List Name) → AreWrittenNames (bare_names xs) ≡ AreWrittenNames xs
+names_written [] = refl
+names_written (x ∷ xs) = ap (λ T. IsWrittenName x.text × T) (names_written xs)
+
+expression_written : (e : Expression) → IsWrittenExpression (bare_expression e) ≡ IsWrittenExpression e
+expression_written (Number n) = refl
+expression_written (Variable x) = refl
+expression_written (Cell a e) = ap (λ T. IsWrittenName a.text × T) (expression_written e)
+expression_written (Signed s e) = expression_written e
+expression_written (Binary op a b) = λ i. expression_written a i × expression_written b i
+
+expressions_written : (es : List Expression) → AreWrittenExpressions (bare_expressions es) ≡ AreWrittenExpressions es
+expressions_written [] = refl
+expressions_written (e ∷ es) = λ i. expression_written e i × expressions_written es i
+
+mutual
+  statement_written : (n : ℕ) (s : Statement) → IsWrittenStatement n (bare_statement s) ≡ IsWrittenStatement n s
+  statement_written n (Assign at x e) = λ i. IsWrittenName x.text × expression_written e i × FitsRow (width_bare e i + 2)
+  statement_written n (Store at a j e) =
+      λ i. IsWrittenName a.text × expression_written j i × expression_written e i × FitsRow (width_bare j i + width_bare e i + 4)
+  statement_written n (Print at e) = λ i. expression_written e i × FitsRow (width_bare e i + 1)
+  statement_written n (Read at x) = refl
+  statement_written n (Give at port p x) = refl
+  statement_written n (Take at port p e) = λ i. IsWrittenNumber port × expression_written e i × FitsRow (width_bare e i + 3)
+  statement_written n (Call at None f es) = λ i. IsWrittenName f.text × expressions_written es i × FitsRow (list_width_bare es i + 3)
+  statement_written n (Call at (Some x) f es) =
+      λ i. IsWrittenName x.text × IsWrittenName f.text × expressions_written es i × FitsRow (list_width_bare es i + 5)
+  statement_written n (If at e a b) =
+      λ i. expression_written e i × FitsRow (width_bare e i + 3) × (suc n ≤ most_braces) × body_written (suc n) a i × body_written (suc n) b i
+  statement_written n (While at e body) =
+      λ i. expression_written e i × FitsRow (width_bare e i + 3) × (suc n ≤ most_braces) × body_written (suc n) body i
+
+  body_written : (n : ℕ) (b : Statements) → AreWrittenStatements n (bare_statements b) ≡ AreWrittenStatements n b
+  body_written n Nothing = refl
+  body_written n (Then s rest) = λ i. statement_written n s i × body_written n rest i
+
+ending_written : (e : Option Last) → IsWrittenEnding (bare_ending e) ≡ IsWrittenEnding e
+ending_written None = refl
+ending_written (Some last) = λ i. expression_written last.value i × FitsRow (width_bare last.value i + 1)
+
+cast : {S T : Type 0} → S ≡ T → S → T
+cast e h = subst (λ (T : Type 0). T) e h
+
+bare_procedure : (p : Procedure) → Procedure
+bare_procedure p =
+    record { name = bare p.name; params = bare_names p.params; vars = bare_names p.vars; body = bare_statements p.body; ending = bare_ending p.ending }
+
+without_places : (all : List Part) → AreNearlyWritten all → AreNearlyWritten (bare_parts all)
+without_places [] h = tt
+without_places (Array x n at ∷ all) h = (h.0, without_places all h.1)
+without_places (Proc p ∷ all) h = (
+  record {
+    name = h.0.name;
+    params = cast (sym (names_written p.params)) h.0.params;
+    params_row = subst (λ n. FitsRow (n + 4)) (sym (names_width_bare p.params)) h.0.params_row;
+    vars = cast (sym (names_written p.vars)) h.0.vars;
+    body = cast (sym (body_written 1 p.body)) h.0.body;
+    ending = cast (sym (ending_written p.ending)) h.0.ending;
+  },
+  without_places all h.1,
+)
+
+with_places : (all : List Part) → AreNearlyWritten (bare_parts all) → AreNearlyWritten all
+with_places [] h = tt
+with_places (Array x n at ∷ all) h = (h.0, with_places all h.1)
+with_places (Proc p ∷ all) h = (
+  record {
+    name = h.0.name;
+    params = cast (names_written p.params) h.0.params;
+    params_row = subst (λ n. FitsRow (n + 4)) (names_width_bare p.params) h.0.params_row;
+    vars = cast (names_written p.vars) h.0.vars;
+    body = cast (body_written 1 p.body) h.0.body;
+    ending = cast (ending_written p.ending) h.0.ending;
+  },
+  with_places all h.1,
+)
+
+-- the same programs are alike nearly written
+pub same_nearly : (a b : List Part) → Same a b → AreNearlyWritten b → AreNearlyWritten a
+same_nearly a b e h = with_places a (subst AreNearlyWritten (sym e) (without_places b h))
+
+text_bare : (e : Expression) → expression_text (bare_expression e) ≡ expression_text e
+text_bare (Number n) = refl
+text_bare (Variable x) = refl
+text_bare (Cell a e) = ap (λ t. a.text ++ codes "[" ++ t ++ codes "]") (text_bare e)
+text_bare (Signed s e) = λ i. spelling (sign_mark s) ++ round (binary_bare e i) (text_bare e i)
+text_bare (Binary op a b) =
+    λ i. round (looser_bare a (level_of op) i) (text_bare a i) ++ codes " " ++ spelling (mark_of op) ++ codes " "
+    ++ round (tighter_bare b (level_of op) i) (text_bare b i)
+
+argument_texts_bare : (es : List Expression) → argument_texts (bare_expressions es) ≡ argument_texts es
+argument_texts_bare [] = refl
+argument_texts_bare (e ∷ es) = λ i. text_bare e i ∷ argument_texts_bare es i
+
+name_texts_bare : (xs : List Name) → name_texts (bare_names xs) ≡ name_texts xs
+name_texts_bare [] = refl
+name_texts_bare (x ∷ xs) = ap (λ ts. x.text ∷ ts) (name_texts_bare xs)
+
+call_bare : (f : Name) (es : List Expression) → call_text (bare f) (bare_expressions es) ≡ call_text f es
+call_bare f es = ap (λ ts. f.text ++ codes "(" ++ separated_text ts ++ codes ")") (argument_texts_bare es)
+
+else_bare : (n : ℕ) (b : Statements) (text : List ℕ) → else_lines n (bare_statements b) text ≡ else_lines n b text
+else_bare n Nothing text = refl
+else_bare n (Then s rest) text = refl
+
+mutual
+  statement_bare : (n : ℕ) (s : Statement) → statement_lines n (bare_statement s) ≡ statement_lines n s
+  statement_bare n (Assign at x e) = ap (λ t. line n (x.text ++ codes " = " ++ t ++ codes ";")) (text_bare e)
+  statement_bare n (Store at a j e) = λ i. line n (a.text ++ codes "[" ++ text_bare j i ++ codes "] = " ++ text_bare e i ++ codes ";")
+  statement_bare n (Print at e) = ap (λ t. line n (codes "print " ++ t ++ codes ";")) (text_bare e)
+  statement_bare n (Read at x) = refl
+  statement_bare n (Give at port p x) = refl
+  statement_bare n (Take at port p e) = ap (λ t. line n (codes "take " ++ decimal port ++ codes ", " ++ t ++ codes ";")) (text_bare e)
+  statement_bare n (Call at None f es) = ap (λ t. line n (t ++ codes ";")) (call_bare f es)
+  statement_bare n (Call at (Some x) f es) = ap (λ t. line n (x.text ++ codes " = " ++ t ++ codes ";")) (call_bare f es)
+  statement_bare n (If at e a b) =
+      (λ i. line n (codes "if (" ++ text_bare e i ++ codes ") {") ++ body_bare (suc n) a i ++ else_lines n (bare_statements b) (body_bare (suc n) b i))
+      ∙ ap (λ t. line n (codes "if (" ++ expression_text e ++ codes ") {") ++ body_lines (suc n) a ++ t) (else_bare n b (body_lines (suc n) b))
+  statement_bare n (While at e body) =
+      λ i. line n (codes "while (" ++ text_bare e i ++ codes ") {") ++ body_bare (suc n) body i ++ line n (codes "}")
+
+  body_bare : (n : ℕ) (b : Statements) → body_lines n (bare_statements b) ≡ body_lines n b
+  body_bare n Nothing = refl
+  body_bare n (Then s rest) = λ i. statement_bare n s i ++ body_bare n rest i
+
+variables_bare : (xs : List Name) → variable_lines (bare_names xs) ≡ variable_lines xs
+variables_bare [] = refl
+variables_bare (x ∷ xs) = ap (λ ts. line 1 (codes "var " ++ separated_text ts ++ codes ";")) (name_texts_bare (x ∷ xs))
+
+ending_bare : (e : Option Last) → ending_lines (bare_ending e) ≡ ending_lines e
+ending_bare None = refl
+ending_bare (Some last) = ap (λ t. line 1 (codes "return " ++ t ++ codes ";")) (text_bare last.value)
+
+part_bare : (p : Part) → part_lines (bare_part p) ≡ part_lines p
+part_bare (Array x n at) = refl
+part_bare (Proc p) =
+    λ i. line 0 (codes "proc " ++ p.name.text ++ codes "(" ++ separated_text (name_texts_bare p.params i) ++ codes ") {")
+    ++ variables_bare p.vars i ++ body_bare 1 p.body i ++ ending_bare p.ending i ++ line 0 (codes "}")
+
+printed_bare : (all : List Part) → printed_form (bare_parts all) ≡ printed_form all
+printed_bare [] = refl
+printed_bare (p ∷ all) = λ i. part_bare p i ++ printed_bare all i
+
+-- the same programs have one printed form
+pub printed_alike : (a b : List Part) → Same a b → printed_form a ≡ printed_form b
+printed_alike a b e = sym (printed_bare a) ∙ ap printed_form e ∙ printed_bare b

@@ -1,0 +1,195 @@
+-- Each text has one answer alone for each command.
+use Rattle.std.specs.Prelude.{◌≡◌, ℕ, ◌≤◌, ◌⊎◌, List, [], Result, Ok, Err, refl}
+use Rattle.std.proofs.Common.{sym, ap, ◌∙◌, subst, inl, inr}
+use Rattle.ws_words.specs.Outside.{Outside, World, printed_words}
+use Rattle.src_ast.specs.declared.lexeme.Place.{Place}
+use Rattle.src_ast.specs.declared.fault.Refusal.{Refusal}
+use Rattle.src_ast.specs.Syntax.{Part}
+use Rattle.src_ast.specs.Rules.{IsAccepted}
+use Rattle.src_ast.specs.Meaning.{arrays_of}
+use Rattle.src_ast.specs.Runs.{Runs, Goes, Faults}
+use Rattle.src_ast.specs.Printed.{printed_form}
+use Rattle.src_ast.specs.Written.{ReadsTheSame}
+use Rattle.src_ast.specs.Once.{ExactlyOne}
+use Rattle.seq_run.specs.Laws.{EndsWithin, FaultsWithin, GoesBeyond, HasAnswer}
+use Rattle.wsc_top.specs.declared.line.Command.{Command}
+use Rattle.wsc_top.specs.declared.line.Command.TheVariants.{Run, Format, Plain}
+use Rattle.wsc_top.specs.declared.line.options.PlainOptions.{PlainOptions}
+use Rattle.wsc_top.specs.declared.status.Status.{Status}
+use Rattle.wsc_top.specs.declared.status.Status.TheVariants.{Done, Refused, Budget, Fault}
+use Rattle.wsc_top.specs.Texts.{done_text, ended_text, faulted_text, going_text, refusal_text}
+use Rattle.wsc_top.specs.Job.{IsJob, Refuses, IsTextAnswer, world_of}
+use Rattle.wsc_top.specs.Answers.{unfit_for, Yields, ran, formatted, ended, faulted, going, Answered, refused, done, IsAnswer}
+use Rattle.wsc_top.proofs.Mains.{one_main}
+use Rattle.wsc_top.proofs.Printing.{numbers_run}
+
+-- a run has one answer with each number of turns
+pub record RunsOnce : Type 0 where
+  pub some : (parts : List Part) (world : World) (turns : ℕ) → HasAnswer parts world turns
+  pub one_end : (parts : List Part) (world : World) (n m : ℕ) (end done : Outside) → Runs parts world n end → Runs parts world m done → (n ≡ m) × (end ≡ done)
+  pub one_fault : (parts : List Part) (world : World) (n m a b : ℕ) (s t : Outside) → Faults parts world n a s → Faults parts world m b t → (n ≡ m) × (a ≡ b) × (s ≡ t)
+  pub one_going : (parts : List Part) (world : World) (turns : ℕ) (now still : Outside) → Goes parts world turns now → Goes parts world turns still → now ≡ still
+  pub no_end_with_a_fault : (parts : List Part) (world : World) (n m a : ℕ) (end s : Outside) → Runs parts world n end → Faults parts world m a s → ⊥
+  pub no_end_on_the_way : (parts : List Part) (world : World) (n turns : ℕ) (end now : Outside) → n ≤ turns → Runs parts world n end → Goes parts world turns now → ⊥
+  pub no_fault_on_the_way : (parts : List Part) (world : World) (n turns a : ℕ) (s now : Outside) → n ≤ turns → Faults parts world n a s → Goes parts world turns now → ⊥
+
+-- a status and a text
+abbrev Reply : Type 0
+Reply = Status × List ℕ
+
+same_reply : (s t : Status) (a b : List ℕ) → s ≡ t → a ≡ b → ◌≡◌ {A = Reply} (s, a) (t, b)
+same_reply s t a b e f = ap (λ x. (x, a)) e ∙ ap (λ x. (t, x)) f
+
+-- what comes of a command, by its causes
+abbrev Comes : Command → List Part → List ℕ → Status → List ℕ → Type 0
+Comes Run parts input status out = (n : ℕ) × (end : Outside) × Runs parts (world_of input) n end × (status ≡ Done) × (out ≡ done_text (printed_words end.acts))
+Comes Format parts input status out = (status ≡ Done) × (out ≡ printed_form parts)
+Comes (Plain options) parts input status out =
+    ((n : ℕ) × (end : Outside) × Runs parts (world_of input) n end × (n ≤ options.turns) × (status ≡ Done)
+    × (out ≡ ended_text options.memory options.stats (arrays_of parts) (printed_words end.acts) end.cells n))
+    ⊎ (((n : ℕ) × (array : ℕ) × (state : Outside) × Faults parts (world_of input) n array state × (n ≤ options.turns) × (status ≡ Fault)
+    × (out ≡ faulted_text options.memory (arrays_of parts) array (printed_words state.acts) state.cells))
+    ⊎ ((now : Outside) × Goes parts (world_of input) options.turns now × (status ≡ Budget) × (out ≡ going_text (printed_words now.acts))))
+
+comes : (command : Command) (parts : List Part) (input : List ℕ) (status : Status) (out : List ℕ) → Yields command parts input status out → Comes command parts input status out
+comes command parts input status out (ran n end r) = (n, end, r, refl, refl)
+comes command parts input status out (formatted r) = (refl, refl)
+comes command parts input status out (ended n end r w) = inl (n, end, r, w, refl, refl)
+comes command parts input status out (faulted n array state f w) = inr (inl (n, array, state, f, w, refl, refl))
+comes command parts input status out (going now g) = inr (inr (now, g, refl, refl))
+
+-- what a command yields
+abbrev IsYield : Command → List Part → List ℕ → Reply → Type 0
+IsYield command parts input reply = Yields command parts input reply.0 reply.1
+
+module _ (law : RunsOnce) (parts : List Part) (input : List ℕ) where
+  -- a run of a program that ends
+  run_once : (n : ℕ) (end : Outside) → Runs parts (world_of input) n end → ExactlyOne (IsYield Run parts input)
+  run_once n end r = record {
+    answer = (Done, done_text (printed_words end.acts));
+    holds = ran n end r;
+    only = λ other y.
+        let c = comes Run parts input other.0 other.1 y in
+        let same = law.one_end parts (world_of input) c.0 n c.1 end c.2 r in
+        same_reply other.0 Done other.1 (done_text (printed_words end.acts)) c.3 (c.4 ∙ ap (λ (o : Outside). done_text (printed_words o.acts)) same.1);
+  }
+
+  format_once : ReadsTheSame parts → ExactlyOne (IsYield Format parts input)
+  format_once r = record {
+    answer = (Done, printed_form parts);
+    holds = formatted r;
+    only = λ other y. let c = comes Format parts input other.0 other.1 y in same_reply other.0 Done other.1 (printed_form parts) c.0 c.1;
+  }
+
+  module _ (options : PlainOptions) where
+    -- a sequential run that ends within the turns
+    module _ (n : ℕ) (end : Outside) (r : Runs parts (world_of input) n end) (w : n ≤ options.turns) where
+      abbrev end_text : List ℕ
+      end_text = ended_text options.memory options.stats (arrays_of parts) (printed_words end.acts) end.cells n
+
+      only_ended : (status : Status) (out : List ℕ) → Comes (Plain options) parts input status out → ◌≡◌ {A = Reply} (status, out) (Done, end_text)
+      only_ended status out (inl c) =
+          let same = law.one_end parts (world_of input) c.0 n c.1 end c.2 r in
+          let text : ended_text options.memory options.stats (arrays_of parts) (printed_words c.1.acts) c.1.cells c.0 ≡ end_text =
+          ap (λ (o : Outside). ended_text options.memory options.stats (arrays_of parts) (printed_words o.acts) o.cells c.0) same.1
+          ∙ ap (λ m. ended_text options.memory options.stats (arrays_of parts) (printed_words end.acts) end.cells m) same.0 in
+          same_reply status Done out end_text c.4 (c.5 ∙ text)
+      only_ended status out (inr (inl c)) = absurd (law.no_end_with_a_fault parts (world_of input) n c.0 c.1 end c.2 r c.3)
+      only_ended status out (inr (inr c)) = absurd (law.no_end_on_the_way parts (world_of input) n options.turns end c.0 w r c.1)
+
+      ended_once : ExactlyOne (IsYield (Plain options) parts input)
+      ended_once = record {
+        answer = (Done, end_text);
+        holds = ended n end r w;
+        only = λ other y. only_ended other.0 other.1 (comes (Plain options) parts input other.0 other.1 y);
+      }
+
+    -- one that meets an index fault within them
+    module _ (n array : ℕ) (state : Outside) (f : Faults parts (world_of input) n array state) (w : n ≤ options.turns) where
+      abbrev fault_text : List ℕ
+      fault_text = faulted_text options.memory (arrays_of parts) array (printed_words state.acts) state.cells
+
+      only_faulted : (status : Status) (out : List ℕ) → Comes (Plain options) parts input status out → ◌≡◌ {A = Reply} (status, out) (Fault, fault_text)
+      only_faulted status out (inl c) = absurd (law.no_end_with_a_fault parts (world_of input) c.0 n array c.1 state c.2 f)
+      only_faulted status out (inr (inl c)) =
+          let same = law.one_fault parts (world_of input) c.0 n c.1 array c.2 state c.3 f in
+          let text : faulted_text options.memory (arrays_of parts) c.1 (printed_words c.2.acts) c.2.cells ≡ fault_text =
+          ap (λ a. faulted_text options.memory (arrays_of parts) a (printed_words c.2.acts) c.2.cells) same.1
+          ∙ ap (λ (o : Outside). faulted_text options.memory (arrays_of parts) array (printed_words o.acts) o.cells) same.2 in
+          same_reply status Fault out fault_text c.5 (c.6 ∙ text)
+      only_faulted status out (inr (inr c)) = absurd (law.no_fault_on_the_way parts (world_of input) n options.turns array state c.0 w f c.1)
+
+      faulted_once : ExactlyOne (IsYield (Plain options) parts input)
+      faulted_once = record {
+        answer = (Fault, fault_text);
+        holds = faulted n array state f w;
+        only = λ other y. only_faulted other.0 other.1 (comes (Plain options) parts input other.0 other.1 y);
+      }
+
+    -- one that wants more of them
+    module _ (now : Outside) (g : Goes parts (world_of input) options.turns now) where
+      abbrev going_so_far : List ℕ
+      going_so_far = going_text (printed_words now.acts)
+
+      only_going : (status : Status) (out : List ℕ) → Comes (Plain options) parts input status out → ◌≡◌ {A = Reply} (status, out) (Budget, going_so_far)
+      only_going status out (inl c) = absurd (law.no_end_on_the_way parts (world_of input) c.0 options.turns c.1 now c.3 c.2 g)
+      only_going status out (inr (inl c)) = absurd (law.no_fault_on_the_way parts (world_of input) c.0 options.turns c.1 c.2 now c.4 c.3 g)
+      only_going status out (inr (inr c)) =
+          let same = law.one_going parts (world_of input) options.turns c.0 now c.1 g in
+          same_reply status Budget out going_so_far c.2 (c.3 ∙ ap (λ (o : Outside). going_text (printed_words o.acts)) same)
+
+      going_once : ExactlyOne (IsYield (Plain options) parts input)
+      going_once = record {
+        answer = (Budget, going_so_far);
+        holds = going now g;
+        only = λ other y. only_going other.0 other.1 (comes (Plain options) parts input other.0 other.1 y);
+      }
+
+    plain_once : HasAnswer parts (world_of input) options.turns → ExactlyOne (IsYield (Plain options) parts input)
+    plain_once (inl e) = ended_once e.taken e.end e.runs e.within
+    plain_once (inr (inl f)) = faulted_once f.turn f.array f.state f.faults f.within
+    plain_once (inr (inr g)) = going_once g.now g.goes
+
+  -- one thing alone comes of a command to a program that it takes
+  yields_once : (command : Command) (finish : Place) → IsAccepted parts finish → unfit_for command parts ≡ [] → ReadsTheSame parts → ExactlyOne (IsYield command parts input)
+  yields_once Run finish accepted fit same = let run = numbers_run parts (world_of input) (one_main parts finish accepted fit) in run_once run.turns run.end run.runs
+  yields_once Format finish accepted fit same = format_once same
+  yields_once (Plain options) finish accepted fit same = plain_once options (law.some parts (world_of input) options.turns)
+
+-- a refused text
+module _ (command : Command) (text : List ℕ) (r : Refusal) (refusal : Refuses (unfit_for command) text r)
+    (only : (other : Result (List Part × List ℕ) Refusal) → IsTextAnswer (unfit_for command) text other → other ≡ Err r) where
+  only_refused : (status : Status) (out : List ℕ) → Answered command text status out → ◌≡◌ {A = Reply} (status, out) (Refused, refusal_text r)
+  only_refused status out (refused q h) =
+      let same = only (Err q) h in
+      let here : q ≡ r = cc in
+      ap (λ x. (Refused, refusal_text x)) here
+  only_refused status out (done parts input j y) = let bad = only (Ok (parts, input)) j in cc
+
+  refusal_once : ExactlyOne (IsAnswer command text)
+  refusal_once = record { answer = (Refused, refusal_text r); holds = refused r refusal; only = λ other a. only_refused other.0 other.1 a }
+
+-- a job
+module _ (command : Command) (text : List ℕ) (parts : List Part) (input : List ℕ) (job : IsJob (unfit_for command) text parts input)
+    (only : (other : Result (List Part × List ℕ) Refusal) → IsTextAnswer (unfit_for command) text other → other ≡ Ok (parts, input)) (one : ExactlyOne (IsYield command parts input)) where
+  these : (others : List Part) (words : List ℕ) → IsJob (unfit_for command) text others words → ◌≡◌ {A = List Part × List ℕ} (others, words) (parts, input)
+  these others words j = let same = only (Ok (others, words)) j in cc
+
+  only_done : (status : Status) (out : List ℕ) → Answered command text status out → ◌≡◌ {A = Reply} (status, out) one.answer
+  only_done status out (refused q h) = let bad = only (Err q) h in cc
+  only_done status out (done others words j y) =
+      one.only (status, out) (subst (λ (x : List Part × List ℕ). Yields command x.0 x.1 status out) (these others words j) y)
+
+  job_once : ExactlyOne (IsAnswer command text)
+  job_once = record { answer = one.answer; holds = done parts input job one.holds; only = λ other a. only_done other.0 other.1 a }
+
+-- each text has one answer alone, since it comes to one thing alone, and one thing comes of it
+pub answered_once : (law : RunsOnce) (same : (parts : List Part) (text : List ℕ) (input : List ℕ) (command : Command) → IsJob (unfit_for command) text parts input → ReadsTheSame parts)
+    → (command : Command) (text : List ℕ) → ExactlyOne (IsTextAnswer (unfit_for command) text) → ExactlyOne (IsAnswer command text)
+answered_once law same command text e = go e.answer e.holds e.only
+  where
+    go : (found : Result (List Part × List ℕ) Refusal) → IsTextAnswer (unfit_for command) text found
+        → ((other : Result (List Part × List ℕ) Refusal) → IsTextAnswer (unfit_for command) text other → other ≡ found) → ExactlyOne (IsAnswer command text)
+    go (Ok (parts, input)) job only =
+        job_once command text parts input job only (yields_once law parts input command job.reads.finish job.reads.accepted job.fit (same parts text input command job))
+    go (Err r) h only = refusal_once command text r h only

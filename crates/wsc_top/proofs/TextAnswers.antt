@@ -1,0 +1,240 @@
+-- Each text comes to one thing alone: a job, or one refusal.
+use Rattle.std.specs.Prelude.{◌≡◌, ℕ, List, [], ◌∷◌, Option, Some, None, Result, Ok, Err, refl}
+use Rattle.std.proofs.Common.{sym, ap, ◌∙◌, subst}
+use Rattle.src_ast.specs.declared.lexeme.Place.{Place}
+use Rattle.src_ast.specs.declared.lexeme.Lexeme.{Lexeme}
+use Rattle.src_ast.specs.declared.fault.Refusal.{Refusal}
+use Rattle.src_ast.specs.declared.fault.RefusalKind.TheVariants.{Syntax, Unbuilt, Input}
+use Rattle.src_ast.specs.Syntax.{Part}
+use Rattle.src_ast.specs.Lexemes.{Lex, KeepLimits}
+use Rattle.src_ast.specs.LexFaults.{LexFault, IsLexAnswer}
+use Rattle.src_ast.specs.Grammar.{Tree}
+use Rattle.src_ast.specs.Faults.{SyntaxAt, IsTreeAnswer}
+use Rattle.src_ast.specs.Rules.{rules_of, IsAccepted, IsFirstBroken, IsRuleAnswer}
+use Rattle.src_ast.specs.Once.{ExactlyOne}
+use Rattle.wsc_top.specs.Sections.{program_of, input_of, input_place, InputWords, InputFault, IsInputAnswer}
+use Rattle.wsc_top.specs.Job.{Reads, ProgramFault, lexemes, syntax, rules, Unfit, IsJob, Refuses, program, unbuilt, input, IsTextAnswer}
+use Rattle.wsc_top.proofs.Inputs.{one_answer}
+
+-- what a program section comes to: its tree, or its first fault
+abbrev IsProgramAnswer : List ℕ → Result (List Part) Refusal → Type 0
+IsProgramAnswer text (Ok parts) = Reads text parts
+IsProgramAnswer text (Err r) = ProgramFault text r
+
+-- a refusal for syntax
+abbrev syntax_at : Place → Refusal
+syntax_at p = record { kind = Syntax; place = p }
+
+-- a text with a fault of lexemes has no other answer
+module _ (text : List ℕ) (r : Refusal) (fault : LexFault (program_of text) r) (only : (other : Result (List Lexeme × Place) Refusal) → IsLexAnswer (program_of text) other → other ≡ Err r) where
+  only_lex_fault : (other : Result (List Part) Refusal) → IsProgramAnswer text other → other ≡ Err r
+  only_lex_fault (Ok parts) h = let bad = only (Ok (h.ls, h.finish)) (h.lex, h.kept) in cc
+  only_lex_fault (Err q) (lexemes p h) = let same = only (Err p) h in cc
+  only_lex_fault (Err q) (syntax ls finish place l k s) = let bad = only (Ok (ls, finish)) (l, k) in cc
+  only_lex_fault (Err q) (rules ls finish parts p l k t b) = let bad = only (Ok (ls, finish)) (l, k) in cc
+
+  lex_fault_once : ExactlyOne (IsProgramAnswer text)
+  lex_fault_once = record { answer = Err r; holds = lexemes r fault; only = only_lex_fault }
+
+-- a text with these lexemes
+module _ (text : List ℕ) (ls : List Lexeme) (finish : Place) (lex : Lex (program_of text) ls finish) (kept : KeepLimits 0 0 ls)
+    (only : (other : Result (List Lexeme × Place) Refusal) → IsLexAnswer (program_of text) other → other ≡ Ok (ls, finish)) where
+  -- any lexemes of the text are these
+  same_lexemes : (these : List Lexeme) (end : Place) → Lex (program_of text) these end → KeepLimits 0 0 these → ◌≡◌ {A = List Lexeme × Place} (these, end) (ls, finish)
+  same_lexemes these end l k = let same = only (Ok (these, end)) (l, k) in cc
+
+  no_lex_fault : (r : Refusal) → LexFault (program_of text) r → ⊥
+  no_lex_fault r h = let bad = only (Err r) h in cc
+
+  -- what is so of any lexemes is so of these
+  tree_of_these : (these : List Lexeme) (end : Place) (parts : List Part) → Lex (program_of text) these end → KeepLimits 0 0 these → Tree these parts → Tree ls parts
+  tree_of_these these end parts l k t = subst (λ (x : List Lexeme × Place). Tree x.0 parts) (same_lexemes these end l k) t
+
+  syntax_of_these : (these : List Lexeme) (end place : Place) → Lex (program_of text) these end → KeepLimits 0 0 these → SyntaxAt these end place → SyntaxAt ls finish place
+  syntax_of_these these end place l k s = subst (λ (x : List Lexeme × Place). SyntaxAt x.0 x.1 place) (same_lexemes these end l k) s
+
+  end_of_these : (these : List Lexeme) (end : Place) → Lex (program_of text) these end → KeepLimits 0 0 these → end ≡ finish
+  end_of_these these end l k = ap (λ (x : List Lexeme × Place). x.1) (same_lexemes these end l k)
+
+  -- where they have no tree
+  module _ (place : Place) (fault : SyntaxAt ls finish place) (only_tree : (other : Result (List Part) Place) → IsTreeAnswer ls finish other → other ≡ Err place) where
+    only_syntax : (other : Result (List Part) Refusal) → IsProgramAnswer text other → other ≡ Err (syntax_at place)
+    only_syntax (Ok parts) h = let bad = only_tree (Ok parts) (tree_of_these h.ls h.finish parts h.lex h.kept h.tree) in cc
+    only_syntax (Err q) (lexemes p h) = absurd (no_lex_fault p h)
+    only_syntax (Err q) (syntax these end at l k s) =
+        let same = only_tree (Err at) (syntax_of_these these end at l k s) in
+        let here : at ≡ place = cc in
+        ap (λ p. Err (syntax_at p)) here
+    only_syntax (Err q) (rules these end parts p l k t b) = let bad = only_tree (Ok parts) (tree_of_these these end parts l k t) in cc
+
+    syntax_once : ExactlyOne (IsProgramAnswer text)
+    syntax_once = record { answer = Err (syntax_at place); holds = syntax ls finish place lex kept fault; only = only_syntax }
+
+  -- where they have this tree
+  module _ (parts : List Part) (tree : Tree ls parts) (only_tree : (other : Result (List Part) Place) → IsTreeAnswer ls finish other → other ≡ Ok parts) where
+    same_tree : (these : List Lexeme) (end : Place) (found : List Part) → Lex (program_of text) these end → KeepLimits 0 0 these → Tree these found → found ≡ parts
+    same_tree these end found l k t = let same = only_tree (Ok found) (tree_of_these these end found l k t) in cc
+
+    no_syntax : (these : List Lexeme) (end place : Place) → Lex (program_of text) these end → KeepLimits 0 0 these → SyntaxAt these end place → ⊥
+    no_syntax these end place l k s = let bad = only_tree (Err place) (syntax_of_these these end place l k s) in cc
+
+    broken_of_these : (these : List Lexeme) (end : Place) (found : List Part) (r : Refusal) → Lex (program_of text) these end → KeepLimits 0 0 these → Tree these found
+        → IsFirstBroken (rules_of found end) r → IsFirstBroken (rules_of parts finish) r
+    broken_of_these these end found r l k t b =
+        subst (λ p. IsFirstBroken (rules_of parts p) r) (end_of_these these end l k)
+        (subst (λ ps. IsFirstBroken (rules_of ps end) r) (same_tree these end found l k t) b)
+
+    accepted_of_these : (found : List Part) (h : Reads text found) → IsAccepted parts finish
+    accepted_of_these found h =
+        subst (λ p. IsAccepted parts p) (end_of_these h.ls h.finish h.lex h.kept)
+        (subst (λ ps. IsAccepted ps h.finish) (same_tree h.ls h.finish found h.lex h.kept h.tree) h.accepted)
+
+    -- where it keeps the rules
+    module _ (accepted : IsAccepted parts finish) (only_rule : (other : Option Refusal) → IsRuleAnswer parts finish other → other ≡ None) where
+      only_accepted : (other : Result (List Part) Refusal) → IsProgramAnswer text other → other ≡ Ok parts
+      only_accepted (Ok found) h = ap Ok (same_tree h.ls h.finish found h.lex h.kept h.tree)
+      only_accepted (Err q) (lexemes p h) = absurd (no_lex_fault p h)
+      only_accepted (Err q) (syntax these end at l k s) = absurd (no_syntax these end at l k s)
+      only_accepted (Err q) (rules these end found p l k t b) = let bad = only_rule (Some p) (broken_of_these these end found p l k t b) in cc
+
+      accepted_once : ExactlyOne (IsProgramAnswer text)
+      accepted_once = record {
+        answer = Ok parts;
+        holds = record { ls = ls; finish = finish; lex = lex; kept = kept; tree = tree; accepted = accepted };
+        only = only_accepted;
+      }
+
+    -- where this is the first rule that it breaks
+    module _ (r : Refusal) (broken : IsFirstBroken (rules_of parts finish) r) (only_rule : (other : Option Refusal) → IsRuleAnswer parts finish other → other ≡ Some r) where
+      only_broken : (other : Result (List Part) Refusal) → IsProgramAnswer text other → other ≡ Err r
+      only_broken (Ok found) h = let bad = only_rule None (accepted_of_these found h) in cc
+      only_broken (Err q) (lexemes p h) = absurd (no_lex_fault p h)
+      only_broken (Err q) (syntax these end at l k s) = absurd (no_syntax these end at l k s)
+      only_broken (Err q) (rules these end found p l k t b) = let same = only_rule (Some p) (broken_of_these these end found p l k t b) in cc
+
+      broken_once : ExactlyOne (IsProgramAnswer text)
+      broken_once = record { answer = Err r; holds = rules ls finish parts r lex kept tree broken; only = only_broken }
+
+    ruled_once : ExactlyOne (IsRuleAnswer parts finish) → ExactlyOne (IsProgramAnswer text)
+    ruled_once e = go e.answer e.holds e.only
+      where
+        go : (found : Option Refusal) → IsRuleAnswer parts finish found → ((other : Option Refusal) → IsRuleAnswer parts finish other → other ≡ found) → ExactlyOne (IsProgramAnswer text)
+        go None h only_rule = accepted_once h only_rule
+        go (Some r) h only_rule = broken_once r h only_rule
+
+  parsed_once : ((parts : List Part) (end : Place) → ExactlyOne (IsRuleAnswer parts end)) → ExactlyOne (IsTreeAnswer ls finish) → ExactlyOne (IsProgramAnswer text)
+  parsed_once ruled e = go e.answer e.holds e.only
+    where
+      go : (found : Result (List Part) Place) → IsTreeAnswer ls finish found → ((other : Result (List Part) Place) → IsTreeAnswer ls finish other → other ≡ found) → ExactlyOne (IsProgramAnswer text)
+      go (Ok parts) h only_tree = ruled_once parts h only_tree (ruled parts finish)
+      go (Err place) h only_tree = syntax_once place h only_tree
+
+-- each program section comes to one thing alone, since its lexemes, its tree and its rules do
+program_once : (text : List ℕ) → ExactlyOne (IsLexAnswer (program_of text)) → ((ls : List Lexeme) (finish : Place) → ExactlyOne (IsTreeAnswer ls finish))
+    → ((parts : List Part) (finish : Place) → ExactlyOne (IsRuleAnswer parts finish)) → ExactlyOne (IsProgramAnswer text)
+program_once text lexed parsed ruled = go lexed.answer lexed.holds lexed.only
+  where
+    go : (found : Result (List Lexeme × Place) Refusal) → IsLexAnswer (program_of text) found → ((other : Result (List Lexeme × Place) Refusal) → IsLexAnswer (program_of text) other → other ≡ found)
+        → ExactlyOne (IsProgramAnswer text)
+    go (Ok (ls, finish)) h only = parsed_once text ls finish h.0 h.1 only ruled (parsed ls finish)
+    go (Err r) h only = lex_fault_once text r h only
+
+-- a refused program
+module _ (unfit : Unfit) (text : List ℕ) (r : Refusal) (fault : ProgramFault text r) (only : (other : Result (List Part) Refusal) → IsProgramAnswer text other → other ≡ Err r) where
+  only_program : (other : Result (List Part × List ℕ) Refusal) → IsTextAnswer unfit text other → other ≡ Err r
+  only_program (Ok (parts, words)) h = let bad = only (Ok parts) h.reads in cc
+  only_program (Err q) (program p h) = let same = only (Err p) h in cc
+  only_program (Err q) (unbuilt parts place more h e) = let bad = only (Ok parts) h in cc
+  only_program (Err q) (input parts place h e f) = let bad = only (Ok parts) h in cc
+
+  refused_once : ExactlyOne (IsTextAnswer unfit text)
+  refused_once = record { answer = Err r; holds = program r fault; only = only_program }
+
+-- a program with this tree
+module _ (unfit : Unfit) (text : List ℕ) (parts : List Part) (reads : Reads text parts) (only : (other : Result (List Part) Refusal) → IsProgramAnswer text other → other ≡ Ok parts) where
+  same_parts : (found : List Part) → Reads text found → found ≡ parts
+  same_parts found h = let same = only (Ok found) h in cc
+
+  no_program_fault : (r : Refusal) → ProgramFault text r → ⊥
+  no_program_fault r h = let bad = only (Err r) h in cc
+
+  -- a place in what the command can't take
+  abbrev unbuilt_at : Place → Refusal
+  unbuilt_at p = record { kind = Unbuilt; place = p }
+
+  abbrev input_at : Place → Refusal
+  input_at p = record { kind = Input; place = p }
+
+  module _ (place : Place) (more : List Place) (found : unfit parts ≡ place ∷ more) where
+    same_place : (others : List Part) (at : Place) (rest : List Place) → Reads text others → unfit others ≡ at ∷ rest → at ≡ place
+    same_place others at rest h e =
+        let same : at ∷ rest ≡ place ∷ more = sym e ∙ ap unfit (same_parts others h) ∙ found in
+        cc
+
+    not_fit : (others : List Part) → Reads text others → unfit others ≡ [] → ⊥
+    not_fit others h e = let bad : [] ≡ place ∷ more = sym e ∙ ap unfit (same_parts others h) ∙ found in cc
+
+    only_unbuilt : (other : Result (List Part × List ℕ) Refusal) → IsTextAnswer unfit text other → other ≡ Err (unbuilt_at place)
+    only_unbuilt (Ok (others, words)) h = absurd (not_fit others h.reads h.fit)
+    only_unbuilt (Err q) (program p h) = absurd (no_program_fault p h)
+    only_unbuilt (Err q) (unbuilt others at rest h e) = ap (λ p. Err (unbuilt_at p)) (same_place others at rest h e)
+    only_unbuilt (Err q) (input others at h e f) = absurd (not_fit others h e)
+
+    unbuilt_once : ExactlyOne (IsTextAnswer unfit text)
+    unbuilt_once = record { answer = Err (unbuilt_at place); holds = unbuilt parts place more reads found; only = only_unbuilt }
+
+  module _ (fit : unfit parts ≡ []) where
+    none_unbuilt : (others : List Part) (at : Place) (rest : List Place) → Reads text others → unfit others ≡ at ∷ rest → ⊥
+    none_unbuilt others at rest h e = let bad : at ∷ rest ≡ [] = sym e ∙ ap unfit (same_parts others h) ∙ fit in cc
+
+    module _ (words : List ℕ) (read : InputWords (input_place text) (input_of text) words)
+        (only_input : (other : Result (List ℕ) Place) → IsInputAnswer (input_place text) (input_of text) other → other ≡ Ok words) where
+      same_words : (others : List ℕ) → InputWords (input_place text) (input_of text) others → others ≡ words
+      same_words others h = let same = only_input (Ok others) h in cc
+
+      only_job : (other : Result (List Part × List ℕ) Refusal) → IsTextAnswer unfit text other → other ≡ Ok (parts, words)
+      only_job (Ok (others, found)) h = ap (λ ps. Ok (ps, found)) (same_parts others h.reads) ∙ ap (λ ws. Ok (parts, ws)) (same_words found h.words)
+      only_job (Err q) (program p h) = absurd (no_program_fault p h)
+      only_job (Err q) (unbuilt others at rest h e) = absurd (none_unbuilt others at rest h e)
+      only_job (Err q) (input others at h e f) = let bad = only_input (Err at) f in cc
+
+      job_once : ExactlyOne (IsTextAnswer unfit text)
+      job_once = record { answer = Ok (parts, words); holds = record { reads = reads; fit = fit; words = read }; only = only_job }
+
+    module _ (place : Place) (fault : InputFault (input_place text) (input_of text) place)
+        (only_input : (other : Result (List ℕ) Place) → IsInputAnswer (input_place text) (input_of text) other → other ≡ Err place) where
+      same_fault : (at : Place) → InputFault (input_place text) (input_of text) at → at ≡ place
+      same_fault at h = let same = only_input (Err at) h in cc
+
+      only_input_fault : (other : Result (List Part × List ℕ) Refusal) → IsTextAnswer unfit text other → other ≡ Err (input_at place)
+      only_input_fault (Ok (others, found)) h = let bad = only_input (Ok found) h.words in cc
+      only_input_fault (Err q) (program p h) = absurd (no_program_fault p h)
+      only_input_fault (Err q) (unbuilt others at rest h e) = absurd (none_unbuilt others at rest h e)
+      only_input_fault (Err q) (input others at h e f) = ap (λ p. Err (input_at p)) (same_fault at f)
+
+      input_fault_once : ExactlyOne (IsTextAnswer unfit text)
+      input_fault_once = record { answer = Err (input_at place); holds = input parts place reads fit fault; only = only_input_fault }
+
+    fit_once : ExactlyOne (IsInputAnswer (input_place text) (input_of text)) → ExactlyOne (IsTextAnswer unfit text)
+    fit_once e = go e.answer e.holds e.only
+      where
+        go : (found : Result (List ℕ) Place) → IsInputAnswer (input_place text) (input_of text) found
+            → ((other : Result (List ℕ) Place) → IsInputAnswer (input_place text) (input_of text) other → other ≡ found) → ExactlyOne (IsTextAnswer unfit text)
+        go (Ok words) h only_input = job_once words h only_input
+        go (Err place) h only_input = input_fault_once place h only_input
+
+  reads_once : ExactlyOne (IsTextAnswer unfit text)
+  reads_once = go (unfit parts) refl
+    where
+      go : (places : List Place) → unfit parts ≡ places → ExactlyOne (IsTextAnswer unfit text)
+      go [] e = fit_once e (one_answer (input_place text) (input_of text))
+      go (place ∷ more) e = unbuilt_once place more e
+
+-- each text comes to one thing alone, since its lexemes, its tree, its rules and its input section do
+pub text_once : (unfit : Unfit) (text : List ℕ) → ((bytes : List ℕ) → ExactlyOne (IsLexAnswer bytes)) → ((ls : List Lexeme) (finish : Place) → ExactlyOne (IsTreeAnswer ls finish))
+    → ((parts : List Part) (finish : Place) → ExactlyOne (IsRuleAnswer parts finish)) → ExactlyOne (IsTextAnswer unfit text)
+text_once unfit text lexed parsed ruled = let e = program_once text (lexed (program_of text)) parsed ruled in go e.answer e.holds e.only
+  where
+    go : (found : Result (List Part) Refusal) → IsProgramAnswer text found → ((other : Result (List Part) Refusal) → IsProgramAnswer text other → other ≡ found) → ExactlyOne (IsTextAnswer unfit text)
+    go (Ok parts) h only = reads_once unfit text parts h only
+    go (Err r) h only = refused_once unfit text r h only

@@ -1,0 +1,12 @@
+use Rattle.std.proofs.Common.{◌≡◌, ◌≤◌, length}
+use Rattle.wsc_top.specs.Sections.{after_line}
+use Rattle.wsc_top.proofs.job.sections.after_line.Given as goal
+
+abbrev pub invariant-lines : goal.invariant-lines
+invariant-lines l = record {
+  same : after_line l.rest ≡ after_line l.fn.text;
+  within : length l.rest ≤ length l.fn.text;
+}
+
+abbrev pub decreases-lines : goal.decreases-lines
+decreases-lines l = length l.rest

@@ -1,0 +1,20 @@
+use Rattle.wsc_top.specs.Answers.{unfit_for}
+use Rattle.wsc_top.proofs.Jobs.{job_written}
+use Rattle.wsc_top.proofs.AnswersOnce.{answered_once}
+use Rattle.wsc_top.proofs.laws.every_text_is_answered_once.Goals as goal
+
+pub returns : goal.returns
+returns c command text =
+    let runs = c.one_answer.ensures in
+    answered_once
+    (record {
+      some = runs.some;
+      one_end = runs.one_end;
+      one_fault = runs.one_fault;
+      one_going = runs.one_going;
+      no_end_with_a_fault = runs.no_end_with_a_fault;
+      no_end_on_the_way = runs.no_end_on_the_way;
+      no_fault_on_the_way = runs.no_fault_on_the_way;
+    })
+    (λ parts bytes input asked job. c.printed_reads_the_same.ensures parts (job_written (unfit_for asked) bytes parts input c.read_is_written.ensures job))
+    command text (c.each_text_is_a_job_or_refused.ensures command text)

@@ -1,0 +1,73 @@
+//! The sections of a job.
+
+ghost use Rattle.std.specs.Prelude.{◌≡◌, ◌≤◌, length, take, drop, true};
+ghost use Rattle.wsc_top.specs.Sections as sections;
+
+/// The marker of the input section.
+const MARKER: &[u8] = b"%input";
+
+// Whether a line ends here.
+fn ends_line(text: &[u8]) -> bool
+    ensures { result ≡ sections.ends_line text.now }
+{
+    match text {
+        [] => true,
+        [byte] => *byte == b'\n' || *byte == b'\r',
+        [first, second, ..] => *first == b'\n' || (*first == b'\r' && *second == b'\n'),
+    }
+}
+
+// Whether the text begins with these bytes, and then its line ends.
+fn is_line(line: &[u8], text: &[u8]) -> bool
+    ensures { result ≡ sections.is_line line.now text.now }
+{
+    let Some((wanted, others)) = line.split_first() else {
+        return ends_line(text);
+    };
+    match text.split_first() {
+        Some((byte, rest)) => byte == wanted && is_line(others, rest),
+        None => false,
+    }
+}
+
+/// What stands after the first line feed.
+fn after_line(text: &[u8]) -> &[u8]
+    ensures after { result.now ≡ sections.after_line text.now }
+    ensures within { length result.now ≤ length text.now }
+{
+    let mut rest = text;
+    'lines: while let Some((byte, further)) = rest.split_first() {
+        rest = further;
+        if *byte == b'\n' {
+            break;
+        }
+    }
+    rest
+}
+
+/// How many bytes stand in front of the first line that is exactly `%input`.
+fn program_length(text: &[u8]) -> usize
+    ensures program { take result text.now ≡ sections.program_of text.now }
+    ensures rest { drop result text.now ≡ sections.rest_of true text.now }
+    ensures within { result ≤ length text.now }
+{
+    let mut at_line = true;
+    for (place, byte) in text.iter().enumerate() {
+        if at_line && is_line(MARKER, &text[place..]) {
+            return place;
+        }
+        at_line = *byte == b'\n';
+    }
+    text.len()
+}
+
+/// The program of a job, and its input section without the marker.
+pub fn split(text: &[u8]) -> (&[u8], &[u8])
+    ensures program { result.0.now ≡ sections.program_of text.now }
+    ensures input { result.1.now ≡ sections.input_of text.now }
+    ensures program_within { length result.0.now ≤ length text.now }
+    ensures input_within { length result.1.now ≤ length text.now }
+{
+    let (program, rest) = text.split_at(program_length(text));
+    (program, after_line(rest))
+}

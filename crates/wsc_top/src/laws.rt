@@ -1,0 +1,41 @@
+//! What the definitions of jobs and answers come to.
+
+ghost use Rattle.std.specs.Prelude.{ℕ, List};
+ghost use Rattle.src_ast.specs.declared.lexeme.Place.{Place};
+ghost use Rattle.src_ast.specs.Once.{ExactlyOne};
+ghost use Rattle.wsc_top.specs.declared.line.Command.{Command};
+ghost use Rattle.wsc_top.specs.Sections.{IsInputAnswer};
+ghost use Rattle.wsc_top.specs.Job.{IsTextAnswer};
+ghost use Rattle.wsc_top.specs.Answers.{unfit_for, IsAnswer};
+
+use seq_run::one_answer;
+use src_ast::{printed_reads_the_same, read_is_written};
+use src_check::each_program_is_checked_once;
+use src_lex::each_text_is_lexed_once;
+use src_parse::lexemes_are_parsed_once;
+
+/// Each input section comes to one thing alone: its words, or its first item that is no word.
+pub fn each_input_is_read_once()
+    ensures { (at : Place) (text : List ℕ) → ExactlyOne (IsInputAnswer at text) }
+{}
+
+/// For each command each text comes to one thing alone: it is a job, with one program and one list
+/// of words, or it is refused for one reason.
+pub fn each_text_is_a_job_or_refused()
+    ensures { (command : Command) (text : List ℕ)
+        → ExactlyOne (IsTextAnswer (unfit_for command) text) }
+{
+    each_text_is_lexed_once();
+    lexemes_are_parsed_once();
+    each_program_is_checked_once();
+}
+
+/// For each command each text has one answer alone, a status and a text.
+pub fn every_text_is_answered_once()
+    ensures { (command : Command) (text : List ℕ) → ExactlyOne (IsAnswer command text) }
+{
+    each_text_is_a_job_or_refused();
+    read_is_written();
+    printed_reads_the_same();
+    one_answer();
+}
