@@ -1,0 +1,26 @@
+mod Rows
+pub mod Steps
+pub mod Slots
+pub mod Flow
+pub mod There
+pub mod Blocks
+pub mod Delivered
+pub mod Looking
+pub mod Firing
+pub mod Leaving
+pub mod Ending
+pub mod Programs
+pub mod Opening
+pub mod Quiet
+pub mod Measure
+pub mod GoesOn
+pub mod OneEffect
+pub mod SlotCert
+pub mod Certified
+pub mod SlotLists
+pub mod SampleIdle
+pub mod SampleA
+pub mod SampleALinks
+pub mod SampleB
+pub mod SampleBShape
+pub mod SampleBLinks

@@ -1,0 +1,254 @@
+-- Sound images: the rules on shape, slots, links and ripples. A path is a relation, and a rule
+-- speaks of all paths.
+use Rattle.std.specs.Prelude.{ℕ, zero, suc, ◌≡◌, ◌<◌, ◌≤◌, ◌⊎◌, ◌↔◌, Bool, true, false, cond, ◌&&◌, List, [], ◌∷◌, ◌++◌, Option, Some, None, eqb}
+use Rattle.ws_isa.specs.declared.instr.Op.TheVariants.{Merge, Steer, Send, Halt}
+use Rattle.ws_isa.specs.declared.instr.Link.TheVariants.{Nothing, Is}
+use Rattle.ws_isa.specs.declared.instr.Dest.{Dest}
+use Rattle.ws_isa.specs.Image.{Pad, Branch, Landings, Image, In, nth, instr_at, block_at, block_of, first_number, size_of, ports, is_memory, is_writing, is_advance, is_giving, note_of, stops, target, is_first, now_dests, edge_dests, start_dests, IsIn, IsBlock}
+use Rattle.ws_isa.specs.Formed.{WavesInOrder}
+
+-- the slots that are open: an instruction with a port
+abbrev pub Slots : Type 0
+Slots = ℕ → ℕ → Bool
+
+abbrev pub none_open : Slots
+none_open j q = false
+
+abbrev pub opened : Dest → Slots → Slots
+opened d o j q = cond (eqb d.instr j && eqb d.port q) true (o j q)
+
+abbrev pub all_opened : List Dest → Slots → Slots
+all_opened [] o = o
+all_opened (d ∷ ds) o = all_opened ds (opened d o)
+
+-- the destinations can be opened one after the other: none is open
+abbrev pub Fresh : List Dest → Slots → Type 0
+Fresh [] o = Unit {0}
+Fresh (d ∷ ds) o = (o d.instr d.port ≡ false) × Fresh ds (opened d o)
+
+-- all slots of instruction k are closed
+abbrev pub closed : ℕ → Slots → Slots
+closed k o j q = cond (eqb k j) false (o j q)
+
+-- the destinations that the steers and sends among n instructions from k on open on the edge at r
+abbrev pub edge_all : Image → ℕ → ℕ → ℕ → ℕ → List Dest
+edge_all image b r k zero = []
+edge_all image b r k (suc n) = edge_dests image b r k ++ edge_all image b r (suc k) n
+
+unfoldable pub opens_at : Image → ℕ → ℕ → List Dest
+opens_at image b r = edge_all image b r (first_number image b) (size_of image b)
+
+abbrev pub HasDest : List Dest → ℕ → ℕ → Type 0
+HasDest [] j q = ⊥
+HasDest (d ∷ ds) j q = ((d.instr ≡ j) × (d.port ≡ q)) ⊎ HasDest ds j q
+
+-- destinations name ports that are there; each formed image has this
+pub record PortsThere (image : Image) : Type 0 where
+  pub start : (j q : ℕ) → HasDest (start_dests image) j q → q < ports image j
+  pub now : (k j q : ℕ) → HasDest (now_dests image k) j q → q < ports image j
+  pub edge : (b r k j q : ℕ) → HasDest (edge_dests image b r k) j q → q < ports image j
+
+-- Slots.
+
+-- a path from block 1 leads to block b before instruction k, and these slots are open there
+pub data Opens (image : Image) : ℕ → ℕ → Slots → Type 0 where
+  begin : Opens image 1 (first_number image 1) (all_opened (start_dests image) none_open)
+  turn : {b k : ℕ} {o : Slots} → Opens image b k o → k < first_number image (suc b) →
+      Opens image b (suc k) (all_opened (now_dests image k) (closed k o))
+  edge : {b k : ℕ} {o : Slots} → Opens image b k o → k ≡ first_number image (suc b) →
+      stops image b ≡ false → (r : ℕ) →
+      Opens image (target image b r) (first_number image (target image b r))
+      (all_opened (opens_at image b r) o)
+
+-- the open slots are those of the advances of block b
+abbrev pub AdvancesOpen : Image → ℕ → Slots → Type 0
+AdvancesOpen image b o = (j q : ℕ) →
+    (o j q ≡ true) ↔ (IsIn image b j × (is_advance image j ≡ true) × (q ≡ 0))
+
+pub record SlotRules (image : Image) : Type 0 where
+  pub start : Fresh (start_dests image) none_open
+  pub begins : AdvancesOpen image 1 (all_opened (start_dests image) none_open)
+  -- at its turn an instruction has all its slots open, and then none of its destinations is open
+  pub has_all : (b k : ℕ) (o : Slots) → Opens image b k o → k < first_number image (suc b) →
+      (q : ℕ) → q < ports image k → o k q ≡ true
+  pub fresh : (b k : ℕ) (o : Slots) → Opens image b k o → k < first_number image (suc b) →
+      Fresh (now_dests image k) (closed k o)
+  -- on an edge none of what steers and sends open is open
+  pub edges : (b k : ℕ) (o : Slots) → Opens image b k o → k ≡ first_number image (suc b) →
+      stops image b ≡ false → (r : ℕ) → Fresh (opens_at image b r) o
+  -- into the first block of a wave exactly its advances are open, and at a stop nothing is
+  pub crossing : (b k : ℕ) (o : Slots) → Opens image b k o → k ≡ first_number image (suc b) →
+      stops image b ≡ false → (r : ℕ) → is_first image (target image b r) ≡ true →
+      AdvancesOpen image (target image b r) (all_opened (opens_at image b r) o)
+  pub stop : (b k : ℕ) (o : Slots) → Opens image b k o → k ≡ first_number image (suc b) →
+      stops image b ≡ true → (j q : ℕ) → o j q ≡ false
+  -- the edges into any other block leave equal open slots
+  pub pending : (b k c l r s : ℕ) (o p : Slots) → Opens image b k o → Opens image c l p →
+      k ≡ first_number image (suc b) → l ≡ first_number image (suc c) →
+      stops image b ≡ false → stops image c ≡ false → target image b r ≡ target image c s →
+      is_first image (target image b r) ≡ false →
+      (j q : ℕ) → all_opened (opens_at image b r) o j q ≡ all_opened (opens_at image c s) p j q
+
+-- Shape.
+
+-- the result of instruction k comes to port q of instruction m, directly or through merges of block
+-- b
+pub data Carries (image : Image) (b : ℕ) : ℕ → ℕ → ℕ → Type 0 where
+  direct : {k m q : ℕ} → (place : ℕ) (d : Dest) → nth (now_dests image k) place ≡ Some d →
+      d.instr ≡ m → d.port ≡ q → Carries image b k m q
+  through : {k m q : ℕ} → (place : ℕ) (d : Dest) → nth (now_dests image k) place ≡ Some d →
+      d.port ≡ 0 → IsIn image b d.instr →
+      (instr_at image d.instr).op ≡ Merge → Carries image b d.instr m q → Carries image b k m q
+
+abbrev pub HasPad : List Pad → ℕ → Type 0
+HasPad [] k = ⊥
+HasPad (p ∷ ps) k = (p.number ≡ k) ⊎ HasPad ps k
+
+-- an instruction j after instruction k, in the wave of block b; or an advance
+abbrev pub IsAhead : Image → ℕ → ℕ → ℕ → Type 0
+IsAhead image b k j = (is_advance image j ≡ true)
+    ⊎ ((k < j) × ((block_at image (block_of image j)).wave ≡ (block_at image b).wave))
+
+pub record ShapeRules (image : Image) : Type 0 where
+  pub has_block : IsBlock image 1
+  -- every edge goes to a later block of the same wave or to the first block of a wave
+  pub edges : (b r : ℕ) → IsBlock image b → stops image b ≡ false → IsBlock image (target image b r)
+  pub later : (b r : ℕ) → IsBlock image b → stops image b ≡ false →
+      is_first image (target image b r) ≡ false →
+      (b < target image b r) × ((block_at image (target image b r)).wave ≡ (block_at image b).wave)
+  -- advances stand in first blocks, before all others
+  pub advances : (b k : ℕ) → IsBlock image b → IsIn image b k → is_advance image k ≡ true →
+      is_first image b ≡ true
+  pub front : (b j k : ℕ) → IsBlock image b → IsIn image b k → is_advance image k ≡ true →
+      first_number image b ≤ j → j ≤ k → is_advance image j ≡ true
+  -- the exit's instruction stands in the block, and steers and sends hang on it
+  pub source : (b s x y : ℕ) → IsBlock image b → (block_at image b).exit ≡ Branch s x y →
+      IsIn image b s
+  pub address : (b s : ℕ) (ls : List ℕ) → IsBlock image b →
+      (block_at image b).exit ≡ Landings s ls → IsIn image b s
+  pub steers : (b k : ℕ) → IsBlock image b → IsIn image b k → (instr_at image k).op ≡ Steer →
+      (s x y : ℕ) × ((block_at image b).exit ≡ Branch s x y) × Carries image b s k 1
+  pub sends : (b k p : ℕ) → IsBlock image b → IsIn image b k → (instr_at image k).op ≡ Send p →
+      (s : ℕ) × (ls : List ℕ) × ((block_at image b).exit ≡ Landings s ls) × Carries image b s k 0
+
+-- the rules on shape on which no proof about a walk rests
+pub record MoreShape (image : Image) : Type 0 where
+  pub waves : WavesInOrder image.blocks
+  pub pad_zero : HasPad (block_at image 1).pads 0
+  pub pads_first : (b : ℕ) → IsBlock image b → is_first image b ≡ false →
+      (block_at image b).pads ≡ []
+  -- the exit's instruction has a result and is neither a steer nor a send
+  pub source_gives : (b s x y : ℕ) → IsBlock image b → (block_at image b).exit ≡ Branch s x y →
+      is_giving image s ≡ true
+  pub address_gives : (b s : ℕ) (ls : List ℕ) → IsBlock image b →
+      (block_at image b).exit ≡ Landings s ls → is_giving image s ≡ true
+  pub landing_first : (b s r : ℕ) (ls : List ℕ) → IsBlock image b →
+      (block_at image b).exit ≡ Landings s ls → is_first image (target image b r) ≡ true
+  pub landing_pad : (b k p r : ℕ) → IsBlock image b → IsIn image b k →
+      (instr_at image k).op ≡ Send p → HasPad (block_at image (target image b r)).pads p
+  -- a halt stands exactly where the exit is a stop, once, after all other memory instructions
+  pub halt_stops : (b k : ℕ) → IsBlock image b → IsIn image b k → (instr_at image k).op ≡ Halt →
+      stops image b ≡ true
+  pub stop_halts : (b : ℕ) → IsBlock image b → stops image b ≡ true →
+      (k : ℕ) × IsIn image b k × ((instr_at image k).op ≡ Halt)
+  pub halt_last : (b j k : ℕ) → IsBlock image b → IsIn image b k → (instr_at image k).op ≡ Halt →
+      IsIn image b j → is_memory image j ≡ true → j ≤ k
+  -- destinations
+  pub dests_ahead : (b k j q : ℕ) → IsBlock image b → IsIn image b k →
+      HasDest (instr_at image k).dests j q → IsAhead image b k j
+  pub others_ahead : (b k j q : ℕ) → IsBlock image b → IsIn image b k →
+      HasDest (instr_at image k).others j q → IsAhead image b k j
+  pub pads_to_advances : (b : ℕ) (p : Pad) (j q : ℕ) → IsBlock image b →
+      In p (block_at image b).pads → HasDest p.dests j q →
+      IsIn image b j × (is_advance image j ≡ true)
+
+-- Links.
+
+-- a path inside a wave leads to block b before instruction k, by way of these instructions, the
+-- newest first
+pub data InWave (image : Image) : ℕ → ℕ → List ℕ → Type 0 where
+  first : {b : ℕ} → IsBlock image b → is_first image b ≡ true →
+      InWave image b (first_number image b) []
+  turn : {b k : ℕ} {done : List ℕ} → InWave image b k done → k < first_number image (suc b) →
+      InWave image b (suc k) (k ∷ done)
+  edge : {b k : ℕ} {done : List ℕ} → InWave image b k done → k ≡ first_number image (suc b) →
+      stops image b ≡ false → (r : ℕ) → is_first image (target image b r) ≡ false →
+      InWave image (target image b r) (first_number image (target image b r)) done
+
+-- the last operation on it
+abbrev pub last_op : Image → List ℕ → Option ℕ
+last_op image [] = None
+last_op image (k ∷ ks) = cond (is_memory image k) (Some k) (last_op image ks)
+
+-- operation k comes on a path inside a wave, right after the last one, if there is one
+pub record Follows (image : Image) (last : Option ℕ) (k : ℕ) : Type 0 where
+  pub block : ℕ
+  pub done : List ℕ
+  pub path : InWave image block k done
+  pub within : k < first_number image (suc block)
+  pub memory : is_memory image k ≡ true
+  pub last_is : last_op image done ≡ last
+
+-- a path inside a wave ends after this last operation
+pub record Ends (image : Image) (last : Option ℕ) : Type 0 where
+  pub block : ℕ
+  pub next : ℕ
+  pub done : List ℕ
+  pub path : InWave image block next done
+  pub at_end : next ≡ first_number image (suc block)
+  pub out : (stops image block ≡ true)
+      ⊎ ((stops image block ≡ false) × ((r : ℕ) × (is_first image (target image block r) ≡ true)))
+  pub last_is : last_op image done ≡ last
+
+abbrev pub seq : Image → ℕ → ℕ
+seq image k = (note_of image k).seq
+
+-- the wave of the block in which an operation comes on a path
+abbrev pub wave_at : {image : Image} {last : Option ℕ} {k : ℕ} → Follows image last k → ℕ
+wave_at {image} {last} {k} f = (block_at image f.block).wave
+
+pub record LinkRules (image : Image) : Type 0 where
+  -- sequence numbers are at least 1, differ within a wave, and rise along every path
+  pub positive : (k : ℕ) (last : Option ℕ) → Follows image last k → 1 ≤ seq image k
+  pub differ : (j k : ℕ) (l m : Option ℕ) (f : Follows image l j) (g : Follows image m k) →
+      wave_at f ≡ wave_at g → seq image j ≡ seq image k → j ≡ k
+  pub rise : (j k : ℕ) → Follows image (Some j) k → seq image j < seq image k
+  -- every path has an operation; the first has no predecessor, the last no successor
+  pub some_op : Ends image None → ⊥
+  pub first_pred : (k : ℕ) → Follows image None k → (note_of image k).pred ≡ Nothing
+  pub last_succ : (k : ℕ) → Ends image (Some k) → (note_of image k).succ ≡ Nothing
+  -- of two neighbours one names the other
+  pub linked : (j k : ℕ) → Follows image (Some j) k →
+      ((note_of image j).succ ≡ Is (seq image k)) ⊎ ((note_of image k).pred ≡ Is (seq image j))
+  -- a named successor is the next operation on every path, and where none is said, none follows
+  pub succ_is : (j k n : ℕ) → (note_of image j).succ ≡ Is n → Follows image (Some j) k →
+      seq image k ≡ n
+  pub succ_goes_on : (j n : ℕ) → (note_of image j).succ ≡ Is n → Ends image (Some j) → ⊥
+  pub succ_ends : (j k : ℕ) → (note_of image j).succ ≡ Nothing → Follows image (Some j) k → ⊥
+  -- the same for predecessors
+  pub pred_is : (j k n : ℕ) → (note_of image k).pred ≡ Is n → Follows image (Some j) k →
+      seq image j ≡ n
+  pub pred_is_some : (k n : ℕ) → (note_of image k).pred ≡ Is n → Follows image None k → ⊥
+  pub pred_none : (j k : ℕ) → (note_of image k).pred ≡ Nothing → Follows image (Some j) k → ⊥
+
+-- Ripples.
+
+abbrev pub IsAmong : ℕ → List ℕ → Type 0
+IsAmong k [] = ⊥
+IsAmong k (j ∷ js) = (k ≡ j) ⊎ IsAmong k js
+
+pub record RippleRules (image : Image) : Type 0 where
+  -- that of a writing operation is its own sequence number
+  pub own : (k : ℕ) (last : Option ℕ) → Follows image last k → is_writing image k ≡ true →
+      (note_of image k).ripple ≡ seq image k
+  -- that of another is at least that of each writing operation that may stand before it
+  pub above : (b k j : ℕ) (done : List ℕ) → InWave image b k done → k < first_number image (suc b) →
+      is_memory image k ≡ true → is_writing image k ≡ false →
+      IsAmong j done → is_writing image j ≡ true → seq image j ≤ (note_of image k).ripple
+
+pub record Sound (image : Image) : Type 0 where
+  pub shape : ShapeRules image
+  pub more_shape : MoreShape image
+  pub slots : SlotRules image
+  pub links : LinkRules image
+  pub ripples : RippleRules image
