@@ -1,0 +1,108 @@
+//! Calls of a graph, counted.
+
+ghost use Rattle.std.specs.Prelude.{◌≡◌, ◌+◌, ◌≤◌, ◌&&◌, ◌||◌, ◌==◌, if◌then◌else◌, map, take, length, IfOk};
+ghost use Rattle.cfg_core.specs.Graph.{spots, spot_at, block_at};
+ghost use Rattle.cfg_core.specs.Rules.{calls};
+ghost use Rattle.cfg_core.specs.View as view;
+ghost use Rattle.cfg_core.specs.Shows.{TableIs};
+ghost use Rattle.call_gen.specs.Spelled.{callee_is, count_of, is_call, is_called, is_calling, address};
+
+use cfg_core::{Leave, Table};
+
+/// Whether an exit calls.
+pub(crate) fn calls(exit: &Leave) -> bool
+    ensures { result ≡ calls (view.exit exit.now) }
+{
+    match exit {
+        Leave::Call { .. } => true,
+        _ => false,
+    }
+}
+
+fn calls_to(exit: &Leave, f: u32) -> bool
+    ensures { result ≡ callee_is (view.exit exit.now) f }
+{
+    match exit {
+        Leave::Call { callee, .. } => *callee == f,
+        _ => false,
+    }
+}
+
+/// Whether the block with this number calls.
+pub(crate) fn calls_at(table: &Table<'_>, b: usize) -> bool
+    requires { TableIs table.now }
+    ensures { result ≡ calls (block_at (view.graph table.now.graph.now) b).exit }
+{
+    match table.spot(b) {
+        Some(spot) => calls(&spot.block.exit),
+        None => false,
+    }
+}
+
+/// Whether the block with this number calls this procedure.
+pub(crate) fn calls_to_at(table: &Table<'_>, b: usize, f: u32) -> bool
+    requires { TableIs table.now }
+    ensures { result ≡ callee_is (block_at (view.graph table.now.graph.now) b).exit f }
+{
+    match table.spot(b) {
+        Some(spot) => calls_to(&spot.block.exit, f),
+        None => false,
+    }
+}
+
+/// How many of the first so many blocks call this procedure.
+pub(crate) fn calls_before(table: &Table<'_>, count: usize, f: u32) -> usize
+    requires table { TableIs table.now }
+    requires there { count ≤ length (spots (view.graph table.now.graph.now)) }
+    ensures count { result ≡ address (view.graph table.now.graph.now) f count }
+    ensures few { result ≤ count }
+{
+    let mut found = 0;
+    for b in 0..count {
+        found += one_if(calls_to_at(table, b, f));
+    }
+    found
+}
+
+/// Whether some block calls this procedure.
+pub(crate) fn is_called(table: &Table<'_>, f: u32) -> bool
+    requires { TableIs table.now }
+    ensures { result ≡ is_called (view.graph table.now.graph.now) f }
+{
+    calls_before(table, table.spots.len(), f) > 0
+}
+
+/// Whether some block of this procedure calls.
+pub(crate) fn is_calling(table: &Table<'_>, homes: &[u32], f: u32) -> bool
+    requires table { TableIs table.now }
+    requires homes { homes.now ≡ map (λ s. s.home) (spots (view.graph table.now.graph.now)) }
+    ensures { result ≡ is_calling (view.graph table.now.graph.now) f }
+{
+    let mut found = false;
+    for (b, home) in homes.iter().enumerate() {
+        found = either(found, calls_in(table, b, *home, f));
+    }
+    found
+}
+
+// Whether the block with this number, which stands in procedure `home`, calls and is one of
+// procedure f.
+fn calls_in(table: &Table<'_>, b: usize, home: u32, f: u32) -> bool
+    requires { TableIs table.now }
+    ensures { result ≡ ((home == f) && calls (block_at (view.graph table.now.graph.now) b).exit) }
+{
+    home == f && calls_at(table, b)
+}
+
+fn either(a: bool, b: bool) -> bool
+    ensures { result ≡ (a || b) }
+{
+    a || b
+}
+
+/// 1 where the test holds.
+pub(crate) fn one_if(test: bool) -> usize
+    ensures { result ≡ (if test then 1 else 0) }
+{
+    if test { 1 } else { 0 }
+}

@@ -1,0 +1,269 @@
+//! Where the blocks and hidden cells of the spelled graph stand.
+
+ghost use Rattle.std.specs.Prelude.{◌≡◌, ◌+◌, ◌<◌, ◌≤◌, ◌^◌, ℕ, IsTrue, map, length, slice_index, slice_index_or, replicate, ◌++◌, ◌∷◌, [], if◌then◌else◌, false, IfOk, OnOk};
+ghost use Rattle.cfg_core.specs.Graph.{spots};
+ghost use Rattle.cfg_core.specs.Rules.{IsGraph};
+ghost use Rattle.cfg_core.specs.View as view;
+ghost use Rattle.cfg_core.specs.Shows.{TableIs};
+ghost use Rattle.call_gen.specs.Spelled.{is_called, moved, door, landings, first_cell, own_cells, cell, cells_in_all, array_of, index_of};
+ghost use Rattle.call_gen.specs.Plans.{Few, PlanIs};
+
+use crate::counts::{calls_at, calls_to_at, is_called, is_calling, one_if};
+use cfg_core::{Graph, Table};
+use live_vars::LiveSets;
+use std::alloc::Global;
+use ws_words::NoMemory;
+
+/// Hidden cells lie in at most so many arrays.
+pub(crate) const HIDDEN_ARRAYS: u64 = 192;
+
+// A graph has fewer blocks, procedures and arrays, so that the spelled one's have 32 bits.
+const MOST: usize = 1 << 30;
+
+/// What the spelled graph's numbers are made from: for each block its procedure and its new number,
+/// for each procedure whether it is called and the number of its first hidden cell.
+#[derive(Drop)]
+pub(crate) struct Plan<'a> {
+    pub(crate) table: Table<'a>,
+    pub(crate) live: &'a LiveSets,
+    pub(crate) homes: Vec<u32>,
+    pub(crate) places: Vec<u32>,
+    pub(crate) called: Vec<bool>,
+    pub(crate) cells: Vec<u64>,
+    pub(crate) total: u64,
+}
+
+/// A hidden cell: its array and the index there.
+#[derive(Clone, Copy)]
+pub(crate) struct CellPlace {
+    pub(crate) array: u32,
+    pub(crate) index: u64,
+}
+
+/// The procedure of each block.
+pub(crate) fn homes(alloc: Global, graph: &Graph) -> Result<Vec<u32>, NoMemory>
+    requires { length graph.now.procs.items < 2 ^ 32 }
+    ensures { IfOk result (λ homes. homes.items ≡ map (λ s. s.home) (spots (view.graph graph.now))) }
+{
+    let mut homes = Vec::new(alloc);
+    for (f, proc) in graph.procs.iter().enumerate() {
+        add_homes(&mut homes, f as u32, proc.blocks.len())?;
+    }
+    Ok(homes)
+}
+
+fn add_homes(homes: &mut Vec<u32>, f: u32, count: usize) -> Result<(), NoMemory>
+    ensures { OnOk result (homes.new.items ≡ homes.old.items ++ replicate count f) }
+{
+    for _ in 0..count {
+        homes.push(f)?;
+    }
+    Ok(())
+}
+
+/// The new number of each block.
+pub(crate) fn places(alloc: Global, table: &Table<'_>, homes: &[u32]) -> Result<Vec<u32>, NoMemory>
+    requires table { TableIs table.now }
+    requires homes { homes.now ≡ map (λ s. s.home) (spots (view.graph table.now.graph.now)) }
+    requires few { Few (view.graph table.now.graph.now) }
+    ensures count { IfOk result (λ places. length places.items ≡
+        length (spots (view.graph table.now.graph.now))) }
+    ensures places { IfOk result (λ places.
+        (b : ℕ) → b < length (spots (view.graph table.now.graph.now)) → slice_index places.items b ≡
+        moved (view.graph table.now.graph.now) b) }
+{
+    let mut places = Vec::new(alloc);
+    let mut calls = 0;
+    for (b, home) in homes.iter().enumerate() {
+        places.push((b + calls) as u32 + *home + 1)?;
+        calls += one_if(calls_at(table, b));
+    }
+    Ok(places)
+}
+
+/// Whether each procedure is called.
+pub(crate) fn called(alloc: Global, table: &Table<'_>) -> Result<Vec<bool>, NoMemory>
+    requires table { TableIs table.now }
+    requires few { Few (view.graph table.now.graph.now) }
+    ensures { IfOk result (λ flags. (f : ℕ) → f < length (view.graph table.now.graph.now).procs →
+        slice_index_or flags.items f false ≡ is_called (view.graph table.now.graph.now) f) }
+{
+    let mut flags = Vec::new(alloc);
+    for f in 0..table.rooms.len() as u32 {
+        flags.push(is_called(table, f))?;
+    }
+    Ok(flags)
+}
+
+/// The number of each procedure's first hidden cell, and how many there are in all.
+pub(crate) fn cells(
+    alloc: Global,
+    table: &Table<'_>,
+    homes: &[u32],
+) -> Result<(Vec<u64>, u64), NoMemory>
+    requires table { TableIs table.now }
+    requires homes { homes.now ≡ map (λ s. s.home) (spots (view.graph table.now.graph.now)) }
+    requires few { Few (view.graph table.now.graph.now) }
+    ensures cells { IfOk result (λ made.
+        (f : ℕ) → f < length (view.graph table.now.graph.now).procs → slice_index made.0.items f ≡
+        first_cell (view.graph table.now.graph.now) f) }
+    ensures total { IfOk result (λ made. made.1 ≡ cells_in_all (view.graph table.now.graph.now)) }
+    ensures some { IfOk result (λ made. made.1 < 2 ^ 32) }
+{
+    let mut starts = Vec::new(alloc);
+    let mut total: u64 = 0;
+    for f in 0..table.rooms.len() as u32 {
+        starts.push(total)?;
+        total = sum(total, own(table, homes, f))?;
+    }
+    Ok((starts, total))
+}
+
+fn own(table: &Table<'_>, homes: &[u32], f: u32) -> u64
+    requires table { TableIs table.now }
+    requires homes { homes.now ≡ map (λ s. s.home) (spots (view.graph table.now.graph.now)) }
+    ensures cells { result ≡ own_cells (view.graph table.now.graph.now) f }
+    ensures some { result ≤ 2 ^ 32 }
+{
+    if is_calling(table, homes, f) {
+        u64::from(table.room(f as usize).vars) + 1
+    } else {
+        0
+    }
+}
+
+fn sum(a: u64, b: u64) -> Result<u64, NoMemory>
+    requires first { a < 2 ^ 32 }
+    requires second { b ≤ 2 ^ 32 }
+    ensures sum { IfOk result (λ made. made ≡ a + b) }
+    ensures some { IfOk result (λ made. made < 2 ^ 32) }
+{
+    if a + b < 1 << 32 {
+        Ok(a + b)
+    } else {
+        Err(NoMemory)
+    }
+}
+
+fn is_few(table: &Table<'_>) -> bool
+    requires { TableIs table.now }
+    ensures { IsTrue result → Few (view.graph table.now.graph.now) }
+{
+    if table.spots.len() >= MOST {
+        return false;
+    }
+    if table.rooms.len() >= MOST {
+        return false;
+    }
+    table.graph.arrays.len() < MOST
+}
+
+impl<'a> Plan<'a> {
+    /// The plan of a graph. One of more than a billion blocks, procedures or arrays, or of more
+    /// hidden cells than 32 bits count, is answered as want of memory.
+    pub(crate) fn of(
+        alloc: Global,
+        graph: &'a Graph,
+        live: &'a LiveSets,
+    ) -> Result<Plan<'a>, NoMemory>
+        ensures graph { IfOk result (λ plan. plan.table.graph.now ≡ graph.now) }
+        ensures live { IfOk result (λ plan. plan.live.now ≡ live.now) }
+        ensures plan { IfOk result (λ plan. PlanIs plan) }
+    {
+        let table = Table::of(alloc, graph)?;
+        if !is_few(&table) {
+            return Err(NoMemory);
+        }
+        let homes = homes(alloc, graph)?;
+        let places = places(alloc, &table, &homes)?;
+        let called = called(alloc, &table)?;
+        let (cells, total) = cells(alloc, &table, &homes)?;
+        Ok(Plan {
+            table,
+            live,
+            homes,
+            places,
+            called,
+            cells,
+            total,
+        })
+    }
+
+    /// The new number of a block.
+    pub(crate) fn place(&self, b: u32) -> u32
+        requires plan { PlanIs self.now }
+        requires there { b < length (spots (view.graph self.now.table.graph.now)) }
+        ensures { result ≡ moved (view.graph self.now.table.graph.now) b }
+    {
+        self.places.get(b as usize).copied().unwrap_or(0)
+    }
+
+    /// The number of a procedure's door.
+    pub(crate) fn door(&self, f: u32) -> u32
+        requires plan { PlanIs self.now }
+        requires rules { IsGraph (view.graph self.now.table.graph.now) }
+        requires there { f < length (view.graph self.now.table.graph.now).procs }
+        ensures { result ≡ door (view.graph self.now.table.graph.now) f }
+    {
+        let entry = self.table.room(f as usize).entry;
+        self.place(entry as u32) - 1
+    }
+
+    /// Whether a procedure is called.
+    pub(crate) fn is_called(&self, f: u32) -> bool
+        requires plan { PlanIs self.now }
+        requires there { f < length (view.graph self.now.table.graph.now).procs }
+        ensures { result ≡ is_called (view.graph self.now.table.graph.now) f }
+    {
+        self.called.get(f as usize).copied().unwrap_or(false)
+    }
+
+    fn first_cell(&self, home: u32) -> u64
+        requires plan { PlanIs self.now }
+        requires there { home < length (view.graph self.now.table.graph.now).procs }
+        ensures { result ≡ first_cell (view.graph self.now.table.graph.now) home }
+    {
+        self.cells.get(home as usize).copied().unwrap_or(0)
+    }
+
+    /// The hidden cell of a variable.
+    pub(crate) fn cell(&self, home: u32, x: u32) -> CellPlace
+        requires plan { PlanIs self.now }
+        requires there { home < length (view.graph self.now.table.graph.now).procs }
+        ensures array { result.array ≡ array_of (view.graph self.now.table.graph.now)
+            (cell (view.graph self.now.table.graph.now) home x) }
+        ensures index { result.index ≡ index_of (cell (view.graph self.now.table.graph.now) home
+            x) }
+    {
+        let number = self.first_cell(home) + u64::from(x);
+        CellPlace {
+            array: self.table.graph.arrays.len() as u32 + (number % HIDDEN_ARRAYS) as u32 + 1,
+            index: number / HIDDEN_ARRAYS,
+        }
+    }
+
+    /// The return points of a procedure's calls, in order.
+    pub(crate) fn landings(&self, alloc: Global, f: u32) -> Result<Vec<u32>, NoMemory>
+        requires { PlanIs self.now }
+        ensures { IfOk result (λ points. points.items ≡
+            landings (view.graph self.now.table.graph.now) f) }
+    {
+        let mut points = Vec::new(alloc);
+        for (b, place) in self.places.iter().enumerate() {
+            let hit = calls_to_at(&self.table, b, f);
+            push_if(&mut points, hit, *place + 1)?;
+        }
+        Ok(points)
+    }
+}
+
+/// Puts a number at the end where the test holds.
+pub(crate) fn push_if(points: &mut Vec<u32>, hit: bool, point: u32) -> Result<(), NoMemory>
+    ensures { OnOk result (points.new.items ≡
+        (if hit then points.old.items ++ point ∷ [] else points.old.items)) }
+{
+    if hit {
+        points.push(point)?;
+    }
+    Ok(())
+}

@@ -1,0 +1,71 @@
+-- Blocks by number, in the graph and in its table.
+use Rattle.std.proofs.Common.{ℕ, zero, suc, ◌+◌, ◌≡◌, ◌<◌, ◌≤◌, List, [], ◌∷◌, length, map, slice_index_or, refl, sym, ap, subst, inl, inr, arith}
+use Rattle.std.proofs.lemmas.Bool.{cases_lt}
+use Rattle.std.proofs.lemmas.List.{length-map}
+use Rattle.cfg_core.specs.Graph.{Spot, nth, or_else, no_spot, spots, spot_at, Graph, block_at}
+use Rattle.cfg_core.specs.View as view
+use Rattle.cfg_core.specs.Shows.{TableIs, spot_in_code, spot_in_graph}
+use Rattle.cfg_core.specs.declared.table.Table.{Table}
+use Rattle.cfg_core.specs.declared.table.Spot as code
+use Rattle.cfg_core.proofs.Tables.{spot_in, spot_past}
+use Rattle.live_vars.specs.Live.{Live, reads, passes, ReadsFirst, Carries}
+use Rattle.live_vars.specs.Marks.{Marks}
+use Rattle.live_vars.specs.Found.{Writes, Carried}
+use Rattle.live_vars.proofs.Bits.{marks_none}
+
+pub count_is : (table : Table) → TableIs table → length table.spots.items ≡ length (spots (view.graph table.graph.now))
+count_is table h =
+    let e : length (map spot_in_code table.spots.items) ≡ length (map spot_in_graph (spots (view.graph table.graph.now))) = ap length h.spots in
+    omega (arith, e, length-map table.spots.items spot_in_code, length-map (spots (view.graph table.graph.now)) spot_in_graph)
+
+past : (xs : List Spot) (b : ℕ) → length xs ≤ b → or_else (nth xs b) no_spot ≡ no_spot
+past [] b le = refl
+past (x ∷ xs) zero le = absurd (omega arith)
+past (x ∷ xs) (suc b) le = past xs b (omega arith)
+
+pub spot_beyond : (g : Graph) (b : ℕ) → length (spots g) ≤ b → spot_at g b ≡ no_spot
+unfolding spot_at
+spot_beyond g b le = past (spots g) b le
+
+pub vars_in : (table : Table) (b : ℕ) (x : code.Spot) → TableIs table → b < length table.spots.items → x ≡ slice_index_or table.spots.items b x → (spot_at (view.graph table.graph.now) b).vars ≡ x.vars
+unfolding spot_at
+vars_in table b x h lt e = (spot_in table.spots.items (spots (view.graph table.graph.now)) b x h.spots lt e).vars
+
+pub vars_more : (table : Table) (i m n : ℕ) (x : code.Spot) → TableIs table → i < length table.spots.items → x ≡ slice_index_or table.spots.items i x → ((b : ℕ) → b < i → (spot_at (view.graph table.graph.now) b).vars ≤ m) → m ≤ n → x.vars ≤ n → (b : ℕ) → b < i + 1 → (spot_at (view.graph table.graph.now) b).vars ≤ n
+vars_more table i m n x h lt e all le fits b below = elim (cases_lt b i) [
+  | inl before ↦ omega (arith, all b before)
+  | inr from ↦
+      let is : b ≡ i = omega arith in
+      subst (λ k. (spot_at (view.graph table.graph.now) k).vars ≤ n) (sym is) (omega (arith, vars_in table i x h lt e))
+]
+
+pub vars_beyond : (table : Table) (b : ℕ) → TableIs table → length table.spots.items ≤ b → (spot_at (view.graph table.graph.now) b).vars ≡ 0
+unfolding spot_at no_spot
+vars_beyond table b h le = ap (λ (s : Spot). s.vars) (spot_past table.spots.items (spots (view.graph table.graph.now)) b h.spots le)
+
+nothing_read : (s : Spot) (x : ℕ) → s ≡ no_spot → ReadsFirst s.block.ops s.block.exit x → ⊥
+unfolding no_spot
+nothing_read s x e h = subst (λ (s : Spot). ReadsFirst s.block.ops s.block.exit x) e h
+
+nothing_written : (s : Spot) (x : ℕ) → s ≡ no_spot → Writes s.block.ops s.block.exit x → ⊥
+unfolding no_spot
+nothing_written s x e h = elim (subst (λ (s : Spot). Writes s.block.ops s.block.exit x) e h) [ inl i ↦ i | inr i ↦ i ]
+
+nothing_after : (s : Spot) (c : ℕ) → s ≡ no_spot → Carries s.block.exit c → ⊥
+unfolding no_spot
+nothing_after s c e h = subst (λ (s : Spot). Carries s.block.exit c) e h
+
+-- no variable is live past the last block
+pub not_live : (g : Graph) (b x : ℕ) → length (spots g) ≤ b → Live g b x → ⊥
+not_live g b x le (reads _ _ h) = nothing_read (spot_at g b) x (spot_beyond g b le) h
+not_live g b x le (passes _ c _ w e k l) = nothing_after (spot_at g b) c (spot_beyond g b le) k
+
+-- a block that isn't there
+pub reads_none : (g : Graph) (b low : ℕ) → spot_at g b ≡ no_spot → Marks low 0 (ReadsFirst (block_at g b).ops (block_at g b).exit)
+reads_none g b low e = marks_none low (ReadsFirst (block_at g b).ops (block_at g b).exit) (λ x h. nothing_read (spot_at g b) x e h)
+
+pub writes_none : (g : Graph) (b low : ℕ) → spot_at g b ≡ no_spot → Marks low 0 (Writes (block_at g b).ops (block_at g b).exit)
+writes_none g b low e = marks_none low (Writes (block_at g b).ops (block_at g b).exit) (λ x h. nothing_written (spot_at g b) x e h)
+
+pub carried_none : (g : Graph) (b low : ℕ) (words : List ℕ) → spot_at g b ≡ no_spot → Marks low 0 (Carried (block_at g b).exit low words)
+carried_none g b low words e = marks_none low (Carried (block_at g b).exit low words) (λ x h. nothing_after (spot_at g b) h.0 e h.1)

@@ -1,0 +1,102 @@
+//! The live variables among the 64 from `low` on: what is live after a block and not written in it
+//! is live at its start.
+
+ghost use Rattle.std.specs.Prelude.{◌≡◌, ◌<◌, ℕ, IfOk, length};
+ghost use Rattle.std.specs.Bool.{MatchBool};
+ghost use Rattle.cfg_core.specs.Graph.{spots, block_at};
+ghost use Rattle.cfg_core.specs.View as view;
+ghost use Rattle.cfg_core.specs.Shows.{TableIs};
+ghost use Rattle.live_vars.specs.Marks.{Marks};
+ghost use Rattle.live_vars.specs.Found.{Flows, ClosedAt, ClosedFrom, IsPlane, Carried, room};
+
+use crate::block::uses_at;
+use cfg_core::{Leave, Table};
+use std::alloc::Global;
+use ws_words::{NoMemory, Words};
+
+/// The words of all blocks.
+pub(crate) fn plane(alloc: Global, table: &Table<'_>, low: u32) -> Result<Words, NoMemory>
+    requires { TableIs table.now }
+    ensures { IfOk result (λ words. IsPlane (view.graph table.now.graph.now) low words) }
+{
+    let mut live = Words::empty(alloc);
+    let mut writes = Words::empty(alloc);
+    for b in 0..table.spots.len() {
+        let uses = uses_at(table, b, low);
+        live.push(uses.reads)?;
+        writes.push(uses.writes)?;
+    }
+    settle(table, low, &writes, &mut live);
+    Ok(live)
+}
+
+// Passes over all blocks until nothing changes.
+fn settle(table: &Table<'_>, low: u32, writes: &Words, live: &mut Words)
+    requires table { TableIs table.now }
+    requires flows { Flows (view.graph table.now.graph.now) low writes.now live.old }
+    ensures flows { Flows (view.graph table.now.graph.now) low writes.now live.new }
+    ensures closed { ClosedFrom (view.graph table.now.graph.now) low live.new 0 }
+{
+    'settle: loop {
+        if !pass(table, low, writes, live) {
+            return;
+        }
+    }
+}
+
+// Visits each block, the last one first, and says whether a word changed.
+fn pass(table: &Table<'_>, low: u32, writes: &Words, live: &mut Words) -> bool
+    requires table { TableIs table.now }
+    requires flows { Flows (view.graph table.now.graph.now) low writes.now live.old }
+    ensures flows { Flows (view.graph table.now.graph.now) low writes.now live.new }
+    ensures progress { MatchBool result (room live.new < room live.old)
+        (ClosedFrom (view.graph table.now.graph.now) low live.new 0) }
+{
+    let count = live.len();
+    let mut changed = false;
+    for i in 0..count {
+        let b = count - 1 - i;
+        if visit(table, low, writes, live, b) {
+            changed = true;
+        }
+    }
+    changed
+}
+
+// What is live after a block and not written in it is live at its start. Says whether that is new.
+fn visit(table: &Table<'_>, low: u32, writes: &Words, live: &mut Words, b: usize) -> bool
+    requires table { TableIs table.now }
+    requires flows { Flows (view.graph table.now.graph.now) low writes.now live.old }
+    requires there { b < length (spots (view.graph table.now.graph.now)) }
+    ensures flows { Flows (view.graph table.now.graph.now) low writes.now live.new }
+    ensures progress { MatchBool result (room live.new < room live.old) ((live.new ≡ live.old) ×
+        ClosedAt (view.graph table.now.graph.now) low live.new b) }
+{
+    let old = live.word(b);
+    let new = old | (onward(table, live, b) & !writes.word(b));
+    live.set(b, new);
+    new != old
+}
+
+// What is live after the block with this number.
+fn onward(table: &Table<'_>, live: &Words, b: usize) -> u64
+    requires { TableIs table.now }
+    ensures { (low : ℕ) →
+        Marks low result (Carried (block_at (view.graph table.now.graph.now) b).exit low live.now) }
+{
+    match table.spot(b) {
+        Some(spot) => carried(&spot.block.exit, live),
+        None => 0,
+    }
+}
+
+fn carried(exit: &Leave, live: &Words) -> u64
+    ensures { (low : ℕ) → Marks low result (Carried (view.exit exit.now) low live.now) }
+{
+    match exit {
+        Leave::Goto(c) => live.word(*c as usize),
+        Leave::Branch(_, a, c) => live.word(*a as usize) | live.word(*c as usize),
+        Leave::Call { back, .. } => live.word(*back as usize),
+        _ => 0,
+    }
+}

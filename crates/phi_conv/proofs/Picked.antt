@@ -1,0 +1,185 @@
+-- Numbers of a list: those that were added, and those that pass a test.
+use Rattle.std.proofs.Common.{ℕ, ◌≡◌, ◌<◌, ◌⊎◌, ◌==◌, ◌||◌, Bool, true, false, if◌then◌else◌, List, [], ◌∷◌, ◌++◌, refl, sym, ap, ◌∙◌, inl, inr, arith}
+use Rattle.std.specs.List.{AllByRecursion, filter}
+use Rattle.std.proofs.lemmas.Bool.{cases_eq}
+use Rattle.std.proofs.lemmas.Bool.Decides.{nat_tests}
+use Rattle.cfg_core.specs.Graph.{Op, Assign, Store, Print, Read, Give, Take, Choose, Tick, TickBy, Graph}
+use Rattle.cfg_core.specs.Rules.{In, OpIn}
+use Rattle.phi_conv.specs.Joined.{is_among, added, written}
+
+-- a number is itself
+pub is_self : (n : ℕ) → (n == n) ≡ true
+is_self n = by_test (n == n) refl
+  where
+    by_test : (b : Bool) → (n == n) ≡ b → (n == n) ≡ true
+    by_test true e = e
+    by_test false e = absurd (let z : n ≡ n → ⊥ = λ q. grind (arith, nat_tests) in z refl)
+
+not_self : (n m : ℕ) → (n ≡ m → ⊥) → (n == m) ≡ false
+not_self n m ne = by_test (n == m) refl
+  where
+    by_test : (b : Bool) → (n == m) ≡ b → (n == m) ≡ false
+    by_test true e = absurd (ne (grind (arith, nat_tests)))
+    by_test false e = e
+
+either : (b c : Bool) → (b || c) ≡ true → (b ≡ true) ⊎ (c ≡ true)
+either true c e = inl refl
+either false c e = inr e
+
+or_true : (b c : Bool) → c ≡ true → (b || c) ≡ true
+or_true true c e = refl
+or_true false c e = e
+
+not_both : {b : Bool} → b ≡ true → b ≡ false → ⊥
+not_both e f = absurd (cc)
+
+true_or_false : (b : Bool) → (b ≡ true) ⊎ (b ≡ false)
+true_or_false true = inl refl
+true_or_false false = inr refl
+
+-- a number that isn't there where it isn't in a longer list
+pub less_among : (xs ys : List ℕ) (x : ℕ) → (is_among xs x ≡ true → is_among ys x ≡ true) → is_among ys x ≡ false → is_among xs x ≡ false
+less_among xs ys x f e = elim (true_or_false (is_among xs x)) [ inl t ↦ absurd (not_both (f t) e) | inr d ↦ d ]
+
+-- a number that the test finds is there
+pub among_in : (xs : List ℕ) (x : ℕ) → is_among xs x ≡ true → In x xs
+among_in [] x e = absurd (cc)
+among_in (y ∷ xs) x e = elim (either (x == y) (is_among xs x) e) [
+  | inl h ↦ inl (grind (arith, nat_tests))
+  | inr h ↦ inr (among_in xs x h)
+]
+
+-- one that is there is found
+pub in_among : (xs : List ℕ) (x : ℕ) → In x xs → is_among xs x ≡ true
+in_among [] x i = absurd i
+in_among (y ∷ xs) x (inl e) = ap (λ b. b || is_among xs x) (ap (λ n. x == n) (sym e) ∙ is_self x)
+in_among (y ∷ xs) x (inr i) = or_true (x == y) (is_among xs x) (in_among xs x i)
+
+in_left : (x : ℕ) (xs ys : List ℕ) → In x xs → In x (xs ++ ys)
+in_left x [] ys h = absurd h
+in_left x (y ∷ xs) ys (inl e) = inl e
+in_left x (y ∷ xs) ys (inr h) = inr (in_left x xs ys h)
+
+in_right : (x : ℕ) (xs ys : List ℕ) → In x ys → In x (xs ++ ys)
+in_right x [] ys h = h
+in_right x (y ∷ xs) ys h = inr (in_right x xs ys h)
+
+in_both : (x : ℕ) (xs ys : List ℕ) → In x (xs ++ ys) → In x xs ⊎ In x ys
+in_both x [] ys h = inr h
+in_both x (y ∷ xs) ys (inl e) = inl (inl e)
+in_both x (y ∷ xs) ys (inr h) = elim (in_both x xs ys h) [ inl i ↦ inl (inr i) | inr i ↦ inr i ]
+
+-- a number that was added is there
+pub added_here : (done : List ℕ) (x : ℕ) → is_among (added done x) x ≡ true
+added_here done x = by_test (is_among done x) refl
+  where
+    by_test : (b : Bool) → is_among done x ≡ b → is_among (if b then done else done ++ x ∷ []) x ≡ true
+    by_test true e = e
+    by_test false e = in_among (done ++ x ∷ []) x (in_right x done (x ∷ []) (inl refl))
+
+-- another is there where it was
+pub added_other : (done : List ℕ) (x y : ℕ) → (y ≡ x → ⊥) → is_among (added done x) y ≡ is_among done y
+added_other done x y ne = by_test (is_among done x)
+  where
+    pushed : (b : Bool) → is_among done y ≡ b → is_among (done ++ x ∷ []) y ≡ b
+    pushed true e = in_among (done ++ x ∷ []) y (in_left y done (x ∷ []) (among_in done y e))
+    pushed false e = elim (true_or_false (is_among (done ++ x ∷ []) y)) [
+      | inl t ↦ absurd (elim (in_both y done (x ∷ []) (among_in (done ++ x ∷ []) y t)) [
+        | inl i ↦ not_both (in_among done y i) e
+        | inr i ↦ elim i [ inl q ↦ ne q | inr z ↦ z ]
+      ])
+      | inr f ↦ f
+    ]
+
+    by_test : (b : Bool) → is_among (if b then done else done ++ x ∷ []) y ≡ is_among done y
+    by_test true = refl
+    by_test false = pushed (is_among done y) refl
+
+-- what is there stays there
+added_stays : (done : List ℕ) (x y : ℕ) → is_among done y ≡ true → is_among (added done x) y ≡ true
+added_stays done x y e = elim (cases_eq y x) [
+  | inl same ↦ ap (is_among (added done x)) same ∙ added_here done x
+  | inr ne ↦ added_other done x y ne ∙ e
+]
+
+-- what was written stays written
+pub written_stays : (done : List ℕ) (ops : List Op) (y : ℕ) → is_among done y ≡ true → is_among (written done ops) y ≡ true
+written_stays done [] y e = e
+written_stays done (Assign x t ∷ ops) y e = written_stays (added done x) ops y (added_stays done x y e)
+written_stays done (Store a t u ∷ ops) y e = written_stays done ops y e
+written_stays done (Print t ∷ ops) y e = written_stays done ops y e
+written_stays done (Read x ∷ ops) y e = written_stays done ops y e
+written_stays done (Give p x ∷ ops) y e = written_stays done ops y e
+written_stays done (Take p t ∷ ops) y e = written_stays done ops y e
+written_stays done (Choose x t a b ∷ ops) y e = written_stays done ops y e
+written_stays done (Tick n ∷ ops) y e = written_stays done ops y e
+written_stays done (TickBy t n m ∷ ops) y e = written_stays done ops y e
+
+added_more : (done more : List ℕ) (x y : ℕ) → (is_among done y ≡ true → is_among more y ≡ true) → is_among (added done x) y ≡ true → is_among (added more x) y ≡ true
+added_more done more x y f e = elim (cases_eq y x) [
+  | inl same ↦ ap (is_among (added more x)) same ∙ added_here more x
+  | inr ne ↦ added_other more x y ne ∙ f (sym (added_other done x y ne) ∙ e)
+]
+
+-- what an arm writes is among what was written before and by the arm
+pub written_more : (done more : List ℕ) (ops : List Op) (y : ℕ) → (is_among done y ≡ true → is_among more y ≡ true) → is_among (written done ops) y ≡ true → is_among (written more ops) y ≡ true
+written_more done more [] y f e = f e
+written_more done more (Assign x t ∷ ops) y f e = written_more (added done x) (added more x) ops y (added_more done more x y f) e
+written_more done more (Store a t u ∷ ops) y f e = written_more done more ops y f e
+written_more done more (Print t ∷ ops) y f e = written_more done more ops y f e
+written_more done more (Read x ∷ ops) y f e = written_more done more ops y f e
+written_more done more (Give p x ∷ ops) y f e = written_more done more ops y f e
+written_more done more (Take p t ∷ ops) y f e = written_more done more ops y f e
+written_more done more (Choose x t a b ∷ ops) y f e = written_more done more ops y f e
+written_more done more (Tick n ∷ ops) y f e = written_more done more ops y f e
+written_more done more (TickBy t n m ∷ ops) y f e = written_more done more ops y f e
+
+module _ (g : Graph) (v : ℕ) where
+  added_low : (done : List ℕ) (x : ℕ) → x < v → ((y : ℕ) → In y done → y < v) → (y : ℕ) → In y (added done x) → y < v
+  added_low done x lt f y = by_test (is_among done x)
+    where
+      by_test : (b : Bool) → In y (if b then done else done ++ x ∷ []) → y < v
+      by_test true i = f y i
+      by_test false i = elim (in_both y done (x ∷ []) i) [
+        | inl h ↦ f y h
+        | inr h ↦ elim h [ inl e ↦ omega (arith, e, lt) | inr z ↦ absurd z ]
+      ]
+
+  -- the variables that operations write exist
+  pub written_low : (done : List ℕ) (ops : List Op) → AllByRecursion (OpIn g v) ops → ((y : ℕ) → In y done → y < v) → (y : ℕ) → In y (written done ops) → y < v
+  written_low done [] h f y i = f y i
+  written_low done (Assign x t ∷ ops) h f y i = written_low (added done x) ops h.1 (added_low done x h.0.0 f) y i
+  written_low done (Store a t u ∷ ops) h f y i = written_low done ops h.1 f y i
+  written_low done (Print t ∷ ops) h f y i = written_low done ops h.1 f y i
+  written_low done (Read x ∷ ops) h f y i = written_low done ops h.1 f y i
+  written_low done (Give p x ∷ ops) h f y i = written_low done ops h.1 f y i
+  written_low done (Take p t ∷ ops) h f y i = written_low done ops h.1 f y i
+  written_low done (Choose x t a b ∷ ops) h f y i = written_low done ops h.1 f y i
+  written_low done (Tick n ∷ ops) h f y i = written_low done ops h.1 f y i
+  written_low done (TickBy t n m ∷ ops) h f y i = written_low done ops h.1 f y i
+
+-- a number that passes is in the filtered list
+pub in_filter : (p : ℕ → Bool) (xs : List ℕ) (x : ℕ) → In x xs → p x ≡ true → In x (filter p xs)
+in_filter p [] x h e = absurd h
+in_filter p (y ∷ xs) x h e = by_test (p y) refl h (λ i. in_filter p xs x i e)
+  where
+    by_test : (b : Bool) → p y ≡ b → In x (y ∷ xs) → (In x xs → In x (filter p xs)) → In x (if b then y ∷ filter p xs else filter p xs)
+    by_test true ey (inl same) rest = inl same
+    by_test true ey (inr i) rest = inr (rest i)
+    by_test false ey (inl same) rest = let z : p x ≡ p y = ap p same in absurd (cc)
+    by_test false ey (inr i) rest = rest i
+
+-- one in the filtered list passes
+pub filter_in : (p : ℕ → Bool) (xs : List ℕ) (x : ℕ) → In x (filter p xs) → In x xs × (p x ≡ true)
+filter_in p [] x h = absurd h
+filter_in p (y ∷ xs) x h = by_test (p y) refl h (λ i. filter_in p xs x i)
+  where
+    by_test : (b : Bool) → p y ≡ b → In x (if b then y ∷ filter p xs else filter p xs) → (In x (filter p xs) → In x xs × (p x ≡ true)) → In x (y ∷ xs) × (p x ≡ true)
+    by_test true ey (inl same) rest = (inl same, ap p same ∙ ey)
+    by_test true ey (inr i) rest = let r = rest i in (inr r.0, r.1)
+    by_test false ey i rest = let r = rest i in (inr r.0, r.1)
+
+-- what holds of each number of a list holds of all
+pub all_from : (P : ℕ → Type 0) (xs : List ℕ) → ((x : ℕ) → In x xs → P x) → AllByRecursion P xs
+all_from P [] h = tt
+all_from P (x ∷ xs) h = (h x (inl refl), all_from P xs (λ y i. h y (inr i)))

@@ -1,0 +1,220 @@
+-- How large what stands for a short branch is.
+use Rattle.std.proofs.Common.{ℕ, suc, ◌+◌, ◌*◌, ◌≡◌, ◌≤◌, ◌⊎◌, Bool, true, false, if◌then◌else◌, List, [], ◌∷◌, ◌++◌, length, map, Option, Some, None, refl, sym, ap, ◌∙◌, subst, inl, inr, arith, length-append}
+use Rattle.std.specs.List.{filter, sum_by}
+use Rattle.std.proofs.lemmas.List.Sums.{sum_by-cons, sum_by-append}
+use Rattle.cfg_core.specs.Graph.{Term, Number, Var, Cell, Flip, Not, Neg, Binary, Op, Assign, Store, Print, Read, Give, Take, Choose, Tick, TickBy, Exit, Goto, Branch, Call, Return, Send, Stop, Block, Graph, spot_at, block_at}
+use Rattle.cfg_core.specs.Weights.{term_nodes, op_nodes, exit_nodes, block_nodes}
+use Rattle.live_vars.specs.Marks.{has}
+use Rattle.phi_conv.specs.Short.{Short, all_nodes, most_nodes, short}
+use Rattle.phi_conv.specs.Joined.{first_base, second_base, turns_of, is_among, added, renamed, arm, written, written_by, is_still, keep_test, test_if, test_of, choice, choices, joining, joined_if, joined}
+use Rattle.phi_conv.specs.Keeps.{most_more_ops, most_more_nodes, JoinedAt, ShortJoined, SizesKept}
+use Rattle.phi_conv.proofs.Counting.{some_nodes}
+use Rattle.phi_conv.proofs.Ways.{ways, found}
+use Rattle.phi_conv.proofs.Placing.{block_is, spots_count}
+
+-- an arm
+
+renamed_nodes : (base : ℕ) (done : List ℕ) (t : Term) → term_nodes (renamed base done t) ≡ term_nodes t
+renamed_nodes base done (Number n) = refl
+renamed_nodes base done (Var x) = refl
+renamed_nodes base done (Cell a t) = ap suc (renamed_nodes base done t)
+renamed_nodes base done (Flip t) = ap suc (renamed_nodes base done t)
+renamed_nodes base done (Not t) = ap suc (renamed_nodes base done t)
+renamed_nodes base done (Neg t) = ap suc (renamed_nodes base done t)
+renamed_nodes base done (Binary op a b) = let x = renamed_nodes base done a in let y = renamed_nodes base done b in omega (arith, x, y)
+
+arm_size : (base : ℕ) (done : List ℕ) (ops : List Op) → sum_by op_nodes (arm base done ops) ≡ all_nodes ops
+arm_size base done [] = refl
+arm_size base done (Assign x t ∷ ops) = let a = renamed_nodes base done t in let b = arm_size base (added done x) ops in let c = sum_by-cons op_nodes (Assign (base + x) (renamed base done t)) (arm base (added done x) ops) in omega (arith, a, b, c)
+arm_size base done (Store a t u ∷ ops) = let b = arm_size base done ops in omega (arith, b)
+arm_size base done (Print t ∷ ops) = let b = arm_size base done ops in omega (arith, b)
+arm_size base done (Read x ∷ ops) = let b = arm_size base done ops in omega (arith, b)
+arm_size base done (Give p x ∷ ops) = let b = arm_size base done ops in omega (arith, b)
+arm_size base done (Take p t ∷ ops) = let b = arm_size base done ops in omega (arith, b)
+arm_size base done (Choose x t a b ∷ ops) = let b = arm_size base done ops in omega (arith, b)
+arm_size base done (Tick n ∷ ops) = let b = arm_size base done ops in omega (arith, b)
+arm_size base done (TickBy t n m ∷ ops) = let b = arm_size base done ops in omega (arith, b)
+
+arm_count : (base : ℕ) (done : List ℕ) (ops : List Op) → length (arm base done ops) ≤ all_nodes ops
+arm_count base done [] = omega arith
+arm_count base done (Assign x t ∷ ops) = let a = some_nodes t in let b = arm_count base (added done x) ops in omega (arith, a, b)
+arm_count base done (Store a t u ∷ ops) = let b = arm_count base done ops in omega (arith, b)
+arm_count base done (Print t ∷ ops) = let b = arm_count base done ops in omega (arith, b)
+arm_count base done (Read x ∷ ops) = let b = arm_count base done ops in omega (arith, b)
+arm_count base done (Give p x ∷ ops) = let b = arm_count base done ops in omega (arith, b)
+arm_count base done (Take p t ∷ ops) = let b = arm_count base done ops in omega (arith, b)
+arm_count base done (Choose x t a b ∷ ops) = let b = arm_count base done ops in omega (arith, b)
+arm_count base done (Tick n ∷ ops) = let b = arm_count base done ops in omega (arith, b)
+arm_count base done (TickBy t n m ∷ ops) = let b = arm_count base done ops in omega (arith, b)
+
+-- the variables that it writes
+
+added_count : (done : List ℕ) (x : ℕ) → length (added done x) ≤ suc (length done)
+added_count done x = by_test (is_among done x)
+  where
+    by_test : (b : Bool) → length (if b then done else done ++ x ∷ []) ≤ suc (length done)
+    by_test true = omega arith
+    by_test false = omega (arith, length-append done (x ∷ []))
+
+written_count : (done : List ℕ) (ops : List Op) → length (written done ops) ≤ length done + all_nodes ops
+written_count done [] = omega arith
+written_count done (Assign x t ∷ ops) = let a = some_nodes t in let c = added_count done x in let b = written_count (added done x) ops in omega (arith, a, b, c)
+written_count done (Store a t u ∷ ops) = let b = written_count done ops in omega (arith, b)
+written_count done (Print t ∷ ops) = let b = written_count done ops in omega (arith, b)
+written_count done (Read x ∷ ops) = let b = written_count done ops in omega (arith, b)
+written_count done (Give p x ∷ ops) = let b = written_count done ops in omega (arith, b)
+written_count done (Take p t ∷ ops) = let b = written_count done ops in omega (arith, b)
+written_count done (Choose x t a b ∷ ops) = let b = written_count done ops in omega (arith, b)
+written_count done (Tick n ∷ ops) = let b = written_count done ops in omega (arith, b)
+written_count done (TickBy t n m ∷ ops) = let b = written_count done ops in omega (arith, b)
+
+filter_count : (p : ℕ → Bool) (xs : List ℕ) → length (filter p xs) ≤ length xs
+filter_count p [] = omega arith
+filter_count p (x ∷ xs) = by_test (p x) (filter_count p xs)
+  where
+    by_test : (b : Bool) → length (filter p xs) ≤ length xs → length (if b then x ∷ filter p xs else filter p xs) ≤ suc (length xs)
+    by_test true le = omega (arith, le)
+    by_test false le = omega (arith, le)
+
+map_count : {A B : Type 0} (f : A → B) (xs : List A) → length (map f xs) ≡ length xs
+map_count f [] = refl
+map_count f (x ∷ xs) = ap suc (map_count f xs)
+
+-- a sum over two lists
+pub sum_both : (f : Op → ℕ) (xs ys : List Op) → sum_by f (xs ++ ys) ≡ sum_by f xs + sum_by f ys
+sum_both f xs ys = sum_by-append f xs ys
+
+held_nodes : (c : Bool) (v : ℕ) (either : List ℕ) (t : Term) → is_still either t ≡ c → term_nodes (test_if c v t) ≡ 1
+held_nodes true v either (Number n) e = refl
+held_nodes true v either (Var x) e = refl
+held_nodes true v either (Cell a t) e = absurd (cc)
+held_nodes true v either (Flip t) e = absurd (cc)
+held_nodes true v either (Not t) e = absurd (cc)
+held_nodes true v either (Neg t) e = absurd (cc)
+held_nodes true v either (Binary op a b) e = absurd (cc)
+held_nodes false v either t e = refl
+
+keep_count : (c : Bool) (v : ℕ) (t : Term) → length (keep_test c v t) ≤ 1
+keep_count true v t = omega arith
+keep_count false v t = omega arith
+
+keep_size : (c : Bool) (v : ℕ) (t : Term) → sum_by op_nodes (keep_test c v t) ≤ term_nodes t
+keep_size true v t = omega arith
+keep_size false v t = omega arith
+
+module _ (live : List (List ℕ)) (v : ℕ) (s : Short) (few : all_nodes s.first + all_nodes s.second ≤ most_nodes) where
+  test_nodes : term_nodes (test_of v s) ≡ 1
+  test_nodes = held_nodes (is_still (written_by s) s.test) v (written_by s) s.test refl
+
+  choices_size : (xs : List ℕ) → sum_by op_nodes (map (choice v s) xs) ≡ 3 * length xs
+  choices_size [] = refl
+  choices_size (x ∷ xs) = let a = test_nodes in let r = choices_size xs in let c = sum_by-cons op_nodes (choice v s x) (map (choice v s) xs) in omega (arith, a, r, c)
+
+  abbrev chosen : List ℕ
+  chosen = filter (has live s.join) (written_by s)
+
+  chosen_count : length chosen ≤ most_nodes
+  chosen_count =
+      let a = filter_count (has live s.join) (written_by s) in
+      let b = written_count (written [] s.first) s.second in
+      let c = written_count [] s.first in
+      omega (arith, a, b, c, few)
+
+  abbrev arms : List Op
+  arms = arm (first_base v) [] s.first ++ (arm (second_base v) [] s.second ++ choices live v s)
+
+  abbrev turns : Op
+  turns = TickBy (test_of v s) (turns_of s.first) (turns_of s.second)
+
+  -- how many operations stand for a short branch
+  pub joining_count : length (joining live v s) ≤ most_more_ops
+  joining_count =
+      let a = arm_count (first_base v) [] s.first in
+      let b = arm_count (second_base v) [] s.second in
+      let c = chosen_count in
+      let d = map_count (choice v s) chosen in
+      let e = keep_count (is_still (written_by s) s.test) v s.test in
+      let f = length-append (keep_test (is_still (written_by s) s.test) v s.test) (turns ∷ arms) in
+      let i = length-append (arm (first_base v) [] s.first) (arm (second_base v) [] s.second ++ choices live v s) in
+      let j = length-append (arm (second_base v) [] s.second) (choices live v s) in
+      omega (arith, a, b, c, d, e, f, i, j, few)
+
+  -- how many nodes they have
+  pub joining_size : sum_by op_nodes (joining live v s) ≤ term_nodes s.test + most_more_nodes
+  joining_size =
+      let a = arm_size (first_base v) [] s.first in
+      let b = arm_size (second_base v) [] s.second in
+      let c = chosen_count in
+      let d = choices_size chosen in
+      let e = keep_size (is_still (written_by s) s.test) v s.test in
+      let f = sum_both op_nodes (keep_test (is_still (written_by s) s.test) v s.test) (turns ∷ arms) in
+      let i = sum_both op_nodes (arm (first_base v) [] s.first) (arm (second_base v) [] s.second ++ choices live v s) in
+      let j = sum_both op_nodes (arm (second_base v) [] s.second) (choices live v s) in
+      let k = test_nodes in
+      let l = sum_by-cons op_nodes turns arms in
+      omega (arith, a, b, c, d, e, f, i, j, k, l, few)
+
+module _ (g : Graph) (live : List (List ℕ)) where
+  abbrev h : Graph
+  h = joined g live
+
+  -- a block whose exit is this short branch
+  is_joined : (b : ℕ) (x : Exit) (s : Short) → (block_at g b).exit ≡ x → short g x ≡ Some s → JoinedAt g h b
+  is_joined b (Branch t c d) s e f = record {
+    test = t;
+    first = c;
+    second = d;
+    short = s;
+    branch = e;
+    is = ways g t c d s f;
+    goes = ap (λ (x : Block). x.exit) (block_is g live b) ∙ ap (λ (r : Option Short). (joined_if live (spot_at g b).vars (block_at g b) r).exit) (ap (short g) e ∙ f);
+  }
+  is_joined b (Goto c) s e f = absurd (cc)
+  is_joined b (Call r c ts back) s e f = absurd (cc)
+  is_joined b (Return t) s e f = absurd (cc)
+  is_joined b (Send t ts ls) s e f = absurd (cc)
+  is_joined b Stop s e f = absurd (cc)
+
+  -- every short branch is joined, and all other blocks are the same
+  pub short_joined : ShortJoined g h
+  short_joined = record {
+    every = λ b t c d s e i. let r = found g t c d s i in is_joined b (Branch t c d) r.0 e r.1;
+    others = λ b. by_short b (short g (block_at g b).exit) refl;
+  }
+    where
+      by_short : (b : ℕ) (r : Option Short) → short g (block_at g b).exit ≡ r → (block_at h b ≡ block_at g b) ⊎ JoinedAt g h b
+      by_short b None e = inl (block_is g live b ∙ ap (joined_if live (spot_at g b).vars (block_at g b)) e)
+      by_short b (Some s) e = inr (is_joined b (block_at g b).exit s refl e)
+
+  exit_has : (x : Exit) (s : Short) → short g x ≡ Some s → (exit_nodes x ≡ term_nodes s.test) × (all_nodes s.first + all_nodes s.second ≤ most_nodes)
+  exit_has (Branch t c d) s e = let w = ways g t c d s e in (ap term_nodes (sym w.test), w.few)
+  exit_has (Goto c) s e = absurd (cc)
+  exit_has (Call r c ts back) s e = absurd (cc)
+  exit_has (Return t) s e = absurd (cc)
+  exit_has (Send t ts ls) s e = absurd (cc)
+  exit_has Stop s e = absurd (cc)
+
+  -- how many operations stand for a short branch
+  pub joining_few : (b v : ℕ) (s : Short) → short g (block_at g b).exit ≡ Some s → length (joining live v s) ≤ most_more_ops
+  joining_few b v s e = joining_count live v s (exit_has (block_at g b).exit s e).1
+
+  ops_kept : (b : ℕ) (v : ℕ) (r : Option Short) → short g (block_at g b).exit ≡ r → length (joined_if live v (block_at g b) r).ops ≤ length (block_at g b).ops + most_more_ops
+  ops_kept b v None e = omega arith
+  ops_kept b v (Some s) e = let a = joining_count live v s (exit_has (block_at g b).exit s e).1 in omega (arith, a, length-append (block_at g b).ops (joining live v s))
+
+  -- how many nodes a block has more
+  pub nodes_kept : (b : ℕ) (v : ℕ) (r : Option Short) → short g (block_at g b).exit ≡ r → block_nodes (joined_if live v (block_at g b) r) ≤ block_nodes (block_at g b) + most_more_nodes
+  nodes_kept b v None e = omega arith
+  nodes_kept b v (Some s) e =
+      let x = exit_has (block_at g b).exit s e in
+      let a = joining_size live v s x.1 in
+      let y = x.0 in
+      omega (arith, a, y, sum_both op_nodes (block_at g b).ops (joining live v s))
+
+  -- as many blocks, not much larger ones
+  pub sizes_kept : SizesKept g h
+  sizes_kept = record {
+    count = spots_count g live;
+    ops = λ b. subst (λ (x : Block). length x.ops ≤ length (block_at g b).ops + most_more_ops) (sym (block_is g live b)) (ops_kept b (spot_at g b).vars (short g (block_at g b).exit) refl);
+    nodes = λ b. subst (λ (x : Block). block_nodes x ≤ block_nodes (block_at g b) + most_more_nodes) (sym (block_is g live b)) (nodes_kept b (spot_at g b).vars (short g (block_at g b).exit) refl);
+  }

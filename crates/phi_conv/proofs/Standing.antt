@@ -1,0 +1,159 @@
+-- Two walks beside one another: at the same block, with states that agree on what is live, and frames that do so where they go on.
+use Rattle.std.proofs.Common.{ℕ, zero, suc, ◌+◌, ◌-◌, ◌≡◌, ◌<◌, ◌⊎◌, Bool, true, false, if◌then◌else◌, List, [], ◌∷◌, ◌++◌, length, get_or, set, Option, Some, None, refl, sym, ap, ◌∙◌, subst, inl, inr, arith}
+use Rattle.std.proofs.lemmas.Bool.{cases_eq, cases_lt}
+use Rattle.std.proofs.lemmas.List.{get_or-set_same, get_or-set_other, length-set}
+use Rattle.ws_words.specs.Outside.{Outside, State}
+use Rattle.cfg_core.specs.Graph.{Op, Exit, Block, GraphProc, Graph, Spot, spots_in, spots_from, spots, nth, or_else, no_spot, no_proc, spot_at, block_at}
+use Rattle.cfg_core.specs.Rules.{StaysIn, ResultIn, BlockNumbers, IsGraph}
+use Rattle.cfg_core.specs.Walk.{Frame, Config, At, Over, Going, with_result, returned}
+use Rattle.cfg_core.proofs.Total.{each_at}
+use Rattle.live_vars.specs.Live.{ExitReads, ExitWrites, Carries, WrittenIn, ReadsFirst, Live, reads, passes}
+use Rattle.phi_conv.specs.Joined.{more_vars}
+use Rattle.phi_conv.proofs.Copies.{Needs}
+use Rattle.phi_conv.proofs.Agreeing.{Agree, States}
+
+nth_left : {A : Type 0} (xs ys : List A) (k : ℕ) → k < length xs → nth (xs ++ ys) k ≡ nth xs k
+nth_left [] ys k lt = absurd (omega arith)
+nth_left (x ∷ xs) ys zero lt = refl
+nth_left (x ∷ xs) ys (suc k) lt = nth_left xs ys k (omega arith)
+
+nth_right : {A : Type 0} (xs ys : List A) (n k m : ℕ) → length xs ≡ n → m ≡ n + k → nth (xs ++ ys) m ≡ nth ys k
+nth_right [] ys n k m e em = ap (nth ys) (omega (arith, e, em))
+nth_right (x ∷ xs) ys zero k m e em = absurd (omega (arith, e))
+nth_right (x ∷ xs) ys (suc n) k zero e em = absurd (omega (arith, em))
+nth_right (x ∷ xs) ys (suc n) k (suc m) e em = nth_right xs ys n k m (omega (arith, e)) (omega (arith, em))
+
+nth_there : {A : Type 0} (xs : List A) (k : ℕ) (d : A) → k < length xs → nth xs k ≡ Some (or_else (nth xs k) d)
+nth_there [] k d lt = absurd (omega arith)
+nth_there (x ∷ xs) zero d lt = refl
+nth_there (x ∷ xs) (suc k) d lt = nth_there xs k d (omega arith)
+
+record HomeIs (f : ℕ) (ps : List GraphProc) (s : Spot) : Type 0 where
+  pub place : ℕ
+  pub home : s.home ≡ f + place
+  pub there : place < length ps
+  pub vars : s.vars ≡ (or_else (nth ps place) no_proc).vars
+
+in_blocks : (home vars : ℕ) (xs : List Block) (i : ℕ) (s : Spot) → nth (spots_in home vars xs) i ≡ Some s → (s.home ≡ home) × (s.vars ≡ vars)
+in_blocks home vars [] i s e = absurd (cc)
+in_blocks home vars (x ∷ xs) zero s e = (cc, cc)
+in_blocks home vars (x ∷ xs) (suc i) s e = in_blocks home vars xs i s e
+
+home_is : (f : ℕ) (ps : List GraphProc) (i : ℕ) (s : Spot) → nth (spots_from f ps) i ≡ Some s → HomeIs f ps s
+home_is f [] i s e = absurd (cc)
+home_is f (p ∷ ps) i s e = elim (cases_lt i (length (spots_in f p.vars p.blocks))) [
+  | inl lt ↦
+      let r = in_blocks f p.vars p.blocks i s (sym (nth_left (spots_in f p.vars p.blocks) (spots_from (suc f) ps) i lt) ∙ e) in
+      record { place = 0; home = omega (arith, r.0); there = omega arith; vars = r.1 }
+  | inr ge ↦
+      let n = length (spots_in f p.vars p.blocks) in
+      let k = i - n in
+      let r = home_is (suc f) ps k s (sym (nth_right (spots_in f p.vars p.blocks) (spots_from (suc f) ps) n k i refl (omega (arith, ge))) ∙ e) in
+      record { place = suc r.place; home = omega (arith, r.home); there = omega (arith, r.there); vars = r.vars }
+]
+
+-- what matters at the exit of a block
+abbrev pub After : Graph → Exit → ℕ → Type 0
+After g exit x = ExitReads exit x ⊎ ((ExitWrites exit x → ⊥) × ((c : ℕ) × Carries exit c × Live g c x))
+
+split : (ops : List Op) (exit : Exit) (Q : ℕ → Type 0) (x : ℕ) → Needs ops (λ y. ExitReads exit y ⊎ Q y) x → ReadsFirst ops exit x ⊎ ((WrittenIn ops x → ⊥) × Q x)
+split [] exit Q x (inl r) = inl r
+split [] exit Q x (inr q) = inr ((λ w. w), q)
+split (op ∷ ops) exit Q x (inl r) = inl (inl r)
+split (op ∷ ops) exit Q x (inr n) = elim (split ops exit Q x n.1) [
+  | inl r ↦ inl (inr (n.0, r))
+  | inr q ↦ inr (λ w. elim w [ inl h ↦ n.0 h | inr h ↦ q.0 h ], q.1)
+]
+
+-- what matters at the start of a block is live there
+pub needed_is_live : (g : Graph) (b x : ℕ) → Needs (block_at g b).ops (After g (block_at g b).exit) x → Live g b x
+needed_is_live g b x n = elim (split (block_at g b).ops (block_at g b).exit (λ y. (ExitWrites (block_at g b).exit y → ⊥) × ((c : ℕ) × Carries (block_at g b).exit c × Live g c y)) x n) [
+  | inl r ↦ reads b x r
+  | inr q ↦ passes b q.1.1.0 x q.0 q.1.0 q.1.1.1 q.1.1.2
+]
+
+-- the variable that takes a result
+abbrev pub ResultIs : Option ℕ → ℕ → Type 0
+ResultIs None x = ⊥
+ResultIs (Some y) x = x ≡ y
+
+module _ (g : Graph) (rules : IsGraph g) where
+  -- how many variables a block's procedure has
+  abbrev pub vars_at : ℕ → ℕ
+  vars_at b = (spot_at g b).vars
+
+  -- blocks of one procedure have as many variables
+  pub same_vars : (b c : ℕ) → b < length (spots g) → c < length (spots g) → (spot_at g c).home ≡ (spot_at g b).home → vars_at c ≡ vars_at b
+  unfolding spot_at
+  same_vars b c lb lc e =
+      let hb = home_is 0 g.procs b (spot_at g b) (nth_there (spots g) b no_spot lb) in
+      let hc = home_is 0 g.procs c (spot_at g c) (nth_there (spots g) c no_spot lc) in
+      let same : hc.place ≡ hb.place = omega (arith, e, hb.home, hc.home) in
+      hc.vars ∙ ap (λ n. (or_else (nth g.procs n) no_proc).vars) same ∙ sym hb.vars
+
+  -- what a block names exists
+  pub numbers_at : (b : ℕ) → BlockNumbers g (spot_at g b)
+  unfolding spot_at no_spot
+  numbers_at b = each_at (BlockNumbers g) (spots g) no_spot rules.numbers.blocks (record { ops = tt; exit = tt; named = tt; once = tt }) b
+
+  -- a call that waits in both walks
+  pub record Waits (f e : Frame) : Type 0 where
+    pub back : f.back ≡ e.back
+    pub result : f.result ≡ e.result
+    pub there : f.back < length (spots g)
+    pub inside : ResultIn (vars_at f.back) f.result
+    pub vars : Agree (vars_at f.back) (λ x. (ResultIs f.result x → ⊥) × Live g f.back x) f.vars e.vars
+    pub long : length f.vars ≡ vars_at f.back
+    pub longer : length e.vars ≡ more_vars (vars_at f.back)
+
+  -- the calls that wait in both walks
+  abbrev pub Stack : List Frame → List Frame → Type 0
+  Stack [] [] = Unit {0}
+  Stack (f ∷ fs) (e ∷ es) = Waits f e × Stack fs es
+  Stack _ _ = ⊥
+
+  -- the same block, frames and turns left, and states that agree on what is live; or the same answer
+  abbrev pub Along : Config → Config → Type 0
+  Along (At b s fs k) (At c r es j) = (b ≡ c) × (k ≡ j) × (b < length (spots g)) × States (vars_at b) (Live g b) s r × Stack fs es
+  Along (Over o k) (Over p j) = (k ≡ j) × (o ≡ p)
+  Along (Going o) (Going p) = o ≡ p
+  Along _ _ = ⊥
+
+  -- on to a block of the same procedure
+  pub goes_to : (b c : ℕ) → b < length (spots g) → StaysIn g (spot_at g b).home c → (s r : State) (fs es : List Frame) (k : ℕ) → States (vars_at b) (Live g c) s r → Stack fs es → Along (At c s fs k) (At c r es k)
+  goes_to b c lb stays s r fs es k st stack = (refl, refl, stays.0, subst (λ n. States n (Live g c) s r) (sym (same_vars b c lb stays.0 stays.1)) st, stack)
+
+  -- the same test leads to configurations that go along
+  pub if_along : (x y : Bool) (c c' d d' : Config) → x ≡ y → Along c c' → Along d d' → Along (if x then c else d) (if y then c' else d')
+  if_along true true c c' d d' e h i = h
+  if_along false false c c' d d' e h i = i
+  if_along true false c c' d d' e h i = absurd (cc)
+  if_along false true c c' d d' e h i = absurd (cc)
+
+  -- the variable that takes the result has it, and the others what they had
+  result_states : (v : ℕ) (P : ℕ → Type 0) (x : Option ℕ) (w u : ℕ) (vs ws : List ℕ) (o p : Outside) → w ≡ u → ResultIn v x → Agree v (λ y. (ResultIs x y → ⊥) × P y) vs ws → length vs ≡ v → length ws ≡ more_vars v → o ≡ p → States v P (record { vars = with_result x w vs; out = o }) (record { vars = with_result x u ws; out = p })
+  result_states v P None w u vs ws o p e i h lv lw eo = record { vars = λ y lt q. h y lt ((λ z. z), q); long = lv; longer = lw; out = eo }
+  result_states v P (Some x) w u vs ws o p e i h lv lw eo = record {
+    vars = λ y lt q. elim (cases_eq y x) [
+      | inl same ↦ subst (λ n. get_or (set vs x w) n 0 ≡ get_or (set ws x u) n 0) (sym same) (get_or-set_same vs x w 0 (omega (arith, i, lv)) ∙ e ∙ sym (get_or-set_same ws x u 0 (omega (arith, i, lw))))
+      | inr ne ↦ get_or-set_other vs x y w 0 ne ∙ h y lt (ne, q) ∙ sym (get_or-set_other ws x y u 0 ne)
+    ];
+    long = length-set vs x w ∙ lv;
+    longer = length-set ws x u ∙ lw;
+    out = eo;
+  }
+
+  -- a return into the frames leads to configurations that go along
+  pub returns : (w u : ℕ) (o p : Outside) (fs es : List Frame) (k : ℕ) → w ≡ u → o ≡ p → Stack fs es → Along (returned w o fs k) (returned u p es k)
+  returns w u o p [] [] k e eo stack = (refl, eo)
+  returns w u o p (f ∷ fs) (q ∷ es) k e eo stack =
+      let m = stack.0 in (
+        m.back,
+        refl,
+        m.there,
+        subst (λ (x : Option ℕ). States (vars_at f.back) (Live g f.back) (record { vars = with_result f.result w f.vars; out = o }) (record { vars = with_result x u q.vars; out = p })) m.result
+            (result_states (vars_at f.back) (Live g f.back) f.result w u f.vars q.vars o p e m.inside m.vars m.long m.longer eo),
+        stack.1,
+      )
+  returns w u o p [] (q ∷ es) k e eo stack = absurd stack
+  returns w u o p (f ∷ fs) [] k e eo stack = absurd stack
