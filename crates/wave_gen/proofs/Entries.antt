@@ -1,0 +1,141 @@
+-- The names that a block needs, and the variables that it reads.
+use Rattle.std.proofs.Common.{ℕ, zero, suc, ◌+◌, ◌≡◌, ◌<◌, ◌≤◌, ◌||◌, Bool, true, false, cond, List, [], ◌∷◌, length, refl, sym, ap, ◌∙◌, subst, inl, inr, arith, eq-eqb, ne_eqb}
+use Rattle.std.proofs.lemmas.Bool.{cases_eq, both_ways, cases_lt, lt-ltb, le-ltb}
+use Rattle.std.specs.List.{AllByRecursion}
+use Rattle.ws_isa.specs.Image.{In}
+use Rattle.cfg_core.specs.Graph as graph
+use Rattle.cfg_core.specs.Graph.{Graph, Spot, Term, Number, Var, Cell, Flip, Not, Neg, Binary, spots, nth, or_else, no_spot}
+use Rattle.cfg_core.specs.Rules as rules
+use Rattle.cfg_core.specs.Rules.{TermIn, OpIn, ExitIn}
+use Rattle.live_vars.specs.Live.{Mentions, OneMentions, OpReads, ExitReads, ReadsFirst}
+use Rattle.wave_gen.specs.Plans.{is_among}
+use Rattle.wave_gen.proofs.Planned.{Apart}
+use Rattle.wave_gen.specs.Listing.{live_from, most_vars}
+
+pub among_in : (x : ℕ) (ys : List ℕ) → is_among x ys ≡ true → In x ys
+among_in x [] e = absurd (both_ways false refl e)
+among_in x (y ∷ ys) e = elim (cases_eq x y) [ inl f ↦ inl f | inr d ↦ inr (among_in x ys (subst (λ z. (z || is_among x ys) ≡ true) (ne_eqb x y d) e)) ]
+
+pub in_among : (x : ℕ) (ys : List ℕ) → In x ys → is_among x ys ≡ true
+in_among x [] h = absurd h
+in_among x (y ∷ ys) h = elim (cases_eq x y) [
+  | inl f ↦ rw (eq-eqb x y f) refl
+  | inr d ↦ rw (ne_eqb x y d) (in_among x ys (elim h [ inl e ↦ absurd (d e) | inr i ↦ i ]))
+]
+
+pub from_rules : (x : ℕ) (ys : List ℕ) → rules.In x ys → In x ys
+from_rules x [] h = h
+from_rules x (y ∷ ys) (inl e) = inl e
+from_rules x (y ∷ ys) (inr h) = inr (from_rules x ys h)
+
+pub to_rules : (x : ℕ) (ys : List ℕ) → In x ys → rules.In x ys
+to_rules x [] h = h
+to_rules x (y ∷ ys) (inl e) = inl e
+to_rules x (y ∷ ys) (inr h) = inr (to_rules x ys h)
+
+-- a name in the list of those of n variables from x on that are live
+pub record LiveName (live : ℕ → Bool) (x n z : ℕ) : Type 0 where
+  pub var : ℕ
+  pub name : z ≡ suc var
+  pub from : x ≤ var
+  pub below : var < x + n
+  pub is_live : live var ≡ true
+
+later_name : (live : ℕ → Bool) (x n z : ℕ) → LiveName live (suc x) n z → LiveName live x (suc n) z
+later_name live x n z h = let a : suc x ≤ h.var = h.from in let b : h.var < suc x + n = h.below in record { var = h.var; name = h.name; from = omega (arith, a); below = omega (arith, b); is_live = h.is_live }
+
+pub live_in : (live : ℕ → Bool) (x n z : ℕ) → In z (live_from live x n) → LiveName live x n z
+live_in live x zero z h = absurd h
+live_in live x (suc n) z h = go (live x) refl (λ i. later_name live x n z (live_in live (suc x) n z i)) h
+  where
+    go : (v : Bool) → live x ≡ v → (In z (live_from live (suc x) n) → LiveName live x (suc n) z) → In z (cond v (suc x ∷ live_from live (suc x) n) (live_from live (suc x) n)) → LiveName live x (suc n) z
+    go true e rest (inl f) = record { var = x; name = f; from = omega arith; below = omega arith; is_live = e }
+    go true e rest (inr i) = rest i
+    go false e rest i = rest i
+
+pub live_has : (live : ℕ → Bool) (x n y : ℕ) → x ≤ y → y < x + n → live y ≡ true → In (suc y) (live_from live x n)
+live_has live x zero y l u e = absurd (omega (arith, l, u))
+live_has live x (suc n) y l u e = elim (cases_eq y x) [
+  | inl f ↦ rw (ap live (sym f) ∙ e) (inl (ap suc f))
+  | inr d ↦ go (live x) (live_has live (suc x) n y (omega (arith, l, d)) (omega (arith, u)) e)
+]
+  where
+    go : (v : Bool) → In (suc y) (live_from live (suc x) n) → In (suc y) (cond v (suc x ∷ live_from live (suc x) n) (live_from live (suc x) n))
+    go true i = inr i
+    go false i = i
+
+pub live_apart : (live : ℕ → Bool) (x n : ℕ) → Apart (live_from live x n)
+live_apart live x zero = tt
+live_apart live x (suc n) = go (live x) (live_apart live (suc x) n)
+  where
+    go : (v : Bool) → Apart (live_from live (suc x) n) → Apart (cond v (suc x ∷ live_from live (suc x) n) (live_from live (suc x) n))
+    go true a = ((λ i. (let h = live_in live (suc x) n (suc x) i in let e : suc x ≡ suc h.var = h.name in let l : suc x ≤ h.var = h.from in omega (arith, e, l))), a)
+    go false a = a
+
+pub live_none : (live : ℕ → Bool) (x n : ℕ) → ((y : ℕ) → y < x + n → live y ≡ true → ⊥) → live_from live x n ≡ []
+live_none live x zero f = refl
+live_none live x (suc n) f = go (live x) refl (live_none live (suc x) n (λ y l. f y (omega (arith, l))))
+  where
+    go : (v : Bool) → live x ≡ v → live_from live (suc x) n ≡ [] → cond v (suc x ∷ live_from live (suc x) n) (live_from live (suc x) n) ≡ []
+    go true e h = absurd (f x (omega arith) e)
+    go false e h = h
+
+-- no block has more variables than the most
+pub most_is : (ss : List Spot) (b : ℕ) → b < length ss → (or_else (nth ss b) no_spot).vars ≤ most_vars ss
+most_is [] b l = absurd (omega (arith, l))
+most_is (s ∷ ss) b l = elim (cases_lt s.vars (most_vars ss)) [
+  | inl u ↦ rw (lt-ltb s.vars (most_vars ss) u) (go b u l (λ c m. most_is ss c m))
+  | inr u ↦ rw (le-ltb s.vars (most_vars ss) u) (ho b u l (λ c m. most_is ss c m))
+]
+  where
+    go : (b : ℕ) → s.vars < most_vars ss → b < suc (length ss) → ((c : ℕ) → c < length ss → (or_else (nth ss c) no_spot).vars ≤ most_vars ss) → (or_else (nth (s ∷ ss) b) no_spot).vars ≤ most_vars ss
+    go zero u m ih = omega (arith, u)
+    go (suc c) u m ih = ih c (omega (arith, m))
+
+    ho : (b : ℕ) → most_vars ss ≤ s.vars → b < suc (length ss) → ((c : ℕ) → c < length ss → (or_else (nth ss c) no_spot).vars ≤ most_vars ss) → (or_else (nth (s ∷ ss) b) no_spot).vars ≤ s.vars
+    ho zero u m ih = omega arith
+    ho (suc c) u m ih = let v : (or_else (nth ss c) no_spot).vars ≤ most_vars ss = ih c (omega (arith, m)) in omega (arith, u, v)
+
+-- the variables of terms are the procedure's
+pub term_below : (g : Graph) (n : ℕ) (t : Term) (y : ℕ) → TermIn g n t → Mentions t y → y < n
+term_below g n (Number w) y h m = absurd m
+term_below g n (Var x) y h m = subst (λ z. z < n) (sym m) h
+term_below g n (Cell a t) y h m = term_below g n t y h.1 m
+term_below g n (Flip t) y h m = term_below g n t y h m
+term_below g n (Not t) y h m = term_below g n t y h m
+term_below g n (Neg t) y h m = term_below g n t y h m
+term_below g n (Binary op a b) y h (inl m) = term_below g n a y h.0 m
+term_below g n (Binary op a b) y h (inr m) = term_below g n b y h.1 m
+
+terms_below : (g : Graph) (n : ℕ) (ts : List Term) (y : ℕ) → AllByRecursion (TermIn g n) ts → OneMentions ts y → y < n
+terms_below g n [] y h m = absurd m
+terms_below g n (t ∷ ts) y h (inl m) = term_below g n t y h.0 m
+terms_below g n (t ∷ ts) y h (inr m) = terms_below g n ts y h.1 m
+
+op_below : (g : Graph) (n : ℕ) (op : graph.Op) (y : ℕ) → OpIn g n op → OpReads op y → y < n
+op_below g n (graph.Assign x t) y h m = term_below g n t y h.1 m
+op_below g n (graph.Store a t u) y h (inl m) = term_below g n t y h.1 m
+op_below g n (graph.Store a t u) y h (inr m) = term_below g n u y h.2 m
+op_below g n (graph.Print t) y h m = term_below g n t y h m
+op_below g n (graph.Read x) y h m = absurd m
+op_below g n (graph.Give p x) y h m = absurd m
+op_below g n (graph.Take p t) y h m = term_below g n t y h.1 m
+op_below g n (graph.Choose x t a b) y h (inl m) = term_below g n t y h.1 m
+op_below g n (graph.Choose x t a b) y h (inr (inl m)) = term_below g n a y h.2 m
+op_below g n (graph.Choose x t a b) y h (inr (inr m)) = term_below g n b y h.3 m
+op_below g n (graph.Tick w) y h m = absurd m
+op_below g n (graph.TickBy t v w) y h m = term_below g n t y h m
+
+exit_below : (g : Graph) (home n : ℕ) (exit : graph.Exit) (y : ℕ) → ExitIn g home n exit → ExitReads exit y → y < n
+exit_below g home n (graph.Goto b) y h m = absurd m
+exit_below g home n (graph.Branch t a b) y h m = term_below g n t y h.0 m
+exit_below g home n (graph.Call r f ts back) y h m = terms_below g n ts y h.3 m
+exit_below g home n (graph.Return t) y h m = term_below g n t y h m
+exit_below g home n (graph.Send t ts ls) y h (inl m) = term_below g n t y h.0 m
+exit_below g home n (graph.Send t ts ls) y h (inr m) = terms_below g n ts y h.1 m
+exit_below g home n graph.Stop y h m = absurd m
+
+pub reads_below : (g : Graph) (home n : ℕ) (ops : List graph.Op) (exit : graph.Exit) (y : ℕ) → AllByRecursion (OpIn g n) ops → ExitIn g home n exit → ReadsFirst ops exit y → y < n
+reads_below g home n [] exit y h e r = exit_below g home n exit y e r
+reads_below g home n (op ∷ ops) exit y h e (inl r) = op_below g n op y h.0 r
+reads_below g home n (op ∷ ops) exit y h e (inr r) = reads_below g home n ops exit y h.1 e r.1

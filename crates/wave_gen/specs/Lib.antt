@@ -1,0 +1,12 @@
+pub mod Waits
+pub mod Wire
+pub mod Plans
+pub mod Gen
+pub mod Drawn
+pub mod Lists
+pub mod Keeps
+pub mod Listing
+pub mod Fitting
+pub mod Words
+pub mod Limits
+pub mod Cost

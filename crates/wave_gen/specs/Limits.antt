@@ -1,0 +1,35 @@
+-- How far the numbers of a draft go.
+use Rattle.std.specs.Prelude.{ℕ, ◌≡◌, ◌≤◌, List, length}
+use Rattle.std.specs.List.{AllByRecursion}
+use Rattle.ws_isa.specs.declared.instr.Op.TheVariants as op
+use Rattle.ws_isa.specs.Image as image
+use Rattle.ws_isa.specs.Image.{Image, IsBlock, IsIn, flat, instr_at}
+use Rattle.ws_isa.specs.Formed.{ConstWithin, PadsRise}
+use Rattle.cfg_core.specs.Graph.{Term, Send, Graph, spots, block_at}
+use Rattle.wave_gen.specs.Words.{GraphOfWords}
+use Rattle.wave_gen.specs.Listing.{start_block}
+
+-- each Send has at most so many values, and the block where the walk begins names no more variables
+pub record BringsAtMost (n : ℕ) (g : Graph) : Type 0 where
+  pub sends : (b : ℕ) (t : Term) (ts : List Term) (ls : List ℕ) →
+      (block_at g b).exit ≡ Send t ts ls → length ts ≤ n
+  pub start : length (block_at g (start_block g)).named ≤ n
+
+-- each Send has at most so many landings
+abbrev pub LandsAtMost : ℕ → Graph → Type 0
+LandsAtMost n g = (b : ℕ) (t : Term) (ts : List Term) (ls : List ℕ) →
+    (block_at g b).exit ≡ Send t ts ls → length ls ≤ n
+
+-- The numbers of a graph's draft: no more blocks than the graph has, and no more waves than blocks;
+-- constants are words; pads rise, and their numbers are at most the most values of a Send.
+pub record KeepsLimits (g : Graph) (draft : Image) : Type 0 where
+  pub blocks : length draft.blocks ≤ length (spots g)
+  pub waves : (b : ℕ) → IsBlock draft b → (image.block_at draft b).wave ≤ length draft.blocks
+  pub consts : GraphOfWords g → AllByRecursion (λ i. ConstWithin i.op) (flat draft.blocks)
+  pub rise : AllByRecursion (λ b. PadsRise b.pads) draft.blocks
+  pub pads : (n : ℕ) → BringsAtMost n g →
+      AllByRecursion (λ b. AllByRecursion (λ p. p.number ≤ n) b.pads) draft.blocks
+  pub sends : (n : ℕ) → BringsAtMost n g → (b k p : ℕ) → IsBlock draft b → IsIn draft b k →
+      (instr_at draft k).op ≡ op.Send p → p ≤ n
+  pub landings : (n : ℕ) → LandsAtMost n g → (b s : ℕ) (ls : List ℕ) → IsBlock draft b →
+      (image.block_at draft b).exit ≡ image.Landings s ls → length ls ≤ n

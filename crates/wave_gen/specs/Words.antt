@@ -1,0 +1,48 @@
+-- Graphs and worlds of words.
+use Rattle.std.specs.Prelude.{ℕ, ◌<◌}
+use Rattle.std.specs.List.{AllByRecursion}
+use Rattle.ws_words.specs.Outside.{World}
+use Rattle.ws_isa.specs.Formed.{word_limit}
+use Rattle.cfg_core.specs.Graph.{Term, Number, Var, Cell, Flip, Not, Neg, Binary, Op, Assign, Store, Print, Read, Give, Take, Choose, Tick, TickBy, Exit, Goto, Branch, Call, Return, Send, Stop, Graph, spots}
+
+abbrev pub IsWord : ℕ → Type 0
+IsWord n = n < word_limit
+
+-- the numbers of a term are words
+abbrev pub TermOfWords : Term → Type 0
+TermOfWords (Number n) = IsWord n
+TermOfWords (Var x) = Unit {0}
+TermOfWords (Cell a t) = TermOfWords t
+TermOfWords (Flip t) = TermOfWords t
+TermOfWords (Not t) = TermOfWords t
+TermOfWords (Neg t) = TermOfWords t
+TermOfWords (Binary op a b) = TermOfWords a × TermOfWords b
+
+-- those of its terms
+abbrev pub OpOfWords : Op → Type 0
+OpOfWords (Assign x t) = TermOfWords t
+OpOfWords (Store a t u) = TermOfWords t × TermOfWords u
+OpOfWords (Print t) = TermOfWords t
+OpOfWords (Read x) = Unit {0}
+OpOfWords (Give p x) = Unit {0}
+OpOfWords (Take p t) = TermOfWords t
+OpOfWords (Choose x t a b) = TermOfWords t × TermOfWords a × TermOfWords b
+OpOfWords (Tick n) = Unit {0}
+OpOfWords (TickBy t n m) = TermOfWords t
+
+abbrev pub ExitOfWords : Exit → Type 0
+ExitOfWords (Goto b) = Unit {0}
+ExitOfWords (Branch t a b) = TermOfWords t
+ExitOfWords (Call x f ts back) = AllByRecursion TermOfWords ts
+ExitOfWords (Return t) = TermOfWords t
+ExitOfWords (Send t ts ls) = TermOfWords t × AllByRecursion TermOfWords ts
+ExitOfWords Stop = Unit {0}
+
+-- every number of a graph is a word
+abbrev pub GraphOfWords : Graph → Type 0
+GraphOfWords g =
+    AllByRecursion (λ s. AllByRecursion OpOfWords s.block.ops × ExitOfWords s.block.exit) (spots g)
+
+-- every word of the input and of the ports is one
+abbrev pub WorldOfWords : World → Type 0
+WorldOfWords w = AllByRecursion IsWord w.input × AllByRecursion (AllByRecursion IsWord) w.left

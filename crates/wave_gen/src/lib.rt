@@ -1,0 +1,9 @@
+//! From the control graph to a draft.
+//!
+//! The definitions stand in specs/. Code is made from its end: each value is made knowing where it
+//! is wanted, and a branch steers a name exactly where its two arms want it in different places.
+#![tactic(auto)]
+
+mod laws;
+
+pub use laws::graph_drafts_keep;
