@@ -85,7 +85,7 @@ fn printed(plain: &Plain) -> u64 {
             took: _,
             turns: _,
         } => printed.word(0),
-        Plain::Going { printed: _ } => 0,
+        Plain::Fault { .. } | Plain::Going { .. } => 0,
     }
 }
 

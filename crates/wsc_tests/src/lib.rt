@@ -1,0 +1,7 @@
+//! Tests that cross the crates: whole calls over memory, and graphs of programs beside their runs.
+#![tactic(auto)]
+
+#[cfg(test)]
+mod calls;
+#[cfg(test)]
+mod graphs;
