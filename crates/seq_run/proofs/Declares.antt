@@ -1,5 +1,6 @@
 -- Items one after another.
 use Rattle.std.proofs.Common.{◌≡◌, ℕ, zero, suc, ◌+◌, ◌<◌, List, [], ◌∷◌, ◌++◌, Option, ◌≤◌, length, take, map, slice_index_or, refl, sym, ap, ◌∙◌, subst, append_assoc, length-append, ◌-◌, arith}
+use Rattle.std.specs.List.{AllByRecursion}
 use Rattle.std.proofs.lemmas.List.{append-nil}
 use Rattle.src_ast.specs.declared.lexeme.Place.{Place}
 use Rattle.src_ast.specs.declared.lexeme.Name.{Name}
@@ -13,7 +14,7 @@ use Rattle.cfg_core.specs.Graph as plain
 use Rattle.seq_run.specs.Resolved as resolved
 use Rattle.seq_run.specs.Resolving as resolving
 use Rattle.seq_run.specs.Resolving.{texts}
-use Rattle.seq_run.specs.Tables.{IsTable}
+use Rattle.seq_run.specs.Tables.{IsTable, FewVars}
 use Rattle.seq_run.specs.View as view
 use Rattle.seq_run.specs.declared.table.Table.{Table}
 use Rattle.seq_run.specs.declared.tree.ArrayShape.{ArrayShape}
@@ -78,9 +79,52 @@ resolving_append : (arrays names : List Name) (xs ys : List Procedure) → resol
 resolving_append arrays names [] ys = refl
 resolving_append arrays names (p ∷ xs) ys = ap (λ (ps : List resolved.Proc). resolving.proc (record { names = p.params ++ p.vars; arrays = arrays; procs = names }) p ∷ ps) (resolving_append arrays names xs ys)
 
+-- one name more
+pub one_further : (first i next now : ℕ) → next ≡ first + i → now ≡ next + 1 → now ≡ first + (i + 1)
+one_further first i next now e d = omega (arith, e, d)
+
 -- tables of names
 pub declared_more : (first : ℕ) (names list : List Name) (i : ℕ) (x : Name) (table : Table) → i < length list → x ≡ slice_index_or list i x → IsTable first ((names ++ take i list) ++ x ∷ []) table → IsTable first (names ++ take (i + 1) list) table
 declared_more first names list i x table lt is h = subst (λ (ns : List Name). IsTable first ns table) (append_assoc names (take i list) (x ∷ []) ∙ ap (λ (ns : List Name). names ++ ns) (sym (taken_more list i x lt is))) h
+
+length_take : {X : Type 0} (xs : List X) (i : ℕ) → length (take i xs) ≤ i
+length_take [] zero = omega arith
+length_take [] (suc i) = omega arith
+length_take (x ∷ xs) zero = omega arith
+length_take (x ∷ xs) (suc i) = let h = length_take xs i in omega (arith, h)
+
+-- a part for each item
+pub length_parts : (xs : List Item) → length (ast.parts xs) ≡ length xs
+length_parts [] = refl
+length_parts (x ∷ xs) = ap suc (length_parts xs)
+
+-- among the first items are no more arrays than items
+pub few_arrays : (xs : List Item) (i : ℕ) → length (arrays_of (ast.parts (take i xs))) ≤ i
+few_arrays xs i = let h = at (take i xs) in let l = length_take xs i in omega (arith, h, l)
+  where
+    at : (ys : List Item) → length (arrays_of (ast.parts ys)) ≤ length ys
+    at [] = omega arith
+    at (items.Array x n p ∷ ys) = let h = at ys in omega (arith, h)
+    at (items.Proc x ps vs body ending ∷ ys) = let h = at ys in omega (arith, h)
+
+-- and no more procedures
+pub few_procs : (xs : List Item) (i : ℕ) → length (names_of (procs_of (ast.parts (take i xs)))) ≤ i
+few_procs xs i = let h = at (take i xs) in let l = length_take xs i in omega (arith, h, l)
+  where
+    at : (ys : List Item) → length (names_of (procs_of (ast.parts ys))) ≤ length ys
+    at [] = omega arith
+    at (items.Array x n p ∷ ys) = let h = at ys in omega (arith, h)
+    at (items.Proc x ps vs body ending ∷ ys) = let h = at ys in omega (arith, h)
+
+-- each procedure among items has few enough variables
+pub few_at : (xs : List Item) (i : ℕ) (x : Item) (p : Procedure) → AllByRecursion FewVars (procs_of (ast.parts xs)) → i < length xs → x ≡ slice_index_or xs i x → ast.part x ≡ Proc p → FewVars p
+few_at [] i x p h lt is e = absurd (omega arith)
+few_at (y ∷ ys) zero x p h lt is e =
+    let q : List Procedure = procs_of (ast.part y ∷ ast.parts ys) in
+    let d : q ≡ p ∷ procs_of (ast.parts ys) = ap (λ (z : Part). procs_of (z ∷ ast.parts ys)) (ap ast.part (sym is) ∙ e) in
+    (subst (λ (ps : List Procedure). AllByRecursion FewVars ps) d h).0
+few_at (items.Array z n at ∷ ys) (suc i) x p h lt is e = few_at ys i x p h (omega arith) is e
+few_at (items.Proc z ps vs body ending ∷ ys) (suc i) x p h lt is e = few_at ys i x p h.1 (omega arith) is e
 
 -- all items are taken
 pub take_whole : {X : Type 0} (xs : List X) (i : ℕ) → length xs ≤ i → take i xs ≡ xs

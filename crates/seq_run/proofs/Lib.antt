@@ -16,3 +16,4 @@ pub mod Visible
 pub mod InBodies
 pub mod PartRules
 pub mod InPrograms
+pub mod FewNames

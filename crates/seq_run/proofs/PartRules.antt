@@ -59,6 +59,15 @@ array_kept before x n at h =
     let r4 : Rule = record { place = at; kind = Limit CellSum; kept = nat_le (cells_in before + n) 1048576 } in
     leb-true n 65536 (kept_one r3 (r4 ∷ []) (kept_rest r2 (r3 ∷ (r4 ∷ [])) (kept_rest r1 (r2 ∷ (r3 ∷ (r4 ∷ []))) h)))
 
+-- there is room for an array
+pub array_room : (before : List Part) (x : Name) (n : ℕ) (at : Place) → Kept (part_rules before (Array x n at)) → arrays_in before < 64
+array_room before x n at h =
+    let r1 : Rule = record { place = x.place; kind = Twice; kept = not (is_visible (declared_by before) x.text) } in
+    let r2 : Rule = record { place = x.place; kind = Limit Arrays; kept = nat_lt (arrays_in before) 64 } in
+    let r3 : Rule = record { place = at; kind = Limit Length; kept = nat_le n 65536 } in
+    let r4 : Rule = record { place = at; kind = Limit CellSum; kept = nat_le (cells_in before + n) 1048576 } in
+    ltb-true (arrays_in before) 64 (kept_one r2 (r3 ∷ (r4 ∷ [])) (kept_rest r1 (r2 ∷ (r3 ∷ (r4 ∷ []))) h))
+
 -- there are few enough parameters
 pub params_few : (main : Bool) (visible : List Declared) (k : ℕ) (xs : List Name) → k ≤ 8 → Kept (parameter_rules main visible k xs) → k + length xs ≤ 8
 params_few main visible k [] le h = omega (arith, le)

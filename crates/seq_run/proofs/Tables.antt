@@ -1,5 +1,5 @@
 -- Tables of names give the places of names.
-use Rattle.std.proofs.Common.{◌≡◌, ℕ, suc, ◌+◌, nat_eq, Bool, true, false, cond, List, [], ◌∷◌, ◌++◌, length, Option, Some, None, is_some, unwrap_or, if◌then◌else◌, refl, sym, ap, ◌∙◌, Bor, SomeIff, ◌<◌, ◌^◌, arith}
+use Rattle.std.proofs.Common.{◌≡◌, ℕ, suc, ◌+◌, nat_eq, Bool, true, false, cond, List, [], ◌∷◌, ◌++◌, length, Option, Some, None, is_some, unwrap_or, if◌then◌else◌, refl, sym, ap, ◌∙◌, Bor, arith}
 use Rattle.std.specs.HashMap.{HashMap, get_by}
 use Rattle.std.specs.Str.{bytes_eq}
 use Rattle.std.proofs.lemmas.Slice.Eq.{bytes_eq-Decides}
@@ -96,8 +96,3 @@ added_again table first names x text after now is e there same ea en = record {
       (λ cs. ap (λ (m : _). by_text m cs) same);
   next = en ∙ length_more first names x table.next after is.next ea;
 }
-
--- the next number
-pub one_more : (n after : ℕ) (o : Option ℕ) → SomeIff o (n + 1 < 2 ^ 32) (n + 1) → o ≡ Some after → after ≡ n + 1
-one_more n after (Some k) h e = let d : k ≡ after = cc in sym d ∙ h.1
-one_more n after None h e = absurd (cc)

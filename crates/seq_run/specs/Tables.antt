@@ -1,9 +1,10 @@
 -- What tables of names stand for.
-use Rattle.std.specs.Prelude.{◌≡◌, ℕ, suc, ◌+◌, nat_eq, List, [], ◌∷◌, length, Option, Some, None, if◌then◌else◌}
+use Rattle.std.specs.Prelude.{◌≡◌, ℕ, suc, ◌+◌, ◌<◌, ◌^◌, nat_eq, List, [], ◌∷◌, length, Option, Some, None, if◌then◌else◌}
 use Rattle.std.specs.HashMap.{get_by}
 use Rattle.std.specs.Str.{bytes_eq}
 use lib.Pointwise.{pointwise}
 use Rattle.src_ast.specs.declared.lexeme.Name.{Name}
+use Rattle.src_ast.specs.Syntax.{Procedure}
 use Rattle.src_ast.specs.Meaning.{Scope}
 use Rattle.seq_run.specs.declared.table.Table.{Table}
 use Rattle.seq_run.specs.declared.names.Names.{Names}
@@ -24,3 +25,7 @@ pub record AreNames (scope : Scope) (names : Names) : Type 0 where
   pub vars : IsTable 0 scope.names names.vars
   pub arrays : IsTable 1 scope.arrays names.arrays
   pub procs : IsTable 0 scope.procs names.procs
+
+-- a procedure whose variables are few enough for 32 bits
+abbrev pub FewVars : Procedure → Type 0
+FewVars p = length p.params + length p.vars < 2 ^ 32

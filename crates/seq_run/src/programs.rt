@@ -1,6 +1,7 @@
 //! Programs with numbers for names.
 
-ghost use Rattle.std.specs.Prelude.{◌≡◌, ◌++◌, ℕ, List, map, length, IfOk, OnOk};
+ghost use Rattle.std.specs.Prelude.{◌≡◌, ◌+◌, ◌<◌, ◌^◌, ◌++◌, ℕ, List, map, length, IfOk, OnOk};
+ghost use Rattle.std.specs.List.{AllByRecursion};
 ghost use Rattle.src_ast.specs.declared.lexeme.Name.{Name};
 ghost use Rattle.src_ast.specs.Syntax.{Procedure};
 ghost use Rattle.src_ast.specs.View as ast;
@@ -8,7 +9,7 @@ ghost use Rattle.src_ast.specs.Meaning.{Scope, scope_of, arrays_of, lengths_of, 
 ghost use Rattle.seq_run.specs.Resolving as resolving;
 ghost use Rattle.seq_run.specs.Resolving.{texts};
 ghost use Rattle.seq_run.specs.InRange.{ProgramIn};
-ghost use Rattle.seq_run.specs.Tables.{IsTable, AreNames};
+ghost use Rattle.seq_run.specs.Tables.{IsTable, AreNames, FewVars};
 ghost use Rattle.seq_run.specs.View as view;
 
 use crate::names::Names;
@@ -22,6 +23,7 @@ use std::alloc::Global;
 use ws_words::NoMemory;
 
 fn declare<'a>(table: &mut Table<'a>, list: &'a [Name]) -> Result<(), NoMemory>
+    requires { table.old.next + length list.now < 2 ^ 32 }
     ensures { (first : ℕ) (names : List Name) → IsTable first names table.old →
         OnOk result (IsTable first (names ++ list.now) table.new) }
 {
@@ -33,6 +35,7 @@ fn declare<'a>(table: &mut Table<'a>, list: &'a [Name]) -> Result<(), NoMemory>
 
 // The arrays and procedures of a program; no variables.
 fn declared<'a>(alloc: Global, items: &'a [Item]) -> Result<Names<'a>, NoMemory>
+    requires { length items.now + 1 < 2 ^ 32 }
     ensures arrays { IfOk result (λ names.
         IsTable 1 (arrays_of (ast.parts items.now)) names.arrays) }
     ensures procs { IfOk result (λ names.
@@ -98,6 +101,7 @@ fn proc<'a>(
     body: &[Stmt],
     ending: &Option<Ending>,
 ) -> Result<Proc, NoMemory>
+    requires { length params.now + length vars.now < 2 ^ 32 }
     ensures resolves { (arrays procs : List Name) (name : Name) →
         IsTable 1 arrays names.old.arrays → IsTable 0 procs names.old.procs →
         let p : Procedure = record {
@@ -128,6 +132,7 @@ fn proc<'a>(
 }
 
 fn procs<'a>(alloc: Global, names: &mut Names<'a>, items: &'a [Item]) -> Result<Vec<Proc>, NoMemory>
+    requires { AllByRecursion FewVars (procs_of (ast.parts items.now)) }
     ensures { (arrays procs : List Name) →
         IsTable 1 arrays names.old.arrays → IsTable 0 procs names.old.procs → IfOk result (λ list.
         view.procs list.items ≡ resolving.procs arrays procs (procs_of (ast.parts items.now))) }
@@ -149,6 +154,8 @@ fn procs<'a>(alloc: Global, names: &mut Names<'a>, items: &'a [Item]) -> Result<
 }
 
 pub(crate) fn numbered(alloc: Global, items: &[Item]) -> Result<Resolved, NoMemory>
+    requires few { length items.now + 1 < 2 ^ 32 }
+    requires vars { AllByRecursion FewVars (procs_of (ast.parts items.now)) }
     ensures { IfOk result (λ resolved.
         view.program resolved ≡ resolving.program (ast.parts items.now)) }
 {

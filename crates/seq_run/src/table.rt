@@ -1,6 +1,6 @@
 //! Names by their spelling.
 
-ghost use Rattle.std.specs.Prelude.{◌≡◌, ◌+◌, ◌++◌, ◌∷◌, [], ℕ, List, OnOk};
+ghost use Rattle.std.specs.Prelude.{◌≡◌, ◌+◌, ◌<◌, ◌^◌, ◌++◌, ◌∷◌, [], ℕ, List, OnOk};
 ghost use Rattle.src_ast.specs.Meaning.{place_of};
 
 use src_ast::Name;
@@ -29,17 +29,18 @@ impl<'a> Table<'a> {
         }
     }
 
-    /// Declares a name. There is no memory for 2^32 names.
+    /// Declares a name.
     pub(crate) fn add(&mut self, name: &'a Name) -> Result<(), NoMemory>
-        ensures { (first : ℕ) (names : List Name) → IsTable first names self.old →
+        requires { self.old.next + 1 < 2 ^ 32 }
+        ensures table { (first : ℕ) (names : List Name) → IsTable first names self.old →
             OnOk result (IsTable first (names ++ name.now ∷ []) self.new) }
+        ensures next { OnOk result (self.new.next ≡ self.old.next + 1) }
     {
-        let after = self.next.checked_add(1).ok_or(NoMemory)?;
         let text = name.text.as_slice();
         if !self.numbers.contains_key(text) {
             self.numbers.insert(text, self.next)?;
         }
-        self.next = after;
+        self.next += 1;
         Ok(())
     }
 

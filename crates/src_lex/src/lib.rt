@@ -17,6 +17,3 @@ pub use laws::{
 };
 pub use place::place_behind;
 pub use text::lex;
-
-#[cfg(test)]
-mod tests;

@@ -9,8 +9,6 @@ mod program;
 mod simple;
 mod statement;
 mod stop;
-#[cfg(test)]
-mod tests;
 mod token;
 
 pub use program::{lexemes_are_parsed_once, no_fault_in_a_tree, one_place, one_tree, parse};

@@ -18,7 +18,7 @@ use Rattle.df_core.specs.declared.piece.Piece.{Piece}
 use Rattle.df_core.specs.declared.piece.Piece.TheVariants as piece
 use Rattle.df_core.specs.Built.{Computes, number, apply, Prints, halt, print}
 use Rattle.wsc_top.specs.Straights.{is_closed, closed_value, is_print, only_prints, word_of, words_of}
-use Rattle.wsc_top.specs.Straights.{GrowsBy, EndsInApply, GrowsByPrint, AreBegun}
+use Rattle.wsc_top.specs.Straights.{pieces_for_statement, pieces_for_all, GrowsBy, EndsInApply, GrowsByPrint, AreBegun}
 
 flag_fits : (b : Bool) → flag b < 2 ^ 64
 flag_fits true = omega arith
@@ -112,10 +112,12 @@ grows_print old mid at e i g h = record {
 }
 
 -- one more print
-pub begun_more : (old new : List Piece) (s : Statement) (rest all : Statements) → AreBegun old (Then s rest) all → GrowsByPrint old new s → AreBegun new rest all
-begun_more old new s rest all b g = record {
+pub begun_more : (old new : List Piece) (s : Statement) (rest all : Statements) → AreBegun old (Then s rest) all → GrowsByPrint old new s
+    → length new ≡ length old + pieces_for_statement s → AreBegun new rest all
+begun_more old new s rest all b g h = record {
   prints = λ ps next. rw g.is (rw append_assoc (b.prints (g.more ++ ps) (g.prints ps (words_of rest) next)));
   same = sym (true_and (is_print s) (only_prints rest) g.print) ∙ b.same;
+  count = omega (arith, h, b.count);
 }
   where
     true_and : (a b : Bool) → IsTrue a → (a && b) ≡ b
@@ -123,12 +125,21 @@ begun_more old new s rest all b g = record {
     true_and false b h = cc
 
 pub begun_none : (all : Statements) → AreBegun [] all all
-begun_none all = record { prints = λ ps next. next; same = refl }
+begun_none all = record { prints = λ ps next. next; same = refl; count = omega arith }
 
 -- one more print of those that are left
 pub begun_next : (old new : List Piece) (body : List Stmt) (s : Stmt) (k : ℕ) (all : Statements)
-    → AreBegun old (view.statements (drop k body)) all → drop k body ≡ s ∷ drop (k + 1) body → GrowsByPrint old new (view.statement s) → AreBegun new (view.statements (drop (k + 1) body)) all
-begun_next old new body s k all b e g = begun_more old new (view.statement s) (view.statements (drop (k + 1) body)) all (subst (λ (xs : List Stmt). AreBegun old (view.statements xs) all) e b) g
+    → AreBegun old (view.statements (drop k body)) all → drop k body ≡ s ∷ drop (k + 1) body → GrowsByPrint old new (view.statement s)
+    → length new ≡ length old + pieces_for_statement (view.statement s) → AreBegun new (view.statements (drop (k + 1) body)) all
+begun_next old new body s k all b e g h = begun_more old new (view.statement s) (view.statements (drop (k + 1) body)) all (subst (λ (xs : List Stmt). AreBegun old (view.statements xs) all) e b) g h
+
+-- the next print's pieces have numbers where those of all have
+pub begun_room : (old : List Piece) (body : List Stmt) (s : Stmt) (k : ℕ) (all : Statements)
+    → AreBegun old (view.statements (drop k body)) all → drop k body ≡ s ∷ drop (k + 1) body → pieces_for_all all + 1 < 2 ^ 32
+    → length old + pieces_for_statement (view.statement s) ≤ 2 ^ 32
+begun_room old body s k all b e few =
+    let next = subst (λ (xs : List Stmt). AreBegun old (view.statements xs) all) e b in
+    omega (arith, few, next.count)
 
 -- nothing is left, and the halt stands after
 pub begun_halts : (old new : List Piece) (body : List Stmt) (k : ℕ) (all : Statements)
@@ -136,3 +147,12 @@ pub begun_halts : (old new : List Piece) (body : List Stmt) (k : ℕ) (all : Sta
 begun_halts old new body k all b h e =
     let done = subst (λ (xs : List Stmt). AreBegun old (view.statements xs) all) (drop_all k body h) b in
     rw e (done.prints (piece.Halt ∷ []) (halt refl refl))
+
+-- so many pieces are few, the halt included
+pub begun_count : (old new : List Piece) (body : List Stmt) (k : ℕ) (all : Statements)
+    → AreBegun old (view.statements (drop k body)) all → length body ≤ k → new ≡ old ++ piece.Halt ∷ [] → pieces_for_all all + 1 < 2 ^ 32
+    → length new < 2 ^ 32
+begun_count old new body k all b h e few =
+    let done = subst (λ (xs : List Stmt). AreBegun old (view.statements xs) all) (drop_all k body h) b in
+    let size = ap length e ∙ length-append old (piece.Halt ∷ []) in
+    omega (arith, few, done.count, size)

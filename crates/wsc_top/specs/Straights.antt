@@ -84,6 +84,23 @@ abbrev pub words_of : Statements → List ℕ
 words_of Nothing = []
 words_of (Then s rest) = word_of s ∷ words_of rest
 
+-- how many pieces compute an expression over numbers: an operator of one operand takes a word, too
+abbrev pub pieces_for : Expression → ℕ
+pieces_for (Number n) = 1
+pieces_for (Variable x) = 0
+pieces_for (Cell a e) = 0
+pieces_for (Signed s e) = pieces_for e + 2
+pieces_for (Binary op a b) = pieces_for a + pieces_for b + 1
+
+-- and how many are a print's
+abbrev pub pieces_for_statement : Statement → ℕ
+pieces_for_statement (Print at e) = pieces_for e + 1
+pieces_for_statement _ = 0
+
+abbrev pub pieces_for_all : Statements → ℕ
+pieces_for_all Nothing = 0
+pieces_for_all (Then s rest) = pieces_for_statement s + pieces_for_all rest
+
 -- new is old and then the pieces that compute an expression over numbers
 pub record GrowsBy (old new : List Piece) (e : Expression) : Type 0 where
   pub more : List Piece
@@ -113,6 +130,7 @@ pub record AreBegun (pieces : List Piece) (rest all : Statements) : Type 0 where
   pub prints : (ps : List Piece) → Prints (length pieces) ps (words_of rest)
       → Prints 0 (pieces ++ ps) (words_of all)
   pub same : only_prints rest ≡ only_prints all
+  pub count : length pieces + pieces_for_all rest ≡ pieces_for_all all
 
 -- the program is a `main` of prints over numbers
 pub record IsMainAlone (parts : List Part) : Type 0 where

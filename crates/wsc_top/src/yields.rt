@@ -24,7 +24,8 @@ use ws_words::{Bytes, Cells, NoMemory, Plain, Words, World};
 // What a run of this program prints: its words, a line each, and `halt`.
 #[tactic(auto, using(crate::proofs::Outcomes::pieces_are_straight, crate::proofs::Outcomes::run_yields))]
 fn run(alloc: Global, accepted: &Accepted) -> Result<Bytes, NoMemory>
-    requires { unbuilt_places (view.parts accepted.now.program.items.items) ≡ [] }
+    requires built { unbuilt_places (view.parts accepted.now.program.items.items) ≡ [] }
+    requires written { IsWritten (view.parts accepted.now.program.items.items) }
     ensures { IfOk result (λ out. (input : List ℕ)
         → Yields Command.Run (view.parts accepted.now.program.items.items) input Status.Done out) }
 {

@@ -1,11 +1,13 @@
 //! From the tree of a program to the pieces of a straight image.
 
-ghost use Rattle.std.specs.Prelude.{◌≡◌, ℕ, ◌+◌, ◌^◌, ◌<◌, [], IfOk, OnOk, IsTrue, length, vec_len};
+ghost use Rattle.std.specs.Prelude.{◌≡◌, ℕ, ◌+◌, ◌^◌, ◌<◌, ◌≤◌, [], IfOk, OnOk, IsTrue, length, vec_len};
 ghost use Rattle.src_ast.specs.View as view;
 ghost use Rattle.ws_words.specs.Operators.{applied};
 ghost use Rattle.src_ast.specs.Meaning.{signed_value};
+ghost use Rattle.src_ast.specs.Written.{IsWritten};
 ghost use Rattle.df_core.specs.Built.{Prints};
 ghost use Rattle.wsc_top.specs.Straights.{is_closed, is_print, only_prints, words_of, unbuilt_places};
+ghost use Rattle.wsc_top.specs.Straights.{pieces_for, pieces_for_statement, pieces_for_all};
 ghost use Rattle.wsc_top.specs.Straights.{GrowsBy, EndsInApply, GrowsByPrint, IsMainAlone, IsMainBody, ArePieces};
 
 use df_core::{Piece, Pieces, Straight};
@@ -15,11 +17,12 @@ use std::alloc::Global;
 use ws_words::{Alu, NoMemory};
 
 // The number of the last piece.
-fn last(pieces: &Pieces) -> Result<u32, NoMemory>
-    requires { 0 < vec_len pieces.now }
-    ensures ok { IfOk result (λ i. i + 1 ≡ vec_len pieces.now) }
+fn last(pieces: &Pieces) -> u32
+    requires some { 0 < vec_len pieces.now }
+    requires few { vec_len pieces.now ≤ 2 ^ 32 }
+    ensures { result + 1 ≡ vec_len pieces.now }
 {
-    u32::try_from(pieces.len() - 1).map_err(|_| NoMemory)
+    (pieces.len() - 1) as u32
 }
 
 // An operator of one operand as an operator of two, with a word as its first operand: `~x` is
@@ -37,10 +40,12 @@ fn in_two(op: Unary) -> (Alu, u64)
 // Puts the operator of two operands at the end, where the first is the piece of this number and the
 // second is the last piece.
 fn put_apply(pieces: &mut Pieces, op: Alu, first: u32) -> Result<(), NoMemory>
-    requires { 0 < vec_len pieces.old }
+    requires some { 0 < vec_len pieces.old }
+    requires few { vec_len pieces.old ≤ 2 ^ 32 }
     ensures ok { OnOk result (EndsInApply pieces.old.items pieces.new.items op first) }
+    ensures grown { OnOk result (vec_len pieces.new ≡ vec_len pieces.old + 1) }
 {
-    let second = last(pieces)?;
+    let second = last(pieces);
     pieces.push(Piece::Apply(op, first, second))?;
     Ok(())
 }
@@ -48,8 +53,11 @@ fn put_apply(pieces: &mut Pieces, op: Alu, first: u32) -> Result<(), NoMemory>
 // Puts the pieces of an expression over numbers at the end.
 #[tactic(auto, using(crate::proofs::Growing::grows_number, crate::proofs::Growing::grows_unary, crate::proofs::Growing::grows_binary))]
 fn put_expression(pieces: &mut Pieces, e: &Expr) -> Result<(), NoMemory>
-    requires { IsTrue (is_closed (view.expression e.now)) }
+    requires closed { IsTrue (is_closed (view.expression e.now)) }
+    requires few { vec_len pieces.old + pieces_for (view.expression e.now) ≤ 2 ^ 32 }
     ensures ok { OnOk result (GrowsBy pieces.old.items pieces.new.items (view.expression e.now)) }
+    ensures grown { OnOk result
+        (vec_len pieces.new ≡ vec_len pieces.old + pieces_for (view.expression e.now)) }
 {
     match e {
         Expr::Number(n) => {
@@ -59,14 +67,14 @@ fn put_expression(pieces: &mut Pieces, e: &Expr) -> Result<(), NoMemory>
         Expr::Unary(op, e) => {
             let (apply, word) = in_two(*op);
             pieces.push(Piece::Number(word))?;
-            let first = last(pieces)?;
+            let first = last(pieces);
             put_expression(pieces, e)?;
             put_apply(pieces, apply, first)?;
             Ok(())
         }
         Expr::Binary(op, a, b) => {
             put_expression(pieces, a)?;
-            let first = last(pieces)?;
+            let first = last(pieces);
             put_expression(pieces, b)?;
             put_apply(pieces, *op, first)?;
             Ok(())
@@ -78,24 +86,30 @@ fn put_expression(pieces: &mut Pieces, e: &Expr) -> Result<(), NoMemory>
 // Puts the pieces of a print at the end.
 #[tactic(auto, using(crate::proofs::Growing::grows_print))]
 fn put_print(pieces: &mut Pieces, stmt: &Stmt) -> Result<(), NoMemory>
-    requires { IsTrue (is_print (view.statement stmt.now)) }
+    requires print { IsTrue (is_print (view.statement stmt.now)) }
+    requires few { vec_len pieces.old + pieces_for_statement (view.statement stmt.now) ≤ 2 ^ 32 }
     ensures ok { OnOk result
         (GrowsByPrint pieces.old.items pieces.new.items (view.statement stmt.now)) }
+    ensures grown { OnOk result
+        (vec_len pieces.new ≡ vec_len pieces.old + pieces_for_statement (view.statement stmt.now)) }
 {
     let Form::Print(e) = &stmt.form else {
         unreachable!();
     };
     put_expression(pieces, e)?;
-    let word = last(pieces)?;
+    let word = last(pieces);
     pieces.push(Piece::Out(word))?;
     Ok(())
 }
 
 // The pieces of prints over numbers, with the halt after them.
-#[tactic(auto, using(crate::proofs::Growing::begun_none, crate::proofs::Growing::begun_next, crate::proofs::Growing::begun_halts))]
+#[tactic(auto, using(crate::proofs::Growing::begun_none, crate::proofs::Growing::begun_next, crate::proofs::Growing::begun_room, crate::proofs::Growing::begun_halts, crate::proofs::Growing::begun_count))]
 fn pieces_of(alloc: Global, body: &[Stmt]) -> Result<Pieces, NoMemory>
-    requires { IsTrue (only_prints (view.statements body.now)) }
-    ensures { IfOk result (λ pieces. Prints 0 pieces.items (words_of (view.statements body.now))) }
+    requires prints { IsTrue (only_prints (view.statements body.now)) }
+    requires few { pieces_for_all (view.statements body.now) + 1 < 2 ^ 32 }
+    ensures ok { IfOk result
+        (λ pieces. Prints 0 pieces.items (words_of (view.statements body.now))) }
+    ensures few { IfOk result (λ pieces. length pieces.items < 2 ^ 32) }
 {
     let mut pieces = Vec::new(alloc);
     for stmt in body {
@@ -117,16 +131,14 @@ fn main_body(items: &[Item]) -> &[Stmt]
 }
 
 /// The pieces of a program that only prints expressions over numbers.
-#[tactic(auto, using(crate::proofs::Mains::one_main, crate::proofs::Mains::only_prints_body, crate::proofs::Mains::pieces_are))]
+#[tactic(auto, using(crate::proofs::Mains::one_main, crate::proofs::Mains::only_prints_body, crate::proofs::Mains::pieces_are, crate::proofs::Mains::few_pieces))]
 pub fn straight_image(alloc: Global, accepted: &Accepted) -> Result<Straight, NoMemory>
-    requires { unbuilt_places (view.parts accepted.now.program.items.items) ≡ [] }
+    requires built { unbuilt_places (view.parts accepted.now.program.items.items) ≡ [] }
+    requires written { IsWritten (view.parts accepted.now.program.items.items) }
     ensures ok { IfOk result
         (λ s. ArePieces s.pieces.items (view.parts accepted.now.program.items.items)) }
     ensures few { IfOk result (λ s. length s.pieces.items < 2 ^ 32) }
 {
     let pieces = pieces_of(alloc, main_body(&accepted.program.items))?;
-    if pieces.len() > u32::MAX as usize {
-        return Err(NoMemory);
-    }
     Ok(Straight { pieces })
 }

@@ -1,4 +1,4 @@
-use Rattle.std.proofs.Common.{◌++◌, [], length}
+use Rattle.std.proofs.Common.{◌++◌, [], length, arith}
 use Rattle.src_ast.specs.View as ast
 use Rattle.src_ast.specs.Meaning.{Scope}
 use Rattle.seq_run.specs.Resolving as resolving
@@ -24,3 +24,10 @@ returns-clause-resolves c = λ arrays procs name ia ip.
     (count_back c.args.params.now c.args.vars.now c.declare.new.table.next c.declare-2.new.table.next front.next all.next)
     (c.in_ok-body.ensures scope are)
     (c.in_ok-result.ensures scope are)
+
+pub declare-requires-2 : goal.declare-requires-2
+declare-requires-2 c =
+    let front = c.in_ok-declare.ensures 0 [] c.from-table.ensures in
+    let next = front.next in
+    let room = c.requires in
+    omega (arith, next, room)

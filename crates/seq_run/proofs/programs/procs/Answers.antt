@@ -1,13 +1,14 @@
-use Rattle.std.proofs.Common.{sym, ap, subst, ◌∙◌}
+use Rattle.std.proofs.Common.{List, length, ◌+◌, sym, ap, subst, ◌∙◌, arith}
 use Rattle.std.specs.Prelude.{Vec}
 use Rattle.std.specs.declared.alloc.Global.{Global}
+use Rattle.src_ast.specs.declared.lexeme.Name.{Name}
 use Rattle.src_ast.specs.View as ast
 use Rattle.seq_run.specs.Tables.{IsTable}
 use Rattle.seq_run.specs.View as view
 use Rattle.seq_run.specs.declared.names.Names.{Names}
 use Rattle.seq_run.specs.declared.table.Table.{Table}
 use Rattle.seq_run.specs.declared.tree.Proc.{Proc}
-use Rattle.seq_run.proofs.Declares.{array_procs_same, procs_more, moved}
+use Rattle.seq_run.proofs.Declares.{array_procs_same, procs_more, moved, few_at}
 use Rattle.seq_run.proofs.programs.procs.Goals as goal
 use Rattle.seq_run.proofs.programs.procs.Goals.{in-Array, in-Proc+in_ok-proc-in-Proc+in_ok-push-in-Proc}
 
@@ -27,3 +28,10 @@ loop-item-preserved c =
             (w.in_ok-proc-in-Proc.ensures.resolves arrays procs w.in-Proc.name (subst (λ (t : Table). IsTable 1 arrays t) (sym c.loop-item.invariant.arrays) ia) (subst (λ (t : Table). IsTable 0 procs t) (sym c.loop-item.invariant.procs) ip)));
       }
     ]
+
+pub proc-requires : goal.proc-requires
+proc-requires c =
+    let few = few_at c.args.items.now c.loop-item.item-index c.item-item.result (record { name = c.in-Proc.name; params = c.in-Proc.params.items; vars = c.in-Proc.vars.items; body = ast.statements c.in-Proc.body.items; ending = ast.maybe_last c.in-Proc.ending }) c.requires c.loop-item-test.true c.item-item.is (ap ast.part c.in-Proc.is) in
+    let params = ap (λ (ns : List Name). length ns) c.deref.ensures.value in
+    let vars = ap (λ (ns : List Name). length ns) c.deref-in-Proc.ensures.value in
+    omega (arith, few, params, vars)
