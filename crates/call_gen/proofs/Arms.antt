@@ -111,7 +111,20 @@ not_first g a b la lb lt home f lf first e =
     let up : a < entry_from 0 g.procs f = omega (arith, lt, e) in
     omega (arith, home_before 0 g.procs f a (spot_at g a) lf (spot_is g a la) up, home, ap (λ n. (spot_at g n).home) e, first, z)
 
-module _ (g : Graph) (live : List (List ℕ)) (G : Given g live) (S : IsShaped g) where
+-- branches of a graph of the lowered shape lead forward, to blocks of their own
+pub shaped_alone : (g : Graph) → IsShaped g → ArmsAlone g
+shaped_alone g s = record {
+  apart = s.branches;
+  ahead = λ a t b c q. (later a t b c b q (inl refl), later a t b c c q (inr refl));
+}
+  where
+    later : (a : ℕ) (t : Term) (b c n : ℕ) → (block_at g a).exit ≡ Branch t b c → Leads (Branch t b c) n → a < n
+    later a t b c n q l = elim (cases_lt a n) [
+      | inl lt ↦ lt
+      | inr ge ↦ absurd (let z : Branch t b c ≡ Goto n = sym q ∙ s.backward a n (subst (λ (x : Exit). Leads x n) (sym q) l) ge in cc)
+    ]
+
+module _ (g : Graph) (live : List (List ℕ)) (G : Given g live) (S : ArmsAlone g) where
   abbrev F : Placed g live
   F = all_placed g live G.rules
 
@@ -137,10 +150,12 @@ module _ (g : Graph) (live : List (List ℕ)) (G : Given g live) (S : IsShaped g
 
   -- the arms of a branch of the given graph
   ahead : (b : ℕ) (t : Term) (c d n : ℕ) → (block_at g b).exit ≡ Branch t c d → Edge g b n → b < n
-  ahead b t c d n e l = elim (cases_lt b n) [
-    | inl lt ↦ lt
-    | inr ge ↦ absurd (let z : Branch t c d ≡ Goto n = sym e ∙ S.backward b n l ge in cc)
-  ]
+  ahead b t c d n e l =
+      let both = S.ahead b t c d e in
+      elim (subst (λ (x : Exit). Leads x n) e l) [
+        | inl p ↦ omega (arith, both.0, p)
+        | inr p ↦ omega (arith, both.1, p)
+      ]
 
   in_arm : (b : ℕ) (t : Term) (c d : ℕ) → (block_at g b).exit ≡ Branch t c d → ((c < length (spots g)) × ((spot_at g c).home ≡ (spot_at g b).home)) × ((d < length (spots g)) × ((spot_at g d).home ≡ (spot_at g b).home))
   in_arm b t c d e = let i = exit_in g G.rules b (Branch t c d) e in (i.1, i.2)
@@ -283,7 +298,7 @@ module _ (g : Graph) (live : List (List ℕ)) (G : Given g live) (S : IsShaped g
     apart = λ a t b c q.
         let f = from_at a t b c q in
         let i = in_arm f.block t f.first f.second f.exit in
-        let s = S.branches f.block t f.first f.second f.exit in
+        let s = S.apart f.block t f.first f.second f.exit in
         record {
           differ = λ same. s.differ (moved_apart g live G F f.first f.second i.0.0 i.1.0 (sym f.place_first ∙ same ∙ f.place_second));
           first = subst (λ m. OnlyFrom h m b) (sym f.place) (subst (λ m. OnlyFrom h (moved g f.block) m) (sym f.place_first) (only_from f.block t f.first f.second f.first f.there i.0.0 f.exit (goes_first f.block t f.first f.second f.exit) i.0.1 s.first));

@@ -5,7 +5,6 @@ use Rattle.std.proofs.lemmas.List.{map-append, length-map, length-append}
 use Rattle.cfg_core.specs.Graph as plain
 use Rattle.cfg_core.specs.Graph.{Graph, GraphArray, Spot, spots, spots_in, spots_from, block_at}
 use Rattle.cfg_core.specs.Rules.{IsGraph}
-use Rattle.cfg_core.specs.Shape.{IsShaped}
 use Rattle.cfg_core.specs.Shown.{SameWalks, SameArrays}
 use Rattle.cfg_core.specs.View as view
 use Rattle.cfg_core.specs.declared.blocks.GraphProc.{GraphProc}
@@ -68,7 +67,7 @@ pub record AllKept (g made : Graph) : Type 0 where
   pub across : NoneLiveAcross made
   pub values : (n : ℕ) → ParamsAtMost n g → (b : ℕ) → SendsAtMost (suc n) (block_at made b).exit
   pub sizes : (z : Sizes) → IsWithin z g → IsWithin (spelled_sizes z) made
-  pub arms : IsShaped g → ArmsAlone made
+  pub arms : ArmsAlone g → ArmsAlone made
   pub charged : CallsCharged g made
 
 pub all_kept : (g : Graph) (live : List (List ℕ)) (made : Graph) → made ≡ spelled g live → Given g live → AllKept g made

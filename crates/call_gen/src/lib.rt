@@ -13,7 +13,7 @@ mod part;
 mod plan;
 mod spell;
 
-pub use make::spell_calls;
+pub use make::{shaped_branches_stand_alone, spell_calls};
 pub use part::reached;
 
 #[cfg(test)]

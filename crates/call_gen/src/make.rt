@@ -166,7 +166,7 @@ pub fn spell_calls(alloc: Global, graph: &Graph, live: &LiveSets) -> Result<Grap
     // blocks, operations, nodes, landings and hidden cells are bounded by those of the graph
     ensures sizes { IfOk result (λ made. (z : Sizes) → IsWithin z (view.graph graph.now) →
         IsWithin (spelled_sizes z) (view.graph made)) }
-    ensures arms { IfOk result (λ made. IsShaped (view.graph graph.now) →
+    ensures arms { IfOk result (λ made. ArmsAlone (view.graph graph.now) →
         ArmsAlone (view.graph made)) }
 
     // the blocks of the graph pay for what walks pass here
@@ -176,3 +176,9 @@ pub fn spell_calls(alloc: Global, graph: &Graph, live: &LiveSets) -> Result<Grap
     let graph = made(alloc, &plan)?;
     Ok(graph)
 }
+
+/// In a graph of the shape that lowering gives each branch leads forward, to blocks of its own.
+#[tactic(auto, using(crate::proofs::Arms::shaped_alone))]
+pub fn shaped_branches_stand_alone()
+    ensures { (graph : plain.Graph) → IsShaped graph → ArmsAlone graph }
+{}
