@@ -8,7 +8,7 @@ use Rattle.src_ast.specs.declared.lexeme.Place.{Place}
 use Rattle.src_ast.specs.declared.lexeme.Name.{Name}
 use Rattle.src_ast.specs.declared.fault.RefusalKind.TheVariants.{Main}
 use Rattle.src_ast.specs.Syntax.{Part, Array, Proc}
-use Rattle.src_ast.specs.Rules.{Rule, declared_by, is_visible, has_main, arrays_in, cells_in, part_rules, rules_behind, IsAccepted}
+use Rattle.src_ast.specs.Rules.{Rule, declared_by, is_visible, has_main, arrays_in, cells_in, part_rules, rules_after, IsAccepted}
 use Rattle.cfg_core.specs.Graph.{GraphArray}
 use Rattle.cfg_build.specs.Keeps.{arrays_of}
 use Rattle.src_ast.specs.LanguageLimits.{most_arrays, most_array_cells, most_cells}
@@ -55,11 +55,11 @@ pub record FewArrays (others cells_before : ℕ) (parts : List Part) : Type 0 wh
   pub lengths : AllByRecursion (λ (a : GraphArray). a.length ≤ most_array_cells) (arrays_of parts)
   pub cells : cells_before + sum_by (λ (a : GraphArray). a.length) (arrays_of parts) ≤ most_cells
 
-few_from : (before parts : List Part) → arrays_in before ≤ most_arrays → cells_in before ≤ most_cells → Kept (rules_behind before parts) → FewArrays (arrays_in before) (cells_in before) parts
+few_from : (before parts : List Part) → arrays_in before ≤ most_arrays → cells_in before ≤ most_cells → Kept (rules_after before parts) → FewArrays (arrays_in before) (cells_in before) parts
 few_from before [] le ce h = record { count = omega (arith, le); lengths = tt; cells = omega (arith, ce) }
 few_from before (Array x n at ∷ parts) le ce h =
     let next = before ++ Array x n at ∷ [] in
-    let both = kept_both (part_rules before (Array x n at)) (rules_behind next parts) h in
+    let both = kept_both (part_rules before (Array x n at)) (rules_after next parts) h in
     let here = array_kept before x n at both.0 in
     let e = arrays_both before (Array x n at ∷ []) in let d = cells_both before (Array x n at ∷ []) in
     let more = few_from next parts (omega (arith, here.room, e)) (omega (arith, here.cells, d)) both.1 in
@@ -70,7 +70,7 @@ few_from before (Array x n at ∷ parts) le ce h =
     }
 few_from before (Proc p ∷ parts) le ce h =
     let next = before ++ Proc p ∷ [] in
-    let both = kept_both (part_rules before (Proc p)) (rules_behind next parts) h in
+    let both = kept_both (part_rules before (Proc p)) (rules_after next parts) h in
     let e = arrays_both before (Proc p ∷ []) in let d = cells_both before (Proc p ∷ []) in
     let more = few_from next parts (omega (arith, le, e)) (omega (arith, ce, d)) both.1 in
     record { count = omega (arith, more.count, e); lengths = more.lengths; cells = omega (arith, more.cells, d) }
@@ -78,4 +78,4 @@ few_from before (Proc p ∷ parts) le ce h =
 pub few_arrays : (parts : List Part) (finish : Place) → IsAccepted parts finish → FewArrays 0 0 parts
 few_arrays parts finish h =
     let last : List Rule = record { place = finish; kind = Main; kept = has_main parts } ∷ [] in
-    few_from [] parts (omega arith) (omega arith) (kept_both (rules_behind [] parts) last h).0
+    few_from [] parts (omega arith) (omega arith) (kept_both (rules_after [] parts) last h).0

@@ -2,7 +2,7 @@
 use Rattle.std.proofs.Common.{ℕ, zero, suc, ◌+◌, ◌≡◌, ◌<◌, ◌≤◌, ◌==◌, Bool, true, false, List, [], ◌∷◌, ◌++◌, map, Option, Some, None, if◌then◌else◌, refl, sym, subst, arith}
 use Rattle.std.proofs.lemmas.List.{append-nil}
 use Rattle.ws_words.specs.Outside.{Act, Outside, State}
-use Rattle.src_ast.specs.Turns.{Outcome, Ended, Out, and_then, turn, CallEnd, Returned, Stopped, with_result, back_in, ending, loop}
+use Rattle.src_ast.specs.Turns.{PartEnd, Ended, Out, and_then, turn, CallEnd, Returned, Stopped, with_result, back_in, ending, loop}
 use Rattle.src_ast.specs.Meaning.{Calls}
 use Rattle.seq_run.specs.Resolved.{Action, Do, Call, If, While, Steps, Nothing, Then, Proc, done, run_all, finish}
 use Rattle.seq_run.specs.InRange.{StepsIn}
@@ -31,7 +31,7 @@ module _ (g : Graph) where
   from_part p s fs k = passed g (run_ops p.ops s k) p.exit fs
 
   -- from c the walk comes to the place q as the outcome says
-  abbrev pub Follows : Outcome → Config → Part → List Frame → Type 0
+  abbrev pub Follows : PartEnd → Config → Part → List Frame → Type 0
   Follows (Ended s k) c q fs = Reaches c (from_part q s fs k)
   Follows (Out o) c q fs = Reaches c (Going o)
 
@@ -44,44 +44,44 @@ module _ (g : Graph) where
   CallsFollow n calls = (f : ℕ) → f < n → (args : List ℕ) (o : Outside) (k : ℕ) (fs : List Frame) →
       FollowsCall (calls f args o k) (At (entry_of g f) (record { vars = entered (proc_at g f) args; out = o }) fs k) fs
 
-  after : (c d : Config) (o : Outcome) (q : Part) (fs : List Frame) → Reaches c d → Follows o d q fs → Follows o c q fs
+  after : (c d : Config) (o : PartEnd) (q : Part) (fs : List Frame) → Reaches c d → Follows o d q fs → Follows o c q fs
   after c d (Ended s k) q fs r h = reaches_trans c d _ r h
   after c d (Out o) q fs r h = reaches_trans c d _ r h
 
   -- at the start of a block whose part is there
-  pub at_whole : (home vars b : ℕ) (m : Made) → HasAt g home vars b (whole m) → (o : Outcome) (s : State) (k : ℕ) (q : Part) (fs : List Frame) → Follows o (from_part m.front s fs k) q fs → Follows o (At b s fs k) q fs
+  pub at_whole : (home vars b : ℕ) (m : Made) → HasAt g home vars b (whole m) → (o : PartEnd) (s : State) (k : ℕ) (q : Part) (fs : List Frame) → Follows o (from_part m.front s fs k) q fs → Follows o (At b s fs k) q fs
   at_whole home vars b m at o s k q fs h =
       after (At b s fs k) (step g (At b s fs k)) o q fs (1, refl)
       (subst (λ (x : Spot). Follows o (passed g (run_ops x.block.ops s k) x.block.exit fs) q fs) (sym at.1) h)
 
-  both : (o : Outcome) (go : State → ℕ → Outcome) (c : Config) (b : ℕ) (q : Part) (fs : List Frame) → Follows o c (goes_to b) fs → ((s : State) (k : ℕ) → Follows (go s k) (At b s fs k) q fs) → Follows (and_then o go) c q fs
+  both : (o : PartEnd) (go : State → ℕ → PartEnd) (c : Config) (b : ℕ) (q : Part) (fs : List Frame) → Follows o c (goes_to b) fs → ((s : State) (k : ℕ) → Follows (go s k) (At b s fs k) q fs) → Follows (and_then o go) c q fs
   both (Ended s k) go c b q fs h f = after c (At b s fs k) (go s k) q fs h (f s k)
   both (Out o) go c b q fs h f = h
 
   -- an action after its turn, then what is left
-  acted : (a : Action) (r q : Part) (next : State → ℕ → Outcome) (fs : List Frame) (s : State) → ((j : ℕ) → Follows (next (done a s) j) (from_part r (done a s) fs j) q fs) → (k : ℕ) → Follows (and_then (turn k s (λ j. Ended (done a s) j)) next) (from_part (ticked (op a) r) s fs k) q fs
+  acted : (a : Action) (r q : Part) (next : State → ℕ → PartEnd) (fs : List Frame) (s : State) → ((j : ℕ) → Follows (next (done a s) j) (from_part r (done a s) fs j) q fs) → (k : ℕ) → Follows (and_then (turn k s (λ j. Ended (done a s) j)) next) (from_part (ticked (op a) r) s fs k) q fs
   acted a r q next fs s f zero = (0, refl)
   acted a r q next fs s f (suc j) =
       subst (λ (x : walks.Outcome). Follows (next (done a s) j) (passed g (walks.and_then x (run_ops r.ops)) r.exit fs) q fs) (sym (action_same a s j)) (f j)
 
   -- an exit after its turn
-  left : (exit : Exit) (q : Part) (go : ℕ → Outcome) (next : State → ℕ → Outcome) (fs : List Frame) (s : State) → ((j : ℕ) → Follows (and_then (go j) next) (leave g exit s fs j) q fs) → (k : ℕ) → Follows (and_then (turn k s go) next) (from_part (leaves exit) s fs k) q fs
+  left : (exit : Exit) (q : Part) (go : ℕ → PartEnd) (next : State → ℕ → PartEnd) (fs : List Frame) (s : State) → ((j : ℕ) → Follows (and_then (go j) next) (leave g exit s fs j) q fs) → (k : ℕ) → Follows (and_then (turn k s go) next) (from_part (leaves exit) s fs k) q fs
   left exit q go next fs s f zero = (0, refl)
   left exit q go next fs s f (suc j) = f j
 
-  choice : (v : Bool) (o u : Outcome) (c d : Config) (q : Part) (fs : List Frame) → Follows o c q fs → Follows u d q fs → Follows (if v then o else u) (if v then c else d) q fs
+  choice : (v : Bool) (o u : PartEnd) (c d : Config) (q : Part) (fs : List Frame) → Follows o c q fs → Follows u d q fs → Follows (if v then o else u) (if v then c else d) q fs
   choice true o u c d q fs h i = h
   choice false o u c d q fs h i = i
 
-  choice_then : (v : Bool) (o u : Outcome) (next : State → ℕ → Outcome) (c d : Config) (q : Part) (fs : List Frame) → Follows (and_then o next) c q fs → Follows (and_then u next) d q fs → Follows (and_then (if v then o else u) next) (if v then c else d) q fs
+  choice_then : (v : Bool) (o u : PartEnd) (next : State → ℕ → PartEnd) (c d : Config) (q : Part) (fs : List Frame) → Follows (and_then o next) c q fs → Follows (and_then u next) d q fs → Follows (and_then (if v then o else u) next) (if v then c else d) q fs
   choice_then true o u next c d q fs h i = h
   choice_then false o u next c d q fs h i = i
 
   -- a test has the value that it has in the run
-  branched : (t : Term) (a b : ℕ) (s : State) (k : ℕ) (o : Outcome) (q : Part) (fs : List Frame) → (let v = value_of t s in Follows o (if v.0 == 0 then At b v.1 fs k else At a v.1 fs k) q fs) → Follows o (leave g (Branch t a b) s fs k) q fs
+  branched : (t : Term) (a b : ℕ) (s : State) (k : ℕ) (o : PartEnd) (q : Part) (fs : List Frame) → (let v = value_of t s in Follows o (if v.0 == 0 then At b v.1 fs k else At a v.1 fs k) q fs) → Follows o (leave g (Branch t a b) s fs k) q fs
   branched t a b s k o q fs h = h
 
-  after_call : (e : CallEnd) (next : State → ℕ → Outcome) (c : Config) (vars : List ℕ) (x : Option ℕ) (back : ℕ) (q : Part) (fs : List Frame) → FollowsCall e c (record { result = x; back = back; vars = vars } ∷ fs) → ((s : State) (k : ℕ) → Follows (next s k) (At back s fs k) q fs) → Follows (and_then (back_in vars x e) next) c q fs
+  after_call : (e : CallEnd) (next : State → ℕ → PartEnd) (c : Config) (vars : List ℕ) (x : Option ℕ) (back : ℕ) (q : Part) (fs : List Frame) → FollowsCall e c (record { result = x; back = back; vars = vars } ∷ fs) → ((s : State) (k : ℕ) → Follows (next s k) (At back s fs k) q fs) → Follows (and_then (back_in vars x e) next) c q fs
   after_call (Returned v o k) next c vars x back q fs h f =
       let s : State = record { vars = with_result x v vars; out = o } in
       after c (At back s fs k) (next s k) q fs
@@ -90,20 +90,20 @@ module _ (g : Graph) where
   after_call (Stopped o) next c vars x back q fs h f = h
 
   -- a call, from its exit on
-  called : (n : ℕ) (calls : Calls) → CallsFollow n calls → (x : Option ℕ) (f : ℕ) → f < n → (ts : List Term) (back : ℕ) (next : State → ℕ → Outcome) (q : Part) (fs : List Frame) → ((s : State) (k : ℕ) → Follows (next s k) (At back s fs k) q fs) → (s : State) (j : ℕ) →
+  called : (n : ℕ) (calls : Calls) → CallsFollow n calls → (x : Option ℕ) (f : ℕ) → f < n → (ts : List Term) (back : ℕ) (next : State → ℕ → PartEnd) (q : Part) (fs : List Frame) → ((s : State) (k : ℕ) → Follows (next s k) (At back s fs k) q fs) → (s : State) (j : ℕ) →
       let vs = values_of ts s in Follows (and_then (back_in vs.1.vars x (calls f vs.0 vs.1.out j)) next) (leave g (graph.Call x f ts back) s fs j) q fs
   called n calls cf x f lt ts back next q fs go s j =
       let vs = values_of ts s in
       after_call (calls f vs.0 vs.1.out j) next _ vs.1.vars x back q fs (cf f lt vs.0 vs.1.out j (record { result = x; back = back; vars = vs.1.vars } ∷ fs)) go
 
   -- what follows a body of a loop
-  again : (o : Outcome) (j : ℕ) (next : State → ℕ → Outcome) (c : Config) (head : ℕ) (q : Part) (fs : List Frame) → AtMost j o → Follows o c (goes_to head) fs → ((u : State) (i : ℕ) → i ≤ j → Follows (next u i) (At head u fs i) q fs) → Follows (and_then o next) c q fs
+  again : (o : PartEnd) (j : ℕ) (next : State → ℕ → PartEnd) (c : Config) (head : ℕ) (q : Part) (fs : List Frame) → AtMost j o → Follows o c (goes_to head) fs → ((u : State) (i : ℕ) → i ≤ j → Follows (next u i) (At head u fs i) q fs) → Follows (and_then o next) c q fs
   again (Ended u i) j next c head q fs le h f = after c (At head u fs i) (next u i) q fs h (f u i le)
   again (Out o) j next c head q fs le h f = h
 
   -- a loop, entered at its header
-  looped : (t : Term) (body : State → ℕ → Outcome) (head inside next : ℕ) (fs : List Frame)
-      → ((o : Outcome) (s : State) (k : ℕ) → Follows o (from_part (leaves (Branch t inside next)) s fs k) (goes_to next) fs → Follows o (At head s fs k) (goes_to next) fs)
+  looped : (t : Term) (body : State → ℕ → PartEnd) (head inside next : ℕ) (fs : List Frame)
+      → ((o : PartEnd) (s : State) (k : ℕ) → Follows o (from_part (leaves (Branch t inside next)) s fs k) (goes_to next) fs → Follows o (At head s fs k) (goes_to next) fs)
       → ((s : State) (k : ℕ) → AtMost k (body s k)) → ((s : State) (k : ℕ) → Follows (body s k) (At inside s fs k) (goes_to head) fs)
       → (fuel : ℕ) (s : State) (k : ℕ) → k < fuel → Follows (loop fuel (value_of t) body s k) (At head s fs k) (goes_to next) fs
   looped t body head inside next fs e most f zero s k lt = absurd (omega arith)
@@ -162,7 +162,7 @@ module _ (g : Graph) where
         (λ u i. from_block more next rest hm (follow more next rest fit.1 hm.2) u i fs)
 
   -- the result of a procedure
-  pub finished : (o : Outcome) (r : Option Term) (c : Config) (fs : List Frame) → Follows o c (last_part r) fs → FollowsCall (ending o (finish r)) c fs
+  pub finished : (o : PartEnd) (r : Option Term) (c : Config) (fs : List Frame) → Follows o c (last_part r) fs → FollowsCall (ending o (finish r)) c fs
   finished (Ended s k) None c fs h = subst (λ (acts : List Act). Reaches c (returned 0 (record { cells = s.out.cells; input = s.out.input; left = s.out.left; acts = acts }) fs k)) (append-nil s.out.acts) h
   finished (Ended s zero) (Some t) c fs h = h
   finished (Ended s (suc j)) (Some t) c fs h = h

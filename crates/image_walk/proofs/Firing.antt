@@ -14,6 +14,7 @@ use Rattle.image_walk.specs.Sound.{Slots, HasDest, closed, Fresh}
 use Rattle.image_walk.specs.Open.{Walkable}
 use Rattle.image_walk.specs.Standing.{turn_number, slots_at}
 use Rattle.image_walk.specs.declared.walker.Walker.{Walker}
+use Rattle.ws_words.specs.declared.memory.Memory.{Memory}
 use Rattle.ws_words.specs.Memory.{OutIs}
 use Rattle.image_walk.specs.Shows.{Resulted, looked, delivered, At, seen}
 use Rattle.image_walk.proofs.Slots.{all_opened_from, fresh_apart, closed_cases, with_tokens_lands}
@@ -97,6 +98,26 @@ same_past arrays Input xs ys h = refl
 same_past arrays (Give p) xs ys h = refl
 same_past arrays Nop xs ys h = refl
 same_past arrays Halt xs ys h = refl
+
+agree_three : (op : Op) (x y z w : ℕ) → (2 < ports_of op → z ≡ w) → Agree op (x ∷ y ∷ z ∷ []) (x ∷ y ∷ w ∷ [])
+agree_three op x y z w e zero lt = refl
+agree_three op x y z w e (suc zero) lt = refl
+agree_three op x y z w e (suc (suc zero)) lt = e lt
+agree_three op x y z w e (suc (suc (suc q))) lt = refl
+
+-- only an operation with three ports looks at a third operand
+pub third_unread : (op : Op) (x y z w : ℕ) (o : Outside) (word : ℕ) (m : Memory) → (2 < ports_of op → z ≡ w)
+    → Resulted op (x ∷ y ∷ z ∷ []) o word m → Resulted op (x ∷ y ∷ w ∷ []) o word m
+third_unread op x y z w o word m e r =
+    let same : Agree op (x ∷ y ∷ z ∷ []) (x ∷ y ∷ w ∷ []) = agree_three op x y z w e in
+    let answers = same_answer op (x ∷ y ∷ z ∷ []) (x ∷ y ∷ w ∷ []) o same in
+    let results = same_result op (x ∷ y ∷ z ∷ []) (x ∷ y ∷ w ∷ []) same in
+    let afters = same_after op (x ∷ y ∷ z ∷ []) (x ∷ y ∷ w ∷ []) o same in
+    record {
+      result = r.result ∙ ap (λ n. cond (is_memory_op op) n (result_of_op op (x ∷ y ∷ z ∷ []))) answers
+          ∙ ap (λ n. cond (is_memory_op op) (answer_op op (x ∷ y ∷ w ∷ []) o) n) results;
+      after = subst (λ (p : Outside). OutIs (cond (is_memory_op op) p o) m) afters r.after;
+    }
 
 -- the index alone decides
 past_by_index : (arrays : List Array) (op : Op) (x : ℕ) (xs : List ℕ) → is_past_op arrays op (x ∷ []) ≡ is_past_op arrays op (x ∷ xs)

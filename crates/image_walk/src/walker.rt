@@ -1,9 +1,9 @@
 //! The state of a walk, and what its steps do to it.
 
-ghost use Rattle.std.specs.Prelude.{◌≡◌, ◌≤◌, ◌<◌, ◌+◌, ◌-◌, ◌^◌, ℕ, suc, true, false, List, [], ◌∷◌, length, slice_set, IfOk, OnOk, IfSome, MatchOption};
+ghost use Rattle.std.specs.Prelude.{◌≡◌, ◌≤◌, ◌<◌, ◌+◌, ◌-◌, ◌^◌, ℕ, suc, true, false, List, [], ◌∷◌, length, slice_index, slice_set, IfOk, OnOk, IfSome, MatchOption};
 ghost use Rattle.ws_words.specs.Outside.{Outside, World};
 ghost use Rattle.ws_words.specs.Memory.{OutIs};
-ghost use Rattle.ws_isa.specs.Image.{instr_at, first_number, is_first, now_of, is_stop, landing_of};
+ghost use Rattle.ws_isa.specs.Image.{instr_at, first_number, is_first, now_of, is_stop, landing_of, ports_of};
 ghost use Rattle.ws_isa.specs.View as view;
 ghost use Rattle.image_walk.specs.Open.{Walkable};
 ghost use Rattle.image_walk.specs.Shows.{Resulted, looked, delivered, crossed, EdgeIs, ProgramIs, image_of, block_in, At, AtStart, AtEnd, Ran, Left};
@@ -76,12 +76,23 @@ impl<'a> Walker<'a> {
     {
         let first = self.table.operands.word(4 * k);
         let second = self.table.operands.word(4 * k + 1);
-        let third = self.table.operands.word(4 * k + 2);
+        let third = self.third(instr.op, k);
         self.look(program, instr.op, first);
         let word = self.value(instr.op, first, second, third)?;
         self.send(instr, k, word);
         self.fired += 1;
         Ok(())
+    }
+
+    // The third operand of the instruction with this number, where its operation has one.
+    fn third(&self, op: Op, k: usize) -> u64
+        requires number { 4 * k + 2 < 2 ^ 64 }
+        ensures { 2 < ports_of op → result ≡ slice_index self.now.table.operands (4 * k + 2) }
+    {
+        match op {
+            Op::Phi => self.table.operands.word(4 * k + 2),
+            _ => 0,
+        }
     }
 
     // The result of the instruction with this number is kept, and comes to its destinations if it

@@ -1,7 +1,7 @@
 -- A run that ended with turns left ends with each other number of turns left, if it has as many more or fewer.
 use Rattle.std.proofs.Common.{ℕ, zero, suc, ◌+◌, ◌-◌, ◌≡◌, ◌<◌, ◌≤◌, ◌==◌, Bool, true, false, List, [], ◌++◌, length, Option, Some, None, if◌then◌else◌, refl, ap, ◌∙◌, subst, arith}
 use Rattle.ws_words.specs.Outside.{Outside, State, zeros, World, opening_out}
-use Rattle.src_ast.specs.Turns.{Outcome, Ended, Out, and_then, turn, CallEnd, Returned, Stopped, with_result, back_in, ending, loop}
+use Rattle.src_ast.specs.Turns.{PartEnd, Ended, Out, and_then, turn, CallEnd, Returned, Stopped, with_result, back_in, ending, loop}
 use Rattle.src_ast.specs.Meaning.{Calls, empty_cells}
 use Rattle.cfg_core.specs.Graph.{Term}
 use Rattle.cfg_core.specs.Walk.{value_of, values_of}
@@ -10,7 +10,7 @@ use Rattle.seq_run.specs.TurnsLeft.{AtMost}
 use Rattle.seq_run.proofs.TurnsLeft.{all_most, calls_most, CallsAtMost}
 
 -- a part that ended with j of k turns left takes this many, whatever is left
-pub record Cost (h : ℕ → Outcome) (u : State) (j k : ℕ) : Type 0 where
+pub record Cost (h : ℕ → PartEnd) (u : State) (j k : ℕ) : Type 0 where
   pub cost : ℕ
   pub sum : k ≡ j + cost
   pub again : (i : ℕ) → h (i + cost) ≡ Ended u i
@@ -27,7 +27,7 @@ CallsCost calls = (f : ℕ) (args : List ℕ) (o : Outside) (k v : ℕ) (p : Out
 no_cost : (s u : State) (j k : ℕ) → Ended s k ≡ Ended u j → Cost (λ i. Ended s i) u j k
 no_cost s u j k e = record { cost = 0; sum = (let z : k ≡ j = cc in omega (arith, z)); again = λ i. let z : i + 0 ≡ i = omega arith in let w : s ≡ u = cc in ap (λ n. Ended s n) z ∙ ap (λ (x : State). Ended x i) w }
 
-turn_cost : (s : State) (go : ℕ → Outcome) (u : State) (j k : ℕ) → ((i : ℕ) → go i ≡ Ended u j → Cost go u j i) → turn k s go ≡ Ended u j → Cost (λ i. turn i s go) u j k
+turn_cost : (s : State) (go : ℕ → PartEnd) (u : State) (j k : ℕ) → ((i : ℕ) → go i ≡ Ended u j → Cost go u j i) → turn k s go ≡ Ended u j → Cost (λ i. turn i s go) u j k
 turn_cost s go u j zero f e = absurd (cc)
 turn_cost s go u j (suc k) f e = let r = f k e in record {
   cost = suc r.cost;
@@ -35,15 +35,15 @@ turn_cost s go u j (suc k) f e = let r = f k e in record {
   again = λ i. let z : i + suc r.cost ≡ suc (i + r.cost) = omega arith in ap (λ n. turn n s go) z ∙ r.again i;
 }
 
-then_cost : (h : ℕ → Outcome) (go : State → ℕ → Outcome) (u : State) (j k : ℕ) → ((s : State) (i : ℕ) → h k ≡ Ended s i → Cost h s i k) → ((s : State) (i : ℕ) → go s i ≡ Ended u j → Cost (go s) u j i) → (o : Outcome) → h k ≡ o → and_then o go ≡ Ended u j → Cost (λ i. and_then (h i) go) u j k
+then_cost : (h : ℕ → PartEnd) (go : State → ℕ → PartEnd) (u : State) (j k : ℕ) → ((s : State) (i : ℕ) → h k ≡ Ended s i → Cost h s i k) → ((s : State) (i : ℕ) → go s i ≡ Ended u j → Cost (go s) u j i) → (o : PartEnd) → h k ≡ o → and_then o go ≡ Ended u j → Cost (λ i. and_then (h i) go) u j k
 then_cost h go u j k f g (Ended s i) e d = let r = f s i e in let q = g s i d in record {
   cost = q.cost + r.cost;
   sum = omega (arith, r.sum, q.sum);
-  again = λ n. let z : n + (q.cost + r.cost) ≡ (n + q.cost) + r.cost = omega arith in ap (λ m. and_then (h m) go) z ∙ ap (λ (x : Outcome). and_then x go) (r.again (n + q.cost)) ∙ q.again n;
+  again = λ n. let z : n + (q.cost + r.cost) ≡ (n + q.cost) + r.cost = omega arith in ap (λ m. and_then (h m) go) z ∙ ap (λ (x : PartEnd). and_then x go) (r.again (n + q.cost)) ∙ q.again n;
 }
 then_cost h go u j k f g (Out o) e d = absurd (cc)
 
-if_cost : (b : Bool) (h g : ℕ → Outcome) (u : State) (j k : ℕ) → (h k ≡ Ended u j → Cost h u j k) → (g k ≡ Ended u j → Cost g u j k) → (if b then h k else g k) ≡ Ended u j → Cost (λ i. if b then h i else g i) u j k
+if_cost : (b : Bool) (h g : ℕ → PartEnd) (u : State) (j k : ℕ) → (h k ≡ Ended u j → Cost h u j k) → (g k ≡ Ended u j → Cost g u j k) → (if b then h k else g k) ≡ Ended u j → Cost (λ i. if b then h i else g i) u j k
 if_cost true h g u j k f i e = f e
 if_cost false h g u j k f i e = i e
 
@@ -55,18 +55,18 @@ back_cost h vars x u j k f (Returned v p i) e d =
     record { cost = r.cost; sum = omega (arith, r.sum, z); again = λ n. ap (back_in vars x) (r.again n) ∙ ap (λ (y : State). Ended y n) w }
 back_cost h vars x u j k f (Stopped o) e d = absurd (cc)
 
-record LoopCost (test : State → ℕ × State) (body : State → ℕ → Outcome) (s u : State) (j k : ℕ) : Type 0 where
+record LoopCost (test : State → ℕ × State) (body : State → ℕ → PartEnd) (s u : State) (j k : ℕ) : Type 0 where
   cost : ℕ
   sum : k ≡ j + cost
   again : (i f : ℕ) → i + cost < f → loop f test body s (i + cost) ≡ Ended u i
 
-module _ (test : State → ℕ × State) (body : State → ℕ → Outcome) (most : (s : State) (k : ℕ) → AtMost k (body s k)) (costs : (s : State) (k : ℕ) (u : State) (j : ℕ) → body s k ≡ Ended u j → Cost (body s) u j k) where
+module _ (test : State → ℕ × State) (body : State → ℕ → PartEnd) (most : (s : State) (k : ℕ) → AtMost k (body s k)) (costs : (s : State) (k : ℕ) (u : State) (j : ℕ) → body s k ≡ Ended u j → Cost (body s) u j k) where
   loop_cost : (fuel : ℕ) (s : State) (k : ℕ) (u : State) (j : ℕ) → k < fuel → loop fuel test body s k ≡ Ended u j → LoopCost test body s u j k
   loop_cost zero s k u j lt e = absurd (omega arith)
   loop_cost (suc fuel) s zero u j lt e = absurd (cc)
   loop_cost (suc fuel) s (suc k) u j lt e = by_test ((test s).0 == 0) refl (body (test s).1 k) refl (most (test s).1 k) e (λ t i le d. loop_cost fuel t i u j (omega arith) d)
     where
-      by_test : (b : Bool) → ((test s).0 == 0) ≡ b → (o : Outcome) → body (test s).1 k ≡ o → AtMost k o → (if b then Ended (test s).1 k else and_then o (loop fuel test body)) ≡ Ended u j → ((t : State) (i : ℕ) → i ≤ k → loop fuel test body t i ≡ Ended u j → LoopCost test body t u j i) → LoopCost test body s u j (suc k)
+      by_test : (b : Bool) → ((test s).0 == 0) ≡ b → (o : PartEnd) → body (test s).1 k ≡ o → AtMost k o → (if b then Ended (test s).1 k else and_then o (loop fuel test body)) ≡ Ended u j → ((t : State) (i : ℕ) → i ≤ k → loop fuel test body t i ≡ Ended u j → LoopCost test body t u j i) → LoopCost test body s u j (suc k)
       by_test true eb o eo le d f =
           let z : k ≡ j = cc in
           let w : (test s).1 ≡ u = cc in
@@ -89,7 +89,7 @@ module _ (test : State → ℕ × State) (body : State → ℕ → Outcome) (mos
               let y : n + suc (q.cost + r.cost) ≡ suc ((n + q.cost) + r.cost) = omega arith in
               ap (λ m. loop (suc g) test body s m) y
               ∙ ap (λ (v : Bool). if v then Ended (test s).1 ((n + q.cost) + r.cost) else and_then (body (test s).1 ((n + q.cost) + r.cost)) (loop g test body)) eb
-              ∙ ap (λ (o : Outcome). and_then o (loop g test body)) (r.again (n + q.cost))
+              ∙ ap (λ (o : PartEnd). and_then o (loop g test body)) (r.again (n + q.cost))
               ∙ q.again n g (omega arith)
 
 module _ (calls : Calls) (cm : CallsAtMost calls) (cc_ : CallsCost calls) where
@@ -126,11 +126,11 @@ finish_cost (Some t) s (suc k) v o j e =
     let y : (value_of t s).0 ≡ v = cc in
     record { cost = 1; sum = omega (arith, z); again = λ i. let q : i + 1 ≡ suc i = omega arith in ap (λ n. finish (Some t) s n) q ∙ ap (λ (x : Outside). Returned (value_of t s).0 x i) w ∙ ap (λ n. Returned n o i) y }
 
-ending_cost : (h : ℕ → Outcome) (r : Option Term) (v : ℕ) (p : Outside) (j k : ℕ) → ((s : State) (i : ℕ) → h k ≡ Ended s i → Cost h s i k) → (o : Outcome) → h k ≡ o → ending o (finish r) ≡ Returned v p j → CallCost (λ i. ending (h i) (finish r)) v p j k
+ending_cost : (h : ℕ → PartEnd) (r : Option Term) (v : ℕ) (p : Outside) (j k : ℕ) → ((s : State) (i : ℕ) → h k ≡ Ended s i → Cost h s i k) → (o : PartEnd) → h k ≡ o → ending o (finish r) ≡ Returned v p j → CallCost (λ i. ending (h i) (finish r)) v p j k
 ending_cost h r v p j k f (Ended s i) e d = let a = f s i e in let b = finish_cost r s i v p j d in record {
   cost = b.cost + a.cost;
   sum = omega (arith, a.sum, b.sum);
-  again = λ n. let z : n + (b.cost + a.cost) ≡ (n + b.cost) + a.cost = omega arith in ap (λ m. ending (h m) (finish r)) z ∙ ap (λ (x : Outcome). ending x (finish r)) (a.again (n + b.cost)) ∙ b.again n;
+  again = λ n. let z : n + (b.cost + a.cost) ≡ (n + b.cost) + a.cost = omega arith in ap (λ m. ending (h m) (finish r)) z ∙ ap (λ (x : PartEnd). ending x (finish r)) (a.again (n + b.cost)) ∙ b.again n;
 }
 ending_cost h r v p j k f (Out o) e d = absurd (cc)
 

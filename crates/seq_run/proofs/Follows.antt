@@ -10,7 +10,7 @@ use Rattle.ws_words.specs.Memory.{lengths_of}
 use Rattle.ws_words.specs.Outside.{Act, Outside, State, zeros}
 use Rattle.ws_words.specs.Past.{AreWithin}
 use Rattle.ws_words.specs.declared.memory.Memory.{Memory}
-use Rattle.src_ast.specs.Turns.{Outcome, Ended, Out, and_then, CallEnd, Returned, Stopped, with_result, back_in, ending, loop}
+use Rattle.src_ast.specs.Turns.{PartEnd, Ended, Out, and_then, CallEnd, Returned, Stopped, with_result, back_in, ending, loop}
 use Rattle.src_ast.specs.Meaning.{Calls}
 use Rattle.src_ast.specs.Runs.{outside_of}
 use Rattle.cfg_core.specs.Graph.{Term}
@@ -61,9 +61,9 @@ shifted start p q cost turns k c m left e x f = record {
 }
 
 -- a part that goes on as another does, some turns later
-pub flow_shift : (start : Outside) (p q : ℕ → Outcome) (cost turns k : ℕ) (f : Flow) (m : Memory) (vars : List ℕ) (left : ℕ) → turns ≡ k + cost → ((n : ℕ) → q (n + cost) ≡ p n) → FlowIs start p k f m vars left → FlowIs start q turns f m vars left
-flow_shift start p q cost turns k flows.Ended m vars left e x h = subst (λ (o : Outcome). PartEnded start o m vars left) (sym (x k) ∙ ap q (sym e)) h
-flow_shift start p q cost turns k flows.Out m vars left e x h = subst (λ (o : Outcome). PartOut start o m) (sym (x k) ∙ ap q (sym e)) h
+pub flow_shift : (start : Outside) (p q : ℕ → PartEnd) (cost turns k : ℕ) (f : Flow) (m : Memory) (vars : List ℕ) (left : ℕ) → turns ≡ k + cost → ((n : ℕ) → q (n + cost) ≡ p n) → FlowIs start p k f m vars left → FlowIs start q turns f m vars left
+flow_shift start p q cost turns k flows.Ended m vars left e x h = subst (λ (o : PartEnd). PartEnded start o m vars left) (sym (x k) ∙ ap q (sym e)) h
+flow_shift start p q cost turns k flows.Out m vars left e x h = subst (λ (o : PartEnd). PartOut start o m) (sym (x k) ∙ ap q (sym e)) h
 flow_shift start p q cost turns k (flows.Fault c) m vars left e x h = shifted start (λ n. seen (p n)) (λ n. seen (q n)) cost turns k c m left e (λ n. extends_same (seen (p n)) (seen (q (n + cost))) (ap seen (x n))) h
 
 -- so with a call
@@ -73,38 +73,38 @@ reply_shift start p q cost turns k replies.Out m left e x h = subst (λ (o : Cal
 reply_shift start p q cost turns k (replies.Fault c) m left e x h = shifted start (λ n. call_seen (p n)) (λ n. call_seen (q n)) cost turns k c m left e (λ n. extends_same (call_seen (p n)) (call_seen (q (n + cost))) (ap call_seen (x n))) h
 
 -- after one turn
-pub after_turn : (start : Outside) (p q : ℕ → Outcome) (turns : ℕ) (f : Flow) (m : Memory) (vars : List ℕ) (left : ℕ) → 0 < turns → ((n : ℕ) → q (suc n) ≡ p n) → FlowIs start p (turns - 1) f m vars left → FlowIs start q turns f m vars left
+pub after_turn : (start : Outside) (p q : ℕ → PartEnd) (turns : ℕ) (f : Flow) (m : Memory) (vars : List ℕ) (left : ℕ) → 0 < turns → ((n : ℕ) → q (suc n) ≡ p n) → FlowIs start p (turns - 1) f m vars left → FlowIs start q turns f m vars left
 after_turn start p q turns f m vars left lt x h = flow_shift start p q 1 turns (turns - 1) f m vars left (omega arith) (λ n. let z : n + 1 ≡ suc n = omega arith in ap q z ∙ x n) h
 
 -- what stops first stops the whole
-pub then_stops : (start : Outside) (p : ℕ → Outcome) (go : ℕ → State → ℕ → Outcome) (turns : ℕ) (f : Flow) (m : Memory) (vars now : List ℕ) (left : ℕ) → stop_flag f ≡ true → ((n : ℕ) (s : State) (k : ℕ) → OutcomeTells s.out (go n s k)) → FlowIs start p turns f m vars left → FlowIs start (λ n. and_then (p n) (go n)) turns f m now left
+pub then_stops : (start : Outside) (p : ℕ → PartEnd) (go : ℕ → State → ℕ → PartEnd) (turns : ℕ) (f : Flow) (m : Memory) (vars now : List ℕ) (left : ℕ) → stop_flag f ≡ true → ((n : ℕ) (s : State) (k : ℕ) → OutcomeTells s.out (go n s k)) → FlowIs start p turns f m vars left → FlowIs start (λ n. and_then (p n) (go n)) turns f m now left
 then_stops start p go turns flows.Ended m vars now left e t h = absurd (cc)
 then_stops start p go turns flows.Out m vars now left e t h = at (p turns) h
   where
-    at : (o : Outcome) → PartOut start o m → PartOut start (and_then o (go turns)) m
+    at : (o : PartEnd) → PartOut start o m → PartOut start (and_then o (go turns)) m
     at (Ended s k) h = absurd h
     at (Out o) h = h
 then_stops start p go turns (flows.Fault c) m vars now left e t h =
     shifted start (λ n. seen (p n)) (λ n. seen (and_then (p n) (go n))) 0 turns turns c m left (omega arith)
     (λ n. let z : n + 0 ≡ n = omega arith in subst (λ (k : ℕ). Extends (seen (p n)) (seen (and_then (p k) (go k)))) (sym z) (at n (p n))) h
   where
-    at : (n : ℕ) (o : Outcome) → Extends (seen o) (seen (and_then o (go n)))
+    at : (n : ℕ) (o : PartEnd) → Extends (seen o) (seen (and_then o (go n)))
     at n (Ended s k) = (λ h. absurd (cc), outcome_begins s.out (go n s k) (t n s k))
     at n (Out o) = (λ h. refl, begins_all o.acts)
 
 -- before its first turn a part wants it; with one it stops
-pub stops_at_once : (start : Outside) (part : ℕ → Outcome) (s : State) (turns c : ℕ) (m held : Memory) (vars : List ℕ) → 0 < turns → part 0 ≡ Out s.out → Holds start s held vars → Stops start (seen (part 1)).0 c m → Faulted start (λ n. seen (part n)) turns c m (turns - 1)
+pub stops_at_once : (start : Outside) (part : ℕ → PartEnd) (s : State) (turns c : ℕ) (m held : Memory) (vars : List ℕ) → 0 < turns → part 0 ≡ Out s.out → Holds start s held vars → Stops start (seen (part 1)).0 c m → Faulted start (λ n. seen (part n)) turns c m (turns - 1)
 stops_at_once start part s turns c m held vars lt e h st = record {
   earlier = 0;
   sum = omega arith;
   stops = st;
-  wants = ap (λ (o : Outcome). (seen o).1) e;
-  within = subst (λ (o : Outcome). AreWithin (lengths_of start.cells) (seen o).0) (sym e) h.out.within;
+  wants = ap (λ (o : PartEnd). (seen o).1) e;
+  within = subst (λ (o : PartEnd). AreWithin (lengths_of start.cells) (seen o).0) (sym e) h.out.within;
 }
 
 -- where no turn is left
-pub no_turn : (start : Outside) (part : ℕ → Outcome) (s : State) (turns : ℕ) (m : Memory) (vars : List ℕ) → turns ≡ 0 → part 0 ≡ Out s.out → Holds start s m vars → PartOut start (part turns) m
-no_turn start part s turns m vars z e h = subst (λ (o : Outcome). PartOut start o m) (sym (ap part z ∙ e)) h.out
+pub no_turn : (start : Outside) (part : ℕ → PartEnd) (s : State) (turns : ℕ) (m : Memory) (vars : List ℕ) → turns ≡ 0 → part 0 ≡ Out s.out → Holds start s m vars → PartOut start (part turns) m
+no_turn start part s turns m vars z e h = subst (λ (o : PartEnd). PartOut start o m) (sym (ap part z ∙ e)) h.out
 
 -- the value of one term more
 pub values_more : (ts : List CodeTerm) (vars : List ℕ) (cells : List (List ℕ)) (i : ℕ) (t : CodeTerm) (words : List ℕ) → i < length ts → t ≡ slice_index_or ts i t → words ≡ values (map graph.term (take i ts)) vars cells → words ++ value (graph.term t) vars cells ∷ [] ≡ values (map graph.term (take (i + 1) ts)) vars cells
@@ -171,26 +171,26 @@ weight_lt (y ∷ ss) zero x lt e = let h : weight (view.step x) ≡ weight (view
 weight_lt (y ∷ ss) (suc i) x lt e = let h = weight_lt ss i x (omega arith) e in omega arith
 
 -- what is left goes as the whole does
-pub upto_is : (start : Outside) (now : State → ℕ → Outcome) (whole : ℕ → Outcome) (turns left k : ℕ) (m n : Memory) (vars later : List ℕ) (f : Flow) → (u : Upto start now whole turns m vars left) → FlowIs start (now u.at) left f n later k → FlowIs start whole turns f n later k
+pub upto_is : (start : Outside) (now : State → ℕ → PartEnd) (whole : ℕ → PartEnd) (turns left k : ℕ) (m n : Memory) (vars later : List ℕ) (f : Flow) → (u : Upto start now whole turns m vars left) → FlowIs start (now u.at) left f n later k → FlowIs start whole turns f n later k
 upto_is start now whole turns left k m n vars later f u g = flow_shift start (now u.at) whole u.spent turns left f n later k u.sum u.same g
 
 -- the state at the end of a part, and what the part took
-record Ends (start : Outside) (p : ℕ → Outcome) (k : ℕ) (m : Memory) (vars : List ℕ) (left : ℕ) : Type 0 where
+record Ends (start : Outside) (p : ℕ → PartEnd) (k : ℕ) (m : Memory) (vars : List ℕ) (left : ℕ) : Type 0 where
   at : State
   holds : Holds start at m vars
   cost : ℕ
   sum : k ≡ left + cost
   again : (i : ℕ) → p (i + cost) ≡ Ended at i
 
-ends : (start : Outside) (p : ℕ → Outcome) (k : ℕ) (m : Memory) (vars : List ℕ) (left : ℕ) → ((s : State) (i : ℕ) → p k ≡ Ended s i → Cost p s i k) → FlowIs start p k flows.Ended m vars left → Ends start p k m vars left
+ends : (start : Outside) (p : ℕ → PartEnd) (k : ℕ) (m : Memory) (vars : List ℕ) (left : ℕ) → ((s : State) (i : ℕ) → p k ≡ Ended s i → Cost p s i k) → FlowIs start p k flows.Ended m vars left → Ends start p k m vars left
 ends start p k m vars left f h = at (p k) refl h
   where
-    at : (o : Outcome) → p k ≡ o → PartEnded start o m vars left → Ends start p k m vars left
+    at : (o : PartEnd) → p k ≡ o → PartEnded start o m vars left → Ends start p k m vars left
     at (Ended s i) e g = let r = f s i e in record { at = s; holds = g.0; cost = r.cost; sum = omega (arith, r.sum, g.1); again = r.again }
     at (Out o) e g = absurd g
 
 -- among steps
-module _ (calls : Calls) (most : CallsAtMost calls) (costs : CallsCost calls) (tell : CallsTell calls) (start : Outside) (ss : List Step) (i : ℕ) (x : Step) (whole : ℕ → Outcome) (turns left : ℕ) (m : Memory) (vars : List ℕ) (lt : i < length ss) (is : x ≡ slice_index_or ss i x) (u : Upto start (run_all calls (view.steps (drop i ss))) whole turns m vars left) where
+module _ (calls : Calls) (most : CallsAtMost calls) (costs : CallsCost calls) (tell : CallsTell calls) (start : Outside) (ss : List Step) (i : ℕ) (x : Step) (whole : ℕ → PartEnd) (turns left : ℕ) (m : Memory) (vars : List ℕ) (lt : i < length ss) (is : x ≡ slice_index_or ss i x) (u : Upto start (run_all calls (view.steps (drop i ss))) whole turns m vars left) where
   here : (k : ℕ) → whole (k + u.spent) ≡ and_then (run_one calls (view.step x) u.at k) (run_all calls (view.steps (drop (suc i) ss)))
   here k = u.same k ∙ ap (λ (st : Steps). run_all calls st u.at k) (next_steps ss i x lt is)
 
@@ -205,7 +205,7 @@ module _ (calls : Calls) (most : CallsAtMost calls) (costs : CallsCost calls) (t
         sum = omega (arith, e.sum, u.sum);
         same = λ j.
             let z : j + (e.cost + u.spent) ≡ (j + e.cost) + u.spent = omega arith in
-            ap whole z ∙ here (j + e.cost) ∙ ap (λ (o : Outcome). and_then o (run_all calls (view.steps (drop (suc i) ss)))) (e.again j);
+            ap whole z ∙ here (j + e.cost) ∙ ap (λ (o : PartEnd). and_then o (run_all calls (view.steps (drop (suc i) ss)))) (e.again j);
       })
 
   -- a step stops the steps
@@ -215,7 +215,7 @@ module _ (calls : Calls) (most : CallsAtMost calls) (costs : CallsCost calls) (t
       (then_stops start (run_one calls (view.step x) u.at) (λ j. run_all calls (view.steps (drop (suc i) ss))) left f n now now k e (λ j. all_tells calls tell (view.steps (drop (suc i) ss))) h)
 
 -- what has not stopped has ended
-pub is_ended : (start : Outside) (p : ℕ → Outcome) (turns : ℕ) (f : Flow) (m : Memory) (vars : List ℕ) (k : ℕ) → stop_flag f ≡ false → FlowIs start p turns f m vars k → FlowIs start p turns flows.Ended m vars k
+pub is_ended : (start : Outside) (p : ℕ → PartEnd) (turns : ℕ) (f : Flow) (m : Memory) (vars : List ℕ) (k : ℕ) → stop_flag f ≡ false → FlowIs start p turns f m vars k → FlowIs start p turns flows.Ended m vars k
 is_ended start p turns flows.Ended m vars k e h = h
 is_ended start p turns flows.Out m vars k e h = absurd (cc)
 is_ended start p turns (flows.Fault c) m vars k e h = absurd (cc)
@@ -263,24 +263,24 @@ module _ (calls : Calls) (tell : CallsTell calls) (start : Outside) (s : State) 
       at r t = back_begins (values_of ts s).1.out.acts s.vars x r (call_begins (values_of ts s).1.out r t)
 
 -- a loop's fuel, of which there is enough, makes no difference
-loop_fuel : (test : State → ℕ × State) (body : State → ℕ → Outcome) → ((s : State) (k : ℕ) → AtMost k (body s k)) → (f g : ℕ) (s : State) (k : ℕ) → k < f → k < g → loop f test body s k ≡ loop g test body s k
+loop_fuel : (test : State → ℕ × State) (body : State → ℕ → PartEnd) → ((s : State) (k : ℕ) → AtMost k (body s k)) → (f g : ℕ) (s : State) (k : ℕ) → k < f → k < g → loop f test body s k ≡ loop g test body s k
 loop_fuel test body most zero g s k lf lg = absurd (omega arith)
 loop_fuel test body most (suc f) zero s k lf lg = absurd (omega arith)
 loop_fuel test body most (suc f) (suc g) s zero lf lg = refl
 loop_fuel test body most (suc f) (suc g) s (suc j) lf lg =
-    ap (λ (o : Outcome). if (test s).0 == 0 then Ended (test s).1 j else o) (after (body (test s).1 j) (loop f test body) (loop g test body) (most (test s).1 j) (λ u i le. loop_fuel test body most f g u i (omega arith) (omega arith)))
+    ap (λ (o : PartEnd). if (test s).0 == 0 then Ended (test s).1 j else o) (after (body (test s).1 j) (loop f test body) (loop g test body) (most (test s).1 j) (λ u i le. loop_fuel test body most f g u i (omega arith) (omega arith)))
   where
-    after : (o : Outcome) (go went : State → ℕ → Outcome) → AtMost j o → ((u : State) (i : ℕ) → i ≤ j → go u i ≡ went u i) → and_then o go ≡ and_then o went
+    after : (o : PartEnd) (go went : State → ℕ → PartEnd) → AtMost j o → ((u : State) (i : ℕ) → i ≤ j → go u i ≡ went u i) → and_then o go ≡ and_then o went
     after (Ended u i) go went le h = h u i le
     after (Out o) go went le h = refl
 
 -- a loop, some of whose turns are spent
-module _ (t : Term) (body : State → ℕ → Outcome) (most : (s : State) (k : ℕ) → AtMost k (body s k)) (tells : (s : State) (k : ℕ) → OutcomeTells s.out (body s k)) (costs : (s : State) (k : ℕ) (u : State) (j : ℕ) → body s k ≡ Ended u j → Cost (body s) u j k) where
+module _ (t : Term) (body : State → ℕ → PartEnd) (most : (s : State) (k : ℕ) → AtMost k (body s k)) (tells : (s : State) (k : ℕ) → OutcomeTells s.out (body s k)) (costs : (s : State) (k : ℕ) (u : State) (j : ℕ) → body s k ≡ Ended u j → Cost (body s) u j k) where
   -- the loop with fuel enough
-  abbrev pub looped : State → ℕ → Outcome
+  abbrev pub looped : State → ℕ → PartEnd
   looped s k = loop (suc k) (value_of t) body s k
 
-  module _ (start : Outside) (whole : ℕ → Outcome) (turns left : ℕ) (m : Memory) (vars : List ℕ) (u : Upto start looped whole turns m vars left) where
+  module _ (start : Outside) (whole : ℕ → PartEnd) (turns left : ℕ) (m : Memory) (vars : List ℕ) (u : Upto start looped whole turns m vars left) where
     -- the test has a load that is past
     pub test_stops : (c : ℕ) → 0 < left → first_past (lengths_of m.cells) (loads_of t vars m.cells) ≡ Some c → FlowIs start whole turns (flows.Fault c) m vars (left - 1)
     test_stops c lt e =
@@ -316,7 +316,7 @@ module _ (t : Term) (body : State → ℕ → Outcome) (most : (s : State) (k : 
           sum = omega (arith, r.sum, u.sum, lt);
           same = λ j.
               let z : j + suc (r.cost + u.spent) ≡ suc (j + r.cost) + u.spent = omega arith in
-              ap whole z ∙ u.same (suc (j + r.cost)) ∙ again_at e (j + r.cost) ∙ ap (λ (o : Outcome). and_then o (loop (suc (j + r.cost)) (value_of t) body)) (r.again j)
+              ap whole z ∙ u.same (suc (j + r.cost)) ∙ again_at e (j + r.cost) ∙ ap (λ (o : PartEnd). and_then o (loop (suc (j + r.cost)) (value_of t) body)) (r.again j)
               ∙ loop_fuel (value_of t) body most (suc (j + r.cost)) (suc j) r.at j (omega arith) (omega arith);
         }
 
@@ -396,7 +396,7 @@ module _ (below f : ℕ) (ps : List CodeProc) (p : CodeProc) (lt : f < below) (i
     first_holds : Holds start first m vars
     first_holds = record { out = sh; same_vars = sym starts }
 
-    abbrev steps : ℕ → Outcome
+    abbrev steps : ℕ → PartEnd
     steps k = run_all (calls_below f (view.procs ps)) (view.steps p.body.items) first k
 
     as_call : (r : Reply) (n : Memory) (k : ℕ) → ReplyIs start (λ j. ending (steps j) (finish (view.result p.result))) turns r n k → ReplyIs start (calls_below below (view.procs ps) f args o) turns r n k
@@ -406,13 +406,13 @@ module _ (below f : ℕ) (ps : List CodeProc) (p : CodeProc) (lt : f < below) (i
     pub call_ended : (n e : Memory) (now : List ℕ) (r : Reply) (j k : ℕ) → ((s : State) → Holds start s m vars → FlowIs start (run_all (calls_below f (view.procs ps)) (view.steps p.body.items) s) turns flows.Ended n now j) → ((s : State) → Holds start s n now → ReplyIs start (finish (view.result p.result) s) j r e k) → ReplyIs start (calls_below below (view.procs ps) f args o) turns r e k
     call_ended n e now r j k h g =
         let u = ends start steps turns n now j (λ s i d. all_cost (calls_below f (view.procs ps)) (calls_most f (view.procs ps)) (calls_cost f (view.procs ps)) (view.steps p.body.items) first turns s i d) (h first first_holds) in
-        as_call r e k (reply_shift start (finish (view.result p.result) u.at) (λ i. ending (steps i) (finish (view.result p.result))) u.cost turns j r e k u.sum (λ i. ap (λ (x : Outcome). ending x (finish (view.result p.result))) (u.again i)) (g u.at u.holds))
+        as_call r e k (reply_shift start (finish (view.result p.result) u.at) (λ i. ending (steps i) (finish (view.result p.result))) u.cost turns j r e k u.sum (λ i. ap (λ (x : PartEnd). ending x (finish (view.result p.result))) (u.again i)) (g u.at u.holds))
 
     -- they want a turn
     pub call_wants : (n : Memory) (now : List ℕ) (k : ℕ) → ((s : State) → Holds start s m vars → FlowIs start (run_all (calls_below f (view.procs ps)) (view.steps p.body.items) s) turns flows.Out n now k) → ReplyIs start (calls_below below (view.procs ps) f args o) turns replies.Out n k
     call_wants n now k h = as_call replies.Out n k (at (steps turns) (h first first_holds))
       where
-        at : (x : Outcome) → PartOut start x n → CallOut start (ending x (finish (view.result p.result))) n
+        at : (x : PartEnd) → PartOut start x n → CallOut start (ending x (finish (view.result p.result))) n
         at (Ended s j) g = absurd g
         at (Out q) g = g
 
@@ -426,7 +426,7 @@ module _ (below f : ℕ) (ps : List CodeProc) (p : CodeProc) (lt : f < below) (i
         same_acts acts (Returned v q j) b = b
         same_acts acts (Stopped q) b = b
 
-        at : (x : Outcome) → Extends (seen x) (call_seen (ending x (finish (view.result p.result))))
+        at : (x : PartEnd) → Extends (seen x) (call_seen (ending x (finish (view.result p.result))))
         at (Ended s j) = (λ e. absurd (cc), same_acts s.out.acts (finish (view.result p.result) s j) (call_begins s.out (finish (view.result p.result) s j) (finish_tells (view.result p.result) s j)))
         at (Out q) = (λ e. refl, begins_all q.acts)
 
@@ -455,7 +455,7 @@ pub as_reply : (start : Outside) (p : ℕ → CallEnd) (turns : ℕ) (r q : Repl
 as_reply start p turns r q m k e h = subst (λ (x : Reply). ReplyIs start p turns x m k) e h
 
 -- a flow that is known
-pub as_flow : (start : Outside) (p : ℕ → Outcome) (turns : ℕ) (f g : Flow) (m : Memory) (vars : List ℕ) (k : ℕ) → f ≡ g → FlowIs start p turns f m vars k → FlowIs start p turns g m vars k
+pub as_flow : (start : Outside) (p : ℕ → PartEnd) (turns : ℕ) (f g : Flow) (m : Memory) (vars : List ℕ) (k : ℕ) → f ≡ g → FlowIs start p turns f m vars k → FlowIs start p turns g m vars k
 as_flow start p turns f g m vars k e h = subst (λ (x : Flow). FlowIs start p turns x m vars k) e h
 
 -- a result that is known

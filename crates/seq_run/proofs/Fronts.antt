@@ -2,7 +2,7 @@
 use Rattle.std.proofs.Common.{ℕ, zero, suc, ◌≡◌, ◌+◌, ◌<◌, ◌≤◌, ◌==◌, Bool, true, false, List, [], ◌++◌, Option, Some, None, if◌then◌else◌, refl, sym, ap, ◌∙◌, subst, append_assoc, arith}
 use Rattle.std.proofs.lemmas.List.{append-nil}
 use Rattle.ws_words.specs.Outside.{Act, Outside, State, zeros, World, opening_out}
-use Rattle.src_ast.specs.Turns.{Outcome, Ended, Out, and_then, turn, CallEnd, Returned, Stopped, back_in, ending, loop}
+use Rattle.src_ast.specs.Turns.{PartEnd, Ended, Out, and_then, turn, CallEnd, Returned, Stopped, back_in, ending, loop}
 use Rattle.src_ast.specs.Meaning.{Calls, empty_cells}
 use Rattle.src_ast.specs.Runs.{outside_of}
 use Rattle.cfg_core.specs.Graph.{Term}
@@ -31,16 +31,16 @@ pub tells_begins : (o p : Outside) → Tells o p → Begins o.acts p.acts
 tells_begins o p h = record { more = h.more; rest = ap (λ (q : Outside). q.acts) h.after ∙ acts_after o h.more }
 
 -- the acts at the end of a part, or where it wants a turn
-abbrev pub acts_of : Outcome → List Act
+abbrev pub acts_of : PartEnd → List Act
 acts_of x = (seen x).0
 
 -- a part keeps the acts before it
-pub outcome_begins : (o : Outside) (x : Outcome) → OutcomeTells o x → Begins o.acts (acts_of x)
+pub outcome_begins : (o : Outside) (x : PartEnd) → OutcomeTells o x → Begins o.acts (acts_of x)
 outcome_begins o (Ended s k) h = tells_begins o s.out h
 outcome_begins o (Out p) h = tells_begins o p h
 
 -- with j turns more: the same with j more left, or what begins with the same acts
-abbrev pub Longer : ℕ → Outcome → Outcome → Type 0
+abbrev pub Longer : ℕ → PartEnd → PartEnd → Type 0
 Longer j (Ended s k) x = x ≡ Ended s (k + j)
 Longer j (Out p) x = Begins p.acts (acts_of x)
 
@@ -53,21 +53,21 @@ abbrev pub CallsLonger : Calls → Type 0
 CallsLonger calls = (f : ℕ) (args : List ℕ) (o : Outside) (k j : ℕ) → CallLonger j (calls f args o k) (calls f args o (k + j))
 
 -- what a part does first stays first
-pub then_begins : (acts : List Act) (y : Outcome) (go : State → ℕ → Outcome) → Begins acts (acts_of y) → ((s : State) (k : ℕ) → OutcomeTells s.out (go s k)) → Begins acts (acts_of (and_then y go))
+pub then_begins : (acts : List Act) (y : PartEnd) (go : State → ℕ → PartEnd) → Begins acts (acts_of y) → ((s : State) (k : ℕ) → OutcomeTells s.out (go s k)) → Begins acts (acts_of (and_then y go))
 then_begins acts (Ended s k) go h f = begins_then acts s.out.acts _ h (outcome_begins s.out (go s k) (f s k))
 then_begins acts (Out p) go h f = h
 
-turn_longer : (j k : ℕ) (s : State) (go went : ℕ → Outcome) → ((i : ℕ) → Longer j (go i) (went (i + j))) → ((i : ℕ) → OutcomeTells s.out (turn i s went)) → Longer j (turn k s go) (turn (k + j) s went)
+turn_longer : (j k : ℕ) (s : State) (go went : ℕ → PartEnd) → ((i : ℕ) → Longer j (go i) (went (i + j))) → ((i : ℕ) → OutcomeTells s.out (turn i s went)) → Longer j (turn k s go) (turn (k + j) s went)
 turn_longer j zero s go went f g = outcome_begins s.out (turn (0 + j) s went) (g (0 + j))
 turn_longer j (suc k) s go went f g =
     let e : suc k + j ≡ suc (k + j) = omega arith in
     subst (λ (n : ℕ). Longer j (go k) (turn n s went)) (sym e) (f k)
 
-then_longer : (j b : ℕ) (x y : Outcome) (go went : State → ℕ → Outcome) → AtMost b x → Longer j x y → ((s : State) (i : ℕ) → i ≤ b → Longer j (go s i) (went s (i + j))) → ((s : State) (i : ℕ) → OutcomeTells s.out (went s i)) → Longer j (and_then x go) (and_then y went)
-then_longer j b (Ended s k) y go went le h f g = subst (λ (z : Outcome). Longer j (go s k) (and_then z went)) (sym h) (f s k le)
+then_longer : (j b : ℕ) (x y : PartEnd) (go went : State → ℕ → PartEnd) → AtMost b x → Longer j x y → ((s : State) (i : ℕ) → i ≤ b → Longer j (go s i) (went s (i + j))) → ((s : State) (i : ℕ) → OutcomeTells s.out (went s i)) → Longer j (and_then x go) (and_then y went)
+then_longer j b (Ended s k) y go went le h f g = subst (λ (z : PartEnd). Longer j (go s k) (and_then z went)) (sym h) (f s k le)
 then_longer j b (Out p) y go went le h f g = then_begins p.acts y went h g
 
-if_longer : (j : ℕ) (b : Bool) (x y z w : Outcome) → Longer j x y → Longer j z w → Longer j (if b then x else z) (if b then y else w)
+if_longer : (j : ℕ) (b : Bool) (x y z w : PartEnd) → Longer j x y → Longer j z w → Longer j (if b then x else z) (if b then y else w)
 if_longer j true x y z w h i = h
 if_longer j false x y z w h i = i
 
@@ -80,7 +80,7 @@ back_longer : (j : ℕ) (vars : List ℕ) (x : Option ℕ) (e f : CallEnd) → C
 back_longer j vars x (Returned v p k) f h = ap (back_in vars x) h
 back_longer j vars x (Stopped p) f h = back_begins p.acts vars x f h
 
-module _ (t : Term) (body : State → ℕ → Outcome) (most : (s : State) (k : ℕ) → AtMost k (body s k)) (tells : (s : State) (k : ℕ) → OutcomeTells s.out (body s k)) (longer : (s : State) (k j : ℕ) → Longer j (body s k) (body s (k + j))) where
+module _ (t : Term) (body : State → ℕ → PartEnd) (most : (s : State) (k : ℕ) → AtMost k (body s k)) (tells : (s : State) (k : ℕ) → OutcomeTells s.out (body s k)) (longer : (s : State) (k j : ℕ) → Longer j (body s k) (body s (k + j))) where
   loop_longer : (f g : ℕ) (s : State) (k j : ℕ) → k < f → k + j < g → Longer j (loop f (value_of t) body s k) (loop g (value_of t) body s (k + j))
   loop_longer zero g s k j lf lg = absurd (omega arith)
   loop_longer (suc f) zero s k j lf lg = absurd (omega arith)
@@ -124,12 +124,12 @@ finish_longer (Some t) s (suc k) j =
     ap (λ (n : ℕ). finish (Some t) s n) e
 
 -- so does the end of a procedure
-pub ending_begins : (acts : List Act) (y : Outcome) (r : Option Term) → Begins acts (acts_of y) → Begins acts (outside_of (ending y (finish r))).acts
+pub ending_begins : (acts : List Act) (y : PartEnd) (r : Option Term) → Begins acts (acts_of y) → Begins acts (outside_of (ending y (finish r))).acts
 ending_begins acts (Ended s k) r h = begins_then acts s.out.acts _ h (call_begins s.out (finish r s k) (finish_tells r s k))
 ending_begins acts (Out p) r h = h
 
-ending_longer : (j : ℕ) (x y : Outcome) (r : Option Term) → Longer j x y → CallLonger j (ending x (finish r)) (ending y (finish r))
-ending_longer j (Ended s k) y r h = subst (λ (z : Outcome). CallLonger j (finish r s k) (ending z (finish r))) (sym h) (finish_longer r s k j)
+ending_longer : (j : ℕ) (x y : PartEnd) (r : Option Term) → Longer j x y → CallLonger j (ending x (finish r)) (ending y (finish r))
+ending_longer j (Ended s k) y r h = subst (λ (z : PartEnd). CallLonger j (finish r s k) (ending z (finish r))) (sym h) (finish_longer r s k j)
 ending_longer j (Out p) y r h = ending_begins p.acts y r h
 
 proc_longer : (calls : Calls) → CallsAtMost calls → CallsTell calls → CallsLonger calls → (p : Proc) (args : List ℕ) (o : Outside) (k j : ℕ) → CallLonger j (run_proc calls p args o k) (run_proc calls p args o (k + j))

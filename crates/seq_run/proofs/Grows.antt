@@ -5,7 +5,7 @@ use Rattle.std.specs.List.{AllByRecursion}
 use Rattle.ws_words.specs.Outside.{Act, loads, stores, reads, prints, gives, takes, Outside, State, zeros, World, opening_out}
 use Rattle.ws_words.specs.Past.{after_act, after_acts}
 use Rattle.ws_words.proofs.Acts.{after_append}
-use Rattle.src_ast.specs.Turns.{Outcome, Ended, Out, and_then, turn, CallEnd, Returned, Stopped, back_in, ending, loop}
+use Rattle.src_ast.specs.Turns.{PartEnd, Ended, Out, and_then, turn, CallEnd, Returned, Stopped, back_in, ending, loop}
 use Rattle.src_ast.specs.Meaning.{Calls, empty_cells}
 use Rattle.cfg_core.specs.Graph.{Term, Number, Var, Cell, Flip, Not, Neg, Binary}
 use Rattle.cfg_core.specs.Walk.{loads_of, all_loads, value_of, values_of}
@@ -98,7 +98,7 @@ done_tells (Give p x) s = act_tells s.out (gives p)
 done_tells (Take p t) s = let v = value_of t s in tells_then s.out v.1.out _ (value_tells t s) (act_tells v.1.out (takes p v.0))
 
 -- what is outside after a part, from this
-abbrev pub OutcomeTells : Outside → Outcome → Type 0
+abbrev pub OutcomeTells : Outside → PartEnd → Type 0
 OutcomeTells o (Ended s k) = Tells o s.out
 OutcomeTells o (Out p) = Tells o p
 
@@ -111,7 +111,7 @@ CallTells o (Stopped p) = Tells o p
 abbrev pub CallsTell : Calls → Type 0
 CallsTell calls = (f : ℕ) (args : List ℕ) (o : Outside) (k : ℕ) → CallTells o (calls f args o k)
 
-outcome_from : (o p : Outside) (x : Outcome) → Tells o p → OutcomeTells p x → OutcomeTells o x
+outcome_from : (o p : Outside) (x : PartEnd) → Tells o p → OutcomeTells p x → OutcomeTells o x
 outcome_from o p (Ended s k) h i = tells_then o p s.out h i
 outcome_from o p (Out q) h i = tells_then o p q h i
 
@@ -119,15 +119,15 @@ call_from : (o p : Outside) (e : CallEnd) → Tells o p → CallTells p e → Ca
 call_from o p (Returned v q k) h i = tells_then o p q h i
 call_from o p (Stopped q) h i = tells_then o p q h i
 
-then_tells : (o : Outside) (x : Outcome) (go : State → ℕ → Outcome) → OutcomeTells o x → ((s : State) (k : ℕ) → OutcomeTells s.out (go s k)) → OutcomeTells o (and_then x go)
+then_tells : (o : Outside) (x : PartEnd) (go : State → ℕ → PartEnd) → OutcomeTells o x → ((s : State) (k : ℕ) → OutcomeTells s.out (go s k)) → OutcomeTells o (and_then x go)
 then_tells o (Ended s k) go h f = outcome_from o s.out (go s k) h (f s k)
 then_tells o (Out p) go h f = h
 
-turn_tells : (k : ℕ) (s : State) (go : ℕ → Outcome) → ((j : ℕ) → OutcomeTells s.out (go j)) → OutcomeTells s.out (turn k s go)
+turn_tells : (k : ℕ) (s : State) (go : ℕ → PartEnd) → ((j : ℕ) → OutcomeTells s.out (go j)) → OutcomeTells s.out (turn k s go)
 turn_tells zero s go f = tells_none s.out
 turn_tells (suc k) s go f = f k
 
-if_tells : (o : Outside) (b : Bool) (x y : Outcome) → OutcomeTells o x → OutcomeTells o y → OutcomeTells o (if b then x else y)
+if_tells : (o : Outside) (b : Bool) (x y : PartEnd) → OutcomeTells o x → OutcomeTells o y → OutcomeTells o (if b then x else y)
 if_tells o true x y h i = h
 if_tells o false x y h i = i
 
@@ -136,7 +136,7 @@ back_tells o vars x (Returned v p k) h = h
 back_tells o vars x (Stopped p) h = h
 
 -- so a loop
-pub loop_tells : (fuel : ℕ) (t : Term) (body : State → ℕ → Outcome) → ((s : State) (k : ℕ) → OutcomeTells s.out (body s k)) → (s : State) (k : ℕ) → OutcomeTells s.out (loop fuel (value_of t) body s k)
+pub loop_tells : (fuel : ℕ) (t : Term) (body : State → ℕ → PartEnd) → ((s : State) (k : ℕ) → OutcomeTells s.out (body s k)) → (s : State) (k : ℕ) → OutcomeTells s.out (loop fuel (value_of t) body s k)
 loop_tells zero t body f s k = tells_none s.out
 loop_tells (suc fuel) t body f s k =
     let v = value_of t s in
@@ -167,7 +167,7 @@ finish_tells None s k = tells_none s.out
 finish_tells (Some t) s zero = tells_none s.out
 finish_tells (Some t) s (suc j) = value_tells t s
 
-pub ending_tells : (o : Outside) (x : Outcome) (r : Option Term) → OutcomeTells o x → CallTells o (ending x (finish r))
+pub ending_tells : (o : Outside) (x : PartEnd) (r : Option Term) → OutcomeTells o x → CallTells o (ending x (finish r))
 ending_tells o (Ended s k) r h = call_from o s.out (finish r s k) h (finish_tells r s k)
 ending_tells o (Out p) r h = h
 

@@ -4,7 +4,7 @@ use Rattle.std.specs.List.{AllByRecursion}
 use Rattle.src_ast.specs.declared.lexeme.Place.{Place}
 use Rattle.src_ast.specs.declared.lexeme.Name.{Name}
 use Rattle.src_ast.specs.Syntax.{Part, Array, Proc, Procedure}
-use Rattle.src_ast.specs.Rules.{Declared, variable, array, procedure, declared_by, variables, has_sort, is_main, has_main, procs_in, statements_in, size_of_all, parameter_rules, part_rules, rules_behind, IsAccepted}
+use Rattle.src_ast.specs.Rules.{Declared, variable, array, procedure, declared_by, variables, has_sort, is_main, has_main, procs_in, statements_in, size_of_all, parameter_rules, part_rules, rules_after, IsAccepted}
 use Rattle.src_ast.specs.Meaning.{Scope, scope_of, arrays_of, lengths_of, procs_of, names_of, nth_procedure}
 use Rattle.seq_run.specs.Resolved.{nth_proc}
 use Rattle.seq_run.specs.Resolved as resolved
@@ -112,69 +112,69 @@ procs_in_is (Proc p ∷ ps) = ap suc (procs_in_is ps)
 moved : (before : List Part) (part : Part) (parts whole : List Part) → before ++ part ∷ parts ≡ whole → (before ++ part ∷ []) ++ parts ≡ whole
 moved before part parts whole e = append_assoc before (part ∷ []) parts ∙ e
 
-all_procs_in : (whole before parts : List Part) → before ++ parts ≡ whole → Known before → Kept (rules_behind before parts)
+all_procs_in : (whole before parts : List Part) → before ++ parts ≡ whole → Known before → Kept (rules_after before parts)
     → (k : ℕ) → k < length (procs_of parts) → InRangeAt whole (length (procs_of before) + k) (nth_proc (resolving.procs (arrays_of whole) (names_of (procs_of whole)) (procs_of parts)) k)
 all_procs_in whole before [] e known h k lt = absurd (omega arith)
 all_procs_in whole before (Array x n at ∷ parts) e known h k lt =
     let next = before ++ Array x n at ∷ [] in
-    let i = all_procs_in whole next parts (moved before (Array x n at) parts whole e) (known_array before known x n at) (kept_after (part_rules before (Array x n at)) (rules_behind next parts) h) k lt in
+    let i = all_procs_in whole next parts (moved before (Array x n at) parts whole e) (known_array before known x n at) (kept_after (part_rules before (Array x n at)) (rules_after next parts) h) k lt in
     subst (λ (m : ℕ). InRangeAt whole (m + k) (nth_proc (resolving.procs (arrays_of whole) (names_of (procs_of whole)) (procs_of parts)) k)) (length_array before x n at) i
 all_procs_in whole before (Proc p ∷ parts) e known h zero lt =
-    let here = proc_in before (Proc p ∷ parts) p known (kept_front (part_rules before (Proc p)) (rules_behind (before ++ Proc p ∷ []) parts) h) in
+    let here = proc_in before (Proc p ∷ parts) p known (kept_front (part_rules before (Proc p)) (rules_after (before ++ Proc p ∷ []) parts) h) in
     let z : length (procs_of before) ≡ length (procs_of before) + 0 = omega arith in
     subst (λ (m : ℕ). InRangeAt whole m (resolving.proc (scope_in whole p) p)) z
     (subst (λ (w : List Part). InRangeAt w (length (procs_of before)) (resolving.proc (scope_in w p) p)) e here)
 all_procs_in whole before (Proc p ∷ parts) e known h (suc k) lt =
     let next = before ++ Proc p ∷ [] in
-    let kept = proc_kept before p (kept_front (part_rules before (Proc p)) (rules_behind next parts) h) in
-    let i = all_procs_in whole next parts (moved before (Proc p) parts whole e) (known_procedure before known p kept.new) (kept_after (part_rules before (Proc p)) (rules_behind next parts) h) k (omega (arith, lt)) in
+    let kept = proc_kept before p (kept_front (part_rules before (Proc p)) (rules_after next parts) h) in
+    let i = all_procs_in whole next parts (moved before (Proc p) parts whole e) (known_procedure before known p kept.new) (kept_after (part_rules before (Proc p)) (rules_after next parts) h) k (omega (arith, lt)) in
     let l = length_procedure before p in
     let z : length (procs_of next) + k ≡ length (procs_of before) + suc k = omega (arith, l) in
     subst (λ (m : ℕ). InRangeAt whole m (nth_proc (resolving.procs (arrays_of whole) (names_of (procs_of whole)) (procs_of parts)) k)) z i
 
-procs_few : (before parts : List Part) → length (procs_of before) ≤ 64 → Kept (rules_behind before parts) → length (procs_of before) + length (procs_of parts) ≤ 64
+procs_few : (before parts : List Part) → length (procs_of before) ≤ 64 → Kept (rules_after before parts) → length (procs_of before) + length (procs_of parts) ≤ 64
 procs_few before [] le h = omega (arith, le)
 procs_few before (Array x n at ∷ parts) le h =
     let next = before ++ Array x n at ∷ [] in
     let l = length_array before x n at in
-    let i = procs_few next parts (omega (arith, l, le)) (kept_after (part_rules before (Array x n at)) (rules_behind next parts) h) in
+    let i = procs_few next parts (omega (arith, l, le)) (kept_after (part_rules before (Array x n at)) (rules_after next parts) h) in
     omega (arith, i, l)
 procs_few before (Proc p ∷ parts) le h =
     let next = before ++ Proc p ∷ [] in
     let l = length_procedure before p in
-    let kept = proc_kept before p (kept_front (part_rules before (Proc p)) (rules_behind next parts) h) in
+    let kept = proc_kept before p (kept_front (part_rules before (Proc p)) (rules_after next parts) h) in
     let room = kept.room in
     let c = procs_in_is before in
-    let i = procs_few next parts (omega (arith, l, room, c)) (kept_after (part_rules before (Proc p)) (rules_behind next parts) h) in
+    let i = procs_few next parts (omega (arith, l, room, c)) (kept_after (part_rules before (Proc p)) (rules_after next parts) h) in
     omega (arith, i, l)
 
 module _ (arrays names : List Name) where
-  steps_few : (before parts : List Part) → statements_in before ≤ 1024 → Kept (rules_behind before parts) → statements_in before + steps_in (resolving.procs arrays names (procs_of parts)) ≤ 1024
+  steps_few : (before parts : List Part) → statements_in before ≤ 1024 → Kept (rules_after before parts) → statements_in before + steps_in (resolving.procs arrays names (procs_of parts)) ≤ 1024
   steps_few before [] le h = omega (arith, le)
   steps_few before (Array x n at ∷ parts) le h =
       let next = before ++ Array x n at ∷ [] in
       let l = statements_append before (Array x n at ∷ []) in
-      let i = steps_few next parts (omega (arith, l, le)) (kept_after (part_rules before (Array x n at)) (rules_behind next parts) h) in
+      let i = steps_few next parts (omega (arith, l, le)) (kept_after (part_rules before (Array x n at)) (rules_after next parts) h) in
       omega (arith, i, l)
   steps_few before (Proc p ∷ parts) le h =
       let next = before ++ Proc p ∷ [] in
       let l = statements_append before (Proc p ∷ []) in
-      let kept = proc_kept before p (kept_front (part_rules before (Proc p)) (rules_behind next parts) h) in
+      let kept = proc_kept before p (kept_front (part_rules before (Proc p)) (rules_after next parts) h) in
       let few = body_few (visible_in before p) (statements_in before) p.body le kept.body in
       let fewer = ending_few (visible_in before p) (statements_in before + size_of_all p.body) p.ending few kept.ending in
       let s = body_size (scope_of arrays names p) p.body in
-      let i = steps_few next parts (omega (arith, l, fewer)) (kept_after (part_rules before (Proc p)) (rules_behind next parts) h) in
+      let i = steps_few next parts (omega (arith, l, fewer)) (kept_after (part_rules before (Proc p)) (rules_after next parts) h) in
       omega (arith, i, l, s)
 
-lengths_in : (before parts : List Part) → Kept (rules_behind before parts) → AllByRecursion (λ n. n ≤ 65536) (lengths_of parts)
+lengths_in : (before parts : List Part) → Kept (rules_after before parts) → AllByRecursion (λ n. n ≤ 65536) (lengths_of parts)
 lengths_in before [] h = tt
 lengths_in before (Array x n at ∷ parts) h =
     let next = before ++ Array x n at ∷ [] in (
-      array_kept before x n at (kept_front (part_rules before (Array x n at)) (rules_behind next parts) h),
-      lengths_in next parts (kept_after (part_rules before (Array x n at)) (rules_behind next parts) h),
+      array_kept before x n at (kept_front (part_rules before (Array x n at)) (rules_after next parts) h),
+      lengths_in next parts (kept_after (part_rules before (Array x n at)) (rules_after next parts) h),
     )
 lengths_in before (Proc p ∷ parts) h =
-    let next = before ++ Proc p ∷ [] in lengths_in next parts (kept_after (part_rules before (Proc p)) (rules_behind next parts) h)
+    let next = before ++ Proc p ∷ [] in lengths_in next parts (kept_after (part_rules before (Proc p)) (rules_after next parts) h)
 
 length_texts : (parts : List Part) → length (texts (arrays_of parts)) ≡ length (lengths_of parts)
 length_texts [] = refl
@@ -200,23 +200,23 @@ main_last (Array x n at ∷ ps) p h = main_last ps p h
 main_last (Proc q ∷ ps) p h = ap (λ (b : Bool). is_main q || b) (main_last ps p h) ∙ or_true (is_main q)
 
 -- no procedure stands after `main`
-none_after : (before parts : List Part) → has_main before ≡ true → Kept (rules_behind before parts) → length (procs_of parts) ≡ 0
+none_after : (before parts : List Part) → has_main before ≡ true → Kept (rules_after before parts) → length (procs_of parts) ≡ 0
 none_after before [] m h = refl
 none_after before (Array x n at ∷ parts) m h =
-    let next = before ++ Array x n at ∷ [] in none_after next parts (main_front before (Array x n at ∷ []) m) (kept_after (part_rules before (Array x n at)) (rules_behind next parts) h)
+    let next = before ++ Array x n at ∷ [] in none_after next parts (main_front before (Array x n at ∷ []) m) (kept_after (part_rules before (Array x n at)) (rules_after next parts) h)
 none_after before (Proc p ∷ parts) m h =
-    absurd (clash m (proc_kept before p (kept_front (part_rules before (Proc p)) (rules_behind (before ++ Proc p ∷ []) parts) h)).first)
+    absurd (clash m (proc_kept before p (kept_front (part_rules before (Proc p)) (rules_after (before ++ Proc p ∷ []) parts) h)).first)
 
-main_in : (before parts : List Part) → Kept (rules_behind before parts) → has_main parts ≡ true → length (nth_procedure (procs_of parts) (length (procs_of parts) - 1)).params ≡ 0
+main_in : (before parts : List Part) → Kept (rules_after before parts) → has_main parts ≡ true → length (nth_procedure (procs_of parts) (length (procs_of parts) - 1)).params ≡ 0
 main_in before [] h m = absurd (cc)
 main_in before (Array x n at ∷ parts) h m =
-    let next = before ++ Array x n at ∷ [] in main_in next parts (kept_after (part_rules before (Array x n at)) (rules_behind next parts) h) m
+    let next = before ++ Array x n at ∷ [] in main_in next parts (kept_after (part_rules before (Array x n at)) (rules_after next parts) h) m
 main_in before (Proc p ∷ parts) h m =
     let next = before ++ Proc p ∷ [] in
-    let behind = kept_after (part_rules before (Proc p)) (rules_behind next parts) h in
-    by_flag (is_main p) refl m (proc_kept before p (kept_front (part_rules before (Proc p)) (rules_behind next parts) h)).params
-    (λ f. none_after next parts (main_last before p f) behind)
-    (main_in next parts behind)
+    let following = kept_after (part_rules before (Proc p)) (rules_after next parts) h in
+    by_flag (is_main p) refl m (proc_kept before p (kept_front (part_rules before (Proc p)) (rules_after next parts) h)).params
+    (λ f. none_after next parts (main_last before p f) following)
+    (main_in next parts following)
   where
     by_flag : (b : Bool) → is_main p ≡ b → (b || has_main parts) ≡ true → Kept (parameter_rules (is_main p) (declared_by before) 0 p.params)
         → (is_main p ≡ true → length (procs_of parts) ≡ 0)
@@ -235,7 +235,7 @@ main_in before (Proc p ∷ parts) h m =
 -- an accepted program is in range
 pub accepted_in : (parts : List Part) (finish : Place) → IsAccepted parts finish → ProgramIn (resolving.program parts)
 accepted_in parts finish a =
-    let h : Kept (rules_behind [] parts) = kept_front (rules_behind [] parts) _ a in
+    let h : Kept (rules_after [] parts) = kept_front (rules_after [] parts) _ a in
     let arrays = arrays_of parts in let names = names_of (procs_of parts) in
     let l = length_procs arrays names (procs_of parts) in
     let some = accepted_has_proc parts finish a in
@@ -246,7 +246,7 @@ accepted_in parts finish a =
       few_procs = omega (arith, l, few);
       main = params_at arrays names (procs_of parts) (length (resolving.procs arrays names (procs_of parts)) - 1)
           ∙ ap (λ (k : ℕ). length (nth_procedure (procs_of parts) (k - 1)).params) l
-          ∙ main_in [] parts h (list_all_end (rules_behind [] parts) _ a);
+          ∙ main_in [] parts h (list_all_end (rules_after [] parts) _ a);
       names = length_texts parts;
       lengths = lengths_in [] parts h;
       procs = λ k lt.

@@ -3,7 +3,7 @@ use mathlib.Core.Path.{fun_ext}
 use Rattle.std.proofs.Common.{ℕ, zero, suc, ◌-◌, ◌≡◌, ◌==◌, Bool, true, false, List, [], ◌∷◌, ◌++◌, length, Option, Some, None, if◌then◌else◌, refl, sym, ap, ◌∙◌, slice_index}
 use Rattle.ws_words.specs.Operators.{applied}
 use Rattle.ws_words.specs.Outside.{loads, row, with_acts, Outside, State, zeros, World, opening_out, write, stored, printed, taken}
-use Rattle.src_ast.specs.Turns.{Outcome, Ended, Out, and_then, turn, CallEnd, Returned, back_in, ending, loop}
+use Rattle.src_ast.specs.Turns.{PartEnd, Ended, Out, and_then, turn, CallEnd, Returned, back_in, ending, loop}
 use Rattle.src_ast.specs.declared.lexeme.Name.{Name}
 use Rattle.src_ast.specs.Syntax.{Expression, Number, Variable, Cell, Signed, Binary, Statement, Assign, Store, Print, Read, Give, Take, Call, If, While, Statements, Nothing, Then, Last, Procedure, Part}
 use Rattle.seq_run.specs.Resolved as resolved
@@ -54,19 +54,19 @@ module _ (scope : Scope) where
   all_of_same : (es : List Expression) (s : State) → meaning.values_of scope es s ≡ walks.values_of (terms scope es) s
   all_of_same es s = ap (λ ns. (ns, with_acts s (meaning.all_loads scope es s.vars s.out.cells))) (values_same es s.vars s.out.cells) ∙ ap (λ acts. (walks.values (terms scope es) s.vars s.out.cells, with_acts s acts)) (all_loads_same es s.vars s.out.cells)
 
-turn_same : (k : ℕ) (s : State) (go went : ℕ → Outcome) → ((j : ℕ) → go j ≡ went j) → turn k s go ≡ turn k s went
+turn_same : (k : ℕ) (s : State) (go went : ℕ → PartEnd) → ((j : ℕ) → go j ≡ went j) → turn k s go ≡ turn k s went
 turn_same zero s go went h = refl
 turn_same (suc k) s go went h = h k
 
-then_same : (o u : Outcome) (go went : State → ℕ → Outcome) → o ≡ u → ((s : State) (k : ℕ) → go s k ≡ went s k) → and_then o go ≡ and_then u went
+then_same : (o u : PartEnd) (go went : State → ℕ → PartEnd) → o ≡ u → ((s : State) (k : ℕ) → go s k ≡ went s k) → and_then o go ≡ and_then u went
 then_same (Ended s k) u go went e h = h s k ∙ ap (λ o. and_then o went) e
 then_same (Out o) u go went e h = ap (λ x. and_then x went) e
 
-if_same : (b : Bool) (o u p q : Outcome) → o ≡ p → u ≡ q → (if b then o else u) ≡ (if b then p else q)
+if_same : (b : Bool) (o u p q : PartEnd) → o ≡ p → u ≡ q → (if b then o else u) ≡ (if b then p else q)
 if_same true o u p q e f = e
 if_same false o u p q e f = f
 
-loop_same : (fuel : ℕ) (test tested : State → ℕ × State) (body went : State → ℕ → Outcome) → ((s : State) → test s ≡ tested s) → ((s : State) (k : ℕ) → body s k ≡ went s k) → (s : State) (k : ℕ) → loop fuel test body s k ≡ loop fuel tested went s k
+loop_same : (fuel : ℕ) (test tested : State → ℕ × State) (body went : State → ℕ → PartEnd) → ((s : State) → test s ≡ tested s) → ((s : State) (k : ℕ) → body s k ≡ went s k) → (s : State) (k : ℕ) → loop fuel test body s k ≡ loop fuel tested went s k
 loop_same zero test tested body went e h s k = refl
 loop_same (suc fuel) test tested body went e h s k =
     turn_same k s _ _ (λ j.
@@ -99,7 +99,7 @@ finish_same scope None s k = refl
 finish_same scope (Some e) s zero = refl
 finish_same scope (Some e) s (suc j) = ap (λ (v : ℕ × State). Returned v.0 v.1.out j) (of_same scope e.value s)
 
-ending_same : (o u : Outcome) (go went : State → ℕ → CallEnd) → o ≡ u → ((s : State) (k : ℕ) → go s k ≡ went s k) → ending o go ≡ ending u went
+ending_same : (o u : PartEnd) (go went : State → ℕ → CallEnd) → o ≡ u → ((s : State) (k : ℕ) → go s k ≡ went s k) → ending o go ≡ ending u went
 ending_same (Ended s k) u go went e h = h s k ∙ ap (λ o. ending o went) e
 ending_same (Out o) u go went e h = ap (λ x. ending x went) e
 

@@ -1,7 +1,7 @@
 -- A run never has more turns left than it had.
 use Rattle.std.proofs.Common.{ℕ, zero, suc, ◌≤◌, ◌==◌, Bool, true, false, List, ◌++◌, Option, Some, None, if◌then◌else◌, arith}
 use Rattle.ws_words.specs.Outside.{Outside, State, zeros}
-use Rattle.src_ast.specs.Turns.{Outcome, Ended, Out, and_then, turn, CallEnd, Returned, Stopped, back_in, ending, loop}
+use Rattle.src_ast.specs.Turns.{PartEnd, Ended, Out, and_then, turn, CallEnd, Returned, Stopped, back_in, ending, loop}
 use Rattle.src_ast.specs.Meaning.{Calls}
 use Rattle.cfg_core.specs.Graph.{Term}
 use Rattle.cfg_core.specs.Walk.{value_of}
@@ -16,19 +16,19 @@ CallAtMost k (Stopped o) = Unit {0}
 abbrev pub CallsAtMost : Calls → Type 0
 CallsAtMost calls = (f : ℕ) (args : List ℕ) (o : Outside) (k : ℕ) → CallAtMost k (calls f args o k)
 
-lower : (j k : ℕ) → j ≤ k → (o : Outcome) → AtMost j o → AtMost k o
+lower : (j k : ℕ) → j ≤ k → (o : PartEnd) → AtMost j o → AtMost k o
 lower j k le (Ended s i) h = omega arith
 lower j k le (Out o) h = tt
 
-then_most : (k : ℕ) (o : Outcome) (go : State → ℕ → Outcome) → AtMost k o → ((s : State) (j : ℕ) → AtMost j (go s j)) → AtMost k (and_then o go)
+then_most : (k : ℕ) (o : PartEnd) (go : State → ℕ → PartEnd) → AtMost k o → ((s : State) (j : ℕ) → AtMost j (go s j)) → AtMost k (and_then o go)
 then_most k (Ended s j) go h f = lower j k h (go s j) (f s j)
 then_most k (Out o) go h f = tt
 
-turn_most : (k : ℕ) (s : State) (go : ℕ → Outcome) → ((j : ℕ) → AtMost j (go j)) → AtMost k (turn k s go)
+turn_most : (k : ℕ) (s : State) (go : ℕ → PartEnd) → ((j : ℕ) → AtMost j (go j)) → AtMost k (turn k s go)
 turn_most zero s go f = tt
 turn_most (suc k) s go f = lower k (suc k) (omega arith) (go k) (f k)
 
-if_most : (k : ℕ) (b : Bool) (o p : Outcome) → AtMost k o → AtMost k p → AtMost k (if b then o else p)
+if_most : (k : ℕ) (b : Bool) (o p : PartEnd) → AtMost k o → AtMost k p → AtMost k (if b then o else p)
 if_most k true o p h i = h
 if_most k false o p h i = i
 
@@ -36,7 +36,7 @@ back_most : (k : ℕ) (vars : List ℕ) (x : Option ℕ) (e : CallEnd) → CallA
 back_most k vars x (Returned v o j) h = h
 back_most k vars x (Stopped o) h = tt
 
-loop_most : (fuel : ℕ) (test : State → ℕ × State) (body : State → ℕ → Outcome) → ((s : State) (k : ℕ) → AtMost k (body s k)) → (s : State) (k : ℕ) → AtMost k (loop fuel test body s k)
+loop_most : (fuel : ℕ) (test : State → ℕ × State) (body : State → ℕ → PartEnd) → ((s : State) (k : ℕ) → AtMost k (body s k)) → (s : State) (k : ℕ) → AtMost k (loop fuel test body s k)
 loop_most zero test body f s k = tt
 loop_most (suc fuel) test body f s k =
     turn_most k s _ (λ j. if_most j ((test s).0 == 0) _ _ (omega arith) (then_most j (body (test s).1 j) (loop fuel test body) (f (test s).1 j) (loop_most fuel test body f)))
@@ -63,7 +63,7 @@ lower_call : (j k : ℕ) → j ≤ k → (e : CallEnd) → CallAtMost j e → Ca
 lower_call j k le (Returned v o i) h = omega arith
 lower_call j k le (Stopped o) h = tt
 
-ending_most : (k : ℕ) (o : Outcome) (r : Option Term) → AtMost k o → CallAtMost k (ending o (finish r))
+ending_most : (k : ℕ) (o : PartEnd) (r : Option Term) → AtMost k o → CallAtMost k (ending o (finish r))
 ending_most k (Ended s j) r h = lower_call j k h (finish r s j) (finish_most r s j)
 ending_most k (Out o) r h = tt
 

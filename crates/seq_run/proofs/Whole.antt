@@ -10,7 +10,7 @@ use Rattle.ws_words.specs.Outside.{Outside, World, zeros, opening_out}
 use Rattle.ws_words.specs.Past.{AreWithin, FirstPast, after_acts}
 use Rattle.src_ast.specs.declared.lexeme.Place.{Place}
 use Rattle.src_ast.specs.Syntax.{Part, Array, Proc}
-use Rattle.src_ast.specs.Rules.{Rule, IsAccepted, has_main, rules_behind}
+use Rattle.src_ast.specs.Rules.{Rule, IsAccepted, has_main, rules_after}
 use Rattle.src_ast.specs.Turns.{CallEnd, Returned, Stopped}
 use Rattle.src_ast.specs.Meaning as meaning
 use Rattle.src_ast.specs.Meaning.{procs_of, arrays_of, names_of, lengths_of as declared_lengths, empty_cells}
@@ -136,7 +136,7 @@ some_proc (Proc p ∷ parts) h = omega arith
 
 -- so an accepted program has one
 pub accepted_has_proc : (parts : List Part) (finish : Place) → IsAccepted parts finish → 0 < length (procs_of parts)
-accepted_has_proc parts finish a = some_proc parts (list_all_end (rules_behind [] parts) _ a)
+accepted_has_proc parts finish a = some_proc parts (list_all_end (rules_after [] parts) _ a)
 
 -- so has the code
 pub resolved_has_proc : (r : Resolved) (parts : List Part) (finish : Place) → view.program r ≡ resolving.program parts → IsAccepted parts finish → 0 < length r.procs.items

@@ -2,7 +2,7 @@
 -- terms variables are numbered from 0 in each procedure, parameters first, and arrays from 1.
 use Rattle.std.specs.Prelude.{ℕ, zero, suc, ◌-◌, ◌==◌, List, [], ◌∷◌, ◌++◌, length, Option, Some, None, if◌then◌else◌}
 use Rattle.ws_words.specs.Outside.{Outside, State, write, stored, printed, taken, has_read, given, zeros, World, opening_out}
-use Rattle.src_ast.specs.Turns.{Outcome, Ended, and_then, turn, CallEnd, Returned, Stopped, back_in, ending, loop}
+use Rattle.src_ast.specs.Turns.{PartEnd, Ended, and_then, turn, CallEnd, Returned, Stopped, back_in, ending, loop}
 use Rattle.src_ast.specs.Meaning.{Calls, empty_cells}
 use Rattle.cfg_core.specs.Graph.{Term}
 use Rattle.cfg_core.specs.Walk.{value_of, values_of}
@@ -44,7 +44,7 @@ done (Give p x) s = given s p x
 done (Take p t) s = let v = value_of t s in taken v.1 p v.0
 
 abbrev mutual
-  pub run_one : Calls → Step → State → ℕ → Outcome
+  pub run_one : Calls → Step → State → ℕ → PartEnd
   run_one calls (Do a) s k = turn k s (λ j. Ended (done a s) j)
   run_one calls (Call x f args) s k =
       turn k s (λ j. let vs = values_of args s in back_in vs.1.vars x (calls f vs.0 vs.1.out j))
@@ -53,7 +53,7 @@ abbrev mutual
       if v.0 == 0 then run_all calls b v.1 j else run_all calls a v.1 j)
   run_one calls (While t body) s k = loop (suc k) (value_of t) (run_all calls body) s k
 
-  pub run_all : Calls → Steps → State → ℕ → Outcome
+  pub run_all : Calls → Steps → State → ℕ → PartEnd
   run_all calls Nothing s k = Ended s k
   run_all calls (Then st rest) s k = and_then (run_one calls st s k) (run_all calls rest)
 

@@ -1,10 +1,10 @@
 -- What is seen of a part of a run.
 use Rattle.std.specs.Prelude.{Bool, true, false, List}
 use Rattle.ws_words.specs.Outside.{Act}
-use Rattle.src_ast.specs.Turns.{Outcome, Ended, Out, CallEnd, Returned, Stopped}
+use Rattle.src_ast.specs.Turns.{PartEnd, Ended, Out, CallEnd, Returned, Stopped}
 
 -- its acts, and whether it wants a turn
-abbrev pub seen : Outcome → List Act × Bool
+abbrev pub seen : PartEnd → List Act × Bool
 seen (Ended s left) = (s.out.acts, false)
 seen (Out o) = (o.acts, true)
 

@@ -4,7 +4,7 @@ use Rattle.ws_words.specs.Memory.{OutIs, lengths_of}
 use Rattle.ws_words.specs.Outside.{Act, Outside, State}
 use Rattle.ws_words.specs.Past.{IsPast, AreWithin, after_acts}
 use Rattle.ws_words.specs.declared.memory.Memory.{Memory}
-use Rattle.src_ast.specs.Turns.{Outcome, Ended, Out, CallEnd, Returned, Stopped}
+use Rattle.src_ast.specs.Turns.{PartEnd, Ended, Out, CallEnd, Returned, Stopped}
 use Rattle.seq_run.specs.Resolved.{Action, done}
 use Rattle.seq_run.specs.Laws.{Begins}
 use Rattle.seq_run.specs.Seen.{seen, call_seen}
@@ -50,18 +50,18 @@ pub record Faulted (start : Outside) (part : ℕ → List Act × Bool) (turns ar
   pub within : AreWithin (lengths_of start.cells) (part earlier).0
 
 -- a part ended
-abbrev pub PartEnded : Outside → Outcome → Memory → List ℕ → ℕ → Type 0
+abbrev pub PartEnded : Outside → PartEnd → Memory → List ℕ → ℕ → Type 0
 PartEnded start (Ended s k) memory vars left =
     Holds start s memory vars × (k ≡ left)
 PartEnded start (Out o) memory vars left = ⊥
 
 -- a part wants a turn
-abbrev pub PartOut : Outside → Outcome → Memory → Type 0
+abbrev pub PartOut : Outside → PartEnd → Memory → Type 0
 PartOut start (Ended s k) memory = ⊥
 PartOut start (Out o) memory = Shows start o memory
 
 -- how a part went that was given these turns
-abbrev pub FlowIs : Outside → (ℕ → Outcome) → ℕ → Flow → Memory → List ℕ → ℕ → Type 0
+abbrev pub FlowIs : Outside → (ℕ → PartEnd) → ℕ → Flow → Memory → List ℕ → ℕ → Type 0
 FlowIs start part turns flows.Ended memory vars left =
     PartEnded start (part turns) memory vars left
 FlowIs start part turns flows.Out memory vars left = PartOut start (part turns) memory
@@ -88,7 +88,7 @@ ReplyIs start call turns (replies.Fault array) memory left =
     Faulted start (λ k. call_seen (call k)) turns array memory left
 
 -- from each state that the code holds it goes as a part of the run does
-abbrev pub Follows : (State → ℕ → Outcome) → Run → List ℕ → Flow → Run → List ℕ → Type 0
+abbrev pub Follows : (State → ℕ → PartEnd) → Run → List ℕ → Flow → Run → List ℕ → Type 0
 Follows part before vars flow after now =
     (start : Outside) (s : State) → Holds start s before.memory vars →
     FlowIs start (part s) before.turns flow after.memory now after.turns
@@ -101,7 +101,7 @@ FollowsCall call before reply after =
 
 -- what is left of a part, from a state that the code holds, is the whole part, which has spent
 -- turns
-pub record Upto (start : Outside) (now : State → ℕ → Outcome) (whole : ℕ → Outcome) (turns : ℕ)
+pub record Upto (start : Outside) (now : State → ℕ → PartEnd) (whole : ℕ → PartEnd) (turns : ℕ)
     (memory : Memory) (vars : List ℕ) (left : ℕ) : Type 0 where
   pub at : State
   pub holds : Holds start at memory vars

@@ -40,7 +40,7 @@ variables_row [] g at qs braces k = omega arith
 variables_row (x ∷ xs) g at qs braces k =
     let l = here (after at (indent 1)) (Word (codes "var")) in
     let r = some_names_read x xs g.0 g.1 (past_space (after l.place (codes "var"))) (finish qs) in
-    let semi = here r.behind (Mark Semi) in
+    let semi = here r.following (Mark Semi) in
     let row : AllPlain (l ∷ r.ls) = plain (plain_word l (codes "var") refl) (some_names_plain r.spelled) in
     let w = line_limits semi (placed (past_line (past_mark semi.place Semi)) qs) braces row refl (subst (KeepLimits braces 0) (ap (λ t. l ∷ t) r.is) k) in
     let same : names_width (x ∷ xs) ≡ names_width r.again = sym (names_width_bare (x ∷ xs)) ∙ ap names_width r.same ∙ names_width_bare r.again in
@@ -56,7 +56,7 @@ procedure_row a h at qs braces row k =
     let bodies = p.body 1 a.body (p.ending a.ending (p.closing 0 qs)) in
     let variables = p.variables a.vars bodies in
     let ps = names_read a.params h.params (past_mark first.place LParen) (lexeme (Mark RParen) ∷ gap space ∷ lexeme (Mark LBrace) ∷ gap newline ∷ variables) in
-    let last = here ps.behind (Mark RParen) in
+    let last = here ps.following (Mark RParen) in
     let open' = here (past_space (past_mark last.place RParen)) (Mark LBrace) in
     let inside = past_line (past_mark open'.place LBrace) in
     let all : placed at (p.part (Proc a) qs) ≡ (l ∷ m ∷ first ∷ (ps.ls ++ last ∷ [])) ++ open' ∷ placed inside variables =
@@ -69,12 +69,12 @@ rows : (all : List Part) → AreNearlyWritten all → (at : Place) (braces row :
 rows [] h at braces row k = tt
 rows (Array x n s ∷ all) h at braces row k =
     let r = part_reads (Array x n s) h.0 at (p.parts all) in
-    let b = later r.ls (placed r.behind (p.parts all)) braces row (subst (KeepLimits braces row) r.is k) in
-    rows all h.1 r.behind b.0 b.1 b.2
+    let b = later r.ls (placed r.following (p.parts all)) braces row (subst (KeepLimits braces row) r.is k) in
+    rows all h.1 r.following b.0 b.1 b.2
 rows (Proc a ∷ all) h at braces row k =
     let r = part_reads (Proc a) h.0 at (p.parts all) in
-    let b = later r.ls (placed r.behind (p.parts all)) braces row (subst (KeepLimits braces row) r.is k) in
-    (procedure_row a h.0 at (p.parts all) braces row k, rows all h.1 r.behind b.0 b.1 b.2)
+    let b = later r.ls (placed r.following (p.parts all)) braces row (subst (KeepLimits braces row) r.is k) in
+    (procedure_row a h.0 at (p.parts all) braces row k, rows all h.1 r.following b.0 b.1 b.2)
 
 -- the lexemes of the printed form of what is nearly written
 pub nearly_lexemes : (all : List Part) → AreNearlyWritten all → HasPrintedLexemes all

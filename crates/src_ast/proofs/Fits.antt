@@ -16,7 +16,7 @@ use Rattle.src_ast.specs.Written.{AreWrittenNames, IsWrittenExpression, width, n
 use Rattle.src_ast.specs.LanguageLimits.{most_locals}
 use Rattle.src_ast.proofs.Nearly.{IsNearlyProcedure, IsNearlyPart, AreNearlyWritten, HaveRows, whole}
 use Rattle.src_ast.proofs.Narrow.{accepted_few}
-use Rattle.src_ast.proofs.RowLimits.{AllSound, sound_here, sound_behind, sound_front, sound_back, leads_sound, AllPlain, no_plain, plain, plain_append, plain_word, plain_number, plain_mark, row_limits, open_limits, close_limits, line_limits}
+use Rattle.src_ast.proofs.RowLimits.{AllSound, sound_here, sound_after, sound_front, sound_back, leads_sound, AllPlain, no_plain, plain, plain_append, plain_word, plain_number, plain_mark, row_limits, open_limits, close_limits, line_limits}
 use Rattle.src_ast.proofs.Readable.{name_good, number_good, expression_good, expression_plain, width_least, arguments_plain, arguments_good, arguments_width, some_names_plain, names_plain, some_names_good, names_good, names_fit}
 
 -- a statement that is read fits, and the limits go on after it
@@ -36,7 +36,7 @@ assign_fits ks l equals last ls x e eq is q s c h braces rest k =
     let row : AllPlain (l ∷ equals ∷ ls) = plain (plain_word l x.text is.word) (plain (plain_mark equals mark.Assign refl q) (expression_plain s)) in
     let w = line_limits last rest braces row c (subst (KeepLimits braces 0) all k) in
     let small = w.0 in
-    ((name_good is (sound_here hs), expression_good s (sound_front ls (last ∷ []) (sound_behind (sound_behind hs))), omega (arith, small, width_least s)), w.1)
+    ((name_good is (sound_here hs), expression_good s (sound_front ls (last ∷ []) (sound_after (sound_after hs))), omega (arith, small, width_least s)), w.1)
 
 store_fits : (ks : List Lexeme) (l first last equals semi : Lexeme) (is es : List Lexeme) (a : Name) (i e : Expression)
     → ks ≡ l ∷ first ∷ (is ++ last ∷ equals ∷ (es ++ semi ∷ []))
@@ -44,7 +44,7 @@ store_fits : (ks : List Lexeme) (l first last equals semi : Lexeme) (is es : Lis
     → AllSound ks → (braces : ℕ) (rest : List Lexeme) → KeepLimits braces 0 (ks ++ rest) → FitsBefore braces (Store a.place a i e) rest
 store_fits ks l first last equals semi is es a i e eq na o si c q se d h braces rest k =
     let hs = subst AllSound eq h in
-    let inside = sound_behind (sound_behind hs) in
+    let inside = sound_after (sound_after hs) in
     let back = sound_back is (last ∷ equals ∷ (es ++ semi ∷ [])) inside in
     let row : List Lexeme = l ∷ first ∷ (is ++ last ∷ equals ∷ es) in
     let all : ks ++ rest ≡ row ++ semi ∷ rest = ap (λ t. t ++ rest) eq ∙ simp append_assoc in
@@ -55,7 +55,7 @@ store_fits ks l first last equals semi is es a i e eq na o si c q se d h braces 
       (
         name_good na (sound_here hs),
         expression_good si (sound_front is (last ∷ equals ∷ (es ++ semi ∷ [])) inside),
-        expression_good se (sound_front es (semi ∷ []) (sound_behind (sound_behind back))),
+        expression_good se (sound_front es (semi ∷ []) (sound_after (sound_after back))),
         omega (arith, small, width_least si, width_least se, length-append is (last ∷ equals ∷ es)),
       ),
       w.1,
@@ -70,7 +70,7 @@ print_fits ks l last ls e word eq is s c h braces rest k =
     let row : AllPlain (l ∷ ls) = plain (plain_word l word is) (expression_plain s) in
     let w = line_limits last rest braces row c (subst (KeepLimits braces 0) all k) in
     let small = w.0 in
-    (expression_good s (sound_front ls (last ∷ []) (sound_behind hs)), omega (arith, small, width_least s), w.1)
+    (expression_good s (sound_front ls (last ∷ []) (sound_after hs)), omega (arith, small, width_least s), w.1)
 
 read_fits : (ks : List Lexeme) (l name last : Lexeme) (x : Name)
     → ks ≡ l ∷ name ∷ last ∷ [] → l.shape ≡ Word (codes "read") → IsName x name → Is Semi last
@@ -79,7 +79,7 @@ read_fits ks l name last x eq is nx c h braces rest k =
     let hs = subst AllSound eq h in
     let row : AllPlain (l ∷ name ∷ []) = plain (plain_word l (codes "read") is) (plain (plain_word name x.text nx.word) no_plain) in
     let w = line_limits last rest braces row c (subst (λ t. KeepLimits braces 0 (t ++ rest)) eq k) in
-    (name_good nx (sound_here (sound_behind hs)), w.1)
+    (name_good nx (sound_here (sound_after hs)), w.1)
 
 give_fits : (ks : List Lexeme) (l port comma name last : Lexeme) (n : ℕ) (x : Name)
     → ks ≡ l ∷ port ∷ comma ∷ name ∷ last ∷ [] → l.shape ≡ Word (codes "give") → port.shape ≡ shape.Number n → Is Comma comma → IsName x name → Is Semi last
@@ -88,7 +88,7 @@ give_fits ks l port comma name last n x eq is np q nx c h braces rest k =
     let hs = subst AllSound eq h in
     let row : AllPlain (l ∷ port ∷ comma ∷ name ∷ []) = plain (plain_word l (codes "give") is) (plain (plain_number port n np) (plain (plain_mark comma Comma refl q) (plain (plain_word name x.text nx.word) no_plain))) in
     let w = line_limits last rest braces row c (subst (λ t. KeepLimits braces 0 (t ++ rest)) eq k) in
-    ((number_good port np (sound_here (sound_behind hs)), name_good nx (sound_here (sound_behind (sound_behind (sound_behind hs))))), w.1)
+    ((number_good port np (sound_here (sound_after hs)), name_good nx (sound_here (sound_after (sound_after (sound_after hs))))), w.1)
 
 take_fits : (ks : List Lexeme) (l port comma last : Lexeme) (ls : List Lexeme) (n : ℕ) (e : Expression)
     → ks ≡ l ∷ port ∷ comma ∷ (ls ++ last ∷ []) → l.shape ≡ Word (codes "take") → port.shape ≡ shape.Number n → Is Comma comma → Spelled 0 ls e → Is Semi last
@@ -100,8 +100,8 @@ take_fits ks l port comma last ls n e eq is np q s c h braces rest k =
     let w = line_limits last rest braces row c (subst (KeepLimits braces 0) all k) in
     let small = w.0 in (
       (
-        number_good port np (sound_here (sound_behind hs)),
-        expression_good s (sound_front ls (last ∷ []) (sound_behind (sound_behind (sound_behind hs)))),
+        number_good port np (sound_here (sound_after hs)),
+        expression_good s (sound_front ls (last ∷ []) (sound_after (sound_after (sound_after hs)))),
         omega (arith, small, width_least s),
       ),
       w.1,
@@ -120,7 +120,7 @@ call_fits ks name first last semi ls f es eq nf o s c d h braces rest k =
     let small = w.0 in (
       (
         name_good nf (sound_here hs),
-        arguments_good s (sound_front ls (last ∷ semi ∷ []) (sound_behind (sound_behind hs))),
+        arguments_good s (sound_front ls (last ∷ semi ∷ []) (sound_after (sound_after hs))),
         omega (arith, small, arguments_width s, length-append ls (last ∷ [])),
       ),
       w.1,
@@ -140,37 +140,37 @@ called_fits ks l equals name first last semi ls x f es eq nx q nf o s c d h brac
     let small = w.0 in (
       (
         name_good nx (sound_here hs),
-        name_good nf (sound_here (sound_behind (sound_behind hs))),
-        arguments_good s (sound_front ls (last ∷ semi ∷ []) (sound_behind (sound_behind (sound_behind (sound_behind hs))))),
+        name_good nf (sound_here (sound_after (sound_after hs))),
+        arguments_good s (sound_front ls (last ∷ semi ∷ []) (sound_after (sound_after (sound_after (sound_after hs))))),
         omega (arith, small, arguments_width s, length-append ls (last ∷ [])),
       ),
       w.1,
     )
 
 -- the test of an `if` or a `while`
-record TestFits (braces : ℕ) (e : Expression) (ls behind rest : List Lexeme) : Type 0 where
+record TestFits (braces : ℕ) (e : Expression) (ls following rest : List Lexeme) : Type 0 where
   row : ℕ
   good : IsWrittenExpression e
   short : width e + 3 ≤ 256
-  inside : AllSound behind
-  kept : KeepLimits braces row (behind ++ rest)
+  inside : AllSound following
+  kept : KeepLimits braces row (following ++ rest)
 
-test_fits : (ks : List Lexeme) (l first last : Lexeme) (ls behind : List Lexeme) (e : Expression) (w : List ℕ)
-    → ks ≡ l ∷ first ∷ (ls ++ last ∷ behind) → l.shape ≡ Word w → Is LParen first → Spelled 0 ls e → Is RParen last
-    → AllSound ks → (braces : ℕ) (rest : List Lexeme) → KeepLimits braces 0 (ks ++ rest) → TestFits braces e ls behind rest
-test_fits ks l first last ls behind e w eq is o s c h braces rest k =
+test_fits : (ks : List Lexeme) (l first last : Lexeme) (ls following : List Lexeme) (e : Expression) (w : List ℕ)
+    → ks ≡ l ∷ first ∷ (ls ++ last ∷ following) → l.shape ≡ Word w → Is LParen first → Spelled 0 ls e → Is RParen last
+    → AllSound ks → (braces : ℕ) (rest : List Lexeme) → KeepLimits braces 0 (ks ++ rest) → TestFits braces e ls following rest
+test_fits ks l first last ls following e w eq is o s c h braces rest k =
     let hs = subst AllSound eq h in
     let row : List Lexeme = l ∷ first ∷ (ls ++ last ∷ []) in
-    let all : ks ++ rest ≡ row ++ (behind ++ rest) = ap (λ t. t ++ rest) eq ∙ simp append_assoc in
+    let all : ks ++ rest ≡ row ++ (following ++ rest) = ap (λ t. t ++ rest) eq ∙ simp append_assoc in
     let flat : AllPlain row = plain (plain_word l w is) (plain (plain_mark first LParen refl o) (plain_append (expression_plain s) (plain (plain_mark last RParen refl c) no_plain))) in
-    let within = row_limits (behind ++ rest) braces flat (subst (KeepLimits braces 0) all k) in
+    let within = row_limits (following ++ rest) braces flat (subst (KeepLimits braces 0) all k) in
     let small = within.short in
-    let inside = sound_behind (sound_behind hs) in
+    let inside = sound_after (sound_after hs) in
     record {
       row = length row;
-      good = expression_good s (sound_front ls (last ∷ behind) inside);
+      good = expression_good s (sound_front ls (last ∷ following) inside);
       short = omega (arith, small, width_least s, length-append ls (last ∷ []));
-      inside = sound_behind (sound_back ls (last ∷ behind) inside);
+      inside = sound_after (sound_back ls (last ∷ following) inside);
       kept = within.kept;
     }
 
@@ -207,7 +207,7 @@ mutual
       let hs = subst AllSound eq h in
       let all : ks ++ rest ≡ first ∷ (ls ++ last ∷ rest) = ap (λ t. t ++ rest) eq ∙ ap (λ t. first ∷ t) (split ls last rest) in
       let x = open_limits braces row first (ls ++ last ∷ rest) o (subst (KeepLimits braces row) all k) in
-      let y = statements_fit s (sound_front ls (last ∷ []) (sound_behind hs)) (suc braces) (last ∷ rest) x.1 in
+      let y = statements_fit s (sound_front ls (last ∷ []) (sound_after hs)) (suc braces) (last ∷ rest) x.1 in
       (x.0, y.0, close_limits braces 0 last rest c y.1)
 
   pub else_fits : {ks : List Lexeme} {b : Statements} → SpelledElse ks b → AllSound ks → (braces : ℕ) (rest : List Lexeme) → suc braces ≤ 32
@@ -216,7 +216,7 @@ mutual
   else_fits (with_else l ls b is s) h braces rest d k =
       let row : AllPlain (l ∷ []) = plain (plain_word l (codes "else") is) no_plain in
       let w = row_limits (ls ++ rest) braces row k in
-      let x = block_fits s (sound_behind h) braces 1 rest w.kept in
+      let x = block_fits s (sound_after h) braces 1 rest w.kept in
       (x.1, x.2)
 
   pub statements_fit : {ks : List Lexeme} {b : Statements} → SpelledStatements ks b → AllSound ks → (braces : ℕ) (rest : List Lexeme)
@@ -244,11 +244,11 @@ vars_fit : {ks : List Lexeme} {xs : List Name} → SpelledVars ks xs → AllSoun
 vars_fit no_vars h braces rest k = (tt, k)
 vars_fit (vars {ks = ks} l semi ls rs xs ys eq zs is s c more) h braces rest k =
     let hs = subst AllSound eq h in
-    let inside = sound_behind hs in
+    let inside = sound_after hs in
     let all : ks ++ rest ≡ (l ∷ ls) ++ semi ∷ (rs ++ rest) = ap (λ t. t ++ rest) eq ∙ simp append_assoc in
     let row : AllPlain (l ∷ ls) = plain (plain_word l (codes "var") is) (some_names_plain s) in
     let w = line_limits semi (rs ++ rest) braces row c (subst (KeepLimits braces 0) all k) in
-    let t = vars_fit more (sound_behind (sound_back ls (semi ∷ rs) inside)) braces rest w.1 in
+    let t = vars_fit more (sound_after (sound_back ls (semi ∷ rs) inside)) braces rest w.1 in
     (subst AreWrittenNames (sym zs) (names_append xs ys (some_names_good s (sound_front ls (semi ∷ rs) inside)) t.0), t.1)
 
 names_few : (xs : List Name) → names_width xs ≤ 2 * length xs
@@ -266,7 +266,7 @@ array_fits ks l name first size last semi x n eq is nx o v c d h rest k =
     plain (plain_word l (codes "array") is) (plain (plain_word name x.text nx.word) (plain (plain_mark first LSquare refl o)
     (plain (plain_number size n v) (plain (plain_mark last RSquare refl c) no_plain)))) in
     let w = line_limits semi rest 0 row d (subst (λ t. KeepLimits 0 0 (t ++ rest)) eq k) in
-    ((name_good nx (sound_here (sound_behind hs)), number_good size v (sound_here (sound_behind (sound_behind (sound_behind hs))))), w.1)
+    ((name_good nx (sound_here (sound_after hs)), number_good size v (sound_here (sound_after (sound_after (sound_after hs))))), w.1)
 
 procedure_fits : (ks : List Lexeme) (l name first last open' close : Lexeme) (ps vs bs es : List Lexeme) (x : Name) (params vs' : List Name) (b : Statements) (e : Option Last)
     → ks ≡ l ∷ name ∷ first ∷ (ps ++ last ∷ open' ∷ (vs ++ (bs ++ (es ++ close ∷ []))))
@@ -278,23 +278,23 @@ procedure_fits ks l name first last open' close ps vs bs es x params vs' b e eq 
     let hs = subst AllSound eq h in
     let endings = es ++ close ∷ [] in
     let bodies = bs ++ endings in
-    let inside = sound_behind (sound_behind (sound_behind hs)) in
-    let heard = sound_behind (sound_behind (sound_back ps (last ∷ open' ∷ (vs ++ bodies)) inside)) in
+    let inside = sound_after (sound_after (sound_after hs)) in
+    let heard = sound_after (sound_after (sound_back ps (last ∷ open' ∷ (vs ++ bodies)) inside)) in
     let body_heard = sound_back vs bodies heard in
     let ending_heard = sound_back bs endings body_heard in
     let row : List Lexeme = l ∷ name ∷ first ∷ (ps ++ last ∷ []) in
-    let behind : List Lexeme = vs ++ (bs ++ (es ++ close ∷ rest)) in
-    let all : ks ++ rest ≡ row ++ open' ∷ behind = ap (λ t. t ++ rest) eq ∙ simp append_assoc in
+    let following : List Lexeme = vs ++ (bs ++ (es ++ close ∷ rest)) in
+    let all : ks ++ rest ≡ row ++ open' ∷ following = ap (λ t. t ++ rest) eq ∙ simp append_assoc in
     let flat : AllPlain row = plain (plain_word l (codes "proc") is) (plain (plain_word name x.text nx.word) (plain (plain_mark first LParen refl o)
     (plain_append (names_plain sp) (plain (plain_mark last RParen refl c) no_plain)))) in
-    let head = row_limits (open' ∷ behind) 0 flat (subst (KeepLimits 0 0) all k) in
+    let head = row_limits (open' ∷ following) 0 flat (subst (KeepLimits 0 0) all k) in
     let short = head.short in
-    let opened = open_limits 0 (length row) open' behind d head.kept in
+    let opened = open_limits 0 (length row) open' following d head.kept in
     let v = vars_fit sv (sound_front vs bodies heard) 1 (bs ++ (es ++ close ∷ rest)) opened.1 in
     let s = statements_fit sb (sound_front bs endings body_heard) 1 (es ++ close ∷ rest) v.1 in
     let r = ending_fits se (sound_front es (close ∷ []) ending_heard) 1 (close ∷ rest) s.1 in (
       record {
-        name = name_good nx (sound_here (sound_behind hs));
+        name = name_good nx (sound_here (sound_after hs));
         params = names_good sp (sound_front ps (last ∷ open' ∷ (vs ++ bodies)) inside);
         params_row = omega (arith, short, names_fit sp, length-append ps (last ∷ []));
         vars = v.0;

@@ -14,7 +14,7 @@ use Rattle.src_ast.specs.Grammar.{level_of, mark_of, sign_mark}
 use Rattle.src_ast.specs.Syntax.{Expression, Number, Variable, Cell, Signed, Binary, Statement, Assign, Store, Print, Read, Give, Take, Call, If, While, Statements, Nothing, Then, Last, Part, Array, Proc}
 use Rattle.src_ast.specs.Printed.{is_looser, is_no_tighter, is_binary, indent}
 use Rattle.src_ast.specs.Written.{IsWrittenName, AreWrittenNames, IsWrittenExpression, AreWrittenExpressions, rounded, width, list_width, names_width, IsWrittenStatement, AreWrittenStatements, IsWrittenEnding, IsWrittenPart, IsWritten}
-use Rattle.src_ast.proofs.Pieces.{Piece, gap, lexeme, Keep, over, behind_gap, behind}
+use Rattle.src_ast.proofs.Pieces.{Piece, gap, lexeme, Keep, over, after_gap, following}
 use Rattle.src_ast.proofs.Printing.{space, newline, wrapped, expression, arguments, names, finish, call, closing, test, second_arm, statement, body, variables, ending, part, parts}
 
 -- marks in the middle of a row
@@ -41,15 +41,15 @@ inner Semi braces row next ps h d e w k = cc
 inner LBrace braces row next ps h d e w k = cc
 inner RBrace braces row next ps h d e w k = cc
 inner m braces row next ps h d e w k =
-    behind (Mark m) tt d (omega arith) (subst (λ n. Keep braces n ps) (sym e ∙ add-one row) k)
+    following (Mark m) tt d (omega arith) (subst (λ n. Keep braces n ps) (sym e ∙ add-one row) k)
 
 word_in : (w : List ℕ) (braces row next : ℕ) (ps : List Piece) → length w ≤ 64 → braces ≤ 32 → row + 1 ≡ next → next ≤ 256
     → Keep braces next ps → Keep braces row (lexeme (Word w) ∷ ps)
-word_in w braces row next ps h d e l k = behind (Word w) h d (omega arith) (subst (λ n. Keep braces n ps) (sym e ∙ add-one row) k)
+word_in w braces row next ps h d e l k = following (Word w) h d (omega arith) (subst (λ n. Keep braces n ps) (sym e ∙ add-one row) k)
 
 number_in : (v : ℕ) (braces row next : ℕ) (ps : List Piece) → braces ≤ 32 → row + 1 ≡ next → next ≤ 256
     → Keep braces next ps → Keep braces row (lexeme (shape.Number v) ∷ ps)
-number_in v braces row next ps d e l k = behind (shape.Number v) tt d (omega arith) (subst (λ n. Keep braces n ps) (sym e ∙ add-one row) k)
+number_in v braces row next ps d e l k = following (shape.Number v) tt d (omega arith) (subst (λ n. Keep braces n ps) (sym e ∙ add-one row) k)
 
 wrapped_kept : (braces : ℕ) (needed : Bool) (f : List Piece → List Piece) (n : ℕ) → braces ≤ 32
     → ((row next : ℕ) (qs : List Piece) → row + n ≡ next → next ≤ 256 → Keep braces next qs → Keep braces row (f qs))
@@ -74,8 +74,8 @@ expression_kept braces d (Signed s a) g row next ps e l k =
 expression_kept braces d (Binary op a b) g row next ps e l k =
     let left = rounded (is_looser a (level_of op)) (width a) in
     wrapped_kept braces (is_looser a (level_of op)) (expression a) (width a) d (expression_kept braces d a g.0) row (row + left) _ refl (omega arith)
-    (behind_gap space (inner (mark_of op) braces (row + left) (row + left + 1) _ (op_inner op) d refl (omega arith)
-    (behind_gap space (wrapped_kept braces (is_no_tighter b (level_of op)) (expression b) (width b) d (expression_kept braces d b g.1) (row + left + 1) next ps (omega arith) l k))))
+    (after_gap space (inner (mark_of op) braces (row + left) (row + left + 1) _ (op_inner op) d refl (omega arith)
+    (after_gap space (wrapped_kept braces (is_no_tighter b (level_of op)) (expression b) (width b) d (expression_kept braces d b g.1) (row + left + 1) next ps (omega arith) l k))))
 
 arguments_kept : (braces : ℕ) → braces ≤ 32 → (es : List Expression) → AreWrittenExpressions es
     → (row next : ℕ) (ps : List Piece) → row + list_width es ≡ next → next ≤ 256 → Keep braces next ps → Keep braces row (arguments es ps)
@@ -84,7 +84,7 @@ arguments_kept braces d (x ∷ []) g row next ps e l k = expression_kept braces 
 arguments_kept braces d (x ∷ y ∷ xs) g row next ps e l k =
     expression_kept braces d x g.0 row (row + width x) _ refl (omega arith)
     (inner Comma braces (row + width x) (row + width x + 1) _ refl d refl (omega arith)
-    (behind_gap space (arguments_kept braces d (y ∷ xs) g.1 (row + width x + 1) next ps (omega arith) l k)))
+    (after_gap space (arguments_kept braces d (y ∷ xs) g.1 (row + width x + 1) next ps (omega arith) l k)))
 
 names_kept : (braces : ℕ) → braces ≤ 32 → (xs : List Name) → AreWrittenNames xs
     → (row next : ℕ) (ps : List Piece) → row + names_width xs ≡ next → next ≤ 256 → Keep braces next ps → Keep braces row (names xs ps)
@@ -93,10 +93,10 @@ names_kept braces d (x ∷ []) g row next ps e l k = word_in x.text braces row n
 names_kept braces d (x ∷ y ∷ xs) g row next ps e l k =
     word_in x.text braces row (row + 1) _ g.0.short d refl (omega arith)
     (inner Comma braces (row + 1) (row + 2) _ refl d (omega arith) (omega arith)
-    (behind_gap space (names_kept braces d (y ∷ xs) g.1 (row + 2) next ps (omega arith) l k)))
+    (after_gap space (names_kept braces d (y ∷ xs) g.1 (row + 2) next ps (omega arith) l k)))
 
 finish_kept : (braces row : ℕ) (ps : List Piece) → braces ≤ 32 → Keep braces 0 ps → Keep braces row (finish ps)
-finish_kept braces row ps d k = behind (Mark Semi) tt d (omega arith) (behind_gap newline k)
+finish_kept braces row ps d k = following (Mark Semi) tt d (omega arith) (after_gap newline k)
 
 -- an expression at the end of a statement
 last_kept : (braces row : ℕ) (ps : List Piece) → braces ≤ 32 → (e : Expression) → IsWrittenExpression e → row + width e ≤ 256 → Keep braces 0 ps
@@ -112,17 +112,17 @@ call_kept braces row ps d f es h g l k =
     (inner RParen braces (row + 2 + list_width es) (row + 3 + list_width es) _ refl d (omega arith) (omega arith) (finish_kept braces _ ps d k))))
 
 opens : (braces row : ℕ) (ps : List Piece) → suc braces ≤ 32 → Keep (suc braces) 0 ps → Keep braces row (gap space ∷ lexeme (Mark LBrace) ∷ gap newline ∷ ps)
-opens braces row ps d k = behind_gap space (behind (Mark LBrace) tt d (omega arith) (behind_gap newline k))
+opens braces row ps d k = after_gap space (following (Mark LBrace) tt d (omega arith) (after_gap newline k))
 
 closing_kept : (n braces row : ℕ) (ps : List Piece) → braces ≤ 32 → Keep braces 0 ps → Keep (suc braces) row (closing n ps)
-closing_kept n braces row ps d k = behind_gap (indent n) (behind (Mark RBrace) tt d (omega arith) (behind_gap newline k))
+closing_kept n braces row ps d k = after_gap (indent n) (following (Mark RBrace) tt d (omega arith) (after_gap newline k))
 
 test_kept : (braces : ℕ) (ps : List Piece) → suc braces ≤ 32 → (word : List ℕ) (e : Expression) → length word ≤ 64 → IsWrittenExpression e → width e + 3 ≤ 256
     → Keep (suc braces) 0 ps → Keep braces 0 (test word e ps)
 test_kept braces ps d word e w g l k =
     let d' : braces ≤ 32 = omega arith in
     word_in word braces 0 1 _ w d' refl (omega arith)
-    (behind_gap space (inner LParen braces 1 2 _ refl d' refl (omega arith)
+    (after_gap space (inner LParen braces 1 2 _ refl d' refl (omega arith)
     (expression_kept braces d' e g 2 (2 + width e) _ refl (omega arith)
     (inner RParen braces (2 + width e) (3 + width e) _ refl d' (omega arith) (omega arith) (opens braces _ ps d k)))))
 
@@ -132,46 +132,46 @@ second_arm_kept : (n braces : ℕ) (b : Statements) (f : List Piece → List Pie
 second_arm_kept n braces Nothing f d h ps k = closing_kept n braces 0 ps (omega arith) k
 second_arm_kept n braces (Then s rest) f d h ps k =
     let d' : braces ≤ 32 = omega arith in
-    behind_gap (indent n) (behind (Mark RBrace) tt d' (omega arith) (behind_gap space
+    after_gap (indent n) (following (Mark RBrace) tt d' (omega arith) (after_gap space
     (word_in (codes "else") braces 0 1 _ (omega arith) d' refl (omega arith)
     (opens braces 1 _ d (h _ (closing_kept n braces 0 ps d' k))))))
 
 mutual
   pub statement_kept : (n braces : ℕ) → braces ≤ 32 → (s : Statement) → IsWrittenStatement braces s → (ps : List Piece) → Keep braces 0 ps → Keep braces 0 (statement n s ps)
   statement_kept n braces d (Assign at x e) h ps k =
-      behind_gap (indent n) (word_in x.text braces 0 1 _ h.0.short d refl (omega arith) (behind_gap space
-      (inner mark.Assign braces 1 2 _ refl d refl (omega arith) (behind_gap space (last_kept braces 2 ps d e h.1 (omega arith) k)))))
+      after_gap (indent n) (word_in x.text braces 0 1 _ h.0.short d refl (omega arith) (after_gap space
+      (inner mark.Assign braces 1 2 _ refl d refl (omega arith) (after_gap space (last_kept braces 2 ps d e h.1 (omega arith) k)))))
   statement_kept n braces d (Store at a i e) h ps k =
-      behind_gap (indent n) (word_in a.text braces 0 1 _ h.0.short d refl (omega arith)
+      after_gap (indent n) (word_in a.text braces 0 1 _ h.0.short d refl (omega arith)
       (inner LSquare braces 1 2 _ refl d refl (omega arith)
       (expression_kept braces d i h.1 2 (2 + width i) _ refl (omega arith)
-      (inner RSquare braces (2 + width i) (3 + width i) _ refl d (omega arith) (omega arith) (behind_gap space
-      (inner mark.Assign braces (3 + width i) (4 + width i) _ refl d (omega arith) (omega arith) (behind_gap space
+      (inner RSquare braces (2 + width i) (3 + width i) _ refl d (omega arith) (omega arith) (after_gap space
+      (inner mark.Assign braces (3 + width i) (4 + width i) _ refl d (omega arith) (omega arith) (after_gap space
       (last_kept braces (4 + width i) ps d e h.2 (omega arith) k))))))))
   statement_kept n braces d (Print at e) h ps k =
-      behind_gap (indent n) (word_in (codes "print") braces 0 1 _ (omega arith) d refl (omega arith) (behind_gap space
+      after_gap (indent n) (word_in (codes "print") braces 0 1 _ (omega arith) d refl (omega arith) (after_gap space
       (last_kept braces 1 ps d e h.0 (omega arith) k)))
   statement_kept n braces d (Read at x) h ps k =
-      behind_gap (indent n) (word_in (codes "read") braces 0 1 _ (omega arith) d refl (omega arith) (behind_gap space
+      after_gap (indent n) (word_in (codes "read") braces 0 1 _ (omega arith) d refl (omega arith) (after_gap space
       (word_in x.text braces 1 2 _ h.short d refl (omega arith) (finish_kept braces _ ps d k))))
   statement_kept n braces d (Give at port p x) h ps k =
-      behind_gap (indent n) (word_in (codes "give") braces 0 1 _ (omega arith) d refl (omega arith) (behind_gap space
-      (number_in port braces 1 2 _ d refl (omega arith) (inner Comma braces 2 3 _ refl d refl (omega arith) (behind_gap space
+      after_gap (indent n) (word_in (codes "give") braces 0 1 _ (omega arith) d refl (omega arith) (after_gap space
+      (number_in port braces 1 2 _ d refl (omega arith) (inner Comma braces 2 3 _ refl d refl (omega arith) (after_gap space
       (word_in x.text braces 3 4 _ h.1.short d refl (omega arith) (finish_kept braces _ ps d k)))))))
   statement_kept n braces d (Take at port p e) h ps k =
-      behind_gap (indent n) (word_in (codes "take") braces 0 1 _ (omega arith) d refl (omega arith) (behind_gap space
-      (number_in port braces 1 2 _ d refl (omega arith) (inner Comma braces 2 3 _ refl d refl (omega arith) (behind_gap space
+      after_gap (indent n) (word_in (codes "take") braces 0 1 _ (omega arith) d refl (omega arith) (after_gap space
+      (number_in port braces 1 2 _ d refl (omega arith) (inner Comma braces 2 3 _ refl d refl (omega arith) (after_gap space
       (last_kept braces 3 ps d e h.1 (omega arith) k))))))
-  statement_kept n braces d (Call at None f es) h ps k = behind_gap (indent n) (call_kept braces 0 ps d f es h.0 h.1 (omega arith) k)
+  statement_kept n braces d (Call at None f es) h ps k = after_gap (indent n) (call_kept braces 0 ps d f es h.0 h.1 (omega arith) k)
   statement_kept n braces d (Call at (Some x) f es) h ps k =
-      behind_gap (indent n) (word_in x.text braces 0 1 _ h.0.short d refl (omega arith) (behind_gap space
-      (inner mark.Assign braces 1 2 _ refl d refl (omega arith) (behind_gap space (call_kept braces 2 ps d f es h.1 h.2 (omega arith) k)))))
+      after_gap (indent n) (word_in x.text braces 0 1 _ h.0.short d refl (omega arith) (after_gap space
+      (inner mark.Assign braces 1 2 _ refl d refl (omega arith) (after_gap space (call_kept braces 2 ps d f es h.1 h.2 (omega arith) k)))))
   statement_kept n braces d (If at e a b) h ps k =
-      behind_gap (indent n) (test_kept braces _ h.2 (codes "if") e (omega arith) h.0 h.1
+      after_gap (indent n) (test_kept braces _ h.2 (codes "if") e (omega arith) h.0 h.1
       (body_kept (suc n) (suc braces) h.2 a h.3 _
       (second_arm_kept n braces b (body (suc n) b) h.2 (body_kept (suc n) (suc braces) h.2 b h.4) ps k)))
   statement_kept n braces d (While at e a) h ps k =
-      behind_gap (indent n) (test_kept braces _ h.2 (codes "while") e (omega arith) h.0 h.1
+      after_gap (indent n) (test_kept braces _ h.2 (codes "while") e (omega arith) h.0 h.1
       (body_kept (suc n) (suc braces) h.2 a h.3 _ (closing_kept n braces 0 ps d k)))
 
   pub body_kept : (n braces : ℕ) → braces ≤ 32 → (b : Statements) → AreWrittenStatements braces b → (ps : List Piece) → Keep braces 0 ps → Keep braces 0 (body n b ps)
@@ -181,19 +181,19 @@ mutual
 variables_kept : (braces : ℕ) → braces ≤ 32 → (xs : List Name) → AreWrittenNames xs → names_width xs + 1 ≤ 256 → (ps : List Piece) → Keep braces 0 ps → Keep braces 0 (variables xs ps)
 variables_kept braces d [] g l ps k = k
 variables_kept braces d (x ∷ xs) g l ps k =
-    behind_gap (indent 1) (word_in (codes "var") braces 0 1 _ (omega arith) d refl (omega arith) (behind_gap space
+    after_gap (indent 1) (word_in (codes "var") braces 0 1 _ (omega arith) d refl (omega arith) (after_gap space
     (names_kept braces d (x ∷ xs) g 1 (1 + names_width (x ∷ xs)) _ refl (omega arith) (finish_kept braces _ ps d k))))
 
 ending_kept : (braces : ℕ) → braces ≤ 32 → (e : Option Last) → IsWrittenEnding e → (ps : List Piece) → Keep braces 0 ps → Keep braces 0 (ending e ps)
 ending_kept braces d None h ps k = k
 ending_kept braces d (Some last) h ps k =
-    behind_gap (indent 1) (word_in (codes "return") braces 0 1 _ (omega arith) d refl (omega arith) (behind_gap space
+    after_gap (indent 1) (word_in (codes "return") braces 0 1 _ (omega arith) d refl (omega arith) (after_gap space
     (last_kept braces 1 ps d last.value h.0 (omega arith) k)))
 
 part_kept : (p : Part) → IsWrittenPart p → (ps : List Piece) → Keep 0 0 ps → Keep 0 0 (part p ps)
 part_kept (Array x n at) h ps k =
     let d : 0 ≤ 32 = omega arith in
-    word_in (codes "array") 0 0 1 _ (omega arith) d refl (omega arith) (behind_gap space
+    word_in (codes "array") 0 0 1 _ (omega arith) d refl (omega arith) (after_gap space
     (word_in x.text 0 1 2 _ h.0.short d refl (omega arith)
     (inner LSquare 0 2 3 _ refl d refl (omega arith)
     (number_in n 0 3 4 _ d refl (omega arith)
@@ -202,7 +202,7 @@ part_kept (Proc p) h ps k =
     let d : 0 ≤ 32 = omega arith in
     let one : 1 ≤ 32 = omega arith in
     let row = h.params_row in
-    word_in (codes "proc") 0 0 1 _ (omega arith) d refl (omega arith) (behind_gap space
+    word_in (codes "proc") 0 0 1 _ (omega arith) d refl (omega arith) (after_gap space
     (word_in p.name.text 0 1 2 _ h.name.short d refl (omega arith)
     (inner LParen 0 2 3 _ refl d refl (omega arith)
     (names_kept 0 d p.params h.params 3 (3 + names_width p.params) _ refl (omega (arith, row))

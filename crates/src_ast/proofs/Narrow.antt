@@ -11,7 +11,7 @@ use Rattle.src_ast.specs.Grammar.{level_of}
 use Rattle.src_ast.specs.Printed.{is_looser, is_no_tighter, is_binary}
 use Rattle.src_ast.specs.Written.{rounded, width, list_width, IsWrittenStatement, AreWrittenStatements, IsWrittenEnding, IsWritten}
 use Rattle.src_ast.specs.Bound.{nodes, nodes_of, most_nodes, most_nodes_of, ending_nodes, widest, most_variables}
-use Rattle.src_ast.specs.Rules.{Rule, Declared, variable, variables, is_visible, declared_by, has_main, is_main, procs_in, statements_in, size_of_all, parameter_rules, variable_rules, body_rules, ending_rules, part_rules, rules_behind, IsAccepted}
+use Rattle.src_ast.specs.Rules.{Rule, Declared, variable, variables, is_visible, declared_by, has_main, is_main, procs_in, statements_in, size_of_all, parameter_rules, variable_rules, body_rules, ending_rules, part_rules, rules_after, IsAccepted}
 
 -- parentheses only add
 rounded_least : (needed : Bool) (n : ℕ) → n ≤ rounded needed n
@@ -86,33 +86,33 @@ procedure_few before p e =
     let vs = variable_rules (variables p.params ++ declared_by before) (length p.params) p.vars in
     let visible = variables (p.params ++ p.vars) ++ declared_by before in
     let k = statements_in before in
-    let behind = body_rules visible k p.body ++ ending_rules visible (k + size_of_all p.body) p.ending in
+    let following = body_rules visible k p.body ++ ending_rules visible (k + size_of_all p.body) p.ending in
     let a = (and_parts (not (has_main before)) _ e).1 in
     let b = (and_parts (not (is_visible (declared_by before) p.name.text)) _ a).1 in
-    let c = (and_parts (nat_lt (procs_in before) 64) (list_all kept (params ++ (vs ++ behind))) b).1 in
-    let d = and_parts (list_all kept params) (list_all kept (vs ++ behind)) (sym (list_all-append kept params (vs ++ behind)) ∙ c) in
+    let c = (and_parts (nat_lt (procs_in before) 64) (list_all kept (params ++ (vs ++ following))) b).1 in
+    let d = and_parts (list_all kept params) (list_all kept (vs ++ following)) (sym (list_all-append kept params (vs ++ following)) ∙ c) in
     let few = few_params (is_main p) (declared_by before) 0 p.params (omega arith) d.0 in
-    let both = and_parts (list_all kept vs) (list_all kept behind) (sym (list_all-append kept vs behind) ∙ d.1) in
+    let both = and_parts (list_all kept vs) (list_all kept following) (sym (list_all-append kept vs following) ∙ d.1) in
     few_vars (variables p.params ++ declared_by before) (length p.params) p.vars (omega (arith, few)) both.0
 
-few_from : (before all : List Part) → list_all (λ r. r.kept) (rules_behind before all) ≡ true → most_variables all ≤ 32
+few_from : (before all : List Part) → list_all (λ r. r.kept) (rules_after before all) ≡ true → most_variables all ≤ 32
 few_from before [] e = omega arith
 few_from before (Array x n at ∷ all) e =
     let kept : Rule → Bool = λ r. r.kept in
     let here = part_rules before (Array x n at) in
-    let behind = rules_behind (before ++ Array x n at ∷ []) all in
-    few_from (before ++ Array x n at ∷ []) all (and_parts (list_all kept here) (list_all kept behind) (sym (list_all-append kept here behind) ∙ e)).1
+    let following = rules_after (before ++ Array x n at ∷ []) all in
+    few_from (before ++ Array x n at ∷ []) all (and_parts (list_all kept here) (list_all kept following) (sym (list_all-append kept here following) ∙ e)).1
 few_from before (Proc p ∷ all) e =
     let kept : Rule → Bool = λ r. r.kept in
     let here = part_rules before (Proc p) in
-    let behind = rules_behind (before ++ Proc p ∷ []) all in
-    let both = and_parts (list_all kept here) (list_all kept behind) (sym (list_all-append kept here behind) ∙ e) in
+    let following = rules_after (before ++ Proc p ∷ []) all in
+    let both = and_parts (list_all kept here) (list_all kept following) (sym (list_all-append kept here following) ∙ e) in
     omega (arith, procedure_few before p both.0, few_from (before ++ Proc p ∷ []) all both.1)
 
 -- the procedures of an accepted program have few variables
 pub accepted_few : (all : List Part) (finish : Place) → IsAccepted all finish → most_variables all ≤ 32
 accepted_few all finish e =
     let kept : Rule → Bool = λ r. r.kept in
-    let front = rules_behind [] all in
+    let front = rules_after [] all in
     let last : List Rule = record { place = finish; kind = Main; kept = has_main all } ∷ [] in
     few_from [] all (and_parts (list_all kept front) (list_all kept last) (sym (list_all-append kept front last) ∙ e)).0

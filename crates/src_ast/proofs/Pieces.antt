@@ -40,15 +40,15 @@ AreSpelled (lexeme s ∷ ps) = Spells s (spelled s) (text_of ps) × AreSpelled p
 -- the limits, over gaps too
 pub data Keep : ℕ → ℕ → List Piece → Type 0 where
   over : {braces row : ℕ} → Keep braces row []
-  behind_gap : {braces row : ℕ} {ps : List Piece} (bytes : List ℕ) → Keep braces row ps → Keep braces row (gap bytes ∷ ps)
-  behind : {braces row : ℕ} {ps : List Piece} (s : Shape) → IsShort s → open_past braces s ≤ 32 → row_past row s ≤ 256
+  after_gap : {braces row : ℕ} {ps : List Piece} (bytes : List ℕ) → Keep braces row ps → Keep braces row (gap bytes ∷ ps)
+  following : {braces row : ℕ} {ps : List Piece} (s : Shape) → IsShort s → open_past braces s ≤ 32 → row_past row s ≤ 256
       → Keep (open_past braces s) (row_past row s) ps → Keep braces row (lexeme s ∷ ps)
 
 -- the lexemes of pieces keep the limits that the pieces keep
 pub keeps : {braces row : ℕ} {ps : List Piece} (at : Place) → Keep braces row ps → KeepLimits braces row (placed at ps)
 keeps at over = tt
-keeps at (behind_gap bytes k) = keeps (after at bytes) k
-keeps at (behind s h d w k) = (h, d, w, keeps (after at (spelled s)) k)
+keeps at (after_gap bytes k) = keeps (after at bytes) k
+keeps at (following s h d w k) = (h, d, w, keeps (after at (spelled s)) k)
 
 pub after-append : (at : Place) (xs ys : List ℕ) → after at (xs ++ ys) ≡ after (after at xs) ys
 after-append at [] ys = refl
@@ -74,17 +74,17 @@ record Led (at : Place) (text : List ℕ) (ls : List Lexeme) : Type 0 where
 led : (ps : List Piece) (at : Place) (pre : List ℕ) → IsTrue (list_all is_blank pre) → AreSpelled ps → Led at (pre ++ text_of ps) (placed (after at pre) ps)
 led [] at pre blank h = record { place = after at pre; leads = stop pre refl (blank_gap pre blank) refl }
 led (gap bytes ∷ ps) at pre blank h =
-    let behind = led ps at (pre ++ bytes) (blank-append pre bytes blank h.0) h.1 in
+    let following = led ps at (pre ++ bytes) (blank-append pre bytes blank h.0) h.1 in
     record {
-      place = behind.place;
-      leads = subst (λ text. Leads at text (placed (after at pre) (gap bytes ∷ ps)) behind.place []) (append_assoc pre bytes (text_of ps))
-          (subst (λ p. Leads at ((pre ++ bytes) ++ text_of ps) (placed p ps) behind.place []) (after-append at pre bytes) behind.leads);
+      place = following.place;
+      leads = subst (λ text. Leads at text (placed (after at pre) (gap bytes ∷ ps)) following.place []) (append_assoc pre bytes (text_of ps))
+          (subst (λ p. Leads at ((pre ++ bytes) ++ text_of ps) (placed p ps) following.place []) (after-append at pre bytes) following.leads);
     }
 led (lexeme s ∷ ps) at pre blank h =
-    let behind = led ps (after (after at pre) (spelled s)) [] refl h.1 in
+    let following = led ps (after (after at pre) (spelled s)) [] refl h.1 in
     record {
-      place = behind.place;
-      leads = next (record { shape = s; place = after at pre }) pre (spelled s) (text_of ps) refl (blank_gap pre blank) refl h.0 behind.leads;
+      place = following.place;
+      leads = next (record { shape = s; place = after at pre }) pre (spelled s) (text_of ps) refl (blank_gap pre blank) refl h.0 following.leads;
     }
 
 -- pieces that are spelled give the lexemes of their text

@@ -5,7 +5,7 @@ use Rattle.ws_words.specs.Operators.{applied}
 use Rattle.ws_words.specs.Outside.{Outside, State, write, with_acts, row, Act, loads, stored, printed, taken, has_read, given, zeros, World, opening_out}
 use Rattle.src_ast.specs.declared.lexeme.Name.{Name}
 use Rattle.src_ast.specs.Syntax.{Expression, Number, Variable, Cell, Signed, Binary, Statement, Assign, Store, Print, Read, Give, Take, Call, If, While, Statements, Nothing, Then, Last, Procedure, Part, Array, Proc}
-use Rattle.src_ast.specs.Turns.{Outcome, Ended, and_then, turn, CallEnd, Returned, Stopped, back_in, ending, loop}
+use Rattle.src_ast.specs.Turns.{PartEnd, Ended, and_then, turn, CallEnd, Returned, Stopped, back_in, ending, loop}
 use Rattle.src_ast.specs.Meaning.{signed_value, place_of, Scope, var_number, proc_number, array_number, value, loads_of, values, all_loads, value_of, values_of, target, Calls, run_one, run_all, finish, scope_of, run_procedure, arrays_of, lengths_of, procs_of, names_of, nth_procedure, empty_cells, run_number, calls_below, run_at, run}
 use Rattle.ws_words.specs.Past.{AreWithin, FirstPast, after_acts}
 use Rattle.src_ast.specs.Runs.{outside_of, Runs, Goes, Faults}

@@ -11,7 +11,7 @@ use Rattle.src_ast.specs.Syntax.{Expression}
 use Rattle.src_ast.specs.Printed.{is_looser, is_no_tighter}
 use Rattle.src_ast.specs.Written.{IsWrittenName, AreWrittenNames, IsWrittenExpression, AreWrittenExpressions, rounded, width, list_width, names_width}
 use Rattle.src_ast.proofs.Kept.{op_inner, sign_inner}
-use Rattle.src_ast.proofs.RowLimits.{IsSound, AllSound, sound_here, sound_behind, sound_front, sound_back, AllPlain, no_plain, plain, plain_append, plain_word, plain_number, plain_mark}
+use Rattle.src_ast.proofs.RowLimits.{IsSound, AllSound, sound_here, sound_after, sound_front, sound_back, AllPlain, no_plain, plain, plain_append, plain_word, plain_number, plain_mark}
 use Rattle.src_ast.proofs.Regrown.{loose_next, loose_eight}
 
 -- a name that is read is written
@@ -28,14 +28,14 @@ expression_good (number l v is) h = number_good l is (sound_here h)
 expression_good (variable l x is) h = name_good is (sound_here h)
 expression_good (cell l first last ls a e eq is o s c) h =
     let hs = subst AllSound eq h in
-    (name_good is (sound_here hs), expression_good s (sound_front ls (last ∷ []) (sound_behind (sound_behind hs))))
+    (name_good is (sound_here hs), expression_good s (sound_front ls (last ∷ []) (sound_after (sound_after hs))))
 expression_good (round first last ls eq o s c) h =
     let hs = subst AllSound eq h in
-    expression_good s (sound_front ls (last ∷ []) (sound_behind hs))
-expression_good (signed l ls s e d is sp) h = expression_good sp (sound_behind h)
+    expression_good s (sound_front ls (last ∷ []) (sound_after hs))
+expression_good (signed l ls s e d is sp) h = expression_good sp (sound_after h)
 expression_good (binary l ls rs op a b d eq is sa sb) h =
     let hs = subst AllSound eq h in
-    (expression_good sa (sound_front ls (l ∷ rs) hs), expression_good sb (sound_behind (sound_back ls (l ∷ rs) hs)))
+    (expression_good sa (sound_front ls (l ∷ rs) hs), expression_good sb (sound_after (sound_back ls (l ∷ rs) hs)))
 
 -- the lexemes of an expression stand in a row
 pub expression_plain : {n : ℕ} {ls : List Lexeme} {e : Expression} → Spelled n ls e → AllPlain ls
@@ -98,7 +98,7 @@ some_arguments_good : {ks : List Lexeme} {es : List Expression} → Separated (S
 some_arguments_good (one ls e s) h = (expression_good s h, tt)
 some_arguments_good (more comma ls rs e es eq s c more') h =
     let hs = subst AllSound eq h in
-    (expression_good s (sound_front ls (comma ∷ rs) hs), some_arguments_good more' (sound_behind (sound_back ls (comma ∷ rs) hs)))
+    (expression_good s (sound_front ls (comma ∷ rs) hs), some_arguments_good more' (sound_after (sound_back ls (comma ∷ rs) hs)))
 
 -- arguments that are read are written
 pub arguments_good : {ks : List Lexeme} {es : List Expression} → Listed (Spelled 0) ks es → AllSound ks → AreWrittenExpressions es
@@ -135,7 +135,7 @@ pub some_names_good : {ks : List Lexeme} {xs : List Name} → Separated SpelledN
 some_names_good (one ls x s) h = (spelled_name_good s h, tt)
 some_names_good (more comma ls rs x xs eq s c more') h =
     let hs = subst AllSound eq h in
-    (spelled_name_good s (sound_front ls (comma ∷ rs) hs), some_names_good more' (sound_behind (sound_back ls (comma ∷ rs) hs)))
+    (spelled_name_good s (sound_front ls (comma ∷ rs) hs), some_names_good more' (sound_after (sound_back ls (comma ∷ rs) hs)))
 
 -- so are no names
 pub names_good : {ks : List Lexeme} {xs : List Name} → Listed SpelledName ks xs → AllSound ks → AreWrittenNames xs

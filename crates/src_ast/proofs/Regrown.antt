@@ -24,8 +24,8 @@ use Rattle.src_ast.proofs.Printing.{space, newline, wrapped, expression, finish}
 -- the pieces begin with lexemes that spell something like this, in front of others
 pub record Reads {A : Type 0} (R : List Lexeme → A → Type 0) (IsSame : A → Type 0) (at : Place) (ps qs : List Piece) : Type 0 where
   pub ls : List Lexeme
-  pub behind : Place
-  pub is : placed at ps ≡ ls ++ placed behind qs
+  pub following : Place
+  pub is : placed at ps ≡ ls ++ placed following qs
   pub again : A
   pub spelled : R ls again
   pub same : IsSame again
@@ -82,11 +82,11 @@ wrapped_reads : (e : Expression) (needed : Bool) (n : ℕ) → n ≤ 8 → is_lo
 wrapped_reads e true n d h f at qs =
     let r = f 0 (omega arith) (loose_zero e) (past_mark at LParen) (lexeme (Mark RParen) ∷ qs) in
     let first = here at (Mark LParen) in
-    let last = here r.behind (Mark RParen) in
+    let last = here r.following (Mark RParen) in
     record {
       ls = first ∷ (r.ls ++ last ∷ []);
-      behind = past_mark r.behind RParen;
-      is = ap (λ t. first ∷ t) (r.is ∙ sym (append_assoc r.ls (last ∷ []) (placed (past_mark r.behind RParen) qs)));
+      following = past_mark r.following RParen;
+      is = ap (λ t. first ∷ t) (r.is ∙ sym (append_assoc r.ls (last ∷ []) (placed (past_mark r.following RParen) qs)));
       again = r.again;
       spelled = round first last r.ls refl refl r.spelled refl;
       same = r.same;
@@ -97,7 +97,7 @@ expression_reads : (e : Expression) → IsWrittenExpression e → (n : ℕ) → 
 expression_reads (Number v) g n d h at qs =
     record {
       ls = here at (shape.Number v) ∷ [];
-      behind = after at (decimal v);
+      following = after at (decimal v);
       is = refl;
       again = Number v;
       spelled = number (here at (shape.Number v)) v refl;
@@ -106,7 +106,7 @@ expression_reads (Number v) g n d h at qs =
 expression_reads (Variable x) g n d h at qs =
     record {
       ls = here at (Word x.text) ∷ [];
-      behind = after at x.text;
+      following = after at x.text;
       is = refl;
       again = Variable (named x at);
       spelled = variable (here at (Word x.text)) (named x at) (record { word = refl; place = refl; free = g.free });
@@ -117,10 +117,10 @@ expression_reads (Cell a e) g n d h at qs =
     let r = expression_reads e g.1 0 (omega arith) (loose_zero e) (past_mark open' LSquare) (lexeme (Mark RSquare) ∷ qs) in
     let l = here at (Word a.text) in
     let first = here open' (Mark LSquare) in
-    let last = here r.behind (Mark RSquare) in
+    let last = here r.following (Mark RSquare) in
     record {
       ls = l ∷ first ∷ (r.ls ++ last ∷ []);
-      behind = past_mark r.behind RSquare;
+      following = past_mark r.following RSquare;
       is = ap (λ t. l ∷ first ∷ t) r.is ∙ simp append_assoc;
       again = Cell (named a at) r.again;
       spelled = cell l first last r.ls (named a at) r.again refl (record { word = refl; place = refl; free = g.0.free }) refl r.spelled refl;
@@ -131,7 +131,7 @@ expression_reads (Signed s e) g n d h at qs =
     let r = wrapped_reads e (is_binary e) 8 (omega arith) (loose_eight e) (expression_reads e g) (past_mark at (sign_mark s)) qs in
     record {
       ls = l ∷ r.ls;
-      behind = r.behind;
+      following = r.following;
       is = ap (λ t. l ∷ t) r.is;
       again = Signed s r.again;
       spelled = signed l r.ls s r.again d refl r.spelled;
@@ -142,11 +142,11 @@ expression_reads (Binary op a b) g n d h at qs =
     let low = level_low op in
     let right = gap space ∷ lexeme (Mark (mark_of op)) ∷ gap space ∷ wrapped (is_no_tighter b level) (expression b) qs in
     let r = wrapped_reads a (is_looser a level) level (omega (arith, low)) refl (expression_reads a g.0) at right in
-    let l = here (past_space r.behind) (Mark (mark_of op)) in
+    let l = here (past_space r.following) (Mark (mark_of op)) in
     let t = wrapped_reads b (is_no_tighter b level) (level + 1) (omega (arith, low)) (loose_next b level) (expression_reads b g.1) (past_space (past_mark l.place (mark_of op))) qs in
     record {
       ls = r.ls ++ (l ∷ t.ls);
-      behind = t.behind;
+      following = t.following;
       is = r.is ∙ ap (λ x. r.ls ++ (l ∷ x)) t.is ∙ simp append_assoc;
       again = Binary op r.again t.again;
       spelled = binary l r.ls t.ls op r.again t.again (ltb-false level n h) refl refl r.spelled t.spelled;
@@ -165,14 +165,14 @@ some_arguments_read : (e : Expression) (es : List Expression) → IsWrittenExpre
     → Reads (Separated (Spelled 0)) (λ again. bare_expressions (e ∷ es) ≡ bare_expressions again) at (print.arguments (e ∷ es) qs) qs
 some_arguments_read e [] g gs at qs =
     let r = loosest_reads e g at qs in
-    record { ls = r.ls; behind = r.behind; is = r.is; again = r.again ∷ []; spelled = one r.ls r.again r.spelled; same = ap (λ x. x ∷ []) r.same }
+    record { ls = r.ls; following = r.following; is = r.is; again = r.again ∷ []; spelled = one r.ls r.again r.spelled; same = ap (λ x. x ∷ []) r.same }
 some_arguments_read e (f ∷ es) g gs at qs =
     let r = loosest_reads e g at (lexeme (Mark Comma) ∷ gap space ∷ print.arguments (f ∷ es) qs) in
-    let comma = here r.behind (Mark Comma) in
-    let t = some_arguments_read f es gs.0 gs.1 (past_space (past_mark r.behind Comma)) qs in
+    let comma = here r.following (Mark Comma) in
+    let t = some_arguments_read f es gs.0 gs.1 (past_space (past_mark r.following Comma)) qs in
     record {
       ls = r.ls ++ (comma ∷ t.ls);
-      behind = t.behind;
+      following = t.following;
       is = r.is ∙ ap (λ x. r.ls ++ (comma ∷ x)) t.is ∙ simp append_assoc;
       again = r.again ∷ t.again;
       spelled = more comma r.ls t.ls r.again t.again refl r.spelled refl t.spelled;
@@ -182,24 +182,24 @@ some_arguments_read e (f ∷ es) g gs at qs =
 -- the pieces of arguments spell the same arguments
 pub arguments_read : (es : List Expression) → AreWrittenExpressions es → (at : Place) (qs : List Piece)
     → Reads (Listed (Spelled 0)) (λ again. bare_expressions es ≡ bare_expressions again) at (print.arguments es qs) qs
-arguments_read [] g at qs = record { ls = []; behind = at; is = refl; again = []; spelled = none; same = refl }
+arguments_read [] g at qs = record { ls = []; following = at; is = refl; again = []; spelled = none; same = refl }
 arguments_read (e ∷ es) g at qs =
     let r = some_arguments_read e es g.0 g.1 at qs in
-    record { ls = r.ls; behind = r.behind; is = r.is; again = r.again; spelled = some r.ls r.again r.spelled; same = r.same }
+    record { ls = r.ls; following = r.following; is = r.is; again = r.again; spelled = some r.ls r.again r.spelled; same = r.same }
 
 -- those of names spell the same names
 pub some_names_read : (x : Name) (xs : List Name) → IsWrittenName x.text → AreWrittenNames xs → (at : Place) (qs : List Piece)
     → Reads (Separated SpelledName) (λ again. bare_names (x ∷ xs) ≡ bare_names again) at (print.names (x ∷ xs) qs) qs
 some_names_read x [] g gs at qs =
     let l = here at (Word x.text) in
-    record { ls = l ∷ []; behind = after at x.text; is = refl; again = named x at ∷ []; spelled = one (l ∷ []) (named x at) (name l (named x at) (good_name x at g)); same = refl }
+    record { ls = l ∷ []; following = after at x.text; is = refl; again = named x at ∷ []; spelled = one (l ∷ []) (named x at) (name l (named x at) (good_name x at g)); same = refl }
 some_names_read x (y ∷ xs) g gs at qs =
     let l = here at (Word x.text) in
     let comma = here (after at x.text) (Mark Comma) in
     let t = some_names_read y xs gs.0 gs.1 (past_space (past_mark comma.place Comma)) qs in
     record {
       ls = l ∷ comma ∷ t.ls;
-      behind = t.behind;
+      following = t.following;
       is = ap (λ z. l ∷ comma ∷ z) t.is;
       again = named x at ∷ t.again;
       spelled = more comma (l ∷ []) t.ls (named x at) t.again refl (name l (named x at) (good_name x at g)) refl t.spelled;
@@ -209,7 +209,7 @@ some_names_read x (y ∷ xs) g gs at qs =
 -- those of none, too
 pub names_read : (xs : List Name) → AreWrittenNames xs → (at : Place) (qs : List Piece)
     → Reads (Listed SpelledName) (λ again. bare_names xs ≡ bare_names again) at (print.names xs qs) qs
-names_read [] g at qs = record { ls = []; behind = at; is = refl; again = []; spelled = none; same = refl }
+names_read [] g at qs = record { ls = []; following = at; is = refl; again = []; spelled = none; same = refl }
 names_read (x ∷ xs) g at qs =
     let r = some_names_read x xs g.0 g.1 at qs in
-    record { ls = r.ls; behind = r.behind; is = r.is; again = r.again; spelled = some r.ls r.again r.spelled; same = r.same }
+    record { ls = r.ls; following = r.following; is = r.is; again = r.again; spelled = some r.ls r.again r.spelled; same = r.same }

@@ -31,10 +31,10 @@ assign_reads n s x e g h at qs =
     let l = here (after at (indent n)) (Word x.text) in
     let equals = here (past_space (after l.place x.text)) (Mark mark.Assign) in
     let r = loosest_reads e h (past_space (past_mark equals.place mark.Assign)) (finish qs) in
-    let semi = here r.behind (Mark Semi) in
+    let semi = here r.following (Mark Semi) in
     record {
       ls = l ∷ equals ∷ (r.ls ++ semi ∷ []);
-      behind = past_line (past_mark r.behind Semi);
+      following = past_line (past_mark r.following Semi);
       is = ap (λ t. l ∷ equals ∷ t) r.is ∙ simp append_assoc;
       again = Assign l.place (named x l.place) r.again;
       spelled = assign l equals semi r.ls (named x l.place) r.again refl (good_name x l.place g) refl r.spelled refl;
@@ -48,13 +48,13 @@ store_reads n s a i e g gi ge at qs =
     let first = here (after l.place a.text) (Mark LSquare) in
     let r = loosest_reads i gi (past_mark first.place LSquare)
     (lexeme (Mark RSquare) ∷ gap space ∷ lexeme (Mark mark.Assign) ∷ gap space ∷ p.expression e (finish qs)) in
-    let last = here r.behind (Mark RSquare) in
+    let last = here r.following (Mark RSquare) in
     let equals = here (past_space (past_mark last.place RSquare)) (Mark mark.Assign) in
     let t = loosest_reads e ge (past_space (past_mark equals.place mark.Assign)) (finish qs) in
-    let semi = here t.behind (Mark Semi) in
+    let semi = here t.following (Mark Semi) in
     record {
       ls = l ∷ first ∷ (r.ls ++ last ∷ equals ∷ (t.ls ++ semi ∷ []));
-      behind = past_line (past_mark t.behind Semi);
+      following = past_line (past_mark t.following Semi);
       is = ap (λ x. l ∷ first ∷ x) (r.is ∙ ap (λ x. r.ls ++ last ∷ equals ∷ x) t.is) ∙ simp append_assoc;
       again = Store l.place (named a l.place) r.again t.again;
       spelled = store l first last equals semi r.ls t.ls (named a l.place) r.again t.again refl (good_name a l.place g) refl r.spelled refl refl t.spelled refl;
@@ -65,10 +65,10 @@ print_reads : (n : ℕ) (s : Place) (e : Expression) → IsWrittenExpression e �
 print_reads n s e h at qs =
     let l = here (after at (indent n)) (Word (codes "print")) in
     let r = loosest_reads e h (past_space (after l.place (codes "print"))) (finish qs) in
-    let semi = here r.behind (Mark Semi) in
+    let semi = here r.following (Mark Semi) in
     record {
       ls = l ∷ (r.ls ++ semi ∷ []);
-      behind = past_line (past_mark r.behind Semi);
+      following = past_line (past_mark r.following Semi);
       is = ap (λ t. l ∷ t) r.is ∙ simp append_assoc;
       again = Print l.place r.again;
       spelled = print l semi r.ls r.again refl refl r.spelled refl;
@@ -82,7 +82,7 @@ read_reads n s x g at qs =
     let semi = here (after m.place x.text) (Mark Semi) in
     record {
       ls = l ∷ m ∷ semi ∷ [];
-      behind = past_line (past_mark semi.place Semi);
+      following = past_line (past_mark semi.place Semi);
       is = refl;
       again = Read l.place (named x m.place);
       spelled = read l m semi (named x m.place) refl refl (good_name x m.place g) refl;
@@ -99,7 +99,7 @@ give_reads n s port ps x g at qs =
     let semi = here (after m.place x.text) (Mark Semi) in
     record {
       ls = l ∷ v ∷ comma ∷ m ∷ semi ∷ [];
-      behind = past_line (past_mark semi.place Semi);
+      following = past_line (past_mark semi.place Semi);
       is = refl;
       again = Give l.place port v.place (named x m.place);
       spelled = give l v comma m semi port (named x m.place) refl refl refl refl (good_name x m.place g) refl;
@@ -113,10 +113,10 @@ take_reads n s port ps e h at qs =
     let v = here (past_space (after l.place (codes "take"))) (shape.Number port) in
     let comma = here (after v.place (decimal port)) (Mark Comma) in
     let r = loosest_reads e h (past_space (past_mark comma.place Comma)) (finish qs) in
-    let semi = here r.behind (Mark Semi) in
+    let semi = here r.following (Mark Semi) in
     record {
       ls = l ∷ v ∷ comma ∷ (r.ls ++ semi ∷ []);
-      behind = past_line (past_mark r.behind Semi);
+      following = past_line (past_mark r.following Semi);
       is = ap (λ t. l ∷ v ∷ comma ∷ t) r.is ∙ simp append_assoc;
       again = Take l.place port v.place r.again;
       spelled = take l v comma semi r.ls port r.again refl refl refl refl r.spelled refl;
@@ -129,11 +129,11 @@ call_reads n s f es g h at qs =
     let m = here (after at (indent n)) (Word f.text) in
     let first = here (after m.place f.text) (Mark LParen) in
     let r = arguments_read es h (past_mark first.place LParen) (lexeme (Mark RParen) ∷ finish qs) in
-    let last = here r.behind (Mark RParen) in
+    let last = here r.following (Mark RParen) in
     let semi = here (past_mark last.place RParen) (Mark Semi) in
     record {
       ls = m ∷ first ∷ (r.ls ++ last ∷ semi ∷ []);
-      behind = past_line (past_mark semi.place Semi);
+      following = past_line (past_mark semi.place Semi);
       is = ap (λ t. m ∷ first ∷ t) r.is ∙ simp append_assoc;
       again = Call m.place None (named f m.place) r.again;
       spelled = call m first last semi r.ls (named f m.place) r.again refl (good_name f m.place g) refl r.spelled refl refl;
@@ -148,11 +148,11 @@ called_reads n s x f es gx g h at qs =
     let m = here (past_space (past_mark equals.place mark.Assign)) (Word f.text) in
     let first = here (after m.place f.text) (Mark LParen) in
     let r = arguments_read es h (past_mark first.place LParen) (lexeme (Mark RParen) ∷ finish qs) in
-    let last = here r.behind (Mark RParen) in
+    let last = here r.following (Mark RParen) in
     let semi = here (past_mark last.place RParen) (Mark Semi) in
     record {
       ls = l ∷ equals ∷ m ∷ first ∷ (r.ls ++ last ∷ semi ∷ []);
-      behind = past_line (past_mark semi.place Semi);
+      following = past_line (past_mark semi.place Semi);
       is = ap (λ t. l ∷ equals ∷ m ∷ first ∷ t) r.is ∙ simp append_assoc;
       again = Call l.place (Some (named x l.place)) (named f m.place) r.again;
       spelled = called l equals m first last semi r.ls (named x l.place) (named f m.place) r.again refl
@@ -175,7 +175,7 @@ second_arm_reads n Nothing f h at qs =
     let close = here (after at (indent n)) (Mark RBrace) in
     record {
       ls = close ∷ [];
-      behind = past_line (past_mark close.place RBrace);
+      following = past_line (past_mark close.place RBrace);
       is = refl;
       again = Nothing;
       spelled = record { close = close; ys = []; all = refl; brace = refl; arm = no_else };
@@ -186,10 +186,10 @@ second_arm_reads n (Then s rest) f h at qs =
     let word = here (past_space (past_mark close.place RBrace)) (Word (codes "else")) in
     let first = here (past_space (after word.place (codes "else"))) (Mark LBrace) in
     let r = h (past_line (past_mark first.place LBrace)) (p.closing n qs) in
-    let last = here (after r.behind (indent n)) (Mark RBrace) in
+    let last = here (after r.following (indent n)) (Mark RBrace) in
     record {
       ls = close ∷ word ∷ first ∷ (r.ls ++ last ∷ []);
-      behind = past_line (past_mark last.place RBrace);
+      following = past_line (past_mark last.place RBrace);
       is = ap (λ t. close ∷ word ∷ first ∷ t) r.is ∙ simp append_assoc;
       again = r.again;
       spelled = record {
@@ -217,16 +217,16 @@ mutual
       let first = here (past_space (after l.place (codes "if"))) (Mark LParen) in
       let inner = p.body (suc n) a (p.second_arm n b (p.body (suc n) b) qs) in
       let r = loosest_reads e h.0 (past_mark first.place LParen) (lexeme (Mark RParen) ∷ gap space ∷ lexeme (Mark LBrace) ∷ gap newline ∷ inner) in
-      let last = here r.behind (Mark RParen) in
+      let last = here r.following (Mark RParen) in
       let open' = here (past_space (past_mark last.place RParen)) (Mark LBrace) in
       let x = body_reads (suc n) (suc braces) a h.3 (past_line (past_mark open'.place LBrace)) (p.second_arm n b (p.body (suc n) b) qs) in
-      let y = second_arm_reads n b (p.body (suc n) b) (body_reads (suc n) (suc braces) b h.4) x.behind qs in
+      let y = second_arm_reads n b (p.body (suc n) b) (body_reads (suc n) (suc braces) b h.4) x.following qs in
       let ends = y.spelled in
       record {
         ls = l ∷ first ∷ (r.ls ++ last ∷ ((open' ∷ (x.ls ++ ends.close ∷ [])) ++ ends.ys));
-        behind = y.behind;
+        following = y.following;
         is =
-            ap (λ t. l ∷ first ∷ t) (r.is ∙ ap (λ t. r.ls ++ last ∷ open' ∷ t) (x.is ∙ ap (λ t. x.ls ++ t) (y.is ∙ ap (λ t. t ++ placed y.behind qs) ends.all)))
+            ap (λ t. l ∷ first ∷ t) (r.is ∙ ap (λ t. r.ls ++ last ∷ open' ∷ t) (x.is ∙ ap (λ t. x.ls ++ t) (y.is ∙ ap (λ t. t ++ placed y.following qs) ends.all)))
             ∙ simp append_assoc;
         again = If l.place r.again x.again y.again;
         spelled = choice l first last r.ls (open' ∷ (x.ls ++ ends.close ∷ [])) ends.ys r.again x.again y.again refl refl refl r.spelled refl
@@ -239,13 +239,13 @@ mutual
       let first = here (past_space (after l.place (codes "while"))) (Mark LParen) in
       let inner = p.body (suc n) a (p.closing n qs) in
       let r = loosest_reads e h.0 (past_mark first.place LParen) (lexeme (Mark RParen) ∷ gap space ∷ lexeme (Mark LBrace) ∷ gap newline ∷ inner) in
-      let last = here r.behind (Mark RParen) in
+      let last = here r.following (Mark RParen) in
       let open' = here (past_space (past_mark last.place RParen)) (Mark LBrace) in
       let x = body_reads (suc n) (suc braces) a h.3 (past_line (past_mark open'.place LBrace)) (p.closing n qs) in
-      let close = here (after x.behind (indent n)) (Mark RBrace) in
+      let close = here (after x.following (indent n)) (Mark RBrace) in
       record {
         ls = l ∷ first ∷ (r.ls ++ last ∷ (open' ∷ (x.ls ++ close ∷ [])));
-        behind = past_line (past_mark close.place RBrace);
+        following = past_line (past_mark close.place RBrace);
         is = ap (λ t. l ∷ first ∷ t) (r.is ∙ ap (λ t. r.ls ++ last ∷ open' ∷ t) x.is) ∙ simp append_assoc;
         again = While l.place r.again x.again;
         spelled = while l first last r.ls (open' ∷ (x.ls ++ close ∷ [])) r.again x.again refl refl refl r.spelled refl
@@ -254,13 +254,13 @@ mutual
       }
 
   pub body_reads : (n braces : ℕ) (b : Statements) → AreWrittenStatements braces b → (at : Place) (qs : List Piece) → ReadsBody b at (p.body n b qs) qs
-  body_reads n braces Nothing h at qs = record { ls = []; behind = at; is = refl; again = Nothing; spelled = nothing; same = refl }
+  body_reads n braces Nothing h at qs = record { ls = []; following = at; is = refl; again = Nothing; spelled = nothing; same = refl }
   body_reads n braces (Then s rest) h at qs =
       let r = statement_reads n braces s h.0 at (p.body n rest qs) in
-      let t = body_reads n braces rest h.1 r.behind qs in
+      let t = body_reads n braces rest h.1 r.following qs in
       record {
         ls = r.ls ++ t.ls;
-        behind = t.behind;
+        following = t.following;
         is = r.is ∙ ap (λ x. r.ls ++ x) t.is ∙ simp append_assoc;
         again = Then r.again t.again;
         spelled = first_then r.ls t.ls r.again t.again refl r.spelled t.spelled;
@@ -269,14 +269,14 @@ mutual
 
 variables_read : (xs : List Name) → AreWrittenNames xs → (at : Place) (qs : List Piece)
     → Reads SpelledVars (λ again. bare_names xs ≡ bare_names again) at (p.variables xs qs) qs
-variables_read [] h at qs = record { ls = []; behind = at; is = refl; again = []; spelled = no_vars; same = refl }
+variables_read [] h at qs = record { ls = []; following = at; is = refl; again = []; spelled = no_vars; same = refl }
 variables_read (x ∷ xs) h at qs =
     let l = here (after at (indent 1)) (Word (codes "var")) in
     let r = some_names_read x xs h.0 h.1 (past_space (after l.place (codes "var"))) (finish qs) in
-    let semi = here r.behind (Mark Semi) in
+    let semi = here r.following (Mark Semi) in
     record {
       ls = l ∷ (r.ls ++ semi ∷ []);
-      behind = past_line (past_mark semi.place Semi);
+      following = past_line (past_mark semi.place Semi);
       is = ap (λ t. l ∷ t) r.is ∙ simp append_assoc;
       again = r.again;
       spelled = vars l semi r.ls [] r.again [] refl (sym (append-nil r.again)) refl r.spelled refl no_vars;
@@ -285,14 +285,14 @@ variables_read (x ∷ xs) h at qs =
 
 ending_reads : (e : Option Last) → IsWrittenEnding e → (at : Place) (qs : List Piece)
     → Reads SpelledEnding (λ again. bare_ending e ≡ bare_ending again) at (p.ending e qs) qs
-ending_reads None h at qs = record { ls = []; behind = at; is = refl; again = None; spelled = no_ending; same = refl }
+ending_reads None h at qs = record { ls = []; following = at; is = refl; again = None; spelled = no_ending; same = refl }
 ending_reads (Some last) h at qs =
     let l = here (after at (indent 1)) (Word (codes "return")) in
     let r = loosest_reads last.value h.0 (past_space (after l.place (codes "return"))) (finish qs) in
-    let semi = here r.behind (Mark Semi) in
+    let semi = here r.following (Mark Semi) in
     record {
       ls = l ∷ (r.ls ++ semi ∷ []);
-      behind = past_line (past_mark semi.place Semi);
+      following = past_line (past_mark semi.place Semi);
       is = ap (λ t. l ∷ t) r.is ∙ simp append_assoc;
       again = Some (record { place = l.place; value = r.again });
       spelled = ending l semi r.ls r.again refl refl r.spelled refl;
@@ -312,7 +312,7 @@ array_reads x n s g at qs =
     let semi = here (past_mark last.place RSquare) (Mark Semi) in
     record {
       ls = l ∷ m ∷ first ∷ size ∷ last ∷ semi ∷ [];
-      behind = past_line (past_mark semi.place Semi);
+      following = past_line (past_mark semi.place Semi);
       is = refl;
       again = Array (named x m.place) n size.place;
       spelled = array l m first size last semi (named x m.place) n refl refl (good_name x m.place g) refl refl refl refl;
@@ -333,15 +333,15 @@ procedure_reads a h at qs =
     let bodies = p.body 1 a.body endings in
     let variables = p.variables a.vars bodies in
     let ps = names_read a.params h.params (past_mark first.place LParen) (lexeme (Mark RParen) ∷ gap space ∷ lexeme (Mark LBrace) ∷ gap newline ∷ variables) in
-    let last = here ps.behind (Mark RParen) in
+    let last = here ps.following (Mark RParen) in
     let open' = here (past_space (past_mark last.place RParen)) (Mark LBrace) in
     let vs = variables_read a.vars h.vars (past_line (past_mark open'.place LBrace)) bodies in
-    let bs = body_reads 1 1 a.body h.body vs.behind endings in
-    let es = ending_reads a.ending h.ending bs.behind (p.closing 0 qs) in
-    let close = here es.behind (Mark RBrace) in
+    let bs = body_reads 1 1 a.body h.body vs.following endings in
+    let es = ending_reads a.ending h.ending bs.following (p.closing 0 qs) in
+    let close = here es.following (Mark RBrace) in
     record {
       ls = l ∷ m ∷ first ∷ (ps.ls ++ last ∷ open' ∷ (vs.ls ++ (bs.ls ++ (es.ls ++ close ∷ []))));
-      behind = past_line (past_mark close.place RBrace);
+      following = past_line (past_mark close.place RBrace);
       is =
           ap (λ t. l ∷ m ∷ first ∷ t)
           (ps.is ∙ ap (λ t. ps.ls ++ last ∷ open' ∷ t) (vs.is ∙ ap (λ t. vs.ls ++ t) (bs.is ∙ ap (λ t. bs.ls ++ t) es.is)))
@@ -362,8 +362,8 @@ pub parts_read : (all : List Part) → AreNearlyWritten all → (at : Place) →
 parts_read [] h at = ([], no_items, refl)
 parts_read (a ∷ all) h at =
     let r = part_reads a h.0 at (p.parts all) in
-    let t = parts_read all h.1 r.behind in (
+    let t = parts_read all h.1 r.following in (
       r.again ∷ t.0,
-      items r.ls (placed r.behind (p.parts all)) r.again t.0 r.is r.spelled t.1,
+      items r.ls (placed r.following (p.parts all)) r.again t.0 r.is r.spelled t.1,
       ap (λ x. x ∷ bare_parts all) r.same ∙ ap (λ xs. bare_part r.again ∷ xs) t.2,
     )

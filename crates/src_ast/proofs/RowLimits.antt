@@ -26,8 +26,8 @@ pub sound_here : {l : Lexeme} {ls : List Lexeme} → AllSound (l ∷ ls) → IsS
 sound_here (sound h hs) = h
 
 -- those after the first are
-pub sound_behind : {l : Lexeme} {ls : List Lexeme} → AllSound (l ∷ ls) → AllSound ls
-sound_behind (sound h hs) = hs
+pub sound_after : {l : Lexeme} {ls : List Lexeme} → AllSound (l ∷ ls) → AllSound ls
+sound_after (sound h hs) = hs
 
 -- those of a front are
 pub sound_front : (xs ys : List Lexeme) → AllSound (xs ++ ys) → AllSound xs
@@ -47,7 +47,7 @@ spells_sound (mark m e l) short = tt
 -- lexemes of a text within the limits are such
 pub leads_sound : {at place : Place} {text rest : List ℕ} {ls : List Lexeme} (braces row : ℕ) → Leads at text ls place rest → KeepLimits braces row ls → AllSound ls
 leads_sound braces row (stop gap e g p) k = no_sound
-leads_sound braces row (next l gap bytes behind e g p s more) k =
+leads_sound braces row (next l gap bytes following e g p s more) k =
     sound (spells_sound s k.0) (leads_sound (open_past braces l.shape) (row_past row l.shape) more k.3)
 
 -- a lexeme in the middle of a row

@@ -4,7 +4,7 @@ use Rattle.std.specs.List.{list_all}
 use Rattle.src_ast.specs.declared.lexeme.Name.{Name}
 use Rattle.src_ast.specs.declared.lexeme.Place.{Place}
 use Rattle.src_ast.specs.declared.fault.RefusalKind.{RefusalKind}
-use Rattle.src_ast.specs.Rules.{Rule, Sort, variable, array, procedure, Declared, declared_by, variables, is_visible, has_kind, has_sort, use_rules, expression_rules, argument_rules, size_of, size_of_all, statement_rules, body_rules, ending_rules, is_main, parameter_rules, variable_rules, has_main, arrays_in, procs_in, cells_in, size_of_ending, statements_in, part_rules, rules_behind, rules_of, IsAccepted}
+use Rattle.src_ast.specs.Rules.{Rule, Sort, variable, array, procedure, Declared, declared_by, variables, is_visible, has_kind, has_sort, use_rules, expression_rules, argument_rules, size_of, size_of_all, statement_rules, body_rules, ending_rules, is_main, parameter_rules, variable_rules, has_main, arrays_in, procs_in, cells_in, size_of_ending, statements_in, part_rules, rules_after, rules_of, IsAccepted}
 use Rattle.src_ast.specs.Same.{bare, bare_names, bare_expression, bare_expressions, bare_statement, bare_statements, bare_ending, bare_part, bare_parts, Same}
 use Rattle.src_ast.specs.Syntax.{Expression, Number, Variable, Cell, Signed, Binary, Statement, Assign, Store, Print, Read, Give, Take, Call, If, While, Statements, Nothing, Then, Last, Procedure, Part, Array, Proc}
 
@@ -151,10 +151,10 @@ append_bare : (xs ys : List Part) → bare_parts xs ++ bare_parts ys ≡ bare_pa
 append_bare [] ys = refl
 append_bare (x ∷ xs) ys = ap (λ t. bare_part x ∷ t) (append_bare xs ys)
 
-parts_alike : (before all : List Part) → Alike (rules_behind (bare_parts before) (bare_parts all)) (rules_behind before all)
+parts_alike : (before all : List Part) → Alike (rules_after (bare_parts before) (bare_parts all)) (rules_after before all)
 parts_alike before [] = none
 parts_alike before (p ∷ all) =
-    both (part_alike before p) (subst (λ b. Alike (rules_behind b (bare_parts all)) (rules_behind (before ++ p ∷ []) all)) (sym (append_bare before (p ∷ []))) (parts_alike (before ++ p ∷ []) all))
+    both (part_alike before p) (subst (λ b. Alike (rules_after b (bare_parts all)) (rules_after (before ++ p ∷ []) all)) (sym (append_bare before (p ∷ []))) (parts_alike (before ++ p ∷ []) all))
 
 rules_alike : (all : List Part) (f g : Place) → Alike (rules_of (bare_parts all) f) (rules_of all g)
 rules_alike all f g = both (parts_alike [] all) (rw (main_bare all) (more none))

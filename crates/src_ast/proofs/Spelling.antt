@@ -24,22 +24,22 @@ at_most_two : (m : Mark) → length (spelling m) ≤ 2
 at_most_two LParen = omega arith
 at_most_two m = omega arith
 
-clash : (b c b' d : ℕ) (behind more : List ℕ) → is_second c ≡ false → is_second d ≡ true → b ∷ c ∷ behind ≡ b' ∷ d ∷ more → ⊥
-clash b c b' d behind more h k e = let same : c ≡ d = cc in true≢false (sym k ∙ ap is_second (sym same) ∙ h)
+clash : (b c b' d : ℕ) (following more : List ℕ) → is_second c ≡ false → is_second d ≡ true → b ∷ c ∷ following ≡ b' ∷ d ∷ more → ⊥
+clash b c b' d following more h k e = let same : c ≡ d = cc in true≢false (sym k ∙ ap is_second (sym same) ∙ h)
 
 -- a mark of two bytes has one of three as its second
-second : (other : Mark) (b c : ℕ) (behind more : List ℕ) → is_second c ≡ false → b ∷ c ∷ behind ≡ spelling other ++ more → length (spelling other) ≤ 1
-second LessEq b c behind more h e = absurd (clash b c 60 61 behind more h refl e)
-second MoreEq b c behind more h e = absurd (clash b c 62 61 behind more h refl e)
-second Same b c behind more h e = absurd (clash b c 61 61 behind more h refl e)
-second Differs b c behind more h e = absurd (clash b c 33 61 behind more h refl e)
-second ShiftLeft b c behind more h e = absurd (clash b c 60 60 behind more h refl e)
-second ShiftRight b c behind more h e = absurd (clash b c 62 62 behind more h refl e)
-second other b c behind more h e = omega arith
+second : (other : Mark) (b c : ℕ) (following more : List ℕ) → is_second c ≡ false → b ∷ c ∷ following ≡ spelling other ++ more → length (spelling other) ≤ 1
+second LessEq b c following more h e = absurd (clash b c 60 61 following more h refl e)
+second MoreEq b c following more h e = absurd (clash b c 62 61 following more h refl e)
+second Same b c following more h e = absurd (clash b c 61 61 following more h refl e)
+second Differs b c following more h e = absurd (clash b c 33 61 following more h refl e)
+second ShiftLeft b c following more h e = absurd (clash b c 60 60 following more h refl e)
+second ShiftRight b c following more h e = absurd (clash b c 62 62 following more h refl e)
+second other b c following more h e = omega arith
 
 one_byte : (other : Mark) (b : ℕ) (text more : List ℕ) → IsTrue (starts_without is_second text) → b ∷ text ≡ spelling other ++ more → length (spelling other) ≤ 1
 one_byte other b [] more h e = omega (arith, ap length e, length-append (spelling other) more)
-one_byte other b (c ∷ behind) more h e = second other b c behind more (not-true (is_second c) h) e
+one_byte other b (c ∷ following) more h e = second other b c following more (not-true (is_second c) h) e
 
 longest : (m : Mark) (text : List ℕ) → IsTrue (starts_without is_second text) → IsLongest (spelling m) (spelling m ++ text)
 longest LessEq text h = λ other more e. at_most_two other

@@ -27,17 +27,17 @@ pub record BeginsNothing (b : ℕ) : Type 0 where
 pub data Wrong (open' row : ℕ) : List ℕ → RefusalKind → Type 0 where
   byte : {rest : List ℕ} (b : ℕ) (bytes : List ℕ) → rest ≡ b ∷ bytes → BeginsNothing b
       → Wrong open' row rest Byte
-  wide : {rest : List ℕ} (digits behind : List ℕ) → rest ≡ digits ++ behind
-      → IsTrue (is_number digits) → IsTrue (starts_without is_digit behind)
+  wide : {rest : List ℕ} (digits following : List ℕ) → rest ≡ digits ++ following
+      → IsTrue (is_number digits) → IsTrue (starts_without is_digit following)
       → 2 ^ 64 ≤ value_of digits → Wrong open' row rest Wide
-  long : {rest : List ℕ} (bytes behind : List ℕ) → rest ≡ bytes ++ behind → IsTrue (is_word bytes)
-      → IsTrue (starts_without is_word_byte behind)
+  long : {rest : List ℕ} (bytes following : List ℕ) → rest ≡ bytes ++ following → IsTrue (is_word bytes)
+      → IsTrue (starts_without is_word_byte following)
       → most_name_bytes < length bytes → Wrong open' row rest (Limit NameBytes)
-  deep : {rest : List ℕ} (s : Shape) (bytes behind : List ℕ) → rest ≡ bytes ++ behind
-      → Spells s bytes behind
+  deep : {rest : List ℕ} (s : Shape) (bytes following : List ℕ) → rest ≡ bytes ++ following
+      → Spells s bytes following
       → most_braces < open_past open' s → Wrong open' row rest (Limit Depth)
-  crowded : {rest : List ℕ} (s : Shape) (bytes behind : List ℕ) → rest ≡ bytes ++ behind
-      → Spells s bytes behind → IsShort s
+  crowded : {rest : List ℕ} (s : Shape) (bytes following : List ℕ) → rest ≡ bytes ++ following
+      → Spells s bytes following → IsShort s
       → most_in_row < row_past row s → Wrong open' row rest (Limit Lexemes)
 
 -- The first fault of a text: the lexemes before its place are the text's and keep the limits, and

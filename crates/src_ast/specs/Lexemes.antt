@@ -113,10 +113,10 @@ pub data Leads : Place → List ℕ → List Lexeme → Place → List ℕ → T
       → IsTrue (is_gap gap) → place ≡ after at gap
       → Leads at text [] place rest
   next : {at place : Place} {text rest : List ℕ} {ls : List Lexeme} (l : Lexeme)
-      (gap bytes behind : List ℕ)
-      → text ≡ gap ++ (bytes ++ behind) → IsTrue (is_gap gap) → l.place ≡ after at gap
-      → Spells l.shape bytes behind
-      → Leads (after l.place bytes) behind ls place rest → Leads at text (l ∷ ls) place rest
+      (gap bytes following : List ℕ)
+      → text ≡ gap ++ (bytes ++ following) → IsTrue (is_gap gap) → l.place ≡ after at gap
+      → Spells l.shape bytes following
+      → Leads (after l.place bytes) following ls place rest → Leads at text (l ∷ ls) place rest
 
 -- the text has these lexemes, and its end stands at this place
 pub record Lex (text : List ℕ) (ls : List Lexeme) (finish : Place) : Type 0 where

@@ -8,7 +8,7 @@ use Rattle.src_ast.specs.declared.lexeme.Name.{Name}
 use Rattle.src_ast.specs.declared.tree.Unary.{Unary}
 use Rattle.src_ast.specs.declared.tree.Unary.TheVariants.{Flip, Not, Neg}
 use Rattle.src_ast.specs.Syntax.{Expression, Number, Variable, Cell, Signed, Binary, Statement, Assign, Store, Print, Read, Give, Take, Call, If, While, Statements, Nothing, Then, Last, Procedure, Part, Array, Proc}
-use Rattle.src_ast.specs.Turns.{Outcome, Ended, and_then, turn, CallEnd, Returned, Stopped, back_in, ending, loop}
+use Rattle.src_ast.specs.Turns.{PartEnd, Ended, and_then, turn, CallEnd, Returned, Stopped, back_in, ending, loop}
 
 -- what an operator of one operand does
 abbrev pub signed_value : Unary → ℕ → ℕ
@@ -77,7 +77,7 @@ abbrev pub Calls : Type 0
 Calls = ℕ → List ℕ → Outside → ℕ → CallEnd
 
 abbrev mutual
-  pub run_one : Scope → Calls → Statement → State → ℕ → Outcome
+  pub run_one : Scope → Calls → Statement → State → ℕ → PartEnd
   run_one scope calls (Assign at x e) s k = turn k s (λ j. let v = value_of scope e s in Ended (write v.1 (var_number scope x) v.0) j)
   run_one scope calls (Store at a e f) s k = turn k s (λ j. let i = value_of scope e s in let v = value_of scope f i.1 in Ended (stored v.1 (array_number scope a) i.0 v.0) j)
   run_one scope calls (Print at e) s k = turn k s (λ j. let v = value_of scope e s in Ended (printed v.1 v.0) j)
@@ -88,7 +88,7 @@ abbrev mutual
   run_one scope calls (If at e a b) s k = turn k s (λ j. let v = value_of scope e s in if v.0 == 0 then run_all scope calls b v.1 j else run_all scope calls a v.1 j)
   run_one scope calls (While at e body) s k = loop (suc k) (value_of scope e) (run_all scope calls body) s k
 
-  pub run_all : Scope → Calls → Statements → State → ℕ → Outcome
+  pub run_all : Scope → Calls → Statements → State → ℕ → PartEnd
   run_all scope calls Nothing s k = Ended s k
   run_all scope calls (Then st rest) s k = and_then (run_one scope calls st s k) (run_all scope calls rest)
 

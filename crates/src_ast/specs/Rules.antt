@@ -212,13 +212,13 @@ part_rules before (Proc p) =
     ++ (body_rules visible k p.body ++ ending_rules visible (k + size_of_all p.body) p.ending)))
 
 -- these arrays and procedures, after those
-abbrev pub rules_behind : List Part → List Part → List Rule
-rules_behind before [] = []
-rules_behind before (p ∷ parts) = part_rules before p ++ rules_behind (before ++ p ∷ []) parts
+abbrev pub rules_after : List Part → List Part → List Rule
+rules_after before [] = []
+rules_after before (p ∷ parts) = part_rules before p ++ rules_after (before ++ p ∷ []) parts
 
 -- the rules of a program whose text ends at this place, where a `main` has to have come
 abbrev pub rules_of : List Part → Place → List Rule
-rules_of parts finish = rules_behind [] parts ++ rule finish Main (has_main parts) ∷ []
+rules_of parts finish = rules_after [] parts ++ rule finish Main (has_main parts) ∷ []
 
 -- each rule is kept
 abbrev pub IsAccepted : List Part → Place → Type 0
@@ -227,9 +227,9 @@ IsAccepted parts finish = IsTrue (list_all (λ r. r.kept) (rules_of parts finish
 -- the first rule that isn't kept
 pub record IsFirstBroken (rules : List Rule) (refusal : Refusal) : Type 0 where
   pub before : List Rule
-  pub behind : List Rule
+  pub following : List Rule
   pub is : rules ≡ before ++ record { place = refusal.place; kind = refusal.kind; kept = false }
-      ∷ behind
+      ∷ following
   pub kept : IsTrue (list_all (λ r. r.kept) before)
 
 -- why a program isn't accepted: memory, or the first rule that isn't kept

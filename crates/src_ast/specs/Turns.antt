@@ -3,17 +3,17 @@ use Rattle.std.specs.Prelude.{ℕ, zero, suc, ◌==◌, List, Option, Some, None
 use Rattle.ws_words.specs.Outside.{Outside, State}
 
 -- a part ended with turns left, or wanted a turn where none was left
-pub data Outcome : Type 0 where
-  Ended : (s : State) (left : ℕ) → Outcome
-  Out : (o : Outside) → Outcome
+pub data PartEnd : Type 0 where
+  Ended : (s : State) (left : ℕ) → PartEnd
+  Out : (o : Outside) → PartEnd
 
 -- goes on with the turns that are left
-abbrev pub and_then : Outcome → (State → ℕ → Outcome) → Outcome
+abbrev pub and_then : PartEnd → (State → ℕ → PartEnd) → PartEnd
 and_then (Ended s k) go = go s k
 and_then (Out o) go = Out o
 
 -- takes one turn
-abbrev pub turn : ℕ → State → (ℕ → Outcome) → Outcome
+abbrev pub turn : ℕ → State → (ℕ → PartEnd) → PartEnd
 turn zero s go = Out s.out
 turn (suc k) s go = go k
 
@@ -28,16 +28,16 @@ with_result None v vars = vars
 with_result (Some x) v vars = slice_set vars x v
 
 -- back in the caller
-abbrev pub back_in : List ℕ → Option ℕ → CallEnd → Outcome
+abbrev pub back_in : List ℕ → Option ℕ → CallEnd → PartEnd
 back_in vars x (Returned v o k) = Ended (record { vars = with_result x v vars; out = o }) k
 back_in vars x (Stopped o) = Out o
 
 -- a part that ended gives the result of its call
-abbrev pub ending : Outcome → (State → ℕ → CallEnd) → CallEnd
+abbrev pub ending : PartEnd → (State → ℕ → CallEnd) → CallEnd
 ending (Ended s k) go = go s k
 ending (Out o) go = Stopped o
 
 -- at most `fuel` tests of a loop; each takes a turn, so one more than the turns left is fuel enough
-abbrev pub loop : ℕ → (State → ℕ × State) → (State → ℕ → Outcome) → State → ℕ → Outcome
+abbrev pub loop : ℕ → (State → ℕ × State) → (State → ℕ → PartEnd) → State → ℕ → PartEnd
 loop zero test body s k = Out s.out
 loop (suc fuel) test body s k = turn k s (λ j. let v = test s in if v.0 == 0 then Ended v.1 j else and_then (body v.1 j) (loop fuel test body))

@@ -32,5 +32,3 @@ pub use operator::level;
 pub use print::print_program;
 pub use tree::{Ending, Expr, Exprs, Form, Item, Items, Names, Program, Stmt, Stmts, Unary};
 
-#[cfg(test)]
-mod tests;

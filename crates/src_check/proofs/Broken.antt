@@ -25,12 +25,12 @@ unfolding first_broken
 none_broken = refl
 
 -- after rules that are kept, the rest decides
-pub behind_kept : (xs ys : List Rule) → first_broken xs ≡ None → first_broken (xs ++ ys) ≡ first_broken ys
+pub after_kept : (xs ys : List Rule) → first_broken xs ≡ None → first_broken (xs ++ ys) ≡ first_broken ys
 unfolding first_broken
-behind_kept [] ys h = refl
-behind_kept (r ∷ xs) ys h =
+after_kept [] ys h = refl
+after_kept (r ∷ xs) ys h =
     elim r.kept as (λ b. (if b then first_broken xs else Some (fault r)) ≡ None → (if b then first_broken (xs ++ ys) else Some (fault r)) ≡ first_broken ys)
-    [ true ↦ (λ e. behind_kept xs ys e) | false ↦ (λ e. cc) ] h
+    [ true ↦ (λ e. after_kept xs ys e) | false ↦ (λ e. cc) ] h
 
 -- a broken rule stays the first, whatever comes after it
 pub before_broken : (xs ys : List Rule) (f : Refusal) → first_broken xs ≡ Some f → first_broken (xs ++ ys) ≡ Some f
@@ -41,9 +41,9 @@ before_broken (r ∷ xs) ys f h =
     [ true ↦ (λ e. before_broken xs ys f e) | false ↦ (λ e. e) ] h
 
 -- what the checker answers on the rest is the answer for all
-pub answers_behind : {X : Type 0} (xs ys : List Rule) (r : Result X Refusal) → first_broken xs ≡ None → Keeps ys r → Keeps (xs ++ ys) r
-answers_behind xs ys (Ok x) h k = behind_kept xs ys h ∙ k
-answers_behind xs ys (Err f) h k = behind_kept xs ys h ∙ k
+pub answers_after : {X : Type 0} (xs ys : List Rule) (r : Result X Refusal) → first_broken xs ≡ None → Keeps ys r → Keeps (xs ++ ys) r
+answers_after xs ys (Ok x) h k = after_kept xs ys h ∙ k
+answers_after xs ys (Err f) h k = after_kept xs ys h ∙ k
 
 -- a rule that is kept is not broken
 pub rule_kept : (place : Place) (any : RefusalKind) → first_broken (rule place any true ∷ []) ≡ None
@@ -95,9 +95,9 @@ pub passes_on : {Y : Type 0} (rules : List Rule) (r : Result Y Stop) (s : Stop) 
 passes_on rules r s is h = let p = err_from_is_err_and r is in rw (p.1, p.2) h
 
 -- a stop after rules that are kept
-pub stop_behind : (xs ys : List Rule) (s : Stop) → first_broken xs ≡ None → StopsAt ys s → StopsAt (xs ++ ys) s
-stop_behind xs ys Memory h k = tt
-stop_behind xs ys (Broken f) h k = behind_kept xs ys h ∙ k
+pub stop_after : (xs ys : List Rule) (s : Stop) → first_broken xs ≡ None → StopsAt ys s → StopsAt (xs ++ ys) s
+stop_after xs ys Memory h k = tt
+stop_after xs ys (Broken f) h k = after_kept xs ys h ∙ k
 
 -- a stop before others
 pub stop_before : (xs ys : List Rule) (s : Stop) → StopsAt xs s → StopsAt (xs ++ ys) s

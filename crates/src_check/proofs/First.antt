@@ -31,7 +31,7 @@ none_where_kept (r ∷ rs) h =
 here : (r : Rule) (rs : List Rule) (f : Refusal) → r.kept ≡ false → fault r ≡ f → IsFirstBroken (r ∷ rs) f
 here r rs f k e = record {
   before = [];
-  behind = rs;
+  following = rs;
   is = λ i. record { place = (e i).place; kind = (e i).kind; kept = k i } ∷ rs;
   kept = refl;
 }
@@ -39,7 +39,7 @@ here r rs f k e = record {
 further : (r : Rule) (rs : List Rule) (f : Refusal) → r.kept ≡ true → IsFirstBroken rs f → IsFirstBroken (r ∷ rs) f
 further r rs f k b = record {
   before = r ∷ b.before;
-  behind = b.behind;
+  following = b.following;
   is = ap (λ l. r ∷ l) b.is;
   kept = rw k b.kept;
 }
@@ -55,15 +55,15 @@ first_where_some (r ∷ rs) f h =
     elim r.kept as (λ b. r.kept ≡ b → (if b then first_broken rs else Some (fault r)) ≡ Some f → IsFirstBroken (r ∷ rs) f)
     [ true ↦ (λ k e. further r rs f k (first_where_some rs f e)) | false ↦ (λ k e. here r rs f k (same_fault (fault r) f e)) ] refl h
 
-past_kept : (before behind : List Rule) (r : Rule) → IsTrue (list_all (λ s. s.kept) before) → r.kept ≡ false → first_broken (before ++ r ∷ behind) ≡ Some (fault r)
+past_kept : (before following : List Rule) (r : Rule) → IsTrue (list_all (λ s. s.kept) before) → r.kept ≡ false → first_broken (before ++ r ∷ following) ≡ Some (fault r)
 unfolding first_broken
-past_kept [] behind r h k = rw k refl
-past_kept (s ∷ before) behind r h k =
+past_kept [] following r h k = rw k refl
+past_kept (s ∷ before) following r h k =
     let parts = and_parts s.kept (list_all (λ s. s.kept) before) h in
-    rw parts.0 (past_kept before behind r parts.1 k)
+    rw parts.0 (past_kept before following r parts.1 k)
 
 some_where_first : (rs : List Rule) (f : Refusal) → IsFirstBroken rs f → first_broken rs ≡ Some f
-some_where_first rs f b = ap first_broken b.is ∙ past_kept b.before b.behind (record { place = f.place; kind = f.kind; kept = false }) b.kept refl
+some_where_first rs f b = ap first_broken b.is ∙ past_kept b.before b.following (record { place = f.place; kind = f.kind; kept = false }) b.kept refl
 
 -- the answer to the rules of a program, by the first that isn't kept
 answer_is : (parts : List Part) (finish : Place) (answer : Option Refusal) → IsRuleAnswer parts finish answer → first_broken (rules_of parts finish) ≡ answer

@@ -82,17 +82,17 @@ pub not_true : (b : Bool) → not b ≡ true → b ≡ false
 not_true true e = cc
 not_true false e = refl
 
-stands_behind : {find : List ℕ → Option _} (before : List Part) (p : Part) → StandsFor find (declared_by (p ∷ []) ++ declared_by before) → StandsFor find (declared_by (before ++ p ∷ []))
-stands_behind {find} before p st = subst (λ l. StandsFor find l) (sym (declared_by-append before (p ∷ []))) (stands_moved (declared_by (p ∷ [])) (declared_by before) st)
+stands_after : {find : List ℕ → Option _} (before : List Part) (p : Part) → StandsFor find (declared_by (p ∷ []) ++ declared_by before) → StandsFor find (declared_by (before ++ p ∷ []))
+stands_after {find} before p st = subst (λ l. StandsFor find l) (sym (declared_by-append before (p ∷ []))) (stands_moved (declared_by (p ∷ [])) (declared_by before) st)
 
 module _ (old new : Checker) (before : List Part) (b : IsAfter old before) where
   -- what the checker knows after an array
-  pub behind_array : (x : Name) (n : ℕ) (at : Place) → passes (λ _. true) (found old.names.outer x.text) ≡ false
+  pub after_array : (x : Name) (n : ℕ) (at : Place) → passes (λ _. true) (found old.names.outer x.text) ≡ false
       → ((text : List ℕ) → found new.names.outer text ≡ (if pointwise nat_eq x.text text then Some array else found old.names.outer text))
       → new.arrays ≡ old.arrays + 1 → new.procedures ≡ old.procedures → new.cells ≡ old.cells + n → new.statements ≡ old.statements → new.has_main ≡ old.has_main
       → IsAfter new (before ++ Array x n at ∷ [])
-  behind_array x n at free puts arrays procedures cells statements main = record {
-    names = stands_behind before (Array x n at) (stands_with x.text array b.names free puts);
+  after_array x n at free puts arrays procedures cells statements main = record {
+    names = stands_after before (Array x n at) (stands_with x.text array b.names free puts);
     arrays = arrays ∙ ap (λ m. m + 1) b.arrays ∙ sym (arrays_in-append before (Array x n at ∷ []));
     procedures = let h = procs_in-append before (Array x n at ∷ []) in let o = b.procedures in omega arith;
     cells = let h = cells_in-append before (Array x n at ∷ []) in let o = b.cells in omega arith;
@@ -101,13 +101,13 @@ module _ (old new : Checker) (before : List Part) (b : IsAfter old before) where
   }
 
   -- what the checker knows after a procedure
-  pub behind_procedure : (p : Procedure) (count : ℕ) → passes (λ _. true) (found old.names.outer p.name.text) ≡ false → old.has_main ≡ false
+  pub after_procedure : (p : Procedure) (count : ℕ) → passes (λ _. true) (found old.names.outer p.name.text) ≡ false → old.has_main ≡ false
       → ((text : List ℕ) → found new.names.outer text ≡ (if pointwise nat_eq p.name.text text then Some (procedure (length p.params)) else found old.names.outer text))
       → new.arrays ≡ old.arrays → new.procedures ≡ old.procedures + 1 → new.cells ≡ old.cells
       → count ≡ old.statements + size_of_all p.body → new.statements ≡ count + size_of_ending p.ending → new.has_main ≡ is_main p
       → IsAfter new (before ++ Proc p ∷ [])
-  behind_procedure p count free no_main puts arrays procedures cells counted statements main = record {
-    names = stands_behind before (Proc p) (stands_with p.name.text (procedure (length p.params)) b.names free puts);
+  after_procedure p count free no_main puts arrays procedures cells counted statements main = record {
+    names = stands_after before (Proc p) (stands_with p.name.text (procedure (length p.params)) b.names free puts);
     arrays = let h = arrays_in-append before (Proc p ∷ []) in let o = b.arrays in omega arith;
     procedures = let h = procs_in-append before (Proc p ∷ []) in let o = b.procedures in omega arith;
     cells = let h = cells_in-append before (Proc p ∷ []) in let o = b.cells in omega arith;

@@ -29,13 +29,13 @@ spelled_ends_gap (shape.Mark m) a b p = kind_ends_gap (a ++ b) 2 (spelled_kind (
 -- two readings of one text are one, or one goes on with a lexeme where the other stops
 pub data Compared (ls : List Lexeme) (p : Place) (r : List ℕ) (ms : List Lexeme) (q : Place) (t : List ℕ) : Type 0 where
   same : ls ≡ ms → p ≡ q → r ≡ t → Compared ls p r ms q t
-  ahead : (l : Lexeme) (more : List Lexeme) (bytes behind : List ℕ) → ls ≡ ms ++ (l ∷ more) → t ≡ bytes ++ behind → Spells l.shape bytes behind → Compared ls p r ms q t
-  short : (l : Lexeme) (more : List Lexeme) (bytes behind : List ℕ) → ms ≡ ls ++ (l ∷ more) → r ≡ bytes ++ behind → Spells l.shape bytes behind → Compared ls p r ms q t
+  ahead : (l : Lexeme) (more : List Lexeme) (bytes following : List ℕ) → ls ≡ ms ++ (l ∷ more) → t ≡ bytes ++ following → Spells l.shape bytes following → Compared ls p r ms q t
+  short : (l : Lexeme) (more : List Lexeme) (bytes following : List ℕ) → ms ≡ ls ++ (l ∷ more) → r ≡ bytes ++ following → Spells l.shape bytes following → Compared ls p r ms q t
 
 compared_more : (l m : Lexeme) (ls ms : List Lexeme) (p q : Place) (r t : List ℕ) → l ≡ m → Compared ls p r ms q t → Compared (l ∷ ls) p r (m ∷ ms) q t
 compared_more l m ls ms p q r t e (Compared.same a b c) = Compared.same (cc) b c
-compared_more l m ls ms p q r t e (Compared.ahead n more bytes behind a b s) = Compared.ahead n more bytes behind (cc) b s
-compared_more l m ls ms p q r t e (Compared.short n more bytes behind a b s) = Compared.short n more bytes behind (cc) b s
+compared_more l m ls ms p q r t e (Compared.ahead n more bytes following a b s) = Compared.ahead n more bytes following (cc) b s
+compared_more l m ls ms p q r t e (Compared.short n more bytes following a b s) = Compared.short n more bytes following (cc) b s
 
 same_lexeme : (l m : Lexeme) → l.shape ≡ m.shape → l.place ≡ m.place → l ≡ m
 same_lexeme l m e p = λ i. record { shape = e i; place = p i }

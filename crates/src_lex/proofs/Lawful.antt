@@ -28,11 +28,11 @@ depth_kept o w [] h k = h
 depth_kept o w (m ∷ ls) h k = depth_kept (open_past o m.shape) (row_past w m.shape) ls k.1 k.3
 
 -- a fault does not stand where another list within the limits goes on
-no_fault_inside : (ls ms : List Lexeme) (l : Lexeme) (more : List Lexeme) (r bytes behind : List ℕ) (k : RefusalKind) → KeepLimits 0 0 ms → ms ≡ ls ++ (l ∷ more)
-    → Wrong (open_after 0 ls) (row_after 0 ls) r k → r ≡ bytes ++ behind → Spells l.shape bytes behind → ⊥
-no_fault_inside ls ms l more r bytes behind k kept e w t s =
+no_fault_inside : (ls ms : List Lexeme) (l : Lexeme) (more : List Lexeme) (r bytes following : List ℕ) (k : RefusalKind) → KeepLimits 0 0 ms → ms ≡ ls ++ (l ∷ more)
+    → Wrong (open_after 0 ls) (row_after 0 ls) r k → r ≡ bytes ++ following → Spells l.shape bytes following → ⊥
+no_fault_inside ls ms l more r bytes following k kept e w t s =
     let at = kept_at 0 0 ls l more (rw e at kept) in
-    wrong_denies (open_after 0 ls) (row_after 0 ls) r k l.shape bytes behind w t s at.short at.depth at.row_kept
+    wrong_denies (open_after 0 ls) (row_after 0 ls) r k l.shape bytes following w t s at.short at.depth at.row_kept
 
 -- a text has one list of lexemes at most
 pub one_lexing_of : (text : List ℕ) (a b : List Lexeme) (p q : Place) → Lex text a p → Lex text b q → (a ≡ b) × (p ≡ q)
@@ -41,8 +41,8 @@ one_lexing_of text a b p q x y =
     let c = compare start text a x.place x.rest b y.place y.rest x.leads y.leads (end_ends_gap x.rest x.over) (end_ends_gap y.rest y.over) in
     elim c [
       | Compared.same e f g ↦ (e, finish)
-      | Compared.ahead l more bytes behind e f s ↦ absurd (end_denies l.shape y.rest bytes behind y.over f s)
-      | Compared.short l more bytes behind e f s ↦ absurd (end_denies l.shape x.rest bytes behind x.over f s)
+      | Compared.ahead l more bytes following e f s ↦ absurd (end_denies l.shape y.rest bytes following y.over f s)
+      | Compared.short l more bytes following e f s ↦ absurd (end_denies l.shape x.rest bytes following x.over f s)
     ]
 
 -- a text whose lexemes keep the limits has no fault
@@ -51,8 +51,8 @@ no_fault_of text ls p r x kept y =
     let c = compare start text ls x.place x.rest y.ls r.place y.rest x.leads y.leads (end_ends_gap x.rest x.over) (wrong_ends_gap _ _ y.rest r.kind y.wrong) in
     elim c [
       | Compared.same e f g ↦ end_right _ _ y.rest r.kind (rw (← g) x.over) y.wrong
-      | Compared.ahead l more bytes behind e f s ↦ no_fault_inside y.ls ls l more y.rest bytes behind r.kind kept e y.wrong f s
-      | Compared.short l more bytes behind e f s ↦ end_denies l.shape x.rest bytes behind x.over f s
+      | Compared.ahead l more bytes following e f s ↦ no_fault_inside y.ls ls l more y.rest bytes following r.kind kept e y.wrong f s
+      | Compared.short l more bytes following e f s ↦ end_denies l.shape x.rest bytes following x.over f s
     ]
 
 same_refusal : (a b : Refusal) → a.kind ≡ b.kind → a.place ≡ b.place → a ≡ b
@@ -66,8 +66,8 @@ one_fault_of text a b x y =
       | Compared.same e f g ↦
           let there : Wrong (open_after 0 x.ls) (row_after 0 x.ls) x.rest b.kind = rw (e, g) y.wrong in
           same_refusal a b (one_wrong (open_after 0 x.ls) (row_after 0 x.ls) x.rest a.kind b.kind (depth_kept 0 0 x.ls (omega arith) x.kept) x.wrong there) f
-      | Compared.ahead l more bytes behind e f s ↦ absurd (no_fault_inside y.ls x.ls l more y.rest bytes behind b.kind x.kept e y.wrong f s)
-      | Compared.short l more bytes behind e f s ↦ absurd (no_fault_inside x.ls y.ls l more x.rest bytes behind a.kind y.kept e x.wrong f s)
+      | Compared.ahead l more bytes following e f s ↦ absurd (no_fault_inside y.ls x.ls l more y.rest bytes following b.kind x.kept e y.wrong f s)
+      | Compared.short l more bytes following e f s ↦ absurd (no_fault_inside x.ls y.ls l more x.rest bytes following a.kind y.kept e x.wrong f s)
     ]
 
 -- what is found or refused rightly is the one answer

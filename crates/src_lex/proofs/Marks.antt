@@ -105,7 +105,7 @@ reads_two (b ∷ c ∷ more) m e =
     record {
       within = omega arith;
       some = omega arith;
-      spells = Spells.mark m (sym (two_sound b c m e)) (λ other behind k. most_two (spelling other) (one_or_two_bytes other));
+      spells = Spells.mark m (sym (two_sound b c m e)) (λ other following k. most_two (spelling other) (one_or_two_bytes other));
     }
 
 -- where the first two bytes are no mark, the mark of the first is the longest
@@ -114,7 +114,7 @@ reads_one text b rest m t h e =
     let made : Reads (shape.Mark m) 1 (b ∷ rest) = record {
       within = omega arith;
       some = omega arith;
-      spells = Spells.mark m (sym (one_sound b m e)) (λ other behind k. longest_one other (spelling other) (one_or_two_bytes other) refl text behind h (t ∙ k));
+      spells = Spells.mark m (sym (one_sound b m e)) (λ other following k. longest_one other (spelling other) (one_or_two_bytes other) refl text following h (t ∙ k));
     } in rw t made
 
 no_mark_of : (m : Mark) (xs : List ℕ) → OneOrTwo xs → spelling m ≡ xs → (text : List ℕ) (b : ℕ) (rest more : List ℕ) → text ≡ b ∷ rest → mark_of_front text ≡ None → mark_of_one b ≡ None → text ≡ xs ++ more → ⊥

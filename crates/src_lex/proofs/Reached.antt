@@ -16,7 +16,7 @@ use Rattle.src_lex.proofs.Gaps.{gap_append}
 
 -- a text is read so far: these lexemes, this place and rest, these counts
 pub record Reached (text : List ℕ) (items : List Lexeme) (at : Place) (rest : List ℕ) (open' row : ℕ) : Type 0 where
-  pub leads : (ls : List Lexeme) (place : Place) (behind : List ℕ) → Leads at rest ls place behind → Leads start text (items ++ ls) place behind
+  pub leads : (ls : List Lexeme) (place : Place) (following : List ℕ) → Leads at rest ls place following → Leads start text (items ++ ls) place following
   pub kept : KeepLimits 0 0 items
   pub depth_is : open' ≡ open_after 0 items
   pub row_is : row ≡ row_after 0 items
@@ -30,7 +30,7 @@ pub record Reached (text : List ℕ) (items : List Lexeme) (at : Place) (rest : 
 -- nothing is read
 pub at_start : (text : List ℕ) → Reached text [] start text 0 0
 at_start text = record {
-  leads = λ ls place behind l. l;
+  leads = λ ls place following l. l;
   kept = tt;
   depth_is = refl;
   row_is = refl;
@@ -42,11 +42,11 @@ at_start text = record {
   room = omega arith;
 }
 
-leads_gap : (at : Place) (gap front : List ℕ) → IsTrue (is_gap gap) → (ls : List Lexeme) (place : Place) (behind : List ℕ)
-    → Leads (after at gap) front ls place behind → Leads at (gap ++ front) ls place behind
-leads_gap at gap front g all place behind (Leads.stop more t h p) =
-    Leads.stop (gap ++ more) (ap (λ x. gap ++ x) t ∙ sym (append_assoc gap more behind)) (gap_append gap more g h) (p ∙ sym (after_append at gap more))
-leads_gap at gap front g all place behind (Leads.next l more bytes far t h p s d) =
+leads_gap : (at : Place) (gap front : List ℕ) → IsTrue (is_gap gap) → (ls : List Lexeme) (place : Place) (following : List ℕ)
+    → Leads (after at gap) front ls place following → Leads at (gap ++ front) ls place following
+leads_gap at gap front g all place following (Leads.stop more t h p) =
+    Leads.stop (gap ++ more) (ap (λ x. gap ++ x) t ∙ sym (append_assoc gap more following)) (gap_append gap more g h) (p ∙ sym (after_append at gap more))
+leads_gap at gap front g all place following (Leads.next l more bytes far t h p s d) =
     Leads.next l (gap ++ more) bytes far (ap (λ x. gap ++ x) t ∙ sym (append_assoc gap more (bytes ++ far))) (gap_append gap more g h) (p ∙ sym (after_append at gap more)) s d
 
 -- over a gap
@@ -55,7 +55,7 @@ pub past_gap : (text : List ℕ) (items : List Lexeme) (at : Place) (rest gap fr
 past_gap text items at rest gap front open' row r t g =
     let kept = after_kept at gap r.line r.column in
     record {
-      leads = λ ls place behind l. r.leads ls place behind (rw t (leads_gap at gap front g ls place behind l));
+      leads = λ ls place following l. r.leads ls place following (rw t (leads_gap at gap front g ls place following l));
       kept = r.kept;
       depth_is = r.depth_is;
       row_is = r.row_is;
@@ -81,25 +81,25 @@ row_append row [] l = refl
 row_append row (m ∷ ls) l = row_append (row_past row m.shape) ls l
 
 -- over a lexeme within the limits
-pub past_lexeme : (text : List ℕ) (items : List Lexeme) (l : Lexeme) (front bytes behind : List ℕ) (open' row open_more row_more : ℕ)
-    → Reached text items l.place front open' row → front ≡ bytes ++ behind → Spells l.shape bytes behind → IsShort l.shape
+pub past_lexeme : (text : List ℕ) (items : List Lexeme) (l : Lexeme) (front bytes following : List ℕ) (open' row open_more row_more : ℕ)
+    → Reached text items l.place front open' row → front ≡ bytes ++ following → Spells l.shape bytes following → IsShort l.shape
     → open_more ≡ open_past open' l.shape → open_more ≤ 32 → row_more ≡ row_past row l.shape → row_more ≤ 256
-    → Reached text (items ++ l ∷ []) (after l.place bytes) behind open_more row_more
-past_lexeme text items l front bytes behind open' row open_more row_more r t s short o ok w wk =
+    → Reached text (items ++ l ∷ []) (after l.place bytes) following open_more row_more
+past_lexeme text items l front bytes following open' row open_more row_more r t s short o ok w wk =
     let kept = after_kept l.place bytes r.line r.column in
     let depth_is : open_more ≡ open_past (open_after 0 items) l.shape = o ∙ ap (λ n. open_past n l.shape) r.depth_is in
     let row_is : row_more ≡ row_past (row_after 0 items) l.shape = w ∙ ap (λ n. row_past n l.shape) r.row_is in
     record {
-      leads = λ ls place far d. rw (append_assoc items (l ∷ []) ls) (r.leads (l ∷ ls) place far (Leads.next l [] bytes behind t refl refl s d));
+      leads = λ ls place far d. rw (append_assoc items (l ∷ []) ls) (r.leads (l ∷ ls) place far (Leads.next l [] bytes following t refl refl s d));
       kept = kept_append 0 0 items l r.kept short (rw (← depth_is) ok) (rw (← row_is) wk);
       depth_is = depth_is ∙ sym (open_append 0 items l);
       row_is = row_is ∙ sym (row_append 0 items l);
       depth_kept = ok;
       row_kept = wk;
-      finish = sym (after_append l.place bytes behind) ∙ (ap (after l.place) (sym t) ∙ r.finish);
+      finish = sym (after_append l.place bytes following) ∙ (ap (after l.place) (sym t) ∙ r.finish);
       line = kept.line;
       column = kept.column;
-      room = let h = r.room in let k = kept.room in omega (arith, ap length t, length-append bytes behind);
+      room = let h = r.room in let k = kept.room in omega (arith, ap length t, length-append bytes following);
     }
 
 pub here : (text : List ℕ) (items : List Lexeme) (at : Place) (rest : List ℕ) (open' row : ℕ) → Reached text items at rest open' row → Leads start text items at rest
@@ -138,12 +138,12 @@ past_gap_at {text} {items} {at} {rest} {open'} {row} n r g f h p =
     rw (p, g, f) made
 
 -- over a lexeme of n bytes
-pub past_lexeme_at : {text : List ℕ} {items all : List Lexeme} {s : Shape} {at place : Place} {front bytes behind : List ℕ} {open' row open_more row_more n : ℕ}
-    → Reached text items at front open' row → Reads s n front → IsShort s → bytes ≡ take n front → behind ≡ drop n front → place ≡ after at bytes
+pub past_lexeme_at : {text : List ℕ} {items all : List Lexeme} {s : Shape} {at place : Place} {front bytes following : List ℕ} {open' row open_more row_more n : ℕ}
+    → Reached text items at front open' row → Reads s n front → IsShort s → bytes ≡ take n front → following ≡ drop n front → place ≡ after at bytes
     → all ≡ items ++ record { shape = s; place = at } ∷ []
     → (open_more ≡ open_past open' s) × (open_more ≤ 32) → (row_more ≡ row_past row s) × (row_more ≤ 256)
-    → Reached text all place behind open_more row_more
-past_lexeme_at {text} {items} {all} {s} {at} {place} {front} {bytes} {behind} {open'} {row} {open_more} {row_more} {n} r reads short b f p i o w =
+    → Reached text all place following open_more row_more
+past_lexeme_at {text} {items} {all} {s} {at} {place} {front} {bytes} {following} {open'} {row} {open_more} {row_more} {n} r reads short b f p i o w =
     let whole : front ≡ take n front ++ drop n front = sym (take-append-drop n front) in
     let made : Reached text (items ++ record { shape = s; place = at } ∷ []) (after at (take n front)) (drop n front) open_more row_more =
     past_lexeme text items (record { shape = s; place = at }) front (take n front) (drop n front) open' row open_more row_more r whole reads.spells short o.0 o.1 w.0 w.1 in

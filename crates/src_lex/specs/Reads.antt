@@ -33,5 +33,5 @@ abbrev pub Exceeds : ℕ → ℕ → Shape → Place → TextFault → Type 0
 Exceeds open' row s place NoMemory = ⊥
 Exceeds open' row s place (Refused r) =
     (r.place ≡ place)
-    × ((bytes behind : List ℕ) → Spells s bytes behind → IsShort s
-    → Wrong open' row (bytes ++ behind) r.kind)
+    × ((bytes following : List ℕ) → Spells s bytes following → IsShort s
+    → Wrong open' row (bytes ++ following) r.kind)

@@ -15,5 +15,5 @@ pub use laws::{
     each_text_is_lexed_once, no_fault_within_limits, one_fault, one_lexing,
     what_reads_the_same_is_written,
 };
-pub use place::place_behind;
+pub use place::place_after;
 pub use text::lex;

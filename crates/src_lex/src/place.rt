@@ -27,11 +27,11 @@ fn past(at: Place, byte: u8) -> Place
 
 /// Where what stands after these bytes begins, where they begin at a place.
 #[tactic(auto, using(crate::proofs::Places::places))]
-pub fn place_behind(at: Place, bytes: &[u8]) -> Place
+pub fn place_after(at: Place, bytes: &[u8]) -> Place
     requires line { 0 < at.line }
     requires column { 0 < at.column }
     requires room { at.line + at.column + length bytes.now ≤ 2 ^ 32 }
-    ensures behind { result ≡ lexemes.after at bytes.now }
+    ensures following { result ≡ lexemes.after at bytes.now }
     ensures line { 0 < result.line }
     ensures column { 0 < result.column }
     ensures within { result.line + result.column ≤ at.line + at.column + length bytes.now }

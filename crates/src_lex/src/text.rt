@@ -9,7 +9,7 @@ ghost use Rattle.src_ast.specs.declared.lexeme.Place.{Place};
 use crate::gap::{gap_length, is_end};
 use crate::lexeme::read_shape;
 use crate::limits::Counts;
-use crate::place::place_behind;
+use crate::place::place_after;
 use src_ast::{Lexeme, Lexemes, Place, TextFault};
 use std::alloc::Global;
 
@@ -26,9 +26,9 @@ fn read(alloc: Global, text: &[u8]) -> Result<Lexemes, TextFault>
     let mut rest = text;
     loop {
         let (gap, front) = rest.split_at(gap_length(rest));
-        place = place_behind(place, gap);
+        place = place_after(place, gap);
         if is_end(front) {
-            let finish = place_behind(place, front);
+            let finish = place_after(place, front);
             return Ok(Lexemes { items, finish });
         }
         let (shape, length) = read_shape(alloc, front, place)?;
@@ -36,9 +36,9 @@ fn read(alloc: Global, text: &[u8]) -> Result<Lexemes, TextFault>
         if items.push(Lexeme { shape, place }).is_err() {
             return Err(TextFault::NoMemory);
         }
-        let (bytes, behind) = front.split_at(length);
-        place = place_behind(place, bytes);
-        rest = behind;
+        let (bytes, following) = front.split_at(length);
+        place = place_after(place, bytes);
+        rest = following;
     }
 }
 

@@ -17,7 +17,7 @@ use Rattle.src_parse.specs.Expressions.{operator_of, operator_in, named, operand
 use Rattle.src_parse.specs.Reading.{Reading, Reader, Done, Stuck, ◌|>◌, is_mark, expect}
 use Rattle.src_parse.proofs.Tokens.{is_mark-same}
 use Rattle.src_parse.proofs.Expressions.{OpBelow, Below, below_8, below_9}
-use Rattle.src_parse.proofs.Steady.{operators_at_is, operand_behind}
+use Rattle.src_parse.proofs.Steady.{operators_at_is, operand_after}
 
 -- no index begins here
 abbrev pub NoIndex : List Lexeme → Type 0
@@ -96,22 +96,22 @@ named_alone whole a (l ∷ ts) h = rw h refl
 -- a name is an operand, with its index if it has one
 pub operand_name : (l : Lexeme) (x : Name) (ts : List Lexeme) → IsName x l → operand_at (l ∷ ts) ≡ named (expression_at 0) x ts
 unfolding operand_shape
-operand_name l x ts h = operand_behind (l ∷ ts) l ts refl ∙ rw (h.word, h.free, h.place) refl
+operand_name l x ts h = operand_after (l ∷ ts) l ts refl ∙ rw (h.word, h.free, h.place) refl
 
 operand_number : (l : Lexeme) (v : ℕ) (ts : List Lexeme) → IsNumber v l → operand_at (l ∷ ts) ≡ Done (Number v) ts
 unfolding operand_shape
-operand_number l v ts h = operand_behind (l ∷ ts) l ts refl ∙ rw h refl
+operand_number l v ts h = operand_after (l ∷ ts) l ts refl ∙ rw h refl
 
 operand_round : (first last : Lexeme) (rest ts : List Lexeme) (e : Expression) → Is mark.LParen first → Is mark.RParen last
     → expression_at 0 rest ≡ Done e (last ∷ ts) → operand_at (first ∷ rest) ≡ Done e ts
 unfolding operand_shape operand_mark
-operand_round first last rest ts e f z h = operand_behind (first ∷ rest) first rest refl ∙ rw (f, h, expect_mark mark.RParen last ts z) refl
+operand_round first last rest ts e f z h = operand_after (first ∷ rest) first rest refl ∙ rw (f, h, expect_mark mark.RParen last ts z) refl
 
 operand_sign : (s : Unary) (l : Lexeme) (rest ts : List Lexeme) (e : Expression) → Is (sign_mark s) l → operand_at rest ≡ Done e ts → operand_at (l ∷ rest) ≡ Done (Signed s e) ts
 unfolding operand_shape operand_mark
-operand_sign Flip l rest ts e h p = operand_behind (l ∷ rest) l rest refl ∙ rw (h, p) refl
-operand_sign Not l rest ts e h p = operand_behind (l ∷ rest) l rest refl ∙ rw (h, p) refl
-operand_sign Neg l rest ts e h p = operand_behind (l ∷ rest) l rest refl ∙ rw (h, p) refl
+operand_sign Flip l rest ts e h p = operand_after (l ∷ rest) l rest refl ∙ rw (h, p) refl
+operand_sign Not l rest ts e h p = operand_after (l ∷ rest) l rest refl ∙ rw (h, p) refl
+operand_sign Neg l rest ts e h p = operand_after (l ∷ rest) l rest refl ∙ rw (h, p) refl
 
 operator_of_mark : (op : Alu) → operator_of (mark_of op) ≡ Some op
 operator_of_mark Add = refl

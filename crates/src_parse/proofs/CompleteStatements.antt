@@ -151,13 +151,13 @@ starts_other v o l h = go (is_word v l.shape) refl
     go true e = let bad : true ≡ false = sym h ∙ ap starts (word-is v l.shape e) ∙ o in cc
     go false e = refl
 
-other_behind : (v : List ℕ) → starts (shape.Word v) ≡ false → (ls ts : List Lexeme) → starts_at ls ≡ true → NoWord v (ls ++ ts)
-other_behind v o [] ts h = cc
-other_behind v o (l ∷ ls) ts h = starts_other v o l h
+other_after : (v : List ℕ) → starts (shape.Word v) ≡ false → (ls ts : List Lexeme) → starts_at ls ≡ true → NoWord v (ls ++ ts)
+other_after v o [] ts h = cc
+other_after v o (l ∷ ls) ts h = starts_other v o l h
 
-starts_behind : (ls ts : List Lexeme) → starts_at ls ≡ true → starts_at (ls ++ ts) ≡ true
-starts_behind [] ts h = cc
-starts_behind (l ∷ ls) ts h = h
+starts_after : (ls ts : List Lexeme) → starts_at ls ≡ true → starts_at (ls ++ ts) ≡ true
+starts_after [] ts h = cc
+starts_after (l ∷ ls) ts h = h
 
 starts_name : (x : Name) (l : Lexeme) → IsName x l → starts l.shape ≡ true
 starts_name x l h = ap starts h.word ∙ ap starts_word (keyword_none x.text h.free)
@@ -215,7 +215,7 @@ else_go l x h = rw h refl
 -- in front of statements, and of what stands after them, stands no word that starts none
 pub statements_other : (v : List ℕ) → starts (shape.Word v) ≡ false → (rs : List Lexeme) (b : Statements) → SpelledStatements rs b → (ts : List Lexeme) → NoWord v ts → NoWord v (rs ++ ts)
 statements_other v o rs b nothing ts n = n
-statements_other v o rs b (first_then ls qs s rest eq p k) ts n = subst (λ x. NoWord v (x ++ ts)) (sym eq) (other_behind v o (ls ++ qs) ts (starts_behind ls qs (begins ls s p)))
+statements_other v o rs b (first_then ls qs s rest eq p k) ts n = subst (λ x. NoWord v (x ++ ts)) (sym eq) (other_after v o (ls ++ qs) ts (starts_after ls qs (begins ls s p)))
 
 mutual
   pub complete_statement : (ks : List Lexeme) (s : Statement) → SpelledStatement ks s → (ts : List Lexeme) → NoWord (codes "else") ts → statement_by statements_at (ks ++ ts) ≡ Done s ts
@@ -259,5 +259,5 @@ mutual
   pub complete_statements : (ks : List Lexeme) (b : Statements) → SpelledStatements ks b → (ts : List Lexeme) → NoWord (codes "else") ts → starts_at ts ≡ false → statements_at (ks ++ ts) ≡ Done b ts
   complete_statements ks b nothing ts n h = statements_stay ts h
   complete_statements ks b (first_then ls rs s rest eq p k) ts n h =
-      rw (eq, append_assoc) (statements_go (ls ++ (rs ++ ts)) (rs ++ ts) ts s rest (starts_behind ls (rs ++ ts) (begins ls s p))
+      rw (eq, append_assoc) (statements_go (ls ++ (rs ++ ts)) (rs ++ ts) ts s rest (starts_after ls (rs ++ ts) (begins ls s p))
       (complete_statement ls s p (rs ++ ts) (statements_other (codes "else") refl rs rest k ts n)) (complete_statements rs rest k ts n h))

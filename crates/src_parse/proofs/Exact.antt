@@ -44,9 +44,9 @@ head-cons [] l e = cc
 head-cons (x ∷ c) l e = (c, cc)
 
 -- the first of two lists is that of the first list, or else of the second
-pub head-behind : (vs c r : List Lexeme) → head c ≡ head r → head (vs ++ c) ≡ head (vs ++ r)
-head-behind [] c r e = e
-head-behind (v ∷ vs) c r e = refl
+pub head-following : (vs c r : List Lexeme) → head c ≡ head r → head (vs ++ c) ≡ head (vs ++ r)
+head-following [] c r e = e
+head-following (v ∷ vs) c r e = refl
 
 -- a reader that answers, or stops, without reading
 pub exact_done_end : {A : Type 0} (L : List Lexeme → A → Type 0) (P : Reader A) (a : A) → P [] ≡ Done a [] → L [] a → Exact L P []
@@ -120,24 +120,24 @@ pub exact_shift : {A : Type 0} (L M : List Lexeme → A → Type 0) (P Q : Reade
 exact_shift L M P Q l ls e m h = subst (ExactAt L P (l ∷ ls)) (sym (e ls)) (shift_at L M P Q l ls e m (Q ls) h)
 
 -- one reader after another
-bind_behind : {A B : Type 0} (L : List Lexeme → A → Type 0) (M : List Lexeme → B → Type 0) (N : List Lexeme → B → Type 0)
+bind_after : {A B : Type 0} (L : List Lexeme → A → Type 0) (M : List Lexeme → B → Type 0) (N : List Lexeme → B → Type 0)
     (P : Reader A) (Q : A → Reader B) (input : List Lexeme) (a : A) (rest : List Lexeme)
     → Good L P input a rest
     → ((us vs : List Lexeme) (b : B) → L us a → M vs b → N (us ++ vs) b)
     → (y : Reading B) → ExactAt M (Q a) rest y → ExactAt N (λ i. P i |> Q) input y
-bind_behind L M N P Q input a rest g join (Done b rest') h = record {
+bind_after L M N P Q input a rest g join (Done b rest') h = record {
   front = g.front ++ h.front;
   is = g.is ∙ ap (λ r. g.front ++ r) h.is ∙ sym (append_assoc g.front h.front rest');
   spelled = join g.front h.front b g.spelled h.spelled;
-  local = λ c s. rw append_assoc (rw (g.local (h.front ++ c) (head-behind h.front c rest' s ∙ ap head (sym h.is))) (h.local c s));
+  local = λ c s. rw append_assoc (rw (g.local (h.front ++ c) (head-following h.front c rest' s ∙ ap head (sym h.is))) (h.local c s));
 }
-bind_behind L M N P Q input a rest g join (Stuck rest') h = record {
+bind_after L M N P Q input a rest g join (Stuck rest') h = record {
   front = g.front ++ h.front;
   is = g.is ∙ ap (λ r. g.front ++ r) h.is ∙ sym (append_assoc g.front h.front rest');
   more = h.more;
   tree = h.tree;
   spelled = rw append_assoc (join g.front (h.front ++ h.more) h.tree g.spelled h.spelled);
-  local = λ c s. rw append_assoc (rw (g.local (h.front ++ c) (head-behind h.front c rest' s ∙ ap head (sym h.is))) (h.local c s));
+  local = λ c s. rw append_assoc (rw (g.local (h.front ++ c) (head-following h.front c rest' s ∙ ap head (sym h.is))) (h.local c s));
 }
 
 bind_at : {A B : Type 0} (L : List Lexeme → A → Type 0) (M : A → List Lexeme → B → Type 0) (N : List Lexeme → B → Type 0)
@@ -148,7 +148,7 @@ bind_at : {A B : Type 0} (L : List Lexeme → A → Type 0) (M : A → List Lexe
     → ((a : A) (rest : List Lexeme) → P input ≡ Done a rest → Exact (M a) (Q a) rest)
     → ExactAt N (λ i. P i |> Q) input (x |> Q)
 bind_at L M N P Q input join fill (Done a rest) e g q =
-    bind_behind L (M a) N P Q input a rest g (λ us vs b. join us vs a b) (Q a rest) (q a rest e)
+    bind_after L (M a) N P Q input a rest g (λ us vs b. join us vs a b) (Q a rest) (q a rest e)
 bind_at L M N P Q input join fill (Stuck rest) e g q =
     let f = fill (g.front ++ g.more) g.tree g.spelled in
     record {

@@ -149,15 +149,15 @@ abbrev pub Behind : ℕ → ℕ → Expression → List Lexeme → Expression �
 Behind t min left vs e = (us : List Lexeme) → Spelled t us left → Spelled min (us ++ vs) e
 
 -- an operand with nothing after it
-pub behind_nothing : (t min : ℕ) (left : Expression) → min ≤ t → Behind t min left [] left
-behind_nothing t min left le us h = rw append-nil (looser min t us left le h)
+pub after_nothing : (t min : ℕ) (left : Expression) → min ≤ t → Behind t min left [] left
+after_nothing t min left le us h = rw append-nil (looser min t us left le h)
 
 exact_expression_of : (P : Reader Expression) (Q : ℕ → Expression → Reader Expression)
     → ((x : List Lexeme) → Exact (Spelled 8) P x)
     → ((min : ℕ) (left : Expression) (x : List Lexeme) → min ≤ 8 → Exact (Behind 8 min left) (Q min left) x)
     → (min : ℕ) → min ≤ 8 → (ls : List Lexeme) → Exact (Spelled min) (λ r. P r |> Q min) ls
 exact_expression_of P Q p q min le ls =
-    exact_bind (Spelled 8) (Behind 8 min) (Spelled min) P (Q min) ls (λ us vs a b h k. k us h) (λ us a h. ([], a, behind_nothing 8 min a le us h))
+    exact_bind (Spelled 8) (Behind 8 min) (Spelled min) P (Q min) ls (λ us vs a b h k. k us h) (λ us a h. ([], a, after_nothing 8 min a le us h))
     (p ls) (λ a rest _. q min a rest le)
 
 bind_done : {A B : Type 0} (x : Reading A) (f : A → Reader B) (b : B) (r : List Lexeme) → (x |> f) ≡ Done b r
@@ -206,11 +206,11 @@ exact_further : (k min t : ℕ) (left : Expression) → min ≤ t → t ≤ 8 �
     → ((x : List Lexeme) → P (l ∷ x) ≡ further (λ n r. operand_in k r |> operators_in k n) (λ e. operators_in k min e) min left o l x)
     → (ls : List Lexeme) → Exact (Behind t min left) P (l ∷ ls)
 unfolding further
-exact_further k min t left le le8 None l h b whole again P e ls = exact_done (Behind t min left) P left l ls e (behind_nothing t min left le)
+exact_further k min t left le le8 None l h b whole again P e ls = exact_done (Behind t min left) P left l ls e (after_nothing t min left le)
 exact_further k min t left le le8 (Some op) l h b whole again P e ls = go (nat_lt (level_of op) min) refl
   where
     go : (test : Bool) → nat_lt (level_of op) min ≡ test → Exact (Behind t min left) P (l ∷ ls)
-    go true q = exact_done (Behind t min left) P left l ls (λ x. e x ∙ rw q refl) (behind_nothing t min left le)
+    go true q = exact_done (Behind t min left) P left l ls (λ x. e x ∙ rw q refl) (after_nothing t min left le)
     go false q =
         let ge : min ≤ level_of op = ltb-false (level_of op) min q in
         let up : level_of op ≤ t = omega arith in
@@ -240,8 +240,8 @@ mutual
 
   -- operators after an operand
   pub exact_operators_in : (k min t : ℕ) (left : Expression) → min ≤ t → t ≤ 8 → (ls : List Lexeme) → Below (t + 1) ls → Exact (Behind t min left) (operators_in k min left) ls
-  exact_operators_in zero min t left le le8 ls b = exact_never (Behind t min left) (operators_in zero min left) [] left ls (λ x. refl) (behind_nothing t min left le)
-  exact_operators_in (suc k) min t left le le8 [] b = exact_done_end (Behind t min left) (operators_in (suc k) min left) left refl (behind_nothing t min left le)
+  exact_operators_in zero min t left le le8 ls b = exact_never (Behind t min left) (operators_in zero min left) [] left ls (λ x. refl) (after_nothing t min left le)
+  exact_operators_in (suc k) min t left le le8 [] b = exact_done_end (Behind t min left) (operators_in (suc k) min left) left refl (after_nothing t min left le)
   exact_operators_in (suc k) min t left le le8 (l ∷ ls) b =
       exact_further k min t left le le8 (operator_in l.shape) l refl b
       (exact_expression_of (operand_in k) (operators_in k) (exact_operand_in k) (λ min left x le. exact_operators_in k min 8 left le (omega arith) x (below_9 x)))

@@ -28,7 +28,7 @@ parse_never ls r parts e t = let bad : (Reading.Done parts []) ≡ Stuck r = sym
 -- where the reader is stuck, the lexemes are wrong
 pub parse_fault : (ls r : List Lexeme) (finish : Place) → program_at ls ≡ Stuck r → SyntaxAt ls finish (place_of r finish)
 parse_fault ls [] finish e = let h = whole_end Tree program_at ready_program complete_program ls e in at_end h.0 h.1
-parse_fault ls (l ∷ behind) finish e = let h = whole_place Tree program_at ready_program complete_program ls l behind e in here h.front behind l h.is h.begins h.no_more
+parse_fault ls (l ∷ following) finish e = let h = whole_place Tree program_at ready_program complete_program ls l following e in here h.front following l h.is h.begins h.no_more
 
 -- a text has at most one tree
 pub one_tree : (ls : List Lexeme) (a b : List Part) → Tree ls a → Tree ls b → a ≡ b
@@ -36,7 +36,7 @@ one_tree = whole_one Tree program_at complete_program
 
 -- a text that has a tree has no place where it is wrong
 pub no_fault_in_a_tree : (ls : List Lexeme) (finish p : Place) (all : List Part) → Tree ls all → SyntaxAt ls finish p → ⊥
-no_fault_in_a_tree ls finish p all t (here front behind l e b n) = n (behind, all, subst (λ x. Tree x all) (e ∙ sym (append_assoc front (l ∷ []) behind)) t)
+no_fault_in_a_tree ls finish p all t (here front following l e b n) = n (following, all, subst (λ x. Tree x all) (e ∙ sym (append_assoc front (l ∷ []) following)) t)
 no_fault_in_a_tree ls finish p all t (at_end b n) = n all t
 
 -- where of two fronts each goes on to begin a program, and neither does with one lexeme more, that lexeme is the same
@@ -58,8 +58,8 @@ begins_less : (xs ys : List Lexeme) → Begins (xs ++ ys) → Begins xs
 begins_less xs ys b = (ys ++ b.0, b.1, subst (λ x. Tree x b.1) (append_assoc xs ys b.0) b.2)
 
 -- the front of a text that begins a program begins one
-front_begins : (ls front behind : List Lexeme) (l : Lexeme) → ls ≡ front ++ (l ∷ behind) → Begins ls → Begins (front ++ (l ∷ []))
-front_begins ls front behind l e b = begins_less (front ++ (l ∷ [])) behind (subst Begins (e ∙ sym (append_assoc front (l ∷ []) behind)) b)
+front_begins : (ls front following : List Lexeme) (l : Lexeme) → ls ≡ front ++ (l ∷ following) → Begins ls → Begins (front ++ (l ∷ []))
+front_begins ls front following l e b = begins_less (front ++ (l ∷ [])) following (subst Begins (e ∙ sym (append_assoc front (l ∷ []) following)) b)
 
 -- there is one place where a text is wrong
 pub one_place : (ls : List Lexeme) (finish a b : Place) → SyntaxAt ls finish a → SyntaxAt ls finish b → a ≡ b
@@ -73,17 +73,17 @@ none_left : (a : Part) (y : Reading (List Part)) (all : List Part) (rest : List 
 none_left a (Stuck r) all rest h e = cc
 none_left a (Done b r) all rest h e = let same : r ≡ rest = cc in sym same ∙ h b r refl
 
-none_left_behind : (f : Reader (List Part)) → ((ls : List Lexeme) (b : List Part) (r : List Lexeme) → f ls ≡ Done b r → r ≡ [])
+none_left_after : (f : Reader (List Part)) → ((ls : List Lexeme) (b : List Part) (r : List Lexeme) → f ls ≡ Done b r → r ≡ [])
     → (x : Reading Part) (all : List Part) (rest : List Lexeme) → (x |> λ a r. (f r |> λ b r. Done (a ∷ b) r)) ≡ Done all rest → rest ≡ []
-none_left_behind f h (Stuck r) all rest e = cc
-none_left_behind f h (Done a r) all rest e = none_left a (f r) all rest (h r) e
+none_left_after f h (Stuck r) all rest e = cc
+none_left_after f h (Done a r) all rest e = none_left a (f r) all rest (h r) e
 
 -- the reader of a program leaves no lexeme
 nothing_left : (k : ℕ) (ls : List Lexeme) (all : List Part) (rest : List Lexeme) → items_in k ls ≡ Done all rest → rest ≡ []
 unfolding items_in items_by
 nothing_left zero ls all rest e = cc
 nothing_left (suc k) [] all rest e = cc
-nothing_left (suc k) (l ∷ ls) all rest e = none_left_behind (items_in k) (nothing_left k) (item_at (l ∷ ls)) all rest e
+nothing_left (suc k) (l ∷ ls) all rest e = none_left_after (items_in k) (nothing_left k) (item_at (l ∷ ls)) all rest e
 
 whole_program : (ls : List Lexeme) (all : List Part) (rest : List Lexeme) → program_at ls ≡ Done all rest → program_at ls ≡ Done all []
 unfolding program_at

@@ -124,9 +124,9 @@ abbrev pub Opens : List Lexeme → Type 0
 Opens [] = ⊥
 Opens (l ∷ ls) = is_mark mark.RParen l.shape ≡ false
 
-opens_behind : (ls ts : List Lexeme) → Opens ls → Opens (ls ++ ts)
-opens_behind [] ts h = absurd h
-opens_behind (l ∷ ls) ts h = h
+opens_after : (ls ts : List Lexeme) → Opens ls → Opens (ls ++ ts)
+opens_after [] ts h = absurd h
+opens_after (l ∷ ls) ts h = h
 
 -- an item that is read whole in front of each mark that ends an expression
 pub record Listable {A : Type 0} (L : List Lexeme → A → Type 0) (item : Reader A) : Type 0 where
@@ -145,7 +145,7 @@ opens_expression n ls e (variable l x h) = ap (is_mark mark.RParen) h.word
 opens_expression n ls e (cell l first last js a i eq h f s z) = subst Opens (sym eq) (ap (is_mark mark.RParen) h.word)
 opens_expression n ls e (round first last js eq f s z) = subst Opens (sym eq) (ap (is_mark mark.RParen) f)
 opens_expression n ls e (signed l js s i lt h k) = ap (is_mark mark.RParen) h ∙ opens_sign s
-opens_expression n ls e (binary l js rs op a b lt eq h p q) = subst Opens (sym eq) (opens_behind js (l ∷ rs) (opens_expression _ js a p))
+opens_expression n ls e (binary l js rs op a b lt eq h p q) = subst Opens (sym eq) (opens_after js (l ∷ rs) (opens_expression _ js a p))
 
 -- expressions can be listed
 pub expressions : Listable (Spelled 0) (expression_at 0)
@@ -175,7 +175,7 @@ complete_separated L item g m c n ls all last ts (more d js rs a as' eq s h k) z
 
 opens_list : {A : Type 0} (L : List Lexeme → A → Type 0) (item : Reader A) → Listable L item → (ls : List Lexeme) (all : List A) → Separated L ls all → Opens ls
 opens_list L item g ls all (one js a s) = g.opens ls a s
-opens_list L item g ls all (more d js rs a as' eq s h k) = subst Opens (sym eq) (opens_behind js (d ∷ rs) (g.opens js a s))
+opens_list L item g ls all (more d js rs a as' eq s h k) = subst Opens (sym eq) (opens_after js (d ∷ rs) (g.opens js a s))
 
 list_then_paren : {A : Type 0} (item : Reader A) (x : List Lexeme) (all : List A) (last : Lexeme) (ts : List Lexeme) → Opens x → Is mark.RParen last
     → separated_at item x ≡ Done all (last ∷ ts) → enclosed_at item x ≡ Done all ts
@@ -192,5 +192,5 @@ pub complete_enclosed : {A : Type 0} (L : List Lexeme → A → Type 0) (item : 
     → (ls : List Lexeme) (all : List A) (last : Lexeme) (ts : List Lexeme) → Listed L ls all → Is mark.RParen last → enclosed_at item (ls ++ (last ∷ ts)) ≡ Done all ts
 complete_enclosed L item g ls all last ts none z = enclosed_nothing item last ts z
 complete_enclosed L item g ls all last ts (some js bs s) z =
-    list_then_paren item (ls ++ (last ∷ ts)) all last ts (opens_behind ls (last ∷ ts) (opens_list L item g ls all s)) z
+    list_then_paren item (ls ++ (last ∷ ts)) all last ts (opens_after ls (last ∷ ts) (opens_list L item g ls all s)) z
     (complete_separated L item g mark.RParen paren refl ls all last ts s z)

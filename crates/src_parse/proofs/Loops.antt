@@ -19,7 +19,7 @@ use Rattle.src_parse.specs.Expressions.{named, operators_at, expression_at}
 use Rattle.src_parse.specs.Lists.{comma_or_end, separated_at, some_enclosed, enclosed_at, going_on}
 use Rattle.src_parse.specs.Statements.{block_by, else_by, ended_at, value_at, call_at, named_value, assigned_by, assigned_at, stored_at, named_statement, statement_by, statements_by, statements_at, starts_at, followed, prefixed}
 use Rattle.src_parse.specs.Programs.{line_at, vars_by, vars_at, item_at, items_by, program_at}
-use Rattle.src_parse.specs.Fronts.{has_mark, has_word, NoCall, IsCallee, IsBehind, IsBehindWord}
+use Rattle.src_parse.specs.Fronts.{has_mark, has_word, NoCall, IsCallee, IsAfterMark, IsAfterWord}
 use Rattle.src_parse.proofs.Tokens.{is_mark-true}
 use Rattle.src_parse.proofs.Ready.{Ready, ready_expression}
 use Rattle.src_parse.proofs.Names.{name_in-is, ready_spelled_name}
@@ -59,10 +59,10 @@ before_is : {A : Type 0} (all : List A) (y : Reading (List A)) → (y |> λ more
 before_is all (Done b r) = refl
 before_is all (Stuck r) = refl
 
-list_more : {A : Type 0} (L : List Lexeme → A → Type 0) (item : Reader A) → Ready L item → (all : List A) (ls behind : List Lexeme) (a : A) (r : List Lexeme)
-    → IsBehind mark.Comma ls behind → item behind ≡ Done a r → going_on item all ls ≡ going_on item (all ++ a ∷ []) r
-list_more L item g all ls behind a r b h =
-    ap (going_on item all) b.is ∙ rw b.mark (before_is all (separated_at item behind) ∙ ap (before all) (list_first L item g behind a r h) ∙ going_on_more item all a r)
+list_more : {A : Type 0} (L : List Lexeme → A → Type 0) (item : Reader A) → Ready L item → (all : List A) (ls following : List Lexeme) (a : A) (r : List Lexeme)
+    → IsAfterMark mark.Comma ls following → item following ≡ Done a r → going_on item all ls ≡ going_on item (all ++ a ∷ []) r
+list_more L item g all ls following a r b h =
+    ap (going_on item all) b.is ∙ rw b.mark (before_is all (separated_at item following) ∙ ap (before all) (list_first L item g following a r h) ∙ going_on_more item all a r)
 
 list_end : {A : Type 0} (item : Reader A) (all : List A) (ls : List Lexeme) → has_mark mark.Comma ls ≡ false → going_on item all ls ≡ Done all ls
 list_end item all [] h = refl
@@ -76,10 +76,10 @@ stop_before : {A : Type 0} (all : List A) (y : Reading (List A)) (e : Stop) → 
 stop_before all y Memory h = tt
 stop_before all y (Here x) h = ap (before all) h
 
-list_stop : {A : Type 0} (L : List Lexeme → A → Type 0) (item : Reader A) → Ready L item → (all : List A) (ls behind : List Lexeme) (e : Stop)
-    → IsBehind mark.Comma ls behind → Stops e (item behind) → Stops e (going_on item all ls)
-list_stop L item g all ls behind Memory b h = tt
-list_stop L item g all ls behind (Here x) b h = ap (going_on item all) b.is ∙ rw (b.mark, separated_at_is L item g behind, h) refl
+list_stop : {A : Type 0} (L : List Lexeme → A → Type 0) (item : Reader A) → Ready L item → (all : List A) (ls following : List Lexeme) (e : Stop)
+    → IsAfterMark mark.Comma ls following → Stops e (item following) → Stops e (going_on item all ls)
+list_stop L item g all ls following Memory b h = tt
+list_stop L item g all ls following (Here x) b h = ap (going_on item all) b.is ∙ rw (b.mark, separated_at_is L item g following, h) refl
 
 -- expressions with commas
 pub expressions_first : (ls : List Lexeme) (e : Expr) (r : List Lexeme) → expression_at 0 ls ≡ Done (view.expression e) r
@@ -87,11 +87,11 @@ pub expressions_first : (ls : List Lexeme) (e : Expr) (r : List Lexeme) → expr
 expressions_first ls e r h = list_first (Spelled 0) (expression_at 0) ready_expression ls (view.expression e) r h
 
 -- one more expression of a list
-pub expressions_more : (all : List Expr) (ls behind : List Lexeme) (e : Expr) (r : List Lexeme)
-    → IsBehind mark.Comma ls behind → expression_at 0 behind ≡ Done (view.expression e) r
+pub expressions_more : (all : List Expr) (ls following : List Lexeme) (e : Expr) (r : List Lexeme)
+    → IsAfterMark mark.Comma ls following → expression_at 0 following ≡ Done (view.expression e) r
     → going_on (expression_at 0) (map view.expression all) ls ≡ going_on (expression_at 0) (map view.expression (all ++ e ∷ [])) r
-expressions_more all ls behind e r b h =
-    list_more (Spelled 0) (expression_at 0) ready_expression (map view.expression all) ls behind (view.expression e) r b h
+expressions_more all ls following e r b h =
+    list_more (Spelled 0) (expression_at 0) ready_expression (map view.expression all) ls following (view.expression e) r b h
     ∙ ap (λ x. going_on (expression_at 0) x r) (sym (map-append view.expression all (e ∷ [])))
 
 -- a list ends where no comma stands
@@ -99,8 +99,8 @@ pub expressions_end : (all : List Expression) (ls : List Lexeme) → has_mark ma
 expressions_end = list_end (expression_at 0)
 
 -- a list stops after a comma
-pub expressions_stop : (all : List Expression) (ls behind : List Lexeme) (e : Stop)
-    → IsBehind mark.Comma ls behind → Stops e (expression_at 0 behind) → Stops e (going_on (expression_at 0) all ls)
+pub expressions_stop : (all : List Expression) (ls following : List Lexeme) (e : Stop)
+    → IsAfterMark mark.Comma ls following → Stops e (expression_at 0 following) → Stops e (going_on (expression_at 0) all ls)
 expressions_stop = list_stop (Spelled 0) (expression_at 0) ready_expression
 
 -- a list stops at its first expression
@@ -112,8 +112,8 @@ pub names_first : (all : List Name) (ls : List Lexeme) (x : Name) (r : List Lexe
 names_first all ls x r h = ap (before all) (list_first SpelledName name_at ready_spelled_name ls x r h) ∙ going_on_more name_at all x r
 
 -- one more name of a list
-pub names_more : (all : List Name) (ls behind : List Lexeme) (x : Name) (r : List Lexeme)
-    → IsBehind mark.Comma ls behind → name_at behind ≡ Done x r → going_on name_at all ls ≡ going_on name_at (all ++ x ∷ []) r
+pub names_more : (all : List Name) (ls following : List Lexeme) (x : Name) (r : List Lexeme)
+    → IsAfterMark mark.Comma ls following → name_at following ≡ Done x r → going_on name_at all ls ≡ going_on name_at (all ++ x ∷ []) r
 names_more = list_more SpelledName name_at ready_spelled_name
 
 -- a list ends where no comma stands
@@ -121,7 +121,7 @@ pub names_end : (all : List Name) (ls : List Lexeme) → has_mark mark.Comma ls 
 names_end = list_end name_at
 
 -- a list stops after a comma
-pub names_stop : (all : List Name) (ls behind : List Lexeme) (e : Stop) → IsBehind mark.Comma ls behind → Stops e (name_at behind) → Stops e (going_on name_at all ls)
+pub names_stop : (all : List Name) (ls following : List Lexeme) (e : Stop) → IsAfterMark mark.Comma ls following → Stops e (name_at following) → Stops e (going_on name_at all ls)
 names_stop = list_stop SpelledName name_at ready_spelled_name
 
 -- a list stops at its first name
@@ -129,7 +129,7 @@ pub names_stop_first : (all : List Name) (ls : List Lexeme) (e : Stop) → Stops
 names_stop_first all ls e h = stop_before all (separated_at name_at ls) e (stop_first SpelledName name_at ready_spelled_name ls e h)
 
 -- parentheses
-pub arguments_none : (all : List Expr) (ls r : List Lexeme) → IsBehind mark.RParen ls r → all ≡ [] → enclosed_at (expression_at 0) ls ≡ Done (map view.expression all) r
+pub arguments_none : (all : List Expr) (ls r : List Lexeme) → IsAfterMark mark.RParen ls r → all ≡ [] → enclosed_at (expression_at 0) ls ≡ Done (map view.expression all) r
 unfolding enclosed_at
 arguments_none all ls r b e = ap (enclosed_at (expression_at 0)) b.is ∙ rw (b.mark, e) refl
 
@@ -140,7 +140,7 @@ arguments_some [] h = refl
 arguments_some (l ∷ ls) h = rw h refl
 
 -- no parameters
-pub parameters_none : (all : List Name) (ls r : List Lexeme) → IsBehind mark.RParen ls r → all ≡ [] → enclosed_at name_at ls ≡ Done all r
+pub parameters_none : (all : List Name) (ls r : List Lexeme) → IsAfterMark mark.RParen ls r → all ≡ [] → enclosed_at name_at ls ≡ Done all r
 unfolding enclosed_at
 parameters_none all ls r b e = ap (enclosed_at name_at) b.is ∙ rw (b.mark, e) refl
 
@@ -191,17 +191,17 @@ assigned_plain f g (l ∷ x) h = go (name_in l.shape l) refl
     go (Some y) q = let n = name_in-is l.shape l y refl q in ap (λ o. assigned_by f g o l x) q ∙ value_plain f (g y) l y x n (h y n)
 
 -- a name and `=`
-pub named_assigns : (x : Name) (ls r : List Lexeme) → IsBehind mark.Assign ls r → named_statement x ls ≡ assigned_at (Assign x.place x) (Call x.place (Some x)) r
+pub named_assigns : (x : Name) (ls r : List Lexeme) → IsAfterMark mark.Assign ls r → named_statement x ls ≡ assigned_at (Assign x.place x) (Call x.place (Some x)) r
 unfolding named_statement
 named_assigns x ls r b = ap (named_statement x) b.is ∙ rw b.mark refl
 
 -- a name and `[`
-pub named_stores : (x : Name) (ls r : List Lexeme) → IsBehind mark.LSquare ls r → has_mark mark.Assign ls ≡ false → named_statement x ls ≡ stored_at x r
+pub named_stores : (x : Name) (ls r : List Lexeme) → IsAfterMark mark.LSquare ls r → has_mark mark.Assign ls ≡ false → named_statement x ls ≡ stored_at x r
 unfolding named_statement
 named_stores x ls r b n = let n' : is_mark mark.Assign b.lexeme.shape ≡ false = sym (ap (has_mark mark.Assign) b.is) ∙ n in ap (named_statement x) b.is ∙ rw (n', b.mark) refl
 
 -- a name and `(`
-pub named_calls : (x : Name) (ls r : List Lexeme) → IsBehind mark.LParen ls r → has_mark mark.Assign ls ≡ false → has_mark mark.LSquare ls ≡ false → named_statement x ls ≡ call_at (Call x.place None x) r
+pub named_calls : (x : Name) (ls r : List Lexeme) → IsAfterMark mark.LParen ls r → has_mark mark.Assign ls ≡ false → has_mark mark.LSquare ls ≡ false → named_statement x ls ≡ call_at (Call x.place None x) r
 unfolding named_statement
 named_calls x ls r b n o =
     let n' : is_mark mark.Assign b.lexeme.shape ≡ false = sym (ap (has_mark mark.Assign) b.is) ∙ n in
@@ -250,10 +250,10 @@ statements_stop a [] (Here x) h s = cc
 statements_stop a (l ∷ ls) (Here x) h s = ap (prefixed (view.statements a)) (statements_at_is (l ∷ ls)) ∙ rw (sym h, s) refl
 
 -- variables that were read, in front of what is left
-pub vars_step : (a b : List Name) (ls behind r : List Lexeme) → IsBehindWord (codes "var") ls behind → before a (line_at behind) ≡ Done b r → before a (vars_at ls) ≡ before b (vars_at r)
+pub vars_step : (a b : List Name) (ls following r : List Lexeme) → IsAfterWord (codes "var") ls following → before a (line_at following) ≡ Done b r → before a (vars_at ls) ≡ before b (vars_at r)
 unfolding vars_by
-vars_step a b ls behind r w e =
-    ap (before a) (ap vars_at w.is ∙ vars_at_is (w.lexeme ∷ behind)) ∙ rw w.word (go (line_at behind) e)
+vars_step a b ls following r w e =
+    ap (before a) (ap vars_at w.is ∙ vars_at_is (w.lexeme ∷ following)) ∙ rw w.word (go (line_at following) e)
   where
     deep : (xs : List Name) (y : Reading (List Name)) → before a (y |> λ ys r. Done (xs ++ ys) r) ≡ before (a ++ xs) y
     deep xs (Done ys q) = ap (λ z. Done z q) (sym (append_assoc a xs ys))
@@ -273,10 +273,10 @@ vars_end a [] h = ap (before a) (vars_at_is []) ∙ ap (λ x. Done x []) (append
 vars_end a (l ∷ ls) h = ap (before a) (vars_at_is (l ∷ ls)) ∙ rw h (ap (λ x. Done x (l ∷ ls)) (append-nil a))
 
 -- a line of variables stops
-pub vars_stop : (a : List Name) (ls behind : List Lexeme) (e : Stop) → IsBehindWord (codes "var") ls behind → Stops e (before a (line_at behind)) → Stops e (before a (vars_at ls))
+pub vars_stop : (a : List Name) (ls following : List Lexeme) (e : Stop) → IsAfterWord (codes "var") ls following → Stops e (before a (line_at following)) → Stops e (before a (vars_at ls))
 unfolding vars_by
-vars_stop a ls behind Memory w h = tt
-vars_stop a ls behind (Here x) w h = ap (before a) (ap vars_at w.is ∙ vars_at_is (w.lexeme ∷ behind)) ∙ rw w.word (go (line_at behind) h)
+vars_stop a ls following Memory w h = tt
+vars_stop a ls following (Here x) w h = ap (before a) (ap vars_at w.is ∙ vars_at_is (w.lexeme ∷ following)) ∙ rw w.word (go (line_at following) h)
   where
     go : (y : Reading (List Name)) → before a y ≡ Stuck x.now → before a (y |> λ xs r. (vars_at r |> λ ys r. Done (xs ++ ys) r)) ≡ Stuck x.now
     go (Done xs q) h = cc
@@ -308,7 +308,7 @@ items_stop a [] (Here x) h s = absurd (omega arith)
 items_stop a (l ∷ ls) (Here x) h s = ap (before (view.parts a)) (program_at_is (l ∷ ls) ∙ ap (λ y. y |> λ a r. (program_at r |> λ all r. Done (a ∷ all) r)) s)
 
 -- after an `if`
-pub else_goes : (body : Reader Statements) (ls r : List Lexeme) → IsBehindWord (codes "else") ls r → else_by body ls ≡ block_by body r
+pub else_goes : (body : Reader Statements) (ls r : List Lexeme) → IsAfterWord (codes "else") ls r → else_by body ls ≡ block_by body r
 unfolding else_by
 else_goes body ls r b = ap (else_by body) b.is ∙ rw b.word refl
 

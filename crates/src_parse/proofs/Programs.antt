@@ -34,9 +34,9 @@ ready_line =
     (λ us xs h. ready_next (Alone mark.Semi) (λ vs b. Line (us ++ vs) b) (expect mark.Semi) (λ _ r. Done xs r) (ready_token mark.Semi)
     (λ vs u k. ready_done (λ ws b. Line (us ++ (vs ++ ws)) b) xs (record { inside = us; last = k.lexeme; is = ap (λ v. us ++ (v ++ [])) k.one; spelled = h; closing = k.mark })))
 
-ready_vars_behind : (rest : Reader (List Name)) → Ready SpelledVars rest → (l : Lexeme) → IsWord (codes "var") l
+ready_vars_after : (rest : Reader (List Name)) → Ready SpelledVars rest → (l : Lexeme) → IsWord (codes "var") l
     → Ready (λ ws zs. SpelledVars (l ∷ ws) zs) (λ x. line_at x |> λ xs r. (rest r |> λ ys r. Done (xs ++ ys) r))
-ready_vars_behind rest g l h =
+ready_vars_after rest g l h =
     ready_next Line (λ ws zs. SpelledVars (l ∷ ws) zs) line_at (λ xs r. (rest r |> λ ys r. Done (xs ++ ys) r)) ready_line
     (λ us xs t. ready_next SpelledVars (λ ws zs. SpelledVars (l ∷ (us ++ ws)) zs) rest (λ ys r. Done (xs ++ ys) r) g
     (λ vs ys k. ready_done (λ ws zs. SpelledVars (l ∷ (us ++ (vs ++ ws))) zs) (xs ++ ys)
@@ -53,7 +53,7 @@ ready_vars_by rest g = record { phrase = []; tree = []; spelled = no_vars; exact
         go : (t : Bool) → is_word (codes "var") l.shape ≡ t → Exact SpelledVars (vars_by rest) (l ∷ ls)
         go true e =
             exact_shift SpelledVars (λ ws zs. SpelledVars (l ∷ ws) zs) (vars_by rest) (λ x. line_at x |> λ xs r. (rest r |> λ ys r. Done (xs ++ ys) r)) l ls (λ x. rw e refl) (λ ws b k. k)
-            ((ready_vars_behind rest g l (word-is (codes "var") l.shape e)).exact ls)
+            ((ready_vars_after rest g l (word-is (codes "var") l.shape e)).exact ls)
         go false e = exact_done SpelledVars (vars_by rest) [] l ls (λ x. rw e refl) no_vars
 
 ready_vars_in : (k : ℕ) → Ready SpelledVars (vars_in k)

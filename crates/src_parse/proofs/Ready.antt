@@ -9,7 +9,7 @@ use Rattle.src_ast.specs.Syntax.{Number}
 use Rattle.src_ast.specs.Grammar.{Spelled, number}
 use Rattle.src_parse.specs.Expressions.{expression_in, expression_at}
 use Rattle.src_parse.specs.Reading.{Reading, Reader, Done, Stuck, ◌|>◌, expect}
-use Rattle.src_parse.proofs.Exact.{Exact, ExactAt, Good, head, head-nil, head-cons, head-behind, exact_always}
+use Rattle.src_parse.proofs.Exact.{Exact, ExactAt, Good, head, head-nil, head-cons, head-following, exact_always}
 use Rattle.src_parse.proofs.Tokens.{Alone, exact_expect, lexeme_with}
 use Rattle.src_parse.proofs.Expressions.{exact_expression}
 use Rattle.src_parse.proofs.Steady.{Alike, alike_expression_at}
@@ -22,29 +22,29 @@ pub record Ready {A : Type 0} (L : List Lexeme → A → Type 0) (P : Reader A) 
   pub exact : (x : List Lexeme) → Exact L P x
 
 -- one reader after another, where what is spelled after a phrase is what makes the whole
-next_behind : {A B : Type 0} (L : List Lexeme → A → Type 0) (N : List Lexeme → B → Type 0)
+next_after : {A B : Type 0} (L : List Lexeme → A → Type 0) (N : List Lexeme → B → Type 0)
     (P : Reader A) (Q : A → Reader B) (input : List Lexeme) (a : A) (rest : List Lexeme)
     → (g : Good L P input a rest)
     → (y : Reading B) → ExactAt (λ vs b. N (g.front ++ vs) b) (Q a) rest y → ExactAt N (λ i. P i |> Q) input y
-next_behind L N P Q input a rest g (Done b rest') h = record {
+next_after L N P Q input a rest g (Done b rest') h = record {
   front = g.front ++ h.front;
   is = g.is ∙ ap (λ r. g.front ++ r) h.is ∙ sym (append_assoc g.front h.front rest');
   spelled = h.spelled;
-  local = λ c s. rw append_assoc (rw (g.local (h.front ++ c) (head-behind h.front c rest' s ∙ ap head (sym h.is))) (h.local c s));
+  local = λ c s. rw append_assoc (rw (g.local (h.front ++ c) (head-following h.front c rest' s ∙ ap head (sym h.is))) (h.local c s));
 }
-next_behind L N P Q input a rest g (Stuck rest') h = record {
+next_after L N P Q input a rest g (Stuck rest') h = record {
   front = g.front ++ h.front;
   is = g.is ∙ ap (λ r. g.front ++ r) h.is ∙ sym (append_assoc g.front h.front rest');
   more = h.more;
   tree = h.tree;
   spelled = rw append_assoc h.spelled;
-  local = λ c s. rw append_assoc (rw (g.local (h.front ++ c) (head-behind h.front c rest' s ∙ ap head (sym h.is))) (h.local c s));
+  local = λ c s. rw append_assoc (rw (g.local (h.front ++ c) (head-following h.front c rest' s ∙ ap head (sym h.is))) (h.local c s));
 }
 
 next_at : {A B : Type 0} (L : List Lexeme → A → Type 0) (N : List Lexeme → B → Type 0) (P : Reader A) (Q : A → Reader B) (input : List Lexeme)
     → ((us : List Lexeme) (a : A) → L us a → Ready (λ vs b. N (us ++ vs) b) (Q a))
     → (x : Reading A) → ExactAt L P input x → P input ≡ x → ExactAt N (λ i. P i |> Q) input (x |> Q)
-next_at L N P Q input q (Done a rest) g e = next_behind L N P Q input a rest g (Q a rest) ((q g.front a g.spelled).exact rest)
+next_at L N P Q input q (Done a rest) g e = next_after L N P Q input a rest g (Q a rest) ((q g.front a g.spelled).exact rest)
 next_at L N P Q input q (Stuck rest) g e =
     let f = q (g.front ++ g.more) g.tree g.spelled in
     record {
@@ -83,7 +83,7 @@ same_head_at L P Q input e (Done a rest) g = record {
   front = g.front;
   is = g.is;
   spelled = g.spelled;
-  local = λ c s. e (g.front ++ c) (head-behind g.front c rest s ∙ ap head (sym g.is)) ∙ g.local c s;
+  local = λ c s. e (g.front ++ c) (head-following g.front c rest s ∙ ap head (sym g.is)) ∙ g.local c s;
 }
 same_head_at L P Q input e (Stuck rest) g = record {
   front = g.front;
@@ -91,7 +91,7 @@ same_head_at L P Q input e (Stuck rest) g = record {
   more = g.more;
   tree = g.tree;
   spelled = g.spelled;
-  local = λ c s. e (g.front ++ c) (head-behind g.front c rest s ∙ ap head (sym g.is)) ∙ g.local c s;
+  local = λ c s. e (g.front ++ c) (head-following g.front c rest s ∙ ap head (sym g.is)) ∙ g.local c s;
 }
 
 pub exact_same_head : {A : Type 0} (L : List Lexeme → A → Type 0) (P Q : Reader A) (input : List Lexeme) → ((x : List Lexeme) → head x ≡ head input → P x ≡ Q x)

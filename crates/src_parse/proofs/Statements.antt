@@ -19,7 +19,7 @@ use Rattle.src_parse.specs.Statements.{ended_at, value_at, call_at, named_value,
 use Rattle.src_parse.proofs.Exact.{Exact, ExactAt, exact_done_end, exact_stuck_end, exact_done, exact_stuck, exact_shift, exact_never, exact_bind}
 use Rattle.src_parse.proofs.Tokens.{Alone, exact_expect, lexeme_with, is_mark-true}
 use Rattle.src_parse.proofs.Keywords.{keyword_of-is, keyword_free}
-use Rattle.src_parse.proofs.Expressions.{Behind, behind_nothing, exact_named, exact_operators_in, below_9}
+use Rattle.src_parse.proofs.Expressions.{Behind, after_nothing, exact_named, exact_operators_in, below_9}
 use Rattle.src_parse.proofs.Steady.{Alike, shrinks, bind_alike, alike_operators_at}
 use Rattle.src_parse.proofs.Ready.{Ready, ready_next, ready_done, ready_token, ready_expression, exact_unbounded, alike_unbounded, exact_as_end, exact_as_cons}
 use Rattle.src_parse.proofs.Names.{OneName, ready_name, OneCount, ready_count, name_in-is, word-is}
@@ -76,7 +76,7 @@ ready_rest p y h =
       tree = Variable y;
       spelled = variable p y h;
       exact = λ x. exact_bind (λ ws e. Spelled 8 (p ∷ ws) e) (Behind 8 0) (λ ws e. Spelled 0 (p ∷ ws) e) (named (expression_at 0) y) (operators_at 0) x
-          (λ us vs a b h k. k (p ∷ us) h) (λ us a h. ([], a, behind_nothing 8 0 a (omega arith) (p ∷ us) h)) (first x)
+          (λ us vs a b h k. k (p ∷ us) h) (λ us a h. ([], a, after_nothing 8 0 a (omega arith) (p ∷ us) h)) (first x)
           (λ a rest _. exact_unbounded (Behind 8 0 a) (λ k. operators_in k 0 a) (operators_at 0 a) (λ k x. exact_operators_in k 0 8 a (omega arith) (omega arith) x (below_9 x)) (λ k. alike_operators_at k 0 a) rest);
     }
 

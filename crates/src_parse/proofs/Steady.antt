@@ -155,9 +155,9 @@ operators_at_is min left x =
     (shrinks_whole (length x)) (alike_whole (length x)) (alike_operators_at (length x) min) min left x (omega arith)
 
 -- for the code: what a reader does at these lexemes
-pub operand_behind : (ls : List Lexeme) (l : Lexeme) (r : List Lexeme) → ls ≡ l ∷ r → operand_at ls ≡ operand_shape operand_at (expression_at 0) l.shape l r
+pub operand_after : (ls : List Lexeme) (l : Lexeme) (r : List Lexeme) → ls ≡ l ∷ r → operand_at ls ≡ operand_shape operand_at (expression_at 0) l.shape l r
 unfolding operand
-operand_behind ls l r e = operand_at_is ls ∙ ap (operand operand_at (expression_at 0)) e
+operand_after ls l r e = operand_at_is ls ∙ ap (operand operand_at (expression_at 0)) e
 
 -- no operand stands at the end
 pub operand_at_end : (ls : List Lexeme) → length ls ≡ 0 → operand_at ls ≡ Stuck ls
@@ -166,12 +166,12 @@ operand_at_end [] e = operand_at_is []
 operand_at_end (l ∷ ls) e = absurd (omega arith)
 
 -- operators stop at a right operand
-pub operators_stop : (min : ℕ) (left : Expression) (ls : List Lexeme) (op : Alu) (l : Lexeme) (behind : List Lexeme) (n : ℕ) (e : Stop)
-    → ls ≡ l ∷ behind → operator_at ls ≡ Some op → min ≤ n → n ≡ level_of op → Stops e (expression_at (n + 1) behind) → Stops e (operators_at min left ls)
+pub operators_stop : (min : ℕ) (left : Expression) (ls : List Lexeme) (op : Alu) (l : Lexeme) (following : List Lexeme) (n : ℕ) (e : Stop)
+    → ls ≡ l ∷ following → operator_at ls ≡ Some op → min ≤ n → n ≡ level_of op → Stops e (expression_at (n + 1) following) → Stops e (operators_at min left ls)
 unfolding operators further
-operators_stop min left ls op l behind n Memory p o le eq s = tt
-operators_stop min left ls op l behind n (Here x) p o le eq s =
+operators_stop min left ls op l following n Memory p o le eq s = tt
+operators_stop min left ls op l following n (Here x) p o le eq s =
     let o' : operator_in l.shape ≡ Some op = sym (ap operator_at p) ∙ o in
     let up : min ≤ level_of op = omega arith in
-    let s' : expression_at (level_of op + 1) behind ≡ Stuck x.now = subst (λ m. expression_at (m + 1) behind ≡ Stuck x.now) eq s in
+    let s' : expression_at (level_of op + 1) following ≡ Stuck x.now = subst (λ m. expression_at (m + 1) following ≡ Stuck x.now) eq s in
     operators_at_is min left ls ∙ ap (operators expression_at (operators_at min) min left) p ∙ rw (o', le-ltb (level_of op) min up, s') refl

@@ -11,9 +11,9 @@ abbrev pub Begins : {A : Type 0} → (List Lexeme → A → Type 0) → List Lex
 Begins {A} L ls = (more : List Lexeme) × (a : A) × L (ls ++ more) a
 
 -- the first lexeme that no phrase continues
-pub record Stops_at {A : Type 0} (L : List Lexeme → A → Type 0) (input : List Lexeme) (l : Lexeme) (behind : List Lexeme) : Type 0 where
+pub record Stops_at {A : Type 0} (L : List Lexeme → A → Type 0) (input : List Lexeme) (l : Lexeme) (following : List Lexeme) : Type 0 where
   pub front : List Lexeme
-  pub is : input ≡ front ++ (l ∷ behind)
+  pub is : input ≡ front ++ (l ∷ following)
   pub begins : Begins L front
   pub no_more : Begins L (front ++ (l ∷ [])) → ⊥
 
@@ -25,8 +25,8 @@ whole_found L P g input a e =
 
 -- where a reader is stuck, no phrase goes on
 pub whole_place : {A : Type 0} (L : List Lexeme → A → Type 0) (P : Reader A) → Ready L P → ((ws : List Lexeme) (a : A) → L ws a → P ws ≡ Done a [])
-    → (input : List Lexeme) (l : Lexeme) (behind : List Lexeme) → P input ≡ Stuck (l ∷ behind) → Stops_at L input l behind
-whole_place {A} L P g complete input l behind e =
+    → (input : List Lexeme) (l : Lexeme) (following : List Lexeme) → P input ≡ Stuck (l ∷ following) → Stops_at L input l following
+whole_place {A} L P g complete input l following e =
     let h = subst (ExactAt L P input) e (g.exact input) in
     record {
       front = h.front;

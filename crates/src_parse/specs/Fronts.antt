@@ -16,13 +16,13 @@ has_word w [] = false
 has_word w (l ∷ ls) = is_word w l.shape
 
 -- the rest stands after this mark
-pub record IsBehind (m : Mark) (ls rest : List Lexeme) : Type 0 where
+pub record IsAfterMark (m : Mark) (ls rest : List Lexeme) : Type 0 where
   pub lexeme : Lexeme
   pub is : ls ≡ lexeme ∷ rest
   pub mark : is_mark m lexeme.shape ≡ true
 
 -- the rest stands after this word
-pub record IsBehindWord (w : List ℕ) (ls rest : List Lexeme) : Type 0 where
+pub record IsAfterWord (w : List ℕ) (ls rest : List Lexeme) : Type 0 where
   pub lexeme : Lexeme
   pub is : ls ≡ lexeme ∷ rest
   pub word : is_word w lexeme.shape ≡ true

@@ -69,12 +69,12 @@ pub fn expression<'a>(
     ensures shorter { IfOk result (λ x. length x.1.now < length lexemes.now) }
 {
     let (mut left, mut rest) = operand(alloc, lexemes)?;
-    while let Some((op, behind)) = operator(rest) {
+    while let Some((op, following)) = operator(rest) {
         let tightness = level(op);
         if tightness < min {
             break;
         }
-        let (right, next) = expression(alloc, behind, tightness + 1)?;
+        let (right, next) = expression(alloc, following, tightness + 1)?;
         left = Expr::Binary(op, Box::new(alloc, left)?, Box::new(alloc, right)?);
         rest = next;
     }
@@ -83,7 +83,7 @@ pub fn expression<'a>(
 
 /// An operand with the signs in front of it.
 #[cycle(expressions)]
-#[tactic(auto, using(crate::proofs::Steady::operand_behind, crate::proofs::Steady::operand_at_end))]
+#[tactic(auto, using(crate::proofs::Steady::operand_after, crate::proofs::Steady::operand_at_end))]
 fn operand<'a>(alloc: Global, lexemes: &'a [Lexeme]) -> Result<(Expr, &'a [Lexeme]), Stop<'a>>
     ensures read { Gives (λ x. (view.expression x.0, x.1.now)) result (operand_at lexemes.now) }
     ensures shorter { IfOk result (λ x. length x.1.now < length lexemes.now) }

@@ -9,7 +9,7 @@ ghost use Rattle.src_parse.specs.Lists.{separated_at, enclosed_at};
 
 use crate::expression::expression;
 use crate::stop::Stop;
-use crate::token::{behind, expect, name};
+use crate::token::{after_mark, expect, name};
 use src_ast::{Exprs, Lexeme, Mark, Names};
 use std::alloc::Global;
 
@@ -23,7 +23,7 @@ fn expressions<'a>(alloc: Global, lexemes: &'a [Lexeme]) -> Result<(Exprs, &'a [
     let mut all = Vec::new(alloc);
     let (first, mut rest) = expression(alloc, lexemes, 0)?;
     all.push(first)?;
-    'items: while let Some(tail) = behind(rest, Mark::Comma) {
+    'items: while let Some(tail) = after_mark(rest, Mark::Comma) {
         let (next, after) = expression(alloc, tail, 0)?;
         all.push(next)?;
         rest = after;
@@ -41,7 +41,7 @@ pub fn arguments<'a>(
         (enclosed_at (expression_at 0) lexemes.now) }
     ensures shorter { IfOk result (λ x. length x.1.now < length lexemes.now) }
 {
-    if let Some(rest) = behind(lexemes, Mark::RParen) {
+    if let Some(rest) = after_mark(lexemes, Mark::RParen) {
         return Ok((Vec::new(alloc), rest));
     }
     let (all, rest) = expressions(alloc, lexemes)?;
@@ -62,7 +62,7 @@ pub fn names<'a>(
 {
     let (first, mut rest) = name(alloc, lexemes)?;
     all.push(first)?;
-    'items: while let Some(tail) = behind(rest, Mark::Comma) {
+    'items: while let Some(tail) = after_mark(rest, Mark::Comma) {
         let (next, after) = name(alloc, tail)?;
         all.push(next)?;
         rest = after;
@@ -79,7 +79,7 @@ pub fn parameters<'a>(
     ensures read { Gives (λ x. (x.0.items, x.1.now)) result (enclosed_at name_at lexemes.now) }
     ensures shorter { IfOk result (λ x. length x.1.now < length lexemes.now) }
 {
-    if let Some(rest) = behind(lexemes, Mark::RParen) {
+    if let Some(rest) = after_mark(lexemes, Mark::RParen) {
         return Ok((Vec::new(alloc), rest));
     }
     let (all, rest) = names(alloc, Vec::new(alloc), lexemes)?;

@@ -11,7 +11,7 @@ use crate::list::{names, parameters};
 use crate::simple::ended;
 use crate::statement::statements;
 use crate::stop::Stop;
-use crate::token::{behind_word, count, expect, is_word, name};
+use crate::token::{after_word, count, expect, is_word, name};
 use src_ast::{Ending, Item, Lexeme, Mark, Name, Names};
 use std::alloc::Global;
 
@@ -60,7 +60,7 @@ fn variables<'a>(alloc: Global, lexemes: &'a [Lexeme]) -> Result<(Names, &'a [Le
 {
     let mut all = Vec::new(alloc);
     let mut rest = lexemes;
-    'lines: while let Some(tail) = behind_word(rest, Keyword::Var) {
+    'lines: while let Some(tail) = after_word(rest, Keyword::Var) {
         let (more, after) = line(alloc, all, tail)?;
         all = more;
         rest = after;

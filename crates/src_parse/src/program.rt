@@ -6,7 +6,7 @@ ghost use Rattle.src_ast.specs.declared.lexeme.Place.{Place};
 ghost use Rattle.src_ast.specs.View as view;
 ghost use Rattle.src_ast.specs.Syntax.{Part};
 ghost use Rattle.src_ast.specs.Grammar.{Tree};
-ghost use Rattle.src_ast.specs.Faults.{IsSyntaxFault, SyntaxAt, Answers, IsTreeAnswer};
+ghost use Rattle.src_ast.specs.Faults.{IsSyntaxFault, SyntaxAt, AnswersTree, IsTreeAnswer};
 ghost use Rattle.src_ast.specs.Once.{ExactlyOne};
 ghost use Rattle.src_parse.specs.Gives.{Gives};
 ghost use Rattle.src_parse.specs.Programs.{item_at, program_at, place_of};
@@ -44,9 +44,9 @@ fn items<'a>(alloc: Global, lexemes: &'a [Lexeme]) -> Result<Items, Stop<'a>>
     let mut all = Vec::new(alloc);
     let mut rest = lexemes;
     'items: while !rest.is_empty() {
-        let (next, behind) = item(alloc, rest)?;
+        let (next, following) = item(alloc, rest)?;
         all.push(next)?;
-        rest = behind;
+        rest = following;
     }
     Ok(all)
 }
@@ -73,7 +73,7 @@ pub fn parse(alloc: Global, lexemes: &Lexemes) -> Result<Program, TextFault>
     ensures finish { IfOk result (λ p. p.finish ≡ lexemes.now.finish) }
     // What is spelled so is answered, unless memory runs out.
     ensures only { (all : List Part) → Tree lexemes.now.items.items all
-        → Answers (λ p. view.parts p.items.items) result all }
+        → AnswersTree (λ p. view.parts p.items.items) result all }
     // A refusal is at the first lexeme that no program continues, or at the text's end where only a
     // rest is missing.
     ensures refused { IfErr result

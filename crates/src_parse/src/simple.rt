@@ -11,7 +11,7 @@ use crate::expression::expression;
 use crate::keyword::is_reserved_word;
 use crate::list::arguments;
 use crate::stop::Stop;
-use crate::token::{behind, count, expect, name};
+use crate::token::{after_mark, count, expect, name};
 use src_ast::{Expr, Form, Lexeme, Mark, Name, Place, Shape, Stmt};
 use std::alloc::Global;
 use ws_words::NoMemory;
@@ -96,7 +96,7 @@ pub fn take<'a>(
 
 /// A statement after the name that it begins with.
 #[tactic(auto, using(crate::proofs::Loops::named_assigns, crate::proofs::Loops::named_stores, crate::proofs::Loops::named_calls, crate::proofs::Loops::named_stops))]
-pub fn named_behind<'a>(
+pub fn named_after<'a>(
     alloc: Global,
     name: Name,
     lexemes: &'a [Lexeme],
@@ -105,14 +105,14 @@ pub fn named_behind<'a>(
         (named_statement name lexemes.now) }
     ensures shorter { IfOk result (λ x. length x.1.now ≤ length lexemes.now) }
 {
-    if let Some(rest) = behind(lexemes, Mark::Assign) {
+    if let Some(rest) = after_mark(lexemes, Mark::Assign) {
         return assigned(alloc, name, rest);
     }
     let place = name.place;
-    if let Some(rest) = behind(lexemes, Mark::LSquare) {
+    if let Some(rest) = after_mark(lexemes, Mark::LSquare) {
         return stored(alloc, name, rest);
     }
-    if let Some(rest) = behind(lexemes, Mark::LParen) {
+    if let Some(rest) = after_mark(lexemes, Mark::LParen) {
         return call(alloc, place, None, name, rest);
     }
     Err(Stop::Here(lexemes))
@@ -171,7 +171,7 @@ fn callee(alloc: Global, lexemes: &[Lexeme]) -> Result<Option<(Name, &[Lexeme])>
     if is_reserved_word(word.as_slice()) {
         return Ok(None);
     }
-    let Some(tail) = behind(rest, Mark::LParen) else {
+    let Some(tail) = after_mark(rest, Mark::LParen) else {
         return Ok(None);
     };
     let text = word.copy(alloc)?;

@@ -7,9 +7,9 @@ ghost use Rattle.src_parse.specs.Statements.{test_at, block_by, else_by, if_by, 
 
 use crate::expression::expression;
 use crate::keyword::{Keyword, as_keyword};
-use crate::simple::{give, named_behind, print, read, take};
+use crate::simple::{give, named_after, print, read, take};
 use crate::stop::Stop;
-use crate::token::{behind_word, expect};
+use crate::token::{after_word, expect};
 use src_ast::{Expr, Lexeme, Mark, Name, Place, Shape, Stmt, Stmts, if_stmt, while_stmt};
 use std::alloc::Global;
 
@@ -57,9 +57,9 @@ pub fn statements<'a>(
     let mut all = Vec::new(alloc);
     let mut rest = lexemes;
     'items: while starts_statement(rest) {
-        let (next, behind) = statement(alloc, rest)?;
+        let (next, following) = statement(alloc, rest)?;
         all.push(next)?;
-        rest = behind;
+        rest = following;
     }
     Ok((all, rest))
 }
@@ -86,7 +86,7 @@ fn otherwise<'a>(alloc: Global, lexemes: &'a [Lexeme]) -> Result<(Stmts, &'a [Le
         (else_by statements_at lexemes.now) }
     ensures shorter { IfOk result (λ x. length x.1.now ≤ length lexemes.now) }
 {
-    match behind_word(lexemes, Keyword::Else) {
+    match after_word(lexemes, Keyword::Else) {
         Some(rest) => block(alloc, rest),
         None => Ok((Vec::new(alloc), lexemes)),
     }
@@ -101,7 +101,7 @@ fn statement<'a>(alloc: Global, lexemes: &'a [Lexeme]) -> Result<(Stmt, &'a [Lex
     ensures shorter { IfOk result (λ x. length x.1.now < length lexemes.now) }
 {
     match lexemes.split_first() {
-        Some((first, rest)) => statement_behind(alloc, lexemes, first, rest),
+        Some((first, rest)) => statement_after(alloc, lexemes, first, rest),
         None => Err(Stop::Here(lexemes)),
     }
 }
@@ -109,7 +109,7 @@ fn statement<'a>(alloc: Global, lexemes: &'a [Lexeme]) -> Result<(Stmt, &'a [Lex
 // A statement that begins with this lexeme.
 #[cycle(statements)]
 #[tactic(auto, unfolding(crate::specs::Statements::statement_shape, crate::specs::Statements::statement_word))]
-fn statement_behind<'a>(
+fn statement_after<'a>(
     alloc: Global,
     lexemes: &'a [Lexeme],
     first: &Lexeme,
@@ -134,7 +134,7 @@ fn statement_behind<'a>(
         Some(_) => Err(Stop::Here(lexemes)),
         None => {
             let text = word.copy(alloc)?;
-            named_behind(alloc, Name { text, place }, rest)
+            named_after(alloc, Name { text, place }, rest)
         }
     }
 }

@@ -2,7 +2,7 @@
 
 ghost use Rattle.std.specs.Prelude.{◌≡◌, ◌+◌, ◌<◌, length, IfOk, IfSome, IfNone, false};
 ghost use Rattle.src_parse.specs.Gives.{Gives};
-ghost use Rattle.src_parse.specs.Fronts.{has_mark, has_word, IsBehind, IsBehindWord};
+ghost use Rattle.src_parse.specs.Fronts.{has_mark, has_word, IsAfterMark, IsAfterWord};
 ghost use Rattle.src_parse.specs.Keywords.{spelling_of};
 ghost use Rattle.src_parse.specs.Reading.{expect, is_word, name_at, count_at};
 
@@ -27,8 +27,8 @@ pub fn expect<'a>(lexemes: &'a [Lexeme], mark: Mark) -> Result<&'a [Lexeme], Sto
 }
 
 /// What stands after this mark, if it stands in front.
-pub fn behind<'a>(lexemes: &'a [Lexeme], mark: Mark) -> Option<&'a [Lexeme]>
-    ensures some { IfSome result (λ x. IsBehind mark lexemes.now x.now) }
+pub fn after_mark<'a>(lexemes: &'a [Lexeme], mark: Mark) -> Option<&'a [Lexeme]>
+    ensures some { IfSome result (λ x. IsAfterMark mark lexemes.now x.now) }
     ensures none { IfNone result (has_mark mark lexemes.now ≡ false) }
     ensures shorter { IfSome result (λ x. length x.now + 1 ≡ length lexemes.now) }
 {
@@ -52,8 +52,8 @@ pub fn is_word(lexeme: &Lexeme, word: Keyword) -> bool
 }
 
 /// What stands after this word, if it stands in front.
-pub fn behind_word<'a>(lexemes: &'a [Lexeme], word: Keyword) -> Option<&'a [Lexeme]>
-    ensures some { IfSome result (λ x. IsBehindWord (spelling_of word) lexemes.now x.now) }
+pub fn after_word<'a>(lexemes: &'a [Lexeme], word: Keyword) -> Option<&'a [Lexeme]>
+    ensures some { IfSome result (λ x. IsAfterWord (spelling_of word) lexemes.now x.now) }
     ensures none { IfNone result (has_word (spelling_of word) lexemes.now ≡ false) }
     ensures shorter { IfSome result (λ x. length x.now + 1 ≡ length lexemes.now) }
 {

@@ -3,7 +3,7 @@ use Rattle.std.proofs.Common.{◌≡◌, ℕ, ◌+◌, ◌-◌, ◌*◌, ◌<◌
 use Rattle.std.proofs.lemmas.List.{take_more, take-append-drop}
 use Rattle.ws_words.specs.Digits.{value_from, value_of}
 
--- more digits behind
+-- more digits after
 value_from-append : (n : ℕ) (xs ys : List ℕ) → value_from n (xs ++ ys) ≡ value_from (value_from n xs) ys
 value_from-append n [] ys = refl
 value_from-append n (x ∷ xs) ys = value_from-append (10 * n + (x - 48)) xs ys

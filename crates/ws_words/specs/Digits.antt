@@ -10,7 +10,7 @@ abbrev pub is_number : List ℕ → Bool
 is_number [] = false
 is_number (b ∷ bytes) = is_digit b && list_all is_digit bytes
 
--- the value of digits behind others that have this value
+-- the value of digits after others that have this value
 abbrev pub value_from : ℕ → List ℕ → ℕ
 value_from n [] = n
 value_from n (d ∷ ds) = value_from (10 * n + (d - 48)) ds

@@ -18,11 +18,11 @@ use Rattle.wsc_top.specs.declared.status.Status.{Status}
 use Rattle.wsc_top.specs.declared.status.Status.TheVariants.{Refused}
 use Rattle.wsc_top.specs.Sections.{program_of, input_of, input_place, InputWords, IsInputFault, AnswersWords}
 use Rattle.wsc_top.specs.Texts.{refusal_text}
-use Rattle.wsc_top.specs.Job.{Unfit, first_of, Reads, IsJob, Refuses, program, unbuilt, input, IsRefused, IsProgramFault, AnswersParts}
+use Rattle.wsc_top.specs.Job.{Unfit, first_of, ReadsAs, IsJob, Refuses, program, unbuilt, input, IsRefused, IsProgramFault, AnswersParts}
 use Rattle.wsc_top.specs.Answers.{unfit_for, Yields, EndsSo, Answered, refused, done}
 
 -- a program that is refused is no job
-pub program_only : (unfit : Unfit) (text : List ℕ) (e : TextFault) → ((parts : List Part) → Reads text parts → AnswersParts (Err e) parts)
+pub program_only : (unfit : Unfit) (text : List ℕ) (e : TextFault) → ((parts : List Part) → ReadsAs text parts → AnswersParts (Err e) parts)
     → (parts : List Part) (ws : List ℕ) → IsJob unfit text parts ws → e ≡ fault.NoMemory
 program_only unfit text fault.NoMemory h parts ws j = refl
 program_only unfit text (fault.Refused r) h parts ws j = absurd (h parts j.reads)
@@ -40,7 +40,7 @@ begins [] p e = cc
 begins (q ∷ ps) p e = record { more = ps; is = cc }
 
 -- a program that a command can't take is no job of it
-pub unfit_only : (unfit : Unfit) (text : List ℕ) (found : List Part) (place : Place) → ((parts : List Part) → Reads text parts → found ≡ parts) → first_of (unfit found) ≡ Some place
+pub unfit_only : (unfit : Unfit) (text : List ℕ) (found : List Part) (place : Place) → ((parts : List Part) → ReadsAs text parts → found ≡ parts) → first_of (unfit found) ≡ Some place
     → (parts : List Part) (ws : List ℕ) → IsJob unfit text parts ws → ⊥
 unfit_only unfit text found place only e parts ws j =
     let b = begins (unfit found) place e in
@@ -48,7 +48,7 @@ unfit_only unfit text found place only e parts ws j =
     let bad : place ∷ b.more ≡ [] = sym b.is ∙ none in
     cc
 
-pub unfit_refused : (unfit : Unfit) (text : List ℕ) (found : List Part) (place : Place) → Reads text found → first_of (unfit found) ≡ Some place
+pub unfit_refused : (unfit : Unfit) (text : List ℕ) (found : List Part) (place : Place) → ReadsAs text found → first_of (unfit found) ≡ Some place
     → Refuses unfit text (record { kind = Unbuilt; place = place })
 unfit_refused unfit text found place r e = let b = begins (unfit found) place e in unbuilt found place b.more r b.is
 
@@ -74,7 +74,7 @@ pub words_same : (unfit : Unfit) (text section : List ℕ) (at : Place) (found :
 words_same unfit text section at found s p h parts ws j = h ws (subst (λ x. InputWords at x ws) (sym s) (subst (λ q. InputWords q (input_of text) ws) (sym p) j.words))
 
 pub words_refused : (unfit : Unfit) (text section : List ℕ) (at : Place) (found : List Part) (e : TextFault) → section ≡ input_of text → at ≡ input_place text
-    → Reads text found → unfit found ≡ [] → IsInputFault at section e → IsRefused unfit text e
+    → ReadsAs text found → unfit found ≡ [] → IsInputFault at section e → IsRefused unfit text e
 words_refused unfit text section at found fault.NoMemory s p r f h = tt
 words_refused unfit text section at found (fault.Refused x) s p r f h =
     let here = subst (λ q. IsInputFault q (input_of text) (fault.Refused x)) p (subst (λ y. IsInputFault at y (fault.Refused x)) s h) in

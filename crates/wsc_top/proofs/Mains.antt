@@ -11,7 +11,7 @@ use Rattle.src_ast.specs.LanguageLimits.{most_statements, most_procedures}
 use Rattle.src_ast.specs.Grammar.{level_of}
 use Rattle.src_ast.specs.Printed.{is_looser, is_no_tighter, is_binary}
 use Rattle.src_ast.specs.Written.{rounded, width, AreWrittenStatements, IsWritten}
-use Rattle.src_ast.specs.Rules.{Rule, Declared, variables, is_visible, size_of_all, parameter_rules, variable_rules, expression_rules, statement_rules, body_rules, ending_rules, rules_behind, rules_of, part_rules, is_main, has_main, IsAccepted}
+use Rattle.src_ast.specs.Rules.{Rule, Declared, variables, is_visible, size_of_all, parameter_rules, variable_rules, expression_rules, statement_rules, body_rules, ending_rules, rules_after, rules_of, part_rules, is_main, has_main, IsAccepted}
 use Rattle.src_ast.specs.View as view
 use Rattle.df_core.specs.declared.piece.Piece.{Piece}
 use Rattle.df_core.specs.Built.{Prints}
@@ -87,9 +87,9 @@ one_main (Proc p ∷ []) finish h e = main_alone p (left_none (unbuilt_part (Pro
 one_main (Proc p ∷ Array x n at ∷ parts) finish h e = let bad : x.place ∷ unbuilt_places parts ≡ [] = right_none (unbuilt_part (Proc p)) (x.place ∷ unbuilt_places parts) e in cc
 one_main (Proc p ∷ Proc q ∷ parts) finish h e =
     let name = main_name p (unbuilt_in p.body ++ unbuilt_ending p.ending) (left_none (unbuilt_part (Proc p)) (unbuilt_part (Proc q) ++ unbuilt_places parts) e) in
-    let all = rules_left (rules_behind [] (Proc p ∷ Proc q ∷ parts)) (_ ∷ []) h in
-    let further = rules_right (part_rules [] (Proc p)) (part_rules (Proc p ∷ []) (Proc q) ++ rules_behind (Proc p ∷ Proc q ∷ []) parts) all in
-    absurd (no_second p q name (rules_left (part_rules (Proc p ∷ []) (Proc q)) (rules_behind (Proc p ∷ Proc q ∷ []) parts) further))
+    let all = rules_left (rules_after [] (Proc p ∷ Proc q ∷ parts)) (_ ∷ []) h in
+    let further = rules_right (part_rules [] (Proc p)) (part_rules (Proc p ∷ []) (Proc q) ++ rules_after (Proc p ∷ Proc q ∷ []) parts) all in
+    absurd (no_second p q name (rules_left (part_rules (Proc p ∷ []) (Proc q)) (rules_after (Proc p ∷ Proc q ∷ []) parts) further))
 
 pub only_prints_body : (parts : List Part) (body : Statements) → (h : IsMainAlone parts) → IsMainBody parts body → IsTrue (only_prints body)
 only_prints_body parts body h b = subst (λ s. IsTrue (only_prints s)) (sym (b h.main h.alone)) h.prints
@@ -142,7 +142,7 @@ few_main p finish h w prints =
     let visible = variables (p.params ++ p.vars) ++ [] in
     let body = body_rules visible 0 p.body in
     let ending = ending_rules visible (0 + size_of_all p.body) p.ending in
-    let all = rules_left (rules_behind [] (Proc p ∷ [])) (_ ∷ []) h in
+    let all = rules_left (rules_after [] (Proc p ∷ [])) (_ ∷ []) h in
     let here = rules_left (part_rules [] (Proc p)) [] all in
     let rest = params ++ (vars ++ (body ++ ending)) in
     let kept : List Rule → Bool = list_all (λ r. r.kept) in

@@ -21,7 +21,7 @@ use Rattle.wsc_top.specs.Straights.{words_of}
 use Rattle.wsc_top.specs.Texts.{done_text, ended_text, faulted_text, going_text}
 use Rattle.wsc_top.specs.Straights.{IsMainAlone, ArePieces}
 use Rattle.wsc_top.specs.Job.{world_of}
-use Rattle.wsc_top.specs.Answers.{Yields, ran, formatted, ended, faulted, going, Ends, MeetsFault, WantsTurns, EndsSo}
+use Rattle.wsc_top.specs.Answers.{Yields, ran, formatted, ended, faulted, going, ComesToItsEnd, MeetsFault, WantsTurns, EndsSo}
 use Rattle.wsc_top.proofs.Printing.{numbers_run}
 
 -- The words of the pieces of a program are what its sequential run prints.
@@ -113,7 +113,7 @@ module _ (options : PlainOptions) (parts : List Part) (input : List ℕ) (world 
     (faulted : (n array : ℕ) (state : Outside) → Faults parts world n array state → n ≤ options.turns → SaysFault n array state plain)
     (going : (now : Outside) → Goes parts world options.turns now → SaysGoing now plain) where
   -- so no run that comes to its end is answered otherwise
-  ends_says : Ends (Plain options) parts input → (n : ℕ) × (end : Outside) × SaysEnded n end plain
+  ends_says : ComesToItsEnd (Plain options) parts input → (n : ℕ) × (end : Outside) × SaysEnded n end plain
   ends_says e = (e.0, e.1, ended e.0 e.1 (subst (λ x. Runs parts x e.0 e.1) (sym w) e.2) e.3)
 
   meets_says : MeetsFault (Plain options) parts input → (n : ℕ) × (array : ℕ) × (state : Outside) × SaysFault n array state plain

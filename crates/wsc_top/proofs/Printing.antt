@@ -5,7 +5,7 @@ use Rattle.ws_words.specs.Operators.{applied}
 use Rattle.ws_words.specs.Outside.{Outside, State, Act, World, prints, printed_words, opening_out, zeros}
 use Rattle.src_ast.specs.declared.lexeme.Name.{Name}
 use Rattle.src_ast.specs.Syntax.{Expression, Number, Variable, Cell, Signed, Binary, Statement, Assign, Store, Print, Read, Give, Take, Call, If, While, Statements, Nothing, Then, Procedure, Part, Proc}
-use Rattle.src_ast.specs.Turns.{Outcome, Ended, and_then, CallEnd, Returned, ending}
+use Rattle.src_ast.specs.Turns.{PartEnd, Ended, and_then, CallEnd, Returned, ending}
 use Rattle.src_ast.specs.Meaning.{Scope, Calls, value, loads_of, signed_value, run_one, run_all, finish, scope_of, calls_below, run, lengths_of}
 use Rattle.src_ast.specs.Runs.{Runs}
 use Rattle.ws_words.specs.Past.{AreWithin}

@@ -13,12 +13,12 @@ use Rattle.src_ast.specs.Faults.{SyntaxAt, IsTreeAnswer}
 use Rattle.src_ast.specs.Rules.{rules_of, IsAccepted, IsFirstBroken, IsRuleAnswer}
 use Rattle.src_ast.specs.Once.{ExactlyOne}
 use Rattle.wsc_top.specs.Sections.{program_of, input_of, input_place, InputWords, InputFault, IsInputAnswer}
-use Rattle.wsc_top.specs.Job.{Reads, ProgramFault, lexemes, syntax, rules, Unfit, IsJob, Refuses, program, unbuilt, input, IsTextAnswer}
+use Rattle.wsc_top.specs.Job.{ReadsAs, ProgramFault, lexemes, syntax, rules, Unfit, IsJob, Refuses, program, unbuilt, input, IsTextAnswer}
 use Rattle.wsc_top.proofs.Inputs.{one_answer}
 
 -- what a program section comes to: its tree, or its first fault
 abbrev IsProgramAnswer : List ℕ → Result (List Part) Refusal → Type 0
-IsProgramAnswer text (Ok parts) = Reads text parts
+IsProgramAnswer text (Ok parts) = ReadsAs text parts
 IsProgramAnswer text (Err r) = ProgramFault text r
 
 -- a refusal for syntax
@@ -84,7 +84,7 @@ module _ (text : List ℕ) (ls : List Lexeme) (finish : Place) (lex : Lex (progr
         subst (λ p. IsFirstBroken (rules_of parts p) r) (end_of_these these end l k)
         (subst (λ ps. IsFirstBroken (rules_of ps end) r) (same_tree these end found l k t) b)
 
-    accepted_of_these : (found : List Part) (h : Reads text found) → IsAccepted parts finish
+    accepted_of_these : (found : List Part) (h : ReadsAs text found) → IsAccepted parts finish
     accepted_of_these found h =
         subst (λ p. IsAccepted parts p) (end_of_these h.ls h.finish h.lex h.kept)
         (subst (λ ps. IsAccepted ps h.finish) (same_tree h.ls h.finish found h.lex h.kept h.tree) h.accepted)
@@ -151,8 +151,8 @@ module _ (unfit : Unfit) (text : List ℕ) (r : Refusal) (fault : ProgramFault t
   refused_once = record { answer = Err r; holds = program r fault; only = only_program }
 
 -- a program with this tree
-module _ (unfit : Unfit) (text : List ℕ) (parts : List Part) (reads : Reads text parts) (only : (other : Result (List Part) Refusal) → IsProgramAnswer text other → other ≡ Ok parts) where
-  same_parts : (found : List Part) → Reads text found → found ≡ parts
+module _ (unfit : Unfit) (text : List ℕ) (parts : List Part) (reads : ReadsAs text parts) (only : (other : Result (List Part) Refusal) → IsProgramAnswer text other → other ≡ Ok parts) where
+  same_parts : (found : List Part) → ReadsAs text found → found ≡ parts
   same_parts found h = let same = only (Ok found) h in cc
 
   no_program_fault : (r : Refusal) → ProgramFault text r → ⊥
@@ -166,12 +166,12 @@ module _ (unfit : Unfit) (text : List ℕ) (parts : List Part) (reads : Reads te
   input_at p = record { kind = Input; place = p }
 
   module _ (place : Place) (more : List Place) (found : unfit parts ≡ place ∷ more) where
-    same_place : (others : List Part) (at : Place) (rest : List Place) → Reads text others → unfit others ≡ at ∷ rest → at ≡ place
+    same_place : (others : List Part) (at : Place) (rest : List Place) → ReadsAs text others → unfit others ≡ at ∷ rest → at ≡ place
     same_place others at rest h e =
         let same : at ∷ rest ≡ place ∷ more = sym e ∙ ap unfit (same_parts others h) ∙ found in
         cc
 
-    not_fit : (others : List Part) → Reads text others → unfit others ≡ [] → ⊥
+    not_fit : (others : List Part) → ReadsAs text others → unfit others ≡ [] → ⊥
     not_fit others h e = let bad : [] ≡ place ∷ more = sym e ∙ ap unfit (same_parts others h) ∙ found in cc
 
     only_unbuilt : (other : Result (List Part × List ℕ) Refusal) → IsTextAnswer unfit text other → other ≡ Err (unbuilt_at place)
@@ -184,7 +184,7 @@ module _ (unfit : Unfit) (text : List ℕ) (parts : List Part) (reads : Reads te
     unbuilt_once = record { answer = Err (unbuilt_at place); holds = unbuilt parts place more reads found; only = only_unbuilt }
 
   module _ (fit : unfit parts ≡ []) where
-    none_unbuilt : (others : List Part) (at : Place) (rest : List Place) → Reads text others → unfit others ≡ at ∷ rest → ⊥
+    none_unbuilt : (others : List Part) (at : Place) (rest : List Place) → ReadsAs text others → unfit others ≡ at ∷ rest → ⊥
     none_unbuilt others at rest h e = let bad : at ∷ rest ≡ [] = sym e ∙ ap unfit (same_parts others h) ∙ fit in cc
 
     module _ (words : List ℕ) (read : InputWords (input_place text) (input_of text) words)

@@ -55,10 +55,10 @@ pub data Yields : Command → List Part → List ℕ → Status → List ℕ →
       → Yields (Plain options) parts input Budget (going_text (printed_words now.acts))
 
 -- a command comes to its end: the sequential run in no more turns than it may take
-abbrev pub Ends : Command → List Part → List ℕ → Type 0
-Ends Run parts input = Unit {0}
-Ends Format parts input = Unit {0}
-Ends (Plain options) parts input =
+abbrev pub ComesToItsEnd : Command → List Part → List ℕ → Type 0
+ComesToItsEnd Run parts input = Unit {0}
+ComesToItsEnd Format parts input = Unit {0}
+ComesToItsEnd (Plain options) parts input =
     (n : ℕ) × (end : Outside) × Runs parts (world_of input) n end × (n ≤ options.turns)
 
 -- it meets an index fault, in a turn that it may take
@@ -79,7 +79,7 @@ WantsTurns (Plain options) parts input =
 -- each of the three has its status
 pub record EndsSo (command : Command) (parts : List Part) (input : List ℕ) (status : Status)
     : Type 0 where
-  pub done : Ends command parts input → status ≡ Done
+  pub done : ComesToItsEnd command parts input → status ≡ Done
   pub fault : MeetsFault command parts input → status ≡ Fault
   pub budget : WantsTurns command parts input → status ≡ Budget
 

@@ -18,7 +18,7 @@ use Rattle.src_ast.specs.Rules.{rules_of, IsAccepted, IsFirstBroken}
 use Rattle.wsc_top.specs.Sections.{program_of, input_of, input_place, InputWords, InputFault}
 
 -- the program section has lexemes within the limits, they have this tree, and it keeps the rules
-pub record Reads (text : List ℕ) (parts : List Part) : Type 0 where
+pub record ReadsAs (text : List ℕ) (parts : List Part) : Type 0 where
   pub ls : List Lexeme
   pub finish : Place
   pub lex : Lex (program_of text) ls finish
@@ -49,7 +49,7 @@ first_of (p ∷ ps) = Some p
 
 -- the text is a program that a command takes, and the words that it reads
 pub record IsJob (unfit : Unfit) (text : List ℕ) (parts : List Part) (input : List ℕ) : Type 0 where
-  pub reads : Reads text parts
+  pub reads : ReadsAs text parts
   pub fit : unfit parts ≡ []
   pub words : InputWords (input_place text) (input_of text) input
 
@@ -58,9 +58,9 @@ pub record IsJob (unfit : Unfit) (text : List ℕ) (parts : List Part) (input : 
 pub data Refuses (unfit : Unfit) (text : List ℕ) : Refusal → Type 0 where
   program : (r : Refusal) → ProgramFault text r → Refuses unfit text r
   unbuilt : (parts : List Part) (place : Place) (more : List Place)
-      → Reads text parts → unfit parts ≡ place ∷ more
+      → ReadsAs text parts → unfit parts ≡ place ∷ more
       → Refuses unfit text (record { kind = Unbuilt; place = place })
-  input : (parts : List Part) (place : Place) → Reads text parts → unfit parts ≡ []
+  input : (parts : List Part) (place : Place) → ReadsAs text parts → unfit parts ≡ []
       → InputFault (input_place text) (input_of text) place
       → Refuses unfit text (record { kind = Input; place = place })
 

@@ -6,7 +6,7 @@ ghost use Rattle.src_ast.specs.Syntax.{Part};
 ghost use Rattle.wsc_top.specs.declared.line.Command.{Command};
 ghost use Rattle.wsc_top.specs.declared.status.Status.{Status};
 ghost use Rattle.wsc_top.specs.Lines.{IsNoLine};
-ghost use Rattle.wsc_top.specs.Answers.{Ends, MeetsFault, WantsTurns, Answers, WereRead, IsToldJob, IsToldOther, OrNoMemory};
+ghost use Rattle.wsc_top.specs.Answers.{ComesToItsEnd, MeetsFault, WantsTurns, Answers, WereRead, IsToldJob, IsToldOther, OrNoMemory};
 
 use crate::answer::to_words;
 use crate::status::{Outcome, Status};
@@ -57,7 +57,7 @@ pub fn wsc<S: Source, K: Sink>(
         → OrNoMemory result.status Status.Usage }
     ensures done { (command : Command) (parts : List Part) (input : List ℕ)
         → IsToldJob (map string_bytes words.now) (S.left source.old) command parts input
-        → Ends command parts input
+        → ComesToItsEnd command parts input
         → ¬ Rose (S.faults source.old) (S.faults source.new)
         → ¬ Rose (K.faults sink.old) (K.faults sink.new)
         → OrNoMemory result.status Status.Done }

@@ -17,7 +17,7 @@ use input::words;
 use sections::split;
 use src_ast::{Place, Program, Refusal, RefusalKind, TextFault};
 use src_check::Accepted;
-use src_lex::place_behind;
+use src_lex::place_after;
 use std::alloc::Global;
 use ws_words::Words;
 
@@ -60,7 +60,7 @@ pub fn read(alloc: Global, command: Command, text: &[u8]) -> Result<(Accepted, W
         }));
     }
     let at = Place {
-        line: place_behind(START, program).line + 1,
+        line: place_after(START, program).line + 1,
         column: 1,
     };
     match words(alloc, input, at) {

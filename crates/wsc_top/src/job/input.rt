@@ -6,7 +6,7 @@ ghost use Rattle.src_ast.specs.Lexemes.{is_blank, starts_without};
 ghost use Rattle.wsc_top.specs.Sections.{IsItem, InputWords, IsInputFault, AnswersWords};
 
 use src_ast::{Place, Refusal, RefusalKind, TextFault};
-use src_lex::{is_blank, place_behind};
+use src_lex::{is_blank, place_after};
 use std::alloc::Global;
 use ws_io::decimal;
 use ws_words::Words;
@@ -61,7 +61,7 @@ pub fn words(alloc: Global, text: &[u8], at: Place) -> Result<Words, TextFault>
     let mut rest = text;
     'items: loop {
         let (blanks, front) = blanks(rest);
-        place = place_behind(place, blanks);
+        place = place_after(place, blanks);
         if front.is_empty() {
             return Ok(words);
         }
@@ -73,7 +73,7 @@ pub fn words(alloc: Global, text: &[u8], at: Place) -> Result<Words, TextFault>
             }));
         };
         words.push(word)?;
-        place = place_behind(place, item);
+        place = place_after(place, item);
         rest = further;
     }
 }

@@ -4,7 +4,7 @@ ghost use Rattle.std.specs.Prelude.{◌≡◌, ◌≤◌, ◌<◌, ◌^◌, ◌-
 ghost use Rattle.src_ast.specs.View as view;
 ghost use Rattle.src_ast.specs.Syntax.{Part};
 ghost use Rattle.wsc_top.specs.Sections.{program_of};
-ghost use Rattle.wsc_top.specs.Job.{Reads, IsProgramFault, AnswersParts};
+ghost use Rattle.wsc_top.specs.Job.{ReadsAs, IsProgramFault, AnswersParts};
 
 use src_ast::TextFault;
 use src_check::{Accepted, check};
@@ -17,8 +17,8 @@ use std::alloc::Global;
 pub fn read(alloc: Global, text: &[u8], program: &[u8]) -> Result<Accepted, TextFault>
     requires short { length program.now < 2 ^ 32 - 1 }
     requires section { program.now ≡ program_of text.now }
-    ensures ok { IfOk result (λ a. Reads text.now (view.parts a.program.items.items)) }
-    ensures only { (parts : List Part) → Reads text.now parts → AnswersParts result parts }
+    ensures ok { IfOk result (λ a. ReadsAs text.now (view.parts a.program.items.items)) }
+    ensures only { (parts : List Part) → ReadsAs text.now parts → AnswersParts result parts }
     ensures refused { IfErr result (λ e. IsProgramFault text.now e) }
 {
     let lexemes = match lex(alloc, program) {

@@ -4,7 +4,7 @@ use Rattle.src_ast.specs.View as view
 use Rattle.src_ast.specs.declared.tree.Expr.{Expr}
 use Rattle.src_ast.specs.Rules.{expression_rules, argument_rules}
 use Rattle.src_check.specs.Rule.{first_broken}
-use Rattle.src_check.proofs.Broken.{before_broken, behind_kept, leaves}
+use Rattle.src_check.proofs.Broken.{before_broken, after_kept, leaves}
 use Rattle.src_check.proofs.Steps.{drop_next}
 use Rattle.src_check.proofs.expressions.arguments.Goals as goal
 
@@ -19,7 +19,7 @@ pub loop-expr-preserved : goal.loop-expr-preserved
 loop-expr-preserved c = λ visible st.
     c.loop-expr.invariant visible st
     ∙ ap (λ (l : List Expr). first_broken (argument_rules visible (map view.expression l))) (drop_next c.args.exprs.now c.loop-expr.expr-index c.expr-item.result (omega arith) c.expr-item.is)
-    ∙ behind_kept (expression_rules visible (view.expression c.expr-item.result)) (argument_rules visible (map view.expression (drop (c.loop-expr.expr-index + 1) c.args.exprs.now))) (c.in_ok-expression.ensures visible st)
+    ∙ after_kept (expression_rules visible (view.expression c.expr-item.result)) (argument_rules visible (map view.expression (drop (c.loop-expr.expr-index + 1) c.args.exprs.now))) (c.in_ok-expression.ensures visible st)
 
 pub returns : goal.returns
 unfolding first_broken

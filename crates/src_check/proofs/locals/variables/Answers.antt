@@ -5,7 +5,7 @@ use Rattle.src_ast.specs.declared.lexeme.Name.{Name}
 use Rattle.src_ast.specs.Rules.{variable_rules}
 use Rattle.src_check.specs.Names.{seen, StandsFor}
 use Rattle.src_check.specs.Rule.{first_broken}
-use Rattle.src_check.proofs.Broken.{passes_on, stop_as, stop_before, behind_kept}
+use Rattle.src_check.proofs.Broken.{passes_on, stop_as, stop_before, after_kept}
 use Rattle.src_check.proofs.Stands.{pushed, pushed_next, stands_for_pushed}
 use Rattle.src_check.proofs.Steps.{drop_next}
 use Rattle.src_check.proofs.locals.variables.Goals as goal
@@ -27,7 +27,7 @@ loop-name-preserved c =
           let next = pushed_next c.args.vars.now c.loop-name.name-index c.name-item.result visible (omega arith) c.name-item.is in
           c.loop-name.invariant.rules visible st
           ∙ ap (λ (l : List Name). first_broken (variable_rules now c.loop-name.count l)) left
-          ∙ behind_kept (variable_rules now c.loop-name.count (c.name-item.result ∷ [])) _ (c.in_ok-variable.ensures.rules now (c.loop-name.invariant.stands visible st))
+          ∙ after_kept (variable_rules now c.loop-name.count (c.name-item.result ∷ [])) _ (c.in_ok-variable.ensures.rules now (c.loop-name.invariant.stands visible st))
           ∙ (λ i. first_broken (variable_rules (sym next i) (sym (add-one c.loop-name.count) i) (drop (c.loop-name.name-index + 1) c.args.vars.now)));
       stands = λ visible st.
           let next = pushed_next c.args.vars.now c.loop-name.name-index c.name-item.result visible (omega arith) c.name-item.is in

@@ -6,7 +6,7 @@ use Rattle.src_ast.specs.Rules.{expression_rules, statement_rule, body_rules, st
 use Rattle.src_ast.specs.View as view
 use Rattle.src_check.specs.Rule.{first_broken}
 use Rattle.src_check.proofs.Blocks.{if_rules, if_size, while_rules, while_size}
-use Rattle.src_check.proofs.Broken.{before_broken, behind_kept, answers_behind, leaves, keeps_as}
+use Rattle.src_check.proofs.Broken.{before_broken, after_kept, answers_after, leaves, keeps_as}
 use Rattle.src_check.proofs.Steps.{drop_next}
 use Rattle.src_check.proofs.statements.+body.Goals as goal
 
@@ -20,23 +20,23 @@ pub statement-returns-in_err-expression-in-If-clause-rules : goal.statement-retu
 statement-returns-in_err-expression-in-If-clause-rules t c = λ visible st.
     leaves _ _ _ c.from_residual-in_err-expression-in-If.ensures.1
     (ap first_broken (if_rules c.args.stmt.now c.in-If.test visible c.args.before _ _ c.in-If.first c.in-If.second _ _ c.in-If.is refl refl refl refl)
-    ∙ behind_kept (statement_rule c.args.before c.args.stmt.now.place ∷ []) _ c.in_ok-count-in-If.ensures.rules
+    ∙ after_kept (statement_rule c.args.before c.args.stmt.now.place ∷ []) _ c.in_ok-count-in-If.ensures.rules
     ∙ before_broken (expression_rules visible (view.expression c.in-If.test)) _ _ (c.in_err-expression-in-If.ensures visible st))
 
 pub statement-returns-in_err-count-in-If-2-clause-rules : goal.statement-returns-in_err-count-in-If-2-clause-rules
 statement-returns-in_err-count-in-If-2-clause-rules t c = λ visible st.
     leaves _ _ _ c.from_residual-in_err-count-in-If-2.ensures.1
     (ap first_broken (if_rules c.args.stmt.now c.in-If.test visible c.args.before _ _ c.in-If.first c.in-If.second _ _ c.in-If.is c.deref-in-If.ensures.value refl c.in_ok-count-in-If.ensures.count refl)
-    ∙ behind_kept (statement_rule c.args.before c.args.stmt.now.place ∷ []) _ c.in_ok-count-in-If.ensures.rules
-    ∙ behind_kept (expression_rules visible (view.expression c.in-If.test)) _ (c.in_ok-expression-in-If.ensures visible st)
+    ∙ after_kept (statement_rule c.args.before c.args.stmt.now.place ∷ []) _ c.in_ok-count-in-If.ensures.rules
+    ∙ after_kept (expression_rules visible (view.expression c.in-If.test)) _ (c.in_ok-expression-in-If.ensures visible st)
     ∙ before_broken (body_rules visible c.in_ok-count-in-If.count (view.statements c.deref-in-If.result.now)) _ _ (c.in_err-count-in-If-2.ensures.rules visible st))
 
 pub statement-returns-in_ok-count-in-If-2-clause-rules : goal.statement-returns-in_ok-count-in-If-2-clause-rules
 statement-returns-in_ok-count-in-If-2-clause-rules t c = λ visible st.
     keeps_as _ _ _ (if_rules c.args.stmt.now c.in-If.test visible c.args.before c.in_ok-count-in-If.count c.in_ok-count-in-If-2.count c.in-If.first c.in-If.second _ _ c.in-If.is c.deref-in-If.ensures.value c.deref-in-If-2.ensures.value c.in_ok-count-in-If.ensures.count c.in_ok-count-in-If-2.ensures.count)
-    (answers_behind (statement_rule c.args.before c.args.stmt.now.place ∷ []) _ _ c.in_ok-count-in-If.ensures.rules
-    (answers_behind (expression_rules visible (view.expression c.in-If.test)) _ _ (c.in_ok-expression-in-If.ensures visible st)
-    (answers_behind (body_rules visible c.in_ok-count-in-If.count (view.statements c.deref-in-If.result.now)) _ _ (c.in_ok-count-in-If-2.ensures.rules visible st)
+    (answers_after (statement_rule c.args.before c.args.stmt.now.place ∷ []) _ _ c.in_ok-count-in-If.ensures.rules
+    (answers_after (expression_rules visible (view.expression c.in-If.test)) _ _ (c.in_ok-expression-in-If.ensures visible st)
+    (answers_after (body_rules visible c.in_ok-count-in-If.count (view.statements c.deref-in-If.result.now)) _ _ (c.in_ok-count-in-If-2.ensures.rules visible st)
     (c.body-in-If.ensures.rules visible st))))
 
 pub statement-returns-in_err-count-in-While-clause-rules : goal.statement-returns-in_err-count-in-While-clause-rules
@@ -49,14 +49,14 @@ pub statement-returns-in_err-expression-in-While-clause-rules : goal.statement-r
 statement-returns-in_err-expression-in-While-clause-rules t c = λ visible st.
     leaves _ _ _ c.from_residual-in_err-expression-in-While.ensures.1
     (ap first_broken (while_rules c.args.stmt.now c.in-While.test visible c.args.before _ c.in-While.inner _ c.in-While.is refl refl)
-    ∙ behind_kept (statement_rule c.args.before c.args.stmt.now.place ∷ []) _ c.in_ok-count-in-While.ensures.rules
+    ∙ after_kept (statement_rule c.args.before c.args.stmt.now.place ∷ []) _ c.in_ok-count-in-While.ensures.rules
     ∙ before_broken (expression_rules visible (view.expression c.in-While.test)) _ _ (c.in_err-expression-in-While.ensures visible st))
 
 pub statement-returns-in_ok-expression-in-While-clause-rules : goal.statement-returns-in_ok-expression-in-While-clause-rules
 statement-returns-in_ok-expression-in-While-clause-rules t c = λ visible st.
     keeps_as _ _ _ (while_rules c.args.stmt.now c.in-While.test visible c.args.before c.in_ok-count-in-While.count c.in-While.inner _ c.in-While.is c.deref-in-While.ensures.value c.in_ok-count-in-While.ensures.count)
-    (answers_behind (statement_rule c.args.before c.args.stmt.now.place ∷ []) _ _ c.in_ok-count-in-While.ensures.rules
-    (answers_behind (expression_rules visible (view.expression c.in-While.test)) _ _ (c.in_ok-expression-in-While.ensures visible st)
+    (answers_after (statement_rule c.args.before c.args.stmt.now.place ∷ []) _ _ c.in_ok-count-in-While.ensures.rules
+    (answers_after (expression_rules visible (view.expression c.in-While.test)) _ _ (c.in_ok-expression-in-While.ensures visible st)
     (c.body-in-While.ensures.rules visible st)))
 
 pub statement-returns-in_ok-count-in-If-2-clause-count : goal.statement-returns-in_ok-count-in-If-2-clause-count
@@ -84,7 +84,7 @@ body-loop-stmt-preserved t c =
       rules = λ visible st.
           c.loop-stmt.invariant.rules visible st
           ∙ ap (λ (l : List Stmt). first_broken (body_rules visible c.loop-stmt.count (view.statements l))) left
-          ∙ behind_kept (statement_rules visible c.loop-stmt.count (view.statement c.stmt-item.result)) _ (c.in_ok-count.ensures.rules visible st)
+          ∙ after_kept (statement_rules visible c.loop-stmt.count (view.statement c.stmt-item.result)) _ (c.in_ok-count.ensures.rules visible st)
           ∙ ap (λ k. first_broken (body_rules visible k (view.statements (drop (c.loop-stmt.stmt-index + 1) c.args.stmts.now)))) (sym c.in_ok-count.ensures.count);
       count = omega (arith, counted, c.in_ok-count.ensures.count, c.loop-stmt.invariant.count);
     }

@@ -1,7 +1,7 @@
 use Rattle.std.proofs.Common.{◌∙◌, [], ◌∷◌, refl}
 use Rattle.src_ast.specs.Rules.{statement_rule}
 use Rattle.src_check.specs.Rule.{first_broken}
-use Rattle.src_check.proofs.Broken.{before_broken, behind_kept, leaves}
+use Rattle.src_check.proofs.Broken.{before_broken, after_kept, leaves}
 use Rattle.src_check.proofs.statements.ending.Goals as goal
 
 pub returns-in_default-clause-rules : goal.returns-in_default-clause-rules
@@ -17,11 +17,11 @@ pub returns-in_err-expression-clause-rules : goal.returns-in_err-expression-clau
 returns-in_err-expression-clause-rules c = λ visible st.
     leaves _ _ _ c.from_residual-in_err-expression.ensures.1
     (rw c.in-Some.is
-    (behind_kept (statement_rule c.args.before c.in-Some.last.place ∷ []) _ c.in_ok-count.ensures.rules
+    (after_kept (statement_rule c.args.before c.in-Some.last.place ∷ []) _ c.in_ok-count.ensures.rules
     ∙ c.in_err-expression.ensures visible st))
 
 pub returns-clause-rules : goal.returns-clause-rules
 returns-clause-rules c = λ visible st.
     rw c.in-Some.is
-    (behind_kept (statement_rule c.args.before c.in-Some.last.place ∷ []) _ c.in_ok-count.ensures.rules
+    (after_kept (statement_rule c.args.before c.in-Some.last.place ∷ []) _ c.in_ok-count.ensures.rules
     ∙ c.in_ok-expression.ensures visible st)

@@ -10,8 +10,8 @@ decreases-statements l = 4 * length l.lexemes.now + 3
 abbrev pub decreases-statement : goal.decreases-statement
 decreases-statement l = 4 * length l.lexemes.now + 2
 
-abbrev pub decreases-statement_behind : goal.decreases-statement_behind
-decreases-statement_behind l = 4 * length l.lexemes.now + 1
+abbrev pub decreases-statement_after : goal.decreases-statement_after
+decreases-statement_after l = 4 * length l.lexemes.now + 1
 
 abbrev pub decreases-if_statement : goal.decreases-if_statement
 decreases-if_statement l = 4 * length l.lexemes.now + 2

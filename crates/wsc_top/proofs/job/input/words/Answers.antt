@@ -11,16 +11,16 @@ returns-then-is_empty-clause-only c words h =
 
 pub returns-in_default-clause-only : goal.returns-in_default-clause-only
 returns-in_default-clause-only c words h =
-    no_fault_in_words _ _ _ _ h (reads_fault _ _ _ _ _ _ _ _ _ _ c.items.invariant.read c.blanks.ensures.whole c.blanks.ensures.blank c.blanks.ensures.longest c.place_behind-place.ensures.behind c.item.ensures.whole c.item.ensures.item (λ word w. omega (arith, c.in_default.ensures.none w.0, w.1, w.2)))
+    no_fault_in_words _ _ _ _ h (reads_fault _ _ _ _ _ _ _ _ _ _ c.items.invariant.read c.blanks.ensures.whole c.blanks.ensures.blank c.blanks.ensures.longest c.place_after-place.ensures.following c.item.ensures.whole c.item.ensures.item (λ word w. omega (arith, c.in_default.ensures.none w.0, w.1, w.2)))
 
 pub returns-in_default-clause-refused : goal.returns-in_default-clause-refused
 returns-in_default-clause-refused c =
-    (refl, reads_fault _ _ _ _ _ _ _ _ _ _ c.items.invariant.read c.blanks.ensures.whole c.blanks.ensures.blank c.blanks.ensures.longest c.place_behind-place.ensures.behind c.item.ensures.whole c.item.ensures.item (λ word w. omega (arith, c.in_default.ensures.none w.0, w.1, w.2)))
+    (refl, reads_fault _ _ _ _ _ _ _ _ _ _ c.items.invariant.read c.blanks.ensures.whole c.blanks.ensures.blank c.blanks.ensures.longest c.place_after-place.ensures.following c.item.ensures.whole c.item.ensures.item (λ word w. omega (arith, c.in_default.ensures.none w.0, w.1, w.2)))
 
 pub items-preserved : goal.items-preserved
 items-preserved c = record {
-  read = reads_word _ _ _ _ _ _ _ _ _ _ _ _ c.in-Some.word c.items.invariant.read c.blanks.ensures.whole c.blanks.ensures.blank c.place_behind-place.ensures.behind c.item.ensures.whole c.item.ensures.item (c.in-Some.ensures.some.0, c.in-Some.ensures.some.1, omega arith) c.place_behind-place-in-items.ensures.behind c.in_ok-push.ensures.ok;
-  line = c.place_behind-place-in-items.ensures.line;
-  column = c.place_behind-place-in-items.ensures.column;
+  read = reads_word _ _ _ _ _ _ _ _ _ _ _ _ c.in-Some.word c.items.invariant.read c.blanks.ensures.whole c.blanks.ensures.blank c.place_after-place.ensures.following c.item.ensures.whole c.item.ensures.item (c.in-Some.ensures.some.0, c.in-Some.ensures.some.1, omega arith) c.place_after-place-in-items.ensures.following c.in_ok-push.ensures.ok;
+  line = c.place_after-place-in-items.ensures.line;
+  column = c.place_after-place-in-items.ensures.column;
   room = omega (arith, ap length c.blanks.ensures.whole, ap length c.item.ensures.whole, length-append c.blanks.result.0.now c.blanks.result.1.now, length-append c.item.result.0.now c.item.result.1.now);
 }
