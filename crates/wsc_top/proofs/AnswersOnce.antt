@@ -1,4 +1,4 @@
--- Each text has one answer alone for each command.
+-- Each text has one answer alone for each task.
 use Rattle.std.specs.Prelude.{◌≡◌, ℕ, ◌≤◌, ◌⊎◌, List, [], Result, Ok, Err, refl}
 use Rattle.std.proofs.Common.{sym, ap, ◌∙◌, subst, inl, inr}
 use Rattle.ws_words.specs.Outside.{Outside, World, printed_words}
@@ -12,9 +12,9 @@ use Rattle.src_ast.specs.Printed.{printed_form}
 use Rattle.src_ast.specs.Written.{ReadsTheSame}
 use Rattle.src_ast.specs.Once.{ExactlyOne}
 use Rattle.seq_run.specs.Laws.{EndsWithin, FaultsWithin, GoesBeyond, HasAnswer}
-use Rattle.wsc_top.specs.declared.line.Command.{Command}
-use Rattle.wsc_top.specs.declared.line.Command.TheVariants.{Run, Format, Plain}
-use Rattle.wsc_top.specs.declared.line.options.PlainOptions.{PlainOptions}
+use Rattle.wsc_top.specs.declared.task.JobTask.{JobTask}
+use Rattle.wsc_top.specs.declared.task.JobTask.TheVariants.{Run, Format, Plain}
+use Rattle.wsc_top.specs.declared.task.PlainOptions.{PlainOptions}
 use Rattle.wsc_top.specs.declared.status.Status.{Status}
 use Rattle.wsc_top.specs.declared.status.Status.TheVariants.{Done, Refused, Budget, Fault}
 use Rattle.wsc_top.specs.Texts.{done_text, ended_text, faulted_text, going_text, refusal_text}
@@ -40,8 +40,8 @@ Reply = Status × List ℕ
 same_reply : (s t : Status) (a b : List ℕ) → s ≡ t → a ≡ b → ◌≡◌ {A = Reply} (s, a) (t, b)
 same_reply s t a b e f = ap (λ x. (x, a)) e ∙ ap (λ x. (t, x)) f
 
--- what comes of a command, by its causes
-abbrev Comes : Command → List Part → List ℕ → Status → List ℕ → Type 0
+-- what comes of a task, by its causes
+abbrev Comes : JobTask → List Part → List ℕ → Status → List ℕ → Type 0
 Comes Run parts input status out = (n : ℕ) × (end : Outside) × Runs parts (world_of input) n end × (status ≡ Done) × (out ≡ done_text (printed_words end.acts))
 Comes Format parts input status out = (status ≡ Done) × (out ≡ printed_form parts)
 Comes (Plain options) parts input status out =
@@ -51,16 +51,16 @@ Comes (Plain options) parts input status out =
     × (out ≡ faulted_text options.memory (arrays_of parts) array (printed_words state.acts) state.cells))
     ⊎ ((now : Outside) × Goes parts (world_of input) options.turns now × (status ≡ Budget) × (out ≡ going_text (printed_words now.acts))))
 
-comes : (command : Command) (parts : List Part) (input : List ℕ) (status : Status) (out : List ℕ) → Yields command parts input status out → Comes command parts input status out
-comes command parts input status out (ran n end r) = (n, end, r, refl, refl)
-comes command parts input status out (formatted r) = (refl, refl)
-comes command parts input status out (ended n end r w) = inl (n, end, r, w, refl, refl)
-comes command parts input status out (faulted n array state f w) = inr (inl (n, array, state, f, w, refl, refl))
-comes command parts input status out (going now g) = inr (inr (now, g, refl, refl))
+comes : (task : JobTask) (parts : List Part) (input : List ℕ) (status : Status) (out : List ℕ) → Yields task parts input status out → Comes task parts input status out
+comes task parts input status out (ran n end r) = (n, end, r, refl, refl)
+comes task parts input status out (formatted r) = (refl, refl)
+comes task parts input status out (ended n end r w) = inl (n, end, r, w, refl, refl)
+comes task parts input status out (faulted n array state f w) = inr (inl (n, array, state, f, w, refl, refl))
+comes task parts input status out (going now g) = inr (inr (now, g, refl, refl))
 
--- what a command yields
-abbrev IsYield : Command → List Part → List ℕ → Reply → Type 0
-IsYield command parts input reply = Yields command parts input reply.0 reply.1
+-- what a task yields
+abbrev IsYield : JobTask → List Part → List ℕ → Reply → Type 0
+IsYield task parts input reply = Yields task parts input reply.0 reply.1
 
 module _ (law : RunsOnce) (parts : List Part) (input : List ℕ) where
   -- a run of a program that ends
@@ -150,46 +150,46 @@ module _ (law : RunsOnce) (parts : List Part) (input : List ℕ) where
     plain_once (inr (inl f)) = faulted_once f.turn f.array f.state f.faults f.within
     plain_once (inr (inr g)) = going_once g.now g.goes
 
-  -- one thing alone comes of a command to a program that it takes
-  yields_once : (command : Command) (finish : Place) → IsAccepted parts finish → unfit_for command parts ≡ [] → ReadsTheSame parts → ExactlyOne (IsYield command parts input)
+  -- one thing alone comes of a task to a program that it takes
+  yields_once : (task : JobTask) (finish : Place) → IsAccepted parts finish → unfit_for task parts ≡ [] → ReadsTheSame parts → ExactlyOne (IsYield task parts input)
   yields_once Run finish accepted fit same = let run = numbers_run parts (world_of input) (one_main parts finish accepted fit) in run_once run.turns run.end run.runs
   yields_once Format finish accepted fit same = format_once same
   yields_once (Plain options) finish accepted fit same = plain_once options (law.some parts (world_of input) options.turns)
 
 -- a refused text
-module _ (command : Command) (text : List ℕ) (r : Refusal) (refusal : Refuses (unfit_for command) text r)
-    (only : (other : Result (List Part × List ℕ) Refusal) → IsTextAnswer (unfit_for command) text other → other ≡ Err r) where
-  only_refused : (status : Status) (out : List ℕ) → Answered command text status out → ◌≡◌ {A = Reply} (status, out) (Refused, refusal_text r)
+module _ (task : JobTask) (text : List ℕ) (r : Refusal) (refusal : Refuses (unfit_for task) text r)
+    (only : (other : Result (List Part × List ℕ) Refusal) → IsTextAnswer (unfit_for task) text other → other ≡ Err r) where
+  only_refused : (status : Status) (out : List ℕ) → Answered task text status out → ◌≡◌ {A = Reply} (status, out) (Refused, refusal_text r)
   only_refused status out (refused q h) =
       let same = only (Err q) h in
       let here : q ≡ r = cc in
       ap (λ x. (Refused, refusal_text x)) here
   only_refused status out (done parts input j y) = let bad = only (Ok (parts, input)) j in cc
 
-  refusal_once : ExactlyOne (IsAnswer command text)
+  refusal_once : ExactlyOne (IsAnswer task text)
   refusal_once = record { answer = (Refused, refusal_text r); holds = refused r refusal; only = λ other a. only_refused other.0 other.1 a }
 
 -- a job
-module _ (command : Command) (text : List ℕ) (parts : List Part) (input : List ℕ) (job : IsJob (unfit_for command) text parts input)
-    (only : (other : Result (List Part × List ℕ) Refusal) → IsTextAnswer (unfit_for command) text other → other ≡ Ok (parts, input)) (one : ExactlyOne (IsYield command parts input)) where
-  these : (others : List Part) (words : List ℕ) → IsJob (unfit_for command) text others words → ◌≡◌ {A = List Part × List ℕ} (others, words) (parts, input)
+module _ (task : JobTask) (text : List ℕ) (parts : List Part) (input : List ℕ) (job : IsJob (unfit_for task) text parts input)
+    (only : (other : Result (List Part × List ℕ) Refusal) → IsTextAnswer (unfit_for task) text other → other ≡ Ok (parts, input)) (one : ExactlyOne (IsYield task parts input)) where
+  these : (others : List Part) (words : List ℕ) → IsJob (unfit_for task) text others words → ◌≡◌ {A = List Part × List ℕ} (others, words) (parts, input)
   these others words j = let same = only (Ok (others, words)) j in cc
 
-  only_done : (status : Status) (out : List ℕ) → Answered command text status out → ◌≡◌ {A = Reply} (status, out) one.answer
+  only_done : (status : Status) (out : List ℕ) → Answered task text status out → ◌≡◌ {A = Reply} (status, out) one.answer
   only_done status out (refused q h) = let bad = only (Err q) h in cc
   only_done status out (done others words j y) =
-      one.only (status, out) (subst (λ (x : List Part × List ℕ). Yields command x.0 x.1 status out) (these others words j) y)
+      one.only (status, out) (subst (λ (x : List Part × List ℕ). Yields task x.0 x.1 status out) (these others words j) y)
 
-  job_once : ExactlyOne (IsAnswer command text)
+  job_once : ExactlyOne (IsAnswer task text)
   job_once = record { answer = one.answer; holds = done parts input job one.holds; only = λ other a. only_done other.0 other.1 a }
 
 -- each text has one answer alone, since it comes to one thing alone, and one thing comes of it
-pub answered_once : (law : RunsOnce) (same : (parts : List Part) (text : List ℕ) (input : List ℕ) (command : Command) → IsJob (unfit_for command) text parts input → ReadsTheSame parts)
-    → (command : Command) (text : List ℕ) → ExactlyOne (IsTextAnswer (unfit_for command) text) → ExactlyOne (IsAnswer command text)
-answered_once law same command text e = go e.answer e.holds e.only
+pub answered_once : (law : RunsOnce) (same : (parts : List Part) (text : List ℕ) (input : List ℕ) (task : JobTask) → IsJob (unfit_for task) text parts input → ReadsTheSame parts)
+    → (task : JobTask) (text : List ℕ) → ExactlyOne (IsTextAnswer (unfit_for task) text) → ExactlyOne (IsAnswer task text)
+answered_once law same task text e = go e.answer e.holds e.only
   where
-    go : (found : Result (List Part × List ℕ) Refusal) → IsTextAnswer (unfit_for command) text found
-        → ((other : Result (List Part × List ℕ) Refusal) → IsTextAnswer (unfit_for command) text other → other ≡ found) → ExactlyOne (IsAnswer command text)
+    go : (found : Result (List Part × List ℕ) Refusal) → IsTextAnswer (unfit_for task) text found
+        → ((other : Result (List Part × List ℕ) Refusal) → IsTextAnswer (unfit_for task) text other → other ≡ found) → ExactlyOne (IsAnswer task text)
     go (Ok (parts, input)) job only =
-        job_once command text parts input job only (yields_once law parts input command job.reads.finish job.reads.accepted job.fit (same parts text input command job))
-    go (Err r) h only = refusal_once command text r h only
+        job_once task text parts input job only (yields_once law parts input task job.reads.finish job.reads.accepted job.fit (same parts text input task job))
+    go (Err r) h only = refusal_once task text r h only

@@ -5,50 +5,54 @@ use lib.Pointwise.{pointwise}
 use Rattle.std.specs.Cmp.Lexicographic.{same_text}
 use Rattle.ws_io.specs.Streams.{Rose, Takes, TakesAll}
 use Rattle.src_ast.specs.Syntax.{Part}
-use Rattle.wsc_top.specs.declared.line.Command.{Command}
-use Rattle.wsc_top.specs.declared.line.Command.TheVariants.{Run, Format}
+use Rattle.wsc_top.specs.declared.task.JobTask.{JobTask}
+use Rattle.wsc_top.specs.declared.task.Task.{Task}
+use Rattle.wsc_top.specs.declared.task.Task.TheVariants.{Job, Generate}
 use Rattle.wsc_top.specs.declared.status.Status.{Status}
 use Rattle.wsc_top.specs.declared.status.Status.TheVariants.{Done, Usage, Refused, Budget, ReadFault, WriteFault, NoMemory}
-use Rattle.wsc_top.specs.Lines.{IsLine, IsNoLine}
-use Rattle.wsc_top.proofs.Lines.{same_command}
+use Rattle.wsc_top.specs.Tasks.{IsLine, IsNoLine}
+use Rattle.wsc_top.proofs.Tasks.{OneLine, same_task_by}
 use Rattle.wsc_top.specs.Job.{IsJob}
 use Rattle.wsc_top.specs.Texts.{usage_text, unread_text, long_text}
-use Rattle.wsc_top.specs.Answers.{job_limit, unfit_for, ran, formatted, ended, faulted, going, Answered, refused, done, Answers, usage, unread, long, read, WereRead, IsToldJob, IsToldOther}
+use Rattle.wsc_top.specs.Answers.{job_limit, unfit_for, ran, formatted, ended, faulted, going, Answered, refused, done, IsReader, limit_of, Answers, usage, generated, unread, long, read, WereRead, IsToldJob, IsToldOther}
 
 -- the answer where the words are no line
 pub usage_answers : (words : List (List ℕ)) (left : Option (List ℕ)) (m n : ℕ) (out : List ℕ) → IsNoLine words → out ≡ usage_text → Answers words left left m n Usage out
 usage_answers words left m n out h e = subst (λ o. Answers words left left m n Usage o) (sym e) (usage h refl)
 
 -- the answer where reading failed
-pub unread_answers : (words : List (List ℕ)) (left after : Option (List ℕ)) (m n : ℕ) (out : List ℕ) (c : Command) → IsLine words c → Rose m n
+pub unread_answers : (words : List (List ℕ)) (left after : Option (List ℕ)) (m n : ℕ) (out : List ℕ) (c : JobTask) → IsLine words (Job c) → Rose m n
     → (bytes : List ℕ) × (length bytes ≤ job_limit) × Takes left bytes after → out ≡ unread_text → Answers words left after m n ReadFault out
-unread_answers words left after m n out c r f t e = subst (λ o. Answers words left after m n ReadFault o) (sym e) (unread c t.0 r f t.1 t.2)
+unread_answers words left after m n out c r f t e = subst (λ o. Answers words left after m n ReadFault o) (sym e) (unread (Job c) t.0 r tt f t.1 t.2)
 
 -- the answer where there are too many bytes
-pub long_answers : (words : List (List ℕ)) (left after : Option (List ℕ)) (m n : ℕ) (out : List ℕ) (c : Command) → IsLine words c
+pub long_answers : (words : List (List ℕ)) (left after : Option (List ℕ)) (m n : ℕ) (out : List ℕ) (c : JobTask) → IsLine words (Job c)
     → (bytes : List ℕ) × (length bytes ≡ job_limit + 1) × Takes left bytes after → out ≡ long_text → Answers words left after m n Refused out
-long_answers words left after m n out c r t e = subst (λ o. Answers words left after m n Refused o) (sym e) (long c t.0 r t.1 t.2)
+long_answers words left after m n out c r t e = subst (λ o. Answers words left after m n Refused o) (sym e) (long (Job c) t.0 r tt t.1 t.2)
 
 -- the answer where the whole text was read
-pub read_answers : (words : List (List ℕ)) (left after : Option (List ℕ)) (m n : ℕ) (text same out : List ℕ) (c : Command) (status : Status) → IsLine words c → length text ≤ job_limit
+pub read_answers : (words : List (List ℕ)) (left after : Option (List ℕ)) (m n : ℕ) (text same out : List ℕ) (c : JobTask) (status : Status) → IsLine words (Job c) → length text ≤ job_limit
     → TakesAll left text after → same ≡ text → Answered c same status out → Answers words left after m n status out
 read_answers words left after m n text same out c status r l t e a = read c text r l t (subst (λ x. Answered c x status out) e a)
 
 -- any told text that is no job is refused
-other_refused : (words : List (List ℕ)) (c : Command) (text : List ℕ) (after : Option (List ℕ)) (m n : ℕ) (status : Status) (out : List ℕ) → Answers words (Some text) after m n status out
-    → IsLine words c → (length text ≤ job_limit → (parts : List Part) (input : List ℕ) → IsJob (unfit_for c) text parts input → ⊥) → (status ≡ ReadFault → ⊥) → status ≡ Refused
-other_refused words c text after m n status out (usage h e) r b f = absurd (h c r)
-other_refused words c text after m n status out (unread d bytes q rose k t) r b f = absurd (f refl)
-other_refused words c text after m n status out (long d bytes q k t) r b f = refl
-other_refused words c text after m n status out (read d other q k t (refused x h)) r b f = refl
-other_refused words c text after m n status out (read d other q k t (done ps input a y)) r b f =
-    let same = same_command words d c q r in
+other_refused : OneLine → (words : List (List ℕ)) (c : JobTask) (text : List ℕ) (after : Option (List ℕ)) (m n : ℕ) (status : Status) (out : List ℕ) → Answers words (Some text) after m n status out
+    → IsLine words (Job c) → (length text ≤ job_limit → (parts : List Part) (input : List ℕ) → IsJob (unfit_for c) text parts input → ⊥) → (status ≡ ReadFault → ⊥) → status ≡ Refused
+other_refused one words c text after m n status out (usage h e) r b f = absurd (h (Job c) r)
+other_refused one words c text after m n status out (generated k q e) r b f =
+    let same : Generate k ≡ Job c = same_task_by one words (Generate k) (Job c) q r in absurd cc
+other_refused one words c text after m n status out (unread d bytes q is rose k t) r b f = absurd (f refl)
+other_refused one words c text after m n status out (long d bytes q is k t) r b f = refl
+other_refused one words c text after m n status out (read d other q k t (refused x h)) r b f = refl
+other_refused one words c text after m n status out (read d other q k t (done ps input a y)) r b f =
+    let whole : Job d ≡ Job c = same_task_by one words (Job d) (Job c) q r in
+    let same : d ≡ c = cc in
     absurd (b (subst (λ x. length x ≤ job_limit) (sym t.0) k) ps input (subst (λ x. IsJob (unfit_for c) x ps input) (sym t.0) (subst (λ e. IsJob (unfit_for e) other ps input) same a)))
 
 -- a told text that is no job is refused, or reading failed
-pub told_refused : (words : List (List ℕ)) (c : Command) (left after : Option (List ℕ)) (m n : ℕ) (out : List ℕ) (status : Status) → Answers words left after m n status out
+pub told_refused : OneLine → (words : List (List ℕ)) (c : JobTask) (left after : Option (List ℕ)) (m n : ℕ) (out : List ℕ) (status : Status) → Answers words left after m n status out
     → IsToldOther words left c → (status ≡ ReadFault → ⊥) → status ≡ Refused
-told_refused words c left after m n out status a t = other_refused words c t.text after m n status out (subst (λ l. Answers words l after m n status out) t.told a) t.line t.other
+told_refused one words c left after m n out status a t = other_refused one words c t.text after m n status out (subst (λ l. Answers words l after m n status out) t.told a) t.line t.other
 
 -- of a told text within the limit no byte more than the limit is read
 pub too_much : (left : Option (List ℕ)) (text bytes : List ℕ) (after : Option (List ℕ)) → left ≡ Some text → length text ≤ job_limit → length bytes ≡ job_limit + 1 → Takes left bytes after → ⊥
@@ -66,7 +70,7 @@ IsOfText NoMemory = ⊥
 IsOfText _ = Unit {0}
 
 -- an answer to a text has one of them
-text_status : (c : Command) (text : List ℕ) (status : Status) (out : List ℕ) → Answered c text status out → IsOfText status
+text_status : (c : JobTask) (text : List ℕ) (status : Status) (out : List ℕ) → Answered c text status out → IsOfText status
 text_status c text status out (refused x y) = tt
 text_status c text status out (done ps input a (ran n e r)) = tt
 text_status c text status out (done ps input a (formatted r)) = tt
@@ -77,34 +81,38 @@ text_status c text status out (done ps input a (going now g)) = tt
 -- no answer has this status
 pub not_memory : (words : List (List ℕ)) (left after : Option (List ℕ)) (m n : ℕ) (status : Status) (out : List ℕ) → Answers words left after m n status out → status ≡ NoMemory → ⊥
 not_memory words left after m n status out (usage g e) h = cc
-not_memory words left after m n status out (unread c bytes q f k t) h = cc
-not_memory words left after m n status out (long c bytes q k t) h = cc
+not_memory words left after m n status out (generated k q e) h = cc
+not_memory words left after m n status out (unread c bytes q is f k t) h = cc
+not_memory words left after m n status out (long c bytes q is k t) h = cc
 not_memory words left after m n status out (read c text q k t a) h = subst IsOfText h (text_status c text status out a)
 
 -- nor this one
 pub not_write_fault : (words : List (List ℕ)) (left after : Option (List ℕ)) (m n : ℕ) (status : Status) (out : List ℕ) → Answers words left after m n status out → status ≡ WriteFault → ⊥
 not_write_fault words left after m n status out (usage g e) h = cc
-not_write_fault words left after m n status out (unread c bytes q f k t) h = cc
-not_write_fault words left after m n status out (long c bytes q k t) h = cc
+not_write_fault words left after m n status out (generated k q e) h = cc
+not_write_fault words left after m n status out (unread c bytes q is f k t) h = cc
+not_write_fault words left after m n status out (long c bytes q is k t) h = cc
 not_write_fault words left after m n status out (read c text q k t a) h = subst IsOfText h (text_status c text status out a)
 
--- where no line is found the words are none
-pub no_line : (words : List (List ℕ)) (found : Option Command) → IfNone found ((c : Command) → IsLine words c → ⊥) → ((c : Command) → found ≡ Some c → ⊥) → (c : Command) → IsLine words c → ⊥
+-- where no task is found the words are no line
+pub no_line : (words : List (List ℕ)) (found : Option Task) → IfNone found (IsNoLine words)
+    → ((c : Task) → found ≡ Some c → ⊥) → IsNoLine words
 no_line words None h n = h
 no_line words (Some d) h n = absurd (n d refl)
 
--- the job that is read is the one that is told
-pub told_job : (words : List (List ℕ)) (c d : Command) (left after : Option (List ℕ)) (same view : List ℕ) (parts : List Part) (input : List ℕ)
-    → IsToldJob words left c parts input → IsLine words d → TakesAll left same after → view ≡ same → IsJob (unfit_for d) view parts input
-told_job words c d left after same view parts input told k t v =
-    subst (λ x. IsJob (unfit_for d) x parts input) (sym (v ∙ told_text left told.text same after told.told t))
-    (subst (λ x. IsJob (unfit_for x) told.text parts input) (same_command words c d told.line k) told.job)
+-- what is told is what is read
+pub told_is : (c : JobTask) (left after : Option (List ℕ)) (text same view : List ℕ) (parts : List Part)
+    (input : List ℕ) → left ≡ Some text → IsJob (unfit_for c) text parts input → TakesAll left same after
+    → view ≡ same → IsJob (unfit_for c) view parts input
+told_is c left after text same view parts input e job t v =
+    subst (λ x. IsJob (unfit_for c) x parts input) (sym (v ∙ told_text left text same after e t)) job
 
 -- where the answer is that reading failed, the count rose
 pub read_rose : (words : List (List ℕ)) (left after : Option (List ℕ)) (m n : ℕ) (status : Status) (out : List ℕ) → Answers words left after m n status out → status ≡ ReadFault → Rose m n
 read_rose words left after m n status out (usage g e) h = cc
-read_rose words left after m n status out (unread c bytes q rose k t) h = rose
-read_rose words left after m n status out (long c bytes q k t) h = cc
+read_rose words left after m n status out (generated k q e) h = cc
+read_rose words left after m n status out (unread c bytes q is rose k t) h = rose
+read_rose words left after m n status out (long c bytes q is k t) h = cc
 read_rose words left after m n status out (read c text q k t a) h = absurd (subst IsOfText h (text_status c text status out a))
 
 -- nothing is taken from a source that stays as it is
@@ -112,11 +120,13 @@ pub takes_none : (left : Option (List ℕ)) → Takes left [] left
 takes_none None = refl
 takes_none (Some bytes) = (bytes, refl, refl)
 
--- where the words are no line nothing was read
-pub none_read : (words : List (List ℕ)) (left : Option (List ℕ)) → (bytes : List ℕ) × WereRead words bytes × Takes left bytes left
-none_read words left = ([], record { few = omega arith; asked = λ h. refl }, takes_none left)
+-- nothing was read
+pub none_read : (words : List (List ℕ)) (left : Option (List ℕ))
+    → (bytes : List ℕ) × WereRead words bytes × Takes left bytes left
+none_read words left = ([], inl refl, takes_none left)
 
--- where they are one, these bytes were read
-pub some_read : (words : List (List ℕ)) (left after : Option (List ℕ)) (c : Command) → IsLine words c → (bytes : List ℕ) × (length bytes ≤ job_limit + 1) × Takes left bytes after
+-- these bytes were read for a job
+pub some_read : (words : List (List ℕ)) (left after : Option (List ℕ)) (c : JobTask) → IsLine words (Job c)
+    → (bytes : List ℕ) × (length bytes ≤ job_limit + 1) × Takes left bytes after
     → (bytes : List ℕ) × WereRead words bytes × Takes left bytes after
-some_read words left after c r t = (t.0, record { few = t.1; asked = λ h. absurd (h c r) }, t.2)
+some_read words left after c r t = (t.0, inr (Job c, r, tt, t.1), t.2)

@@ -13,7 +13,7 @@ use Rattle.src_ast.specs.Lexemes.{start, after, Lex, KeepLimits}
 use Rattle.src_ast.specs.Grammar.{Tree}
 use Rattle.src_ast.specs.Rules.{IsAccepted}
 use Rattle.src_ast.specs.Written.{IsWritten}
-use Rattle.wsc_top.specs.declared.line.Command.{Command}
+use Rattle.wsc_top.specs.declared.task.JobTask.{JobTask}
 use Rattle.wsc_top.specs.declared.status.Status.{Status}
 use Rattle.wsc_top.specs.declared.status.Status.TheVariants.{Refused}
 use Rattle.wsc_top.specs.Sections.{program_of, input_of, input_place, InputWords, IsInputFault, AnswersWords}
@@ -39,7 +39,7 @@ begins : (ps : List Place) (p : Place) → first_of ps ≡ Some p → Begins ps 
 begins [] p e = cc
 begins (q ∷ ps) p e = record { more = ps; is = cc }
 
--- a program that a command can't take is no job of it
+-- a program that a task can't take is no job of it
 pub unfit_only : (unfit : Unfit) (text : List ℕ) (found : List Part) (place : Place) → ((parts : List Part) → ReadsAs text parts → found ≡ parts) → first_of (unfit found) ≡ Some place
     → (parts : List Part) (ws : List ℕ) → IsJob unfit text parts ws → ⊥
 unfit_only unfit text found place only e parts ws j =
@@ -85,13 +85,13 @@ pub job_written : (unfit : Unfit) (text : List ℕ) (parts : List Part) (ws : Li
     → IsJob unfit text parts ws → IsWritten parts
 job_written unfit text parts ws law j = let r = j.reads in law (program_of text) r.ls r.finish parts r.lex r.kept r.tree r.accepted
 
-pub refused_answers : (command : Command) (text out : List ℕ) (r : Refusal) → Refuses (unfit_for command) text r → out ≡ refusal_text r → Answered command text Refused out
-refused_answers command text out r h e = subst (λ o. Answered command text Refused o) (sym e) (refused r h)
+pub refused_answers : (task : JobTask) (text out : List ℕ) (r : Refusal) → Refuses (unfit_for task) text r → out ≡ refusal_text r → Answered task text Refused out
+refused_answers task text out r h e = subst (λ o. Answered task text Refused o) (sym e) (refused r h)
 
-pub job_done : (command : Command) (text : List ℕ) (parts : List Part) (ws out : List ℕ) (status : Status) → IsJob (unfit_for command) text parts ws → Yields command parts ws status out
-    → Answered command text status out
-job_done command text parts ws out status j y = done parts ws j y
+pub job_done : (task : JobTask) (text : List ℕ) (parts : List Part) (ws out : List ℕ) (status : Status) → IsJob (unfit_for task) text parts ws → Yields task parts ws status out
+    → Answered task text status out
+job_done task text parts ws out status j y = done parts ws j y
 
 -- the status says of a job what it says of what was read
-pub ends_same : (command : Command) (parts found : List Part) (ws given : List ℕ) (status : Status) → (found ≡ parts) × (given ≡ ws) → EndsSo command found given status → EndsSo command parts ws status
-ends_same command parts found ws given status e h = subst (λ w. EndsSo command parts w status) e.1 (subst (λ ps. EndsSo command ps given status) e.0 h)
+pub ends_same : (task : JobTask) (parts found : List Part) (ws given : List ℕ) (status : Status) → (found ≡ parts) × (given ≡ ws) → EndsSo task found given status → EndsSo task parts ws status
+ends_same task parts found ws given status e h = subst (λ w. EndsSo task parts w status) e.1 (subst (λ ps. EndsSo task ps given status) e.0 h)

@@ -6,7 +6,7 @@ pub mod Printing
 pub mod Mains
 pub mod Jobs
 pub mod TextAnswers
-pub mod Lines
+pub mod Tasks
 pub mod Calls
 pub mod PlainTexts
 pub mod Outcomes

@@ -13,8 +13,8 @@ use Rattle.df_core.specs.declared.piece.Piece.{Piece}
 use Rattle.df_core.specs.Built.{Prints}
 use Rattle.df_core.specs.Straight.{IsStraight, printed_by}
 use Rattle.seq_run.specs.Answer.{SaysEnded, SaysFault, SaysGoing, HasEnded, HasFaulted, IsGoing}
-use Rattle.wsc_top.specs.declared.line.Command.TheVariants.{Run, Format, Plain}
-use Rattle.wsc_top.specs.declared.line.options.PlainOptions.{PlainOptions}
+use Rattle.wsc_top.specs.declared.task.JobTask.TheVariants.{Run, Format, Plain}
+use Rattle.wsc_top.specs.declared.task.PlainOptions.{PlainOptions}
 use Rattle.wsc_top.specs.declared.status.Status.{Status}
 use Rattle.wsc_top.specs.declared.status.Status.TheVariants.{Done, Budget, Fault}
 use Rattle.wsc_top.specs.Straights.{words_of}

@@ -158,7 +158,7 @@ module _ (unfit : Unfit) (text : List ℕ) (parts : List Part) (reads : ReadsAs 
   no_program_fault : (r : Refusal) → ProgramFault text r → ⊥
   no_program_fault r h = let bad = only (Err r) h in cc
 
-  -- a place in what the command can't take
+  -- a place in what the task can't take
   abbrev unbuilt_at : Place → Refusal
   unbuilt_at p = record { kind = Unbuilt; place = p }
 

@@ -10,10 +10,13 @@ use Rattle.src_ast.specs.Printed.{printed_form}
 use Rattle.src_ast.specs.Written.{ReadsTheSame}
 use Rattle.wsc_top.specs.declared.status.Status.{Status}
 use Rattle.wsc_top.specs.declared.status.Status.TheVariants.{Done, Usage, Refused, Budget, ReadFault, NoMemory, Fault}
-use Rattle.wsc_top.specs.declared.line.Command.{Command}
-use Rattle.wsc_top.specs.declared.line.Command.TheVariants.{Run, Format, Plain}
-use Rattle.wsc_top.specs.declared.line.options.PlainOptions.{PlainOptions}
-use Rattle.wsc_top.specs.Lines.{IsLine, IsNoLine}
+use Rattle.wsc_top.specs.declared.task.Task.{Task}
+use Rattle.wsc_top.specs.declared.task.Task.TheVariants.{Job, Generate}
+use Rattle.wsc_top.specs.declared.task.JobTask.{JobTask}
+use Rattle.wsc_top.specs.declared.task.JobTask.TheVariants.{Run, Format, Plain}
+use Rattle.wsc_top.specs.declared.task.PlainOptions.{PlainOptions}
+use Rattle.work_gen.specs.Job.{job_text}
+use Rattle.wsc_top.specs.Tasks.{IsLine, IsNoLine}
 use Rattle.wsc_top.specs.Straights.{unbuilt_places}
 use Rattle.wsc_top.specs.Job.{Unfit, IsJob, Refuses, world_of}
 use Rattle.wsc_top.specs.Texts.{done_text, ended_text, faulted_text, going_text, usage_text, unread_text, long_text, refusal_text}
@@ -22,18 +25,18 @@ use Rattle.wsc_top.specs.Texts.{done_text, ended_text, faulted_text, going_text,
 abbrev pub job_limit : ℕ
 job_limit = 1048576
 
--- what a command can't take: a run takes prints over numbers alone so far, the printed form and the
+-- what a task can't take: a run takes prints over numbers alone so far, the printed form and the
 -- sequential run any program
-abbrev pub unfit_for : Command → Unfit
+abbrev pub unfit_for : JobTask → Unfit
 unfit_for Run = unbuilt_places
 unfit_for Format = λ _. []
 unfit_for (Plain options) = λ _. []
 
--- What comes of a command to a program and its input words: the status and the text. `run` prints
+-- What comes of a task to a program and its input words: the status and the text. `run` prints
 -- the words that the sequential run prints in as many turns as it takes; `format` the printed form,
 -- which reads as the same program; `plain` is the sequential run itself, in at most so many turns:
 -- at its end, before its first index fault, or where it wants a further turn.
-pub data Yields : Command → List Part → List ℕ → Status → List ℕ → Type 0 where
+pub data Yields : JobTask → List Part → List ℕ → Status → List ℕ → Type 0 where
   ran : {parts : List Part} {input : List ℕ} (n : ℕ) (end : Outside)
       → Runs parts (world_of input) n end
       → Yields Run parts input Done (done_text (printed_words end.acts))
@@ -54,15 +57,15 @@ pub data Yields : Command → List Part → List ℕ → Status → List ℕ →
       → Goes parts (world_of input) options.turns now
       → Yields (Plain options) parts input Budget (going_text (printed_words now.acts))
 
--- a command comes to its end: the sequential run in no more turns than it may take
-abbrev pub ComesToItsEnd : Command → List Part → List ℕ → Type 0
+-- a task comes to its end: the sequential run in no more turns than it may take
+abbrev pub ComesToItsEnd : JobTask → List Part → List ℕ → Type 0
 ComesToItsEnd Run parts input = Unit {0}
 ComesToItsEnd Format parts input = Unit {0}
 ComesToItsEnd (Plain options) parts input =
     (n : ℕ) × (end : Outside) × Runs parts (world_of input) n end × (n ≤ options.turns)
 
 -- it meets an index fault, in a turn that it may take
-abbrev pub MeetsFault : Command → List Part → List ℕ → Type 0
+abbrev pub MeetsFault : JobTask → List Part → List ℕ → Type 0
 MeetsFault Run parts input = ⊥
 MeetsFault Format parts input = ⊥
 MeetsFault (Plain options) parts input =
@@ -70,32 +73,42 @@ MeetsFault (Plain options) parts input =
     × Faults parts (world_of input) n array state × (n ≤ options.turns)
 
 -- it wants more turns than it may take
-abbrev pub WantsTurns : Command → List Part → List ℕ → Type 0
+abbrev pub WantsTurns : JobTask → List Part → List ℕ → Type 0
 WantsTurns Run parts input = ⊥
 WantsTurns Format parts input = ⊥
 WantsTurns (Plain options) parts input =
     (now : Outside) × Goes parts (world_of input) options.turns now
 
 -- each of the three has its status
-pub record EndsSo (command : Command) (parts : List Part) (input : List ℕ) (status : Status)
+pub record EndsSo (task : JobTask) (parts : List Part) (input : List ℕ) (status : Status)
     : Type 0 where
-  pub done : ComesToItsEnd command parts input → status ≡ Done
-  pub fault : MeetsFault command parts input → status ≡ Fault
-  pub budget : WantsTurns command parts input → status ≡ Budget
+  pub done : ComesToItsEnd task parts input → status ≡ Done
+  pub fault : MeetsFault task parts input → status ≡ Fault
+  pub budget : WantsTurns task parts input → status ≡ Budget
 
--- The status and the text of the answer of a command to a job.
-pub data Answered (command : Command) (text : List ℕ) : Status → List ℕ → Type 0 where
+-- The status and the text of the answer of a task to a job.
+pub data Answered (task : JobTask) (text : List ℕ) : Status → List ℕ → Type 0 where
   -- it is refused
-  refused : (r : Refusal) → Refuses (unfit_for command) text r
-      → Answered command text Refused (refusal_text r)
+  refused : (r : Refusal) → Refuses (unfit_for task) text r
+      → Answered task text Refused (refusal_text r)
   -- it is a job, and this comes of it
   done : {status : Status} {out : List ℕ} (parts : List Part) (input : List ℕ)
-      → IsJob (unfit_for command) text parts input → Yields command parts input status out
-      → Answered command text status out
+      → IsJob (unfit_for task) text parts input → Yields task parts input status out
+      → Answered task text status out
 
--- a status and a text are an answer of a command to a text
-abbrev pub IsAnswer : Command → List ℕ → Status × List ℕ → Type 0
-IsAnswer command text answer = Answered command text answer.0 answer.1
+-- a status and a text are an answer of a task to a text
+abbrev pub IsAnswer : JobTask → List ℕ → Status × List ℕ → Type 0
+IsAnswer task text answer = Answered task text answer.0 answer.1
+
+-- a task that reads from the source
+abbrev pub IsReader : Task → Type 0
+IsReader (Job task) = Unit {0}
+IsReader (Generate number) = ⊥
+
+-- the most bytes that it reads as a text
+abbrev pub limit_of : Task → ℕ
+limit_of (Job task) = job_limit
+limit_of (Generate number) = 0
 
 -- The status and the text of the answer to these words, where the source had these bytes left
 -- before the call and those after it, and counted these faults before it and those after it.
@@ -103,42 +116,46 @@ pub data Answers (words : List (List ℕ)) (left after : Option (List ℕ)) (fau
     : Status → List ℕ → Type 0 where
   -- the words are no line; nothing is read
   usage : IsNoLine words → after ≡ left → Answers words left after faults counted Usage usage_text
+  -- the job of this number is written; nothing is read
+  generated : (number : ℕ) → IsLine words (Generate number) → after ≡ left
+      → Answers words left after faults counted Done (job_text number)
   -- reading failed
-  unread : (command : Command) (bytes : List ℕ) → IsLine words command → Rose faults counted
-      → length bytes ≤ job_limit → Takes left bytes after
+  unread : (task : Task) (bytes : List ℕ) → IsLine words task → IsReader task
+      → Rose faults counted → length bytes ≤ limit_of task → Takes left bytes after
       → Answers words left after faults counted ReadFault unread_text
-  -- one byte more than a job has was read
-  long : (command : Command) (bytes : List ℕ) → IsLine words command
-      → length bytes ≡ job_limit + 1 → Takes left bytes after
+  -- one byte more than the text may have was read
+  long : (task : Task) (bytes : List ℕ) → IsLine words task → IsReader task
+      → length bytes ≡ limit_of task + 1 → Takes left bytes after
       → Answers words left after faults counted Refused long_text
   -- the whole text was read, and this is the answer to it
-  read : {status : Status} {out : List ℕ} (command : Command) (text : List ℕ)
-      → IsLine words command → length text ≤ job_limit → TakesAll left text after
-      → Answered command text status out
+  read : {status : Status} {out : List ℕ} (task : JobTask) (text : List ℕ)
+      → IsLine words (Job task) → length text ≤ job_limit → TakesAll left text after
+      → Answered task text status out
       → Answers words left after faults counted status out
 
--- these bytes were read: at most one more than a job has, and none where the words are no line
-pub record WereRead (words : List (List ℕ)) (bytes : List ℕ) : Type 0 where
-  pub few : length bytes ≤ job_limit + 1
-  pub asked : IsNoLine words → bytes ≡ []
+-- These bytes were read: none, or where the words ask for a task that reads, at most one more than
+-- its text may have.
+abbrev pub WereRead : List (List ℕ) → List ℕ → Type 0
+WereRead words bytes = (bytes ≡ []) ⊎ ((task : Task)
+    × IsLine words task × IsReader task × (length bytes ≤ limit_of task + 1))
 
 -- all that the source has left is told, and it is a job: this program and these input words
-pub record IsToldJob (words : List (List ℕ)) (left : Option (List ℕ)) (command : Command)
+pub record IsToldJob (words : List (List ℕ)) (left : Option (List ℕ)) (task : JobTask)
     (parts : List Part) (input : List ℕ) : Type 0 where
   pub text : List ℕ
-  pub line : IsLine words command
+  pub line : IsLine words (Job task)
   pub told : left ≡ Some text
   pub short : length text ≤ job_limit
-  pub job : IsJob (unfit_for command) text parts input
+  pub job : IsJob (unfit_for task) text parts input
 
 -- all that the source has left is told, and it is no job
-pub record IsToldOther (words : List (List ℕ)) (left : Option (List ℕ)) (command : Command)
+pub record IsToldOther (words : List (List ℕ)) (left : Option (List ℕ)) (task : JobTask)
     : Type 0 where
   pub text : List ℕ
-  pub line : IsLine words command
+  pub line : IsLine words (Job task)
   pub told : left ≡ Some text
   pub other : length text ≤ job_limit → (parts : List Part) (input : List ℕ)
-      → IsJob (unfit_for command) text parts input → ⊥
+      → IsJob (unfit_for task) text parts input → ⊥
 
 -- the status is this one, unless memory ran out
 abbrev pub OrNoMemory : Status → Status → Type 0

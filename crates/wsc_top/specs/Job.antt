@@ -37,7 +37,7 @@ pub data ProgramFault (text : List ℕ) : Refusal → Type 0 where
       → Lex (program_of text) ls finish → KeepLimits 0 0 ls → Tree ls parts
       → IsFirstBroken (rules_of parts finish) r → ProgramFault text r
 
--- A command can't take some programs: these are the places of what it can't take, in the order of
+-- A task can't take some programs: these are the places of what it can't take, in the order of
 -- the text.
 abbrev pub Unfit : Type 0
 Unfit = List Part → List Place
@@ -47,13 +47,13 @@ abbrev pub first_of : List Place → Option Place
 first_of [] = None
 first_of (p ∷ ps) = Some p
 
--- the text is a program that a command takes, and the words that it reads
+-- the text is a program that a task takes, and the words that it reads
 pub record IsJob (unfit : Unfit) (text : List ℕ) (parts : List Part) (input : List ℕ) : Type 0 where
   pub reads : ReadsAs text parts
   pub fit : unfit parts ≡ []
   pub words : InputWords (input_place text) (input_of text) input
 
--- the text is refused so: by the fault of its program, else by what the command can't take, else by
+-- the text is refused so: by the fault of its program, else by what the task can't take, else by
 -- its input section
 pub data Refuses (unfit : Unfit) (text : List ℕ) : Refusal → Type 0 where
   program : (r : Refusal) → ProgramFault text r → Refuses unfit text r
@@ -64,7 +64,7 @@ pub data Refuses (unfit : Unfit) (text : List ℕ) : Refusal → Type 0 where
       → InputFault (input_place text) (input_of text) place
       → Refuses unfit text (record { kind = Input; place = place })
 
--- what a text comes to for a command: the program and the words of a job, or why it is refused
+-- what a text comes to for a task: the program and the words of a job, or why it is refused
 abbrev pub IsTextAnswer : Unfit → List ℕ → Result (List Part × List ℕ) Refusal → Type 0
 IsTextAnswer unfit text (Ok job) = IsJob unfit text job.0 job.1
 IsTextAnswer unfit text (Err refusal) = Refuses unfit text refusal

@@ -1,5 +1,5 @@
 pub mod Codes
-pub mod Lines
+pub mod Tasks
 pub mod Sections
 pub mod Straights
 pub mod Job

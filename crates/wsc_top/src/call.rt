@@ -3,9 +3,10 @@
 ghost use Rattle.std.specs.Prelude.{◌≡◌, ◌≢◌, ℕ, ◌≤◌, List, length, map, take, string_bytes};
 ghost use Rattle.ws_io.specs.Streams.{Rose, Takes, Adds, Flushes};
 ghost use Rattle.src_ast.specs.Syntax.{Part};
-ghost use Rattle.wsc_top.specs.declared.line.Command.{Command};
+ghost use Rattle.wsc_top.specs.declared.task.Task.{Task};
+ghost use Rattle.wsc_top.specs.declared.task.JobTask.{JobTask};
 ghost use Rattle.wsc_top.specs.declared.status.Status.{Status};
-ghost use Rattle.wsc_top.specs.Lines.{IsNoLine};
+ghost use Rattle.wsc_top.specs.Tasks.{IsLine, IsNoLine};
 ghost use Rattle.wsc_top.specs.Answers.{ComesToItsEnd, MeetsFault, WantsTurns, Answers, WereRead, IsToldJob, IsToldOther, OrNoMemory};
 
 use crate::answer::to_words;
@@ -13,6 +14,7 @@ use crate::status::{Outcome, Status};
 use std::alloc::Global;
 use ws_io::{Sink, Source, write_all};
 use ws_words::NoMemory;
+use wsc_words::words_are_one_line;
 
 /// One call of the program: from the words of the command line, without the program's own name, and
 /// what the source gives, to what the sink takes.
@@ -38,7 +40,7 @@ pub fn wsc<S: Source, K: Sink>(
         × Adds (K.held sink.old) (take n text) (K.held sink.new)
         × (K.flushed sink.new ≡ K.flushed sink.old) }
 
-    // Nothing went out, and the bytes that were read are gone: none where the words are no line.
+    // Nothing went out, and the bytes that were read are gone: none where nothing is to be read.
     ensures memory { result.status ≡ Status.NoMemory
         → (bytes : List ℕ)
         × WereRead (map string_bytes words.now) bytes
@@ -55,30 +57,35 @@ pub fn wsc<S: Source, K: Sink>(
     ensures usage { IsNoLine (map string_bytes words.now)
         → ¬ Rose (K.faults sink.old) (K.faults sink.new)
         → OrNoMemory result.status Status.Usage }
-    ensures done { (command : Command) (parts : List Part) (input : List ℕ)
-        → IsToldJob (map string_bytes words.now) (S.left source.old) command parts input
-        → ComesToItsEnd command parts input
+    ensures generated { (number : ℕ)
+        → IsLine (map string_bytes words.now) (Task.Generate number)
+        → ¬ Rose (K.faults sink.old) (K.faults sink.new)
+        → OrNoMemory result.status Status.Done }
+    ensures done { (task : JobTask) (parts : List Part) (input : List ℕ)
+        → IsToldJob (map string_bytes words.now) (S.left source.old) task parts input
+        → ComesToItsEnd task parts input
         → ¬ Rose (S.faults source.old) (S.faults source.new)
         → ¬ Rose (K.faults sink.old) (K.faults sink.new)
         → OrNoMemory result.status Status.Done }
-    ensures fault { (command : Command) (parts : List Part) (input : List ℕ)
-        → IsToldJob (map string_bytes words.now) (S.left source.old) command parts input
-        → MeetsFault command parts input
+    ensures fault { (task : JobTask) (parts : List Part) (input : List ℕ)
+        → IsToldJob (map string_bytes words.now) (S.left source.old) task parts input
+        → MeetsFault task parts input
         → ¬ Rose (S.faults source.old) (S.faults source.new)
         → ¬ Rose (K.faults sink.old) (K.faults sink.new)
         → OrNoMemory result.status Status.Fault }
-    ensures budget { (command : Command) (parts : List Part) (input : List ℕ)
-        → IsToldJob (map string_bytes words.now) (S.left source.old) command parts input
-        → WantsTurns command parts input
+    ensures budget { (task : JobTask) (parts : List Part) (input : List ℕ)
+        → IsToldJob (map string_bytes words.now) (S.left source.old) task parts input
+        → WantsTurns task parts input
         → ¬ Rose (S.faults source.old) (S.faults source.new)
         → ¬ Rose (K.faults sink.old) (K.faults sink.new)
         → OrNoMemory result.status Status.Budget }
-    ensures refused { (command : Command)
-        → IsToldOther (map string_bytes words.now) (S.left source.old) command
+    ensures refused { (task : JobTask)
+        → IsToldOther (map string_bytes words.now) (S.left source.old) task
         → ¬ Rose (S.faults source.old) (S.faults source.new)
         → ¬ Rose (K.faults sink.old) (K.faults sink.new)
         → OrNoMemory result.status Status.Refused }
 {
+    words_are_one_line();
     match to_words(alloc, words, source) {
         Ok((status, text)) => match write_all(sink, text.as_slice()) {
             Ok(()) => Outcome { status },

@@ -11,7 +11,7 @@ mod input;
 mod program;
 mod sections;
 
-use crate::line::Command;
+use crate::task::JobTask;
 use crate::straight::first_unbuilt;
 use input::words;
 use sections::split;
@@ -24,36 +24,36 @@ use ws_words::Words;
 /// Where a text begins.
 const START: Place = Place { line: 1, column: 1 };
 
-// The first place in the text of what a command can't take.
-fn unfit(command: Command, program: &Program) -> Option<Place>
-    ensures { result ≡ first_of (unfit_for command (view.parts program.now.items.items)) }
+// The first place in the text of what a task can't take.
+fn unfit(task: JobTask, program: &Program) -> Option<Place>
+    ensures { result ≡ first_of (unfit_for task (view.parts program.now.items.items)) }
 {
-    match command {
-        Command::Run => first_unbuilt(program),
-        Command::Format => None,
-        Command::Plain(_) => None,
+    match task {
+        JobTask::Run => first_unbuilt(program),
+        JobTask::Format => None,
+        JobTask::Plain(_) => None,
     }
 }
 
 /// The program of a job and the words that it reads, or why the text is refused.
-pub fn read(alloc: Global, command: Command, text: &[u8]) -> Result<(Accepted, Words), TextFault>
+pub fn read(alloc: Global, task: JobTask, text: &[u8]) -> Result<(Accepted, Words), TextFault>
     requires { length text.now ≤ job_limit }
     ensures ok { IfOk result
-        (λ x. IsJob (unfit_for command) text.now (view.parts x.0.program.items.items) x.1) }
+        (λ x. IsJob (unfit_for task) text.now (view.parts x.0.program.items.items) x.1) }
     ensures only { (parts : List Part) (input : List ℕ)
-        → IsJob (unfit_for command) text.now parts input
+        → IsJob (unfit_for task) text.now parts input
         → IfErr result (λ e. e ≡ TextFault.NoMemory) }
     ensures same { (parts : List Part) (input : List ℕ)
-        → IsJob (unfit_for command) text.now parts input
+        → IsJob (unfit_for task) text.now parts input
         → IfOk result (λ x. (view.parts x.0.program.items.items ≡ parts) × (x.1 ≡ input)) }
-    ensures refused { IfErr result (λ e. IsRefused (unfit_for command) text.now e) }
+    ensures refused { IfErr result (λ e. IsRefused (unfit_for task) text.now e) }
 {
     let (program, input) = split(text);
     let accepted = match program::read(alloc, text, program) {
         Ok(accepted) => accepted,
         Err(fault) => return Err(fault),
     };
-    if let Some(place) = unfit(command, &accepted.program) {
+    if let Some(place) = unfit(task, &accepted.program) {
         return Err(TextFault::Refused(Refusal {
             kind: RefusalKind::Unbuilt,
             place,

@@ -3,7 +3,7 @@
 ghost use Rattle.std.specs.Prelude.{ℕ, List};
 ghost use Rattle.src_ast.specs.declared.lexeme.Place.{Place};
 ghost use Rattle.src_ast.specs.Once.{ExactlyOne};
-ghost use Rattle.wsc_top.specs.declared.line.Command.{Command};
+ghost use Rattle.wsc_top.specs.declared.task.JobTask.{JobTask};
 ghost use Rattle.wsc_top.specs.Sections.{IsInputAnswer};
 ghost use Rattle.wsc_top.specs.Job.{IsTextAnswer};
 ghost use Rattle.wsc_top.specs.Answers.{unfit_for, IsAnswer};
@@ -19,20 +19,20 @@ pub fn each_input_is_read_once()
     ensures { (at : Place) (text : List ℕ) → ExactlyOne (IsInputAnswer at text) }
 {}
 
-/// For each command each text comes to one thing alone: it is a job, with one program and one list
+/// For each task each text comes to one thing alone: it is a job, with one program and one list
 /// of words, or it is refused for one reason.
 pub fn each_text_is_a_job_or_refused()
-    ensures { (command : Command) (text : List ℕ)
-        → ExactlyOne (IsTextAnswer (unfit_for command) text) }
+    ensures { (task : JobTask) (text : List ℕ)
+        → ExactlyOne (IsTextAnswer (unfit_for task) text) }
 {
     each_text_is_lexed_once();
     lexemes_are_parsed_once();
     each_program_is_checked_once();
 }
 
-/// For each command each text has one answer alone, a status and a text.
+/// For each task each text has one answer alone, a status and a text.
 pub fn every_text_is_answered_once()
-    ensures { (command : Command) (text : List ℕ) → ExactlyOne (IsAnswer command text) }
+    ensures { (task : JobTask) (text : List ℕ) → ExactlyOne (IsAnswer task text) }
 {
     each_text_is_a_job_or_refused();
     read_is_written();

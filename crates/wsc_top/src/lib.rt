@@ -6,7 +6,7 @@ mod answer;
 mod call;
 mod job;
 mod laws;
-mod line;
+mod task;
 mod status;
 mod straight;
 mod texts;

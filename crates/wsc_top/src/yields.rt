@@ -7,10 +7,10 @@ ghost use Rattle.src_ast.specs.Written.{IsWritten};
 ghost use Rattle.wsc_top.specs.Straights.{unbuilt_places};
 ghost use Rattle.wsc_top.specs.Job.{world_of};
 ghost use Rattle.wsc_top.specs.Answers.{unfit_for, Yields, EndsSo};
-ghost use Rattle.wsc_top.specs.declared.line.Command.{Command};
+ghost use Rattle.wsc_top.specs.declared.task.JobTask.{JobTask};
 ghost use Rattle.wsc_top.specs.declared.status.Status.{Status};
 
-use crate::line::{Command, PlainOptions};
+use crate::task::{JobTask, PlainOptions};
 use crate::status::Status;
 use crate::straight::straight_image;
 use crate::texts;
@@ -27,7 +27,7 @@ fn run(alloc: Global, accepted: &Accepted) -> Result<Bytes, NoMemory>
     requires built { unbuilt_places (view.parts accepted.now.program.items.items) ≡ [] }
     requires written { IsWritten (view.parts accepted.now.program.items.items) }
     ensures { IfOk result (λ out. (input : List ℕ)
-        → Yields Command.Run (view.parts accepted.now.program.items.items) input Status.Done out) }
+        → Yields JobTask.Run (view.parts accepted.now.program.items.items) input Status.Done out) }
 {
     built_is_straight();
     let straight = straight_image(alloc, accepted)?;
@@ -55,10 +55,10 @@ fn plainly(
     input: Words,
 ) -> Result<(Status, Bytes), NoMemory>
     ensures yields { IfOk result (λ y.
-        Yields (Command.Plain options)
+        Yields (JobTask.Plain options)
         (view.parts accepted.now.program.items.items) input y.0 y.1) }
     ensures ends { IfOk result (λ y.
-        EndsSo (Command.Plain options) (view.parts accepted.now.program.items.items) input y.0) }
+        EndsSo (JobTask.Plain options) (view.parts accepted.now.program.items.items) input y.0) }
 {
     let PlainOptions {
         turns,
@@ -98,25 +98,25 @@ fn plainly(
     }
 }
 
-/// The status and the text of what comes of a command to a program that it takes.
+/// The status and the text of what comes of a task to a program that it takes.
 #[tactic(auto, using(crate::proofs::Outcomes::format_yields, crate::proofs::Outcomes::run_so, crate::proofs::Outcomes::format_so))]
 pub fn yielded(
     alloc: Global,
-    command: Command,
+    task: JobTask,
     accepted: &Accepted,
     input: Words,
 ) -> Result<(Status, Bytes), NoMemory>
-    requires fit { unfit_for command (view.parts accepted.now.program.items.items) ≡ [] }
+    requires fit { unfit_for task (view.parts accepted.now.program.items.items) ≡ [] }
     requires written { IsWritten (view.parts accepted.now.program.items.items) }
     ensures yields { IfOk result (λ y.
-        Yields command (view.parts accepted.now.program.items.items) input y.0 y.1) }
+        Yields task (view.parts accepted.now.program.items.items) input y.0 y.1) }
     ensures ends { IfOk result (λ y.
-        EndsSo command (view.parts accepted.now.program.items.items) input y.0) }
+        EndsSo task (view.parts accepted.now.program.items.items) input y.0) }
 {
     printed_reads_the_same();
-    match command {
-        Command::Run => Ok((Status::Done, run(alloc, accepted)?)),
-        Command::Format => Ok((Status::Done, print_program(alloc, &accepted.program)?)),
-        Command::Plain(options) => plainly(alloc, options, accepted, input),
+    match task {
+        JobTask::Run => Ok((Status::Done, run(alloc, accepted)?)),
+        JobTask::Format => Ok((Status::Done, print_program(alloc, &accepted.program)?)),
+        JobTask::Plain(options) => plainly(alloc, options, accepted, input),
     }
 }

@@ -12,20 +12,23 @@ pub returns-in-Ok-write_all-clause-write_fault : goal.returns-in-Ok-write_all-cl
 returns-in-Ok-write_all-clause-write_fault g c e = absurd (not_write_fault _ _ _ _ _ _ _ c.in-Ok.ensures.ok e)
 
 pub returns-in-Ok-write_all-clause-done : goal.returns-in-Ok-write_all-clause-done
-returns-in-Ok-write_all-clause-done g c command parts input told ends source sink =
-    inl ((c.in-Ok.ensures.job command parts input told (λ f. source (read_rose _ _ _ _ _ _ _ c.in-Ok.ensures.ok f))).done ends)
+returns-in-Ok-write_all-clause-done g c task parts input told ends source sink =
+    inl ((c.in-Ok.ensures.job task parts input told (λ f. source (read_rose _ _ _ _ _ _ _ c.in-Ok.ensures.ok f))).done ends)
 
 pub returns-in-Ok-write_all-clause-fault : goal.returns-in-Ok-write_all-clause-fault
-returns-in-Ok-write_all-clause-fault g c command parts input told meets source sink =
-    inl ((c.in-Ok.ensures.job command parts input told (λ f. source (read_rose _ _ _ _ _ _ _ c.in-Ok.ensures.ok f))).fault meets)
+returns-in-Ok-write_all-clause-fault g c task parts input told meets source sink =
+    inl ((c.in-Ok.ensures.job task parts input told (λ f. source (read_rose _ _ _ _ _ _ _ c.in-Ok.ensures.ok f))).fault meets)
 
 pub returns-in-Ok-write_all-clause-budget : goal.returns-in-Ok-write_all-clause-budget
-returns-in-Ok-write_all-clause-budget g c command parts input told wants source sink =
-    inl ((c.in-Ok.ensures.job command parts input told (λ f. source (read_rose _ _ _ _ _ _ _ c.in-Ok.ensures.ok f))).budget wants)
+returns-in-Ok-write_all-clause-budget g c task parts input told wants source sink =
+    inl ((c.in-Ok.ensures.job task parts input told (λ f. source (read_rose _ _ _ _ _ _ _ c.in-Ok.ensures.ok f))).budget wants)
 
 pub returns-in-Ok-write_all-clause-refused : goal.returns-in-Ok-write_all-clause-refused
-returns-in-Ok-write_all-clause-refused g c command told source sink =
-    inl (told_refused _ command _ _ _ _ _ c.in-Ok.status c.in-Ok.ensures.ok told (λ f. source (read_rose _ _ _ _ _ _ _ c.in-Ok.ensures.ok f)))
+returns-in-Ok-write_all-clause-refused g c task told source sink =
+    inl (told_refused c.words_are_one_line.ensures _ task _ _ _ _ _ c.in-Ok.status c.in-Ok.ensures.ok told (λ f. source (read_rose _ _ _ _ _ _ _ c.in-Ok.ensures.ok f)))
 
 pub returns-in-Ok-write_all-clause-cut : goal.returns-in-Ok-write_all-clause-cut
 returns-in-Ok-write_all-clause-cut g c e = absurd (not_write_fault _ _ _ _ _ _ _ c.in-Ok.ensures.ok e)
+
+pub returns-in-Ok-write_all-clause-generated : goal.returns-in-Ok-write_all-clause-generated
+returns-in-Ok-write_all-clause-generated g c number line sink = inl (c.in-Ok.ensures.generated number line)

@@ -11,7 +11,7 @@ pub returns-in-Err-clause-refused : goal.returns-in-Err-clause-refused
 returns-in-Err-clause-refused c = program_refused _ _ _ c.in-Err.ensures.refused
 
 pub returns-in-Some-clause-only : goal.returns-in-Some-clause-only
-returns-in-Some-clause-only c parts input j = absurd (unfit_only (unfit_for c.args.command) c.args.text.now (view.parts c.in-Ok.accepted.program.items.items) c.in-Some.place c.in-Ok.ensures.only (sym c.in-Some.ensures) parts input j)
+returns-in-Some-clause-only c parts input j = absurd (unfit_only (unfit_for c.args.task) c.args.text.now (view.parts c.in-Ok.accepted.program.items.items) c.in-Some.place c.in-Ok.ensures.only (sym c.in-Some.ensures) parts input j)
 
 pub returns-in-Some-clause-refused : goal.returns-in-Some-clause-refused
 returns-in-Some-clause-refused c = unfit_refused _ _ (view.parts c.in-Ok.accepted.program.items.items) _ c.in-Ok.ensures.ok (sym c.in-Some.ensures)
@@ -22,10 +22,10 @@ returns-in-Err-words-clause-only c = words_only _ _ _ _ _ c.split.ensures.input 
 pub returns-in-Err-words-clause-refused : goal.returns-in-Err-words-clause-refused
 returns-in-Err-words-clause-refused c =
     words_refused _ _ _ _ (view.parts c.in-Ok.accepted.program.items.items) _ c.split.ensures.input (section_at c.args.text.now _ c.place_after.result c.split.ensures.program c.place_after.ensures.following) c.in-Ok.ensures.ok
-    (fits (unfit_for c.args.command) (view.parts c.in-Ok.accepted.program.items.items) c.unfit.result c.unfit.ensures c.in_default.not-Some) c.in-Err-words.ensures.refused
+    (fits (unfit_for c.args.task) (view.parts c.in-Ok.accepted.program.items.items) c.unfit.result c.unfit.ensures c.in_default.not-Some) c.in-Err-words.ensures.refused
 
 pub returns-in-Ok-words-clause-same : goal.returns-in-Ok-words-clause-same
 returns-in-Ok-words-clause-same c parts input j = (
   c.in-Ok.ensures.only parts j.reads,
-  words_same (unfit_for c.args.command) c.args.text.now _ _ _ c.split.ensures.input (section_at c.args.text.now _ c.place_after.result c.split.ensures.program c.place_after.ensures.following) c.in-Ok-words.ensures.only parts input j,
+  words_same (unfit_for c.args.task) c.args.text.now _ _ _ c.split.ensures.input (section_at c.args.text.now _ c.place_after.result c.split.ensures.program c.place_after.ensures.following) c.in-Ok-words.ensures.only parts input j,
 )

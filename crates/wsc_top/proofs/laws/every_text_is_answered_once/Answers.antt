@@ -4,7 +4,7 @@ use Rattle.wsc_top.proofs.AnswersOnce.{answered_once}
 use Rattle.wsc_top.proofs.laws.every_text_is_answered_once.Goals as goal
 
 pub returns : goal.returns
-returns c command text =
+returns c task text =
     let runs = c.one_answer.ensures in
     answered_once
     (record {
@@ -17,4 +17,4 @@ returns c command text =
       no_fault_on_the_way = runs.no_fault_on_the_way;
     })
     (λ parts bytes input asked job. c.printed_reads_the_same.ensures parts (job_written (unfit_for asked) bytes parts input c.read_is_written.ensures job))
-    command text (c.each_text_is_a_job_or_refused.ensures command text)
+    task text (c.each_text_is_a_job_or_refused.ensures task text)

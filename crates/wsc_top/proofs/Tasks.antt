@@ -1,0 +1,25 @@
+-- Words ask for one task at most.
+use Rattle.std.specs.Prelude.{◌≡◌, ℕ, List, Option, Some, None, Result, Ok, Err}
+use Rattle.std.proofs.Common.{sym, ap, ◌∙◌, subst}
+use Rattle.wsc_words.specs.Lines as words
+use Rattle.wsc_words.specs.declared.line.Line.{Line}
+use Rattle.wsc_top.specs.declared.task.Task.{Task}
+use Rattle.wsc_top.specs.Tasks.{task_of, IsLine, IsNoLine}
+
+-- words are one line at most
+abbrev pub OneLine : Type 0
+OneLine = (words : List (List ℕ)) (l m : Line) → words.IsLine words l → words.IsLine words m → l ≡ m
+
+-- so they ask for one task
+pub same_task_by : OneLine → (words : List (List ℕ)) (c d : Task) → IsLine words c → IsLine words d → c ≡ d
+same_task_by one words c d (l, h, e) (m, k, f) =
+    let same : l ≡ m = one words l m h k in
+    let tasks : Some c ≡ Some d = sym e ∙ ap task_of same ∙ f in
+    cc
+
+-- a line that asks for nothing that is built
+pub not_built : OneLine → (words : List (List ℕ)) (l : Line) → words.IsLine words l → task_of l ≡ None → IsNoLine words
+not_built one words l h e task (m, k, f) =
+    let same : l ≡ m = one words l m h k in
+    let bad : None ≡ Some task = sym e ∙ ap task_of same ∙ f in
+    absurd cc

@@ -1,0 +1,34 @@
+-- What the program does for a line of the command line, of what is built so far.
+use Rattle.std.specs.Prelude.{◌≡◌, ℕ, Bool, true, false, cond, not, ◌&&◌, eqb, List, Option, Some, None}
+use Rattle.wsc_words.specs.Lines as words
+use Rattle.wsc_words.specs.declared.line.Line.{Line}
+use Rattle.wsc_words.specs.declared.command.Command.{Command}
+use Rattle.wsc_words.specs.declared.command.Command.TheVariants as command
+use Rattle.wsc_top.specs.declared.task.Task.{Task}
+use Rattle.wsc_top.specs.declared.task.Task.TheVariants.{Job, Generate}
+use Rattle.wsc_top.specs.declared.task.JobTask.TheVariants.{Run, Format, Plain}
+
+-- no option of a run is built so far
+abbrev pub is_bare : Line → Bool
+is_bare line =
+    not line.memory && (not line.stats && (eqb line.workers 1 && eqb line.budget 2000000))
+
+abbrev pub task_by : Command → Line → Option Task
+task_by command.Run line = cond (is_bare line) (Some (Job Run)) None
+task_by command.Plain line = Some (Job (Plain (record {
+    turns = line.turns; memory = line.memory; stats = line.stats })))
+task_by command.Format line = Some (Job Format)
+task_by command.Gen line = Some (Generate line.number)
+task_by _ line = None
+
+-- what a line asks for, where that is built
+abbrev pub task_of : Line → Option Task
+task_of line = task_by line.command line
+
+-- these words are a line that asks for this
+abbrev pub IsLine : List (List ℕ) → Task → Type 0
+IsLine words task = (line : Line) × words.IsLine words line × (task_of line ≡ Some task)
+
+-- these words are no line, or none that is built
+abbrev pub IsNoLine : List (List ℕ) → Type 0
+IsNoLine words = (task : Task) → IsLine words task → ⊥

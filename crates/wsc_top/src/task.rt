@@ -1,0 +1,83 @@
+//! What a line of the command line asks for.
+
+ghost use Rattle.std.specs.Prelude.{◌≡◌, map, string_bytes, IfOk, IfSome, IfNone};
+ghost use Rattle.wsc_top.specs.Tasks.{is_bare, task_of, IsLine, IsNoLine};
+
+use std::alloc::Global;
+use ws_words::NoMemory;
+use wsc_words::{Command, Line, WordsFault, read_words, words_are_one_line};
+
+/// How the sequential run is asked for.
+#[derive(Clone, Copy, Debug, PartialEq, Eq)]
+pub struct PlainOptions {
+    /// The most turns that it may take.
+    pub turns: u64,
+    /// Whether the cells of the arrays are shown at its end.
+    pub memory: bool,
+    /// Whether the turns that it took are shown.
+    pub stats: bool,
+}
+
+/// What is done with a job.
+#[derive(Clone, Copy, Debug, PartialEq, Eq)]
+pub enum JobTask {
+    /// It is run.
+    Run,
+    /// Its program is printed.
+    Format,
+    /// It is run turn by turn, as the source says.
+    Plain(PlainOptions),
+}
+
+/// What the program does, of what is built so far.
+#[derive(Clone, Copy, Debug, PartialEq, Eq)]
+pub enum Task {
+    /// It reads a job.
+    Job(JobTask),
+    /// It writes the generated job of a number, and reads nothing.
+    Generate(u32),
+}
+
+// Whether a line has no option of a run.
+fn is_bare(line: &Line) -> bool
+    ensures { result ≡ is_bare line.now }
+{
+    !line.memory && !line.stats && line.workers == 1 && line.budget == 2_000_000
+}
+
+// What a line asks for, where that is built.
+fn task_of(line: &Line) -> Option<Task>
+    ensures { result ≡ task_of line.now }
+{
+    match line.command {
+        Command::Run => {
+            if is_bare(line) {
+                Some(Task::Job(JobTask::Run))
+            } else {
+                None
+            }
+        }
+        Command::Plain => Some(Task::Job(JobTask::Plain(PlainOptions {
+            turns: line.turns,
+            memory: line.memory,
+            stats: line.stats,
+        }))),
+        Command::Format => Some(Task::Job(JobTask::Format)),
+        Command::Gen => Some(Task::Generate(line.number)),
+        _ => None,
+    }
+}
+
+/// What these words of the command line ask for, without the program's own name.
+pub fn read_task(alloc: Global, words: &[String]) -> Result<Option<Task>, NoMemory>
+    ensures some { IfOk result (λ found.
+        IfSome found (λ task. IsLine (map string_bytes words.now) task)) }
+    ensures none { IfOk result (λ found. IfNone found (IsNoLine (map string_bytes words.now))) }
+{
+    words_are_one_line();
+    match read_words(alloc, words) {
+        Ok(line) => Ok(task_of(&line)),
+        Err(WordsFault::Usage) => Ok(None),
+        Err(WordsFault::NoMemory) => Err(NoMemory),
+    }
+}
