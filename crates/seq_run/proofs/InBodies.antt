@@ -165,11 +165,11 @@ mutual
 
 -- Where the rules are kept, there are few statements.
 module _ (visible : List Declared) where
-  room : (k : ℕ) (at : _) (rs : List Rule) → Kept (statement_rule k at ∷ rs) → k < 1024
-  room k at rs h = ltb-true k 1024 (kept_one (statement_rule k at) rs h)
+  room : (k : ℕ) (at : _) (rs : List Rule) → Kept (statement_rule k at ∷ rs) → k < 2048
+  room k at rs h = ltb-true k 2048 (kept_one (statement_rule k at) rs h)
 
   mutual
-    one_few : (k : ℕ) (s : Statement) → Kept (statement_rules visible k s) → k + size_of s ≤ 1024
+    one_few : (k : ℕ) (s : Statement) → Kept (statement_rules visible k s) → k + size_of s ≤ 2048
     one_few k (Assign at x e) h = let lt = room k at (expression_rules visible e) (kept_after (use_rules visible x variable) (statement_rule k at ∷ expression_rules visible e) h) in omega (arith, lt)
     one_few k (Store at a i e) h =
         let es = expression_rules visible i ++ expression_rules visible e in
@@ -198,7 +198,7 @@ module _ (visible : List Declared) where
         omega (arith, i)
 
     -- there are few enough statements
-    pub body_few : (k : ℕ) (b : Statements) → k ≤ 1024 → Kept (body_rules visible k b) → k + size_of_all b ≤ 1024
+    pub body_few : (k : ℕ) (b : Statements) → k ≤ 2048 → Kept (body_rules visible k b) → k + size_of_all b ≤ 2048
     body_few k Nothing le h = omega (arith, le)
     body_few k (Then s rest) le h =
         let xs = statement_rules visible k s in let ys = body_rules visible (k + size_of s) rest in
@@ -206,6 +206,6 @@ module _ (visible : List Declared) where
         omega (arith, i)
 
   -- with a result too
-  pub ending_few : (k : ℕ) (r : Option Last) → k ≤ 1024 → Kept (ending_rules visible k r) → k + size_of_ending r ≤ 1024
+  pub ending_few : (k : ℕ) (r : Option Last) → k ≤ 2048 → Kept (ending_rules visible k r) → k + size_of_ending r ≤ 2048
   ending_few k None le h = omega (arith, le)
   ending_few k (Some last) le h = let lt = room k last.place (expression_rules visible last.value) h in omega (arith, lt)

@@ -149,7 +149,7 @@ procs_few before (Proc p ∷ parts) le h =
     omega (arith, i, l)
 
 module _ (arrays names : List Name) where
-  steps_few : (before parts : List Part) → statements_in before ≤ 1024 → Kept (rules_after before parts) → statements_in before + steps_in (resolving.procs arrays names (procs_of parts)) ≤ 1024
+  steps_few : (before parts : List Part) → statements_in before ≤ 2048 → Kept (rules_after before parts) → statements_in before + steps_in (resolving.procs arrays names (procs_of parts)) ≤ 2048
   steps_few before [] le h = omega (arith, le)
   steps_few before (Array x n at ∷ parts) le h =
       let next = before ++ Array x n at ∷ [] in

@@ -39,7 +39,7 @@ most_locals = 32
 
 -- statements of a program, `return` included
 abbrev pub most_statements : ℕ
-most_statements = 1024
+most_statements = 2048
 
 -- the number of a port, counted from 1
 abbrev pub most_port : ℕ

@@ -28,7 +28,7 @@ pub const MOST_PARAMETERS: usize = 8;
 pub const MOST_LOCALS: usize = 32;
 
 /// Statements of a program, `return` included.
-pub const MOST_STATEMENTS: u64 = 1024;
+pub const MOST_STATEMENTS: u64 = 2048;
 
 /// The number of a port, counted from 1.
 pub const MOST_PORT: u64 = 7;
