@@ -10,6 +10,7 @@ use Rattle.wsc_top.specs.declared.task.Task.{Task}
 use Rattle.wsc_top.specs.declared.task.Task.TheVariants.{Job, Generate}
 use Rattle.wsc_top.specs.declared.status.Status.{Status}
 use Rattle.wsc_top.specs.declared.status.Status.TheVariants.{Done, Usage, Refused, Budget, ReadFault, WriteFault, NoMemory}
+use Rattle.work_gen.specs.Job.{job_text}
 use Rattle.wsc_top.specs.Tasks.{IsLine, IsNoLine}
 use Rattle.wsc_top.proofs.Tasks.{OneLine, same_task_by}
 use Rattle.wsc_top.specs.Job.{IsJob}
@@ -19,6 +20,12 @@ use Rattle.wsc_top.specs.Answers.{job_limit, unfit_for, ran, formatted, ended, f
 -- the answer where the words are no line
 pub usage_answers : (words : List (List ℕ)) (left : Option (List ℕ)) (m n : ℕ) (out : List ℕ) → IsNoLine words → out ≡ usage_text → Answers words left left m n Usage out
 usage_answers words left m n out h e = subst (λ o. Answers words left left m n Usage o) (sym e) (usage h refl)
+
+-- the answer where a generated job is asked for
+pub generated_answers : (words : List (List ℕ)) (left : Option (List ℕ)) (m n number : ℕ) (out : List ℕ)
+    → IsLine words (Generate number) → out ≡ job_text number → Answers words left left m n Done out
+generated_answers words left m n number out h e =
+    subst (λ o. Answers words left left m n Done o) (sym e) (generated number h refl)
 
 -- the answer where reading failed
 pub unread_answers : (words : List (List ℕ)) (left after : Option (List ℕ)) (m n : ℕ) (out : List ℕ) (c : JobTask) → IsLine words (Job c) → Rose m n
@@ -130,3 +137,12 @@ pub some_read : (words : List (List ℕ)) (left after : Option (List ℕ)) (c : 
     → (bytes : List ℕ) × (length bytes ≤ job_limit + 1) × Takes left bytes after
     → (bytes : List ℕ) × WereRead words bytes × Takes left bytes after
 some_read words left after c r t = (t.0, inr (Job c, r, tt, t.1), t.2)
+
+-- words that are no line have the answer that says so
+pub no_line_usage : (words : List (List ℕ)) (left after : Option (List ℕ)) (m n : ℕ) (status : Status) (out : List ℕ)
+    → Answers words left after m n status out → IsNoLine words → status ≡ Usage
+no_line_usage words left after m n status out (usage g e) h = refl
+no_line_usage words left after m n status out (generated k q e) h = absurd (h (Generate k) q)
+no_line_usage words left after m n status out (unread c bytes q is rose k t) h = absurd (h c q)
+no_line_usage words left after m n status out (long c bytes q is k t) h = absurd (h c q)
+no_line_usage words left after m n status out (read c text q k t a) h = absurd (h (Job c) q)

@@ -1,6 +1,6 @@
 -- What the program does for a line of the command line, of what is built so far.
 use Rattle.std.specs.Prelude.{◌≡◌, ℕ, Bool, true, false, cond, not, ◌&&◌, eqb, List, Option, Some, None}
-use Rattle.wsc_words.specs.Lines as words
+use Rattle.wsc_words.specs.Lines as lines
 use Rattle.wsc_words.specs.declared.line.Line.{Line}
 use Rattle.wsc_words.specs.declared.command.Command.{Command}
 use Rattle.wsc_words.specs.declared.command.Command.TheVariants as command
@@ -27,7 +27,7 @@ task_of line = task_by line.command line
 
 -- these words are a line that asks for this
 abbrev pub IsLine : List (List ℕ) → Task → Type 0
-IsLine words task = (line : Line) × words.IsLine words line × (task_of line ≡ Some task)
+IsLine words task = (line : Line) × lines.IsLine words line × (task_of line ≡ Some task)
 
 -- these words are no line, or none that is built
 abbrev pub IsNoLine : List (List ℕ) → Type 0

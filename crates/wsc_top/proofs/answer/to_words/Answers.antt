@@ -1,0 +1,32 @@
+use Rattle.std.proofs.Common.{subst, sym}
+use Rattle.wsc_top.specs.declared.task.Task.TheVariants.{Job, Generate}
+use Rattle.wsc_top.specs.Job.{IsJob}
+use Rattle.wsc_top.specs.Answers.{EndsSo, unfit_for}
+use Rattle.wsc_top.proofs.Tasks.{found_line, same_job}
+use Rattle.wsc_top.proofs.Calls.{no_line, usage_answers, generated_answers}
+use Rattle.wsc_top.proofs.answer.to_words.Goals as goal
+
+pub returns-in_ok-from_slice-in-None-clause-ok : goal.returns-in_ok-from_slice-in-None-clause-ok
+returns-in_ok-from_slice-in-None-clause-ok g c =
+    usage_answers _ _ _ _ _ (no_line _ c.in_ok-read_task.field-0 c.in_ok-read_task.ensures.none (λ t e. cc)) c.in_ok-from_slice-in-None.ensures
+
+pub returns-in_ok-from_slice-in-None-clause-generated : goal.returns-in_ok-from_slice-in-None-clause-generated
+returns-in_ok-from_slice-in-None-clause-generated g c number line =
+    absurd (no_line _ c.in_ok-read_task.field-0 c.in_ok-read_task.ensures.none (λ t e. cc) (Generate number) line)
+
+pub returns-in_ok-from_slice-in-None-clause-job : goal.returns-in_ok-from_slice-in-None-clause-job
+returns-in_ok-from_slice-in-None-clause-job g c task parts input told f =
+    absurd (no_line _ c.in_ok-read_task.field-0 c.in_ok-read_task.ensures.none (λ t e. cc) (Job task) told.line)
+
+pub returns-in_ok-workload-in-Some-Generate-clause-ok : goal.returns-in_ok-workload-in-Some-Generate-clause-ok
+returns-in_ok-workload-in-Some-Generate-clause-ok g c =
+    let number = c.in-Some-Generate.number in
+    let line = found_line _ c.in_ok-read_task.field-0 (Generate number) c.in_ok-read_task.ensures.some (cc) in
+    generated_answers _ _ _ _ number _ line c.in_ok-workload-in-Some-Generate.ensures
+
+pub returns-in_ok-status-in-Some-Job-clause-job : goal.returns-in_ok-status-in-Some-Job-clause-job
+returns-in_ok-status-in-Some-Job-clause-job g c task parts input told f =
+    let line = found_line _ c.in_ok-read_task.field-0 (Job c.in-Some-Job.task) c.in_ok-read_task.ensures.some (cc) in
+    let same = same_job c.words_are_one_line.ensures _ task c.in-Some-Job.task told.line line in
+    subst (λ d. EndsSo d parts input c.in_ok-status-in-Some-Job.status) (sym same)
+    (c.in_ok-status-in-Some-Job.ensures.job told.text parts input told.told told.short (subst (λ d. IsJob (unfit_for d) told.text parts input) same told.job) f)

@@ -1,5 +1,5 @@
 use Rattle.std.proofs.Common.{inl}
-use Rattle.wsc_top.proofs.Calls.{not_memory, not_write_fault, read_rose, told_refused}
+use Rattle.wsc_top.proofs.Calls.{not_memory, not_write_fault, read_rose, told_refused, no_line_usage}
 use Rattle.wsc_top.proofs.call.wsc.Goals as goal
 
 pub returns-in-Ok-write_all-clause-memory : goal.returns-in-Ok-write_all-clause-memory
@@ -32,3 +32,6 @@ returns-in-Ok-write_all-clause-cut g c e = absurd (not_write_fault _ _ _ _ _ _ _
 
 pub returns-in-Ok-write_all-clause-generated : goal.returns-in-Ok-write_all-clause-generated
 returns-in-Ok-write_all-clause-generated g c number line sink = inl (c.in-Ok.ensures.generated number line)
+
+pub returns-in-Ok-write_all-clause-usage : goal.returns-in-Ok-write_all-clause-usage
+returns-in-Ok-write_all-clause-usage g c none sink = inl (no_line_usage _ _ _ _ _ _ _ c.in-Ok.ensures.ok none)
