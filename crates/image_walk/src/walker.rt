@@ -1,6 +1,6 @@
 //! The state of a walk, and what its steps do to it.
 
-ghost use Rattle.std.specs.Prelude.{◌≡◌, ◌≤◌, ◌<◌, ◌+◌, ◌-◌, ◌^◌, ℕ, suc, true, false, List, [], ◌∷◌, length, slice_index, slice_set, IfOk, OnOk, IfSome, MatchOption};
+ghost use Rattle.std.specs.Prelude.{◌≡◌, ◌≤◌, ◌<◌, ◌+◌, ◌*◌, ◌-◌, ◌^◌, ℕ, suc, true, false, List, [], ◌∷◌, length, slice_index, slice_set, IfOk, OnOk, IfSome, MatchOption};
 ghost use Rattle.ws_words.specs.Outside.{Outside, World};
 ghost use Rattle.ws_words.specs.Memory.{OutIs};
 ghost use Rattle.ws_isa.specs.Image.{instr_at, first_number, is_first, now_of, is_stop, landing_of, ports_of};
