@@ -1,11 +1,11 @@
 -- What a formed image says of each of its blocks, pads and instructions.
-use Rattle.std.proofs.Common.{◌≡◌, ℕ, suc, ◌+◌, ◌^◌, ◌<◌, ◌≤◌, nat_le, ◌&&◌, length, Bool, true, false, List, [], ◌∷◌, ◌++◌, refl, arith}
+use Rattle.std.proofs.Common.{◌≡◌, ◌^◌, ◌<◌, ◌≤◌, nat_le, ◌&&◌, length, Bool, true, List, [], ◌∷◌, ◌++◌, arith}
 use Rattle.std.specs.List.{AllByRecursion, list_all}
 use Rattle.std.proofs.lemmas.Bool.{and_parts, leb-true}
 use Rattle.ws_isa.specs.declared.instr.Op.{Op}
 use Rattle.ws_isa.specs.declared.instr.Op.TheVariants.{Alu, Steer, Phi, Send, Store}
 use Rattle.ws_isa.specs.declared.instr.Dest.{Dest}
-use Rattle.ws_isa.specs.Image.{Instr, Exit, Pad, Block, Image, flat, ports_of, ports, instr_at}
+use Rattle.ws_isa.specs.Image.{Instr, Block, Image, flat, ports_of, ports, instr_at}
 use Rattle.ws_isa.specs.Formed.{most_instrs, DestIn, DestsIn, OpIn, ExitIn, DestsSuit, OthersSuit, SomeLanding, PadsRise, NoteSuits, InstrWithin, BlockWithin, Formed}
 use Rattle.asm_text.specs.Limits.{first_most_instrs, first_most_blocks}
 use Rattle.asm_text.specs.Printed.{keeps_first_block, keeps_first_limits}
@@ -29,25 +29,34 @@ pub record BlockIn (image : Image) (first : Bool) (b : Block) : Type 0 where
   pub landing : SomeLanding b.exit
   pub rise : PadsRise b.pads
 
-instrs_in : (image : Image) (is : List Instr) → AllByRecursion InstrWithin is → AllByRecursion (λ i. DestsIn image i.dests) is → AllByRecursion (λ i. DestsIn image i.others) is
-    → AllByRecursion (λ i. OpIn image i.op) is → AllByRecursion (λ i. DestsSuit i.op i.dests) is → AllByRecursion (λ i. OthersSuit i.op i.others) is
+instrs_in : (image : Image) (is : List Instr) → AllByRecursion InstrWithin is
+    → AllByRecursion (λ i. DestsIn image i.dests) is → AllByRecursion (λ i. DestsIn image i.others) is
+    → AllByRecursion (λ i. OpIn image i.op) is → AllByRecursion (λ i. DestsSuit i.op i.dests) is
+    → AllByRecursion (λ i. OthersSuit i.op i.others) is
     → AllByRecursion (λ i. NoteSuits i.op i.note) is → AllByRecursion (InstrIn image) is
 instrs_in image [] w d o p l s n = tt
-instrs_in image (i ∷ is) w d o p l s n =
-    (record { within = w.0; dests = d.0; others = o.0; op = p.0; list = l.0; other = s.0; note = n.0 }, instrs_in image is w.1 d.1 o.1 p.1 l.1 s.1 n.1)
+instrs_in image (i ∷ is) w d o p l s n = (
+  record { within = w.0; dests = d.0; others = o.0; op = p.0; list = l.0; other = s.0; note = n.0 },
+  instrs_in image is w.1 d.1 o.1 p.1 l.1 s.1 n.1,
+)
 
-all_split : {A : Type 0} (P : A → Type 0) (xs ys : List A) → AllByRecursion P (xs ++ ys) → AllByRecursion P xs × AllByRecursion P ys
+all_split : {A : Type 0} (P : A → Type 0) (xs ys : List A) → AllByRecursion P (xs ++ ys)
+    → AllByRecursion P xs × AllByRecursion P ys
 all_split P [] ys h = (tt, h)
 all_split P (x ∷ xs) ys h = let r = all_split P xs ys h.1 in ((h.0, r.0), r.1)
 
 -- what holds of all instructions holds of those of each block
-all_flat : (P : Instr → Type 0) (bs : List Block) → AllByRecursion P (flat bs) → AllByRecursion (λ b. AllByRecursion P b.instrs) bs
+all_flat : (P : Instr → Type 0) (bs : List Block) → AllByRecursion P (flat bs)
+    → AllByRecursion (λ b. AllByRecursion P b.instrs) bs
 all_flat P [] h = tt
 all_flat P (b ∷ bs) h = let r = all_split P b.instrs (flat bs) h in (r.0, all_flat P bs r.1)
 
-blocks_in : (image : Image) (first : Bool) (bs : List Block) → AllByRecursion BlockWithin bs → (first ≡ true → list_all keeps_first_block bs ≡ true)
-    → AllByRecursion (λ b. AllByRecursion (InstrIn image) b.instrs) bs → AllByRecursion (λ b. AllByRecursion (λ p. DestsIn image p.dests) b.pads) bs
-    → AllByRecursion (λ b. ExitIn image b.exit) bs → AllByRecursion (λ b. SomeLanding b.exit) bs → AllByRecursion (λ b. PadsRise b.pads) bs
+blocks_in : (image : Image) (first : Bool) (bs : List Block) → AllByRecursion BlockWithin bs
+    → (first ≡ true → list_all keeps_first_block bs ≡ true)
+    → AllByRecursion (λ b. AllByRecursion (InstrIn image) b.instrs) bs
+    → AllByRecursion (λ b. AllByRecursion (λ p. DestsIn image p.dests) b.pads) bs
+    → AllByRecursion (λ b. ExitIn image b.exit) bs → AllByRecursion (λ b. SomeLanding b.exit) bs
+    → AllByRecursion (λ b. PadsRise b.pads) bs
     → AllByRecursion (BlockIn image first) bs
 blocks_in image first [] w k i p e l r = tt
 blocks_in image first (b ∷ bs) w k i p e l r = (
@@ -60,7 +69,8 @@ blocks_in image first (b ∷ bs) w k i p e l r = (
     landing = l.0;
     rise = r.0;
   },
-  blocks_in image first bs w.1 (λ f. (and_parts (keeps_first_block b) (list_all keeps_first_block bs) (k f)).1) i.1 p.1 e.1 l.1 r.1,
+  blocks_in image first bs w.1
+      (λ f. (and_parts (keeps_first_block b) (list_all keeps_first_block bs) (k f)).1) i.1 p.1 e.1 l.1 r.1,
 )
 
 -- What an image within the limits of version 1 keeps.
@@ -78,11 +88,16 @@ firsts_of image h =
     let q = and_parts n m p.0 in
     record { instrs = leb-true _ _ q.0; blocks = leb-true _ _ q.1; each = p.1 }
 
-pub blocks_formed : (image : Image) → Formed image → AllByRecursion (BlockIn image (keeps_first_limits image)) image.blocks
+pub blocks_formed : (image : Image) → Formed image
+    → AllByRecursion (BlockIn image (keeps_first_limits image)) image.blocks
 blocks_formed image f =
     let r = f.suited.references in
-    let instrs = instrs_in image (flat image.blocks) f.instrs r.dests r.others r.ops f.suited.lists.dests f.suited.lists.others f.notes in
-    blocks_in image (keeps_first_limits image) image.blocks f.blocks (λ k. (firsts_of image k).each) (all_flat (InstrIn image) image.blocks instrs) r.pads r.exits f.suited.landings f.pads
+    let instrs =
+    instrs_in image (flat image.blocks) f.instrs r.dests r.others r.ops f.suited.lists.dests
+    f.suited.lists.others f.notes
+    in
+    blocks_in image (keeps_first_limits image) image.blocks f.blocks (λ k. (firsts_of image k).each)
+    (all_flat (InstrIn image) image.blocks instrs) r.pads r.exits f.suited.landings f.pads
 
 three_ports : (op : Op) → ports_of op ≤ 3
 three_ports (Alu o) = omega arith

@@ -1,5 +1,5 @@
 -- The printed lines of a formed image say what they were printed for.
-use Rattle.std.proofs.Common.{◌≡◌, ℕ, suc, ◌+◌, ◌^◌, ◌<◌, ◌≤◌, length, Bool, true, false, List, [], ◌∷◌, ◌++◌, map, codes, Option, Some, None, refl, sym, ap, ◌∙◌, arith}
+use Rattle.std.proofs.Common.{◌≡◌, ℕ, ◌^◌, ◌<◌, ◌≤◌, length, true, false, List, [], ◌∷◌, ◌++◌, map, codes, Option, Some, None, refl, arith}
 use Rattle.std.specs.List.{AllByRecursion}
 use Rattle.std.proofs.lemmas.Bool.{true≢false}
 use Rattle.ws_words.specs.declared.alu.Alu as alus
@@ -12,11 +12,10 @@ use Rattle.ws_isa.specs.declared.instr.Note.{Note}
 use Rattle.ws_isa.specs.declared.instr.Dest.{Dest}
 use Rattle.ws_isa.specs.Image as plain
 use Rattle.ws_isa.specs.Image.{is_giving_op, IsBlock, flat}
-use Rattle.ws_isa.specs.Formed.{most_instrs, most_blocks, most_waves, most_arrays, most_length, most_pads, is_word, NameFormed, OpIn, ExitIn, SomeLanding, DestsIn, DestsSuit, OthersSuit, LinkWithin, NoteWithin, ConstWithin, SendWithin, Formed}
-use Rattle.asm_text.specs.declared.lexeme.Mark.TheVariants.{Colon, Arrow, Bar, Dot, Comma, Less, More}
+use Rattle.ws_isa.specs.Formed.{most_instrs, most_blocks, most_arrays, most_length, most_pads, is_word, NameFormed, OpIn, ExitIn, SomeLanding, DestsIn, DestsSuit, OthersSuit, LinkWithin, NoteWithin, ConstWithin, SendWithin, Formed}
+use Rattle.asm_text.specs.declared.lexeme.Mark.TheVariants.{Bar}
 use Rattle.asm_text.specs.declared.lexeme.Lexeme.{Lexeme}
-use Rattle.asm_text.specs.declared.lexeme.Lexeme.TheVariants.{Word, Number, Mark}
-use Rattle.asm_text.specs.declared.line.Label.{Label}
+use Rattle.asm_text.specs.declared.lexeme.Lexeme.TheVariants.{Word, Mark}
 use Rattle.asm_text.specs.declared.line.Label.TheVariants.{At}
 use Rattle.asm_text.specs.declared.line.Line.{Line}
 use Rattle.asm_text.specs.declared.line.Line.TheVariants as line
@@ -28,7 +27,7 @@ use Rattle.asm_text.specs.Printed.{dest_lexemes, numbers, link_lexeme, note_lexe
 use Rattle.asm_text.specs.Reading.{reading}
 use Rattle.asm_text.proofs.Spelt.{IsLexeme, AreLexemes}
 use Rattle.asm_text.proofs.Again.{target_of, AreNarrow, OpFits}
-use Rattle.asm_text.proofs.AgainLines.{ListsFit, array_line_of, SmallNumbers, version_again, array_again, wave_again, block_again, pad_again, instr_again, go_again, branch_again, send_again, stop_again, end_again, reading_again}
+use Rattle.asm_text.proofs.AgainLines.{array_line_of, SmallNumbers, version_again, array_again, wave_again, block_again, pad_again, instr_again, go_again, branch_again, send_again, stop_again, end_again, reading_again}
 use Rattle.asm_text.proofs.Items.{InstrIn, Small, dests_small}
 
 -- These are lexemes, and as a line they say this.
@@ -36,7 +35,8 @@ pub record Says (ls : List Lexeme) (x : Line) : Type 0 where
   pub lexemes : AreLexemes ls
   pub reads : reading (text_of after.Start ls) ≡ Found x false
 
-says : (l : Lexeme) (ls : List Lexeme) (x : Line) → AreLexemes (l ∷ ls) → line_of (l ∷ ls) ≡ Some x → Says (l ∷ ls) x
+says : (l : Lexeme) (ls : List Lexeme) (x : Line) → AreLexemes (l ∷ ls) → line_of (l ∷ ls) ≡ Some x
+    → Says (l ∷ ls) x
 says l ls x h e = record { lexemes = h; reads = reading_again l ls x h e }
 
 wide : (n : ℕ) → n < 2 ^ 32 → n < 2 ^ 64
@@ -58,16 +58,22 @@ end_says = says _ _ _ (refl, tt) end_again
 
 -- Arrays.
 
-pub array_says : (a : plain.Array) → NameFormed a.name → a.length ≤ most_length → Says (array_lexemes a) (array_line_of a.name a.length)
+pub array_says : (a : plain.Array) → NameFormed a.name → a.length ≤ most_length
+    → Says (array_lexemes a) (array_line_of a.name a.length)
 unfolding array_lexemes most_length
 array_says a h k = by a.name h
   where
     small : a.length < 2 ^ 32
     small = omega arith
 
-    by : (name : Option (List ℕ)) → NameFormed name → Says (array_by name a.length) (array_line_of name a.length)
-    by None n = says _ _ _ (refl, (wide a.length small, tt)) (array_again (record { name = None; length = a.length }) small)
-    by (Some w) n = says _ _ _ (refl, (n.0, (wide a.length small, tt))) (array_again (record { name = Some w; length = a.length }) small)
+    by : (name : Option (List ℕ)) → NameFormed name
+        → Says (array_by name a.length) (array_line_of name a.length)
+    by None n =
+        says _ _ _ (refl, (wide a.length small, tt))
+        (array_again (record { name = None; length = a.length }) small)
+    by (Some w) n =
+        says _ _ _ (refl, (n.0, (wide a.length small, tt)))
+        (array_again (record { name = Some w; length = a.length }) small)
 
 -- Destinations.
 
@@ -88,7 +94,8 @@ dests_narrow image ds f h = narrow ds (dests_small image ds f h)
 abbrev pub pad_line : plain.Pad → Line
 pad_line p = line.Pad p.number (map target_of p.dests)
 
-pub pad_says : (image : plain.Image) (p : plain.Pad) → Formed image → p.number < most_pads → DestsIn image p.dests → Says (pad_lexemes p) (pad_line p)
+pub pad_says : (image : plain.Image) (p : plain.Pad) → Formed image → p.number < most_pads
+    → DestsIn image p.dests → Says (pad_lexemes p) (pad_line p)
 unfolding pad_lexemes most_pads
 pad_says image p f n h =
     let d = dests_narrow image p.dests f h in
@@ -180,18 +187,29 @@ link_is_lexeme (link.Is n) h = wide n h
 note_are_lexemes : (note : Option Note) → NoteWithin note → AreLexemes (note_lexemes note)
 unfolding note_lexemes
 note_are_lexemes None h = tt
-note_are_lexemes (Some n) h = (tt, (link_is_lexeme n.pred h.0, (tt, (wide n.seq h.1, (tt, (link_is_lexeme n.succ h.2, (tt, (tt, (wide n.ripple h.3, tt)))))))))
+note_are_lexemes (Some n) h = (
+  tt,
+  (
+    link_is_lexeme n.pred h.0,
+    (tt, (wide n.seq h.1, (tt, (link_is_lexeme n.succ h.2, (tt, (tt, (wide n.ripple h.3, tt))))))),
+  ),
+)
 
 both_lexemes : (xs ys : List Lexeme) → AreLexemes xs → AreLexemes ys → AreLexemes (xs ++ ys)
 both_lexemes [] ys h k = k
 both_lexemes (x ∷ xs) ys h k = (h.0, both_lexemes xs ys h.1 k)
 
-list_are_lexemes : (op : Op) (ds os : List Dest) → AreNarrow ds → AreNarrow os → AreLexemes (list_lexemes op ds os)
+list_are_lexemes : (op : Op) (ds os : List Dest) → AreNarrow ds → AreNarrow os
+    → AreLexemes (list_lexemes op ds os)
 unfolding list_lexemes
 list_are_lexemes op ds os h k =
     let P : List Lexeme → Type 0 = AreLexemes in
     (elim (is_steer op) as (λ t. is_steer op ≡ t → P (list_lexemes op ds os)) [
-      | true ↦ λ e. rw e (tt, both_lexemes (dest_lexemes ds) (Mark Bar ∷ dest_lexemes os) (dests_lexemes ds h) (tt, dests_lexemes os k))
+      | true ↦ λ e. rw e (
+        tt,
+        both_lexemes (dest_lexemes ds) (Mark Bar ∷ dest_lexemes os)
+            (dests_lexemes ds h) (tt, dests_lexemes os k),
+      )
       | false ↦ λ e. (elim (is_giving_op op) as (λ t. is_giving_op op ≡ t → P (list_lexemes op ds os)) [
         | true ↦ λ g. rw (e, g) (tt, dests_lexemes ds h)
         | false ↦ λ g. rw (e, g) tt
@@ -202,7 +220,8 @@ one_list : (op : Op) (os : List Dest) → OthersSuit op os → is_steer op ≡ f
 one_list Steer os h e = absurd (true≢false e)
 one_list op os h e = h
 
-no_list : (op : Op) (ds : List Dest) → DestsSuit op ds → is_steer op ≡ false → is_giving_op op ≡ false → ds ≡ []
+no_list : (op : Op) (ds : List Dest) → DestsSuit op ds → is_steer op ≡ false → is_giving_op op ≡ false
+    → ds ≡ []
 no_list (Const k) ds h e g = absurd (true≢false g)
 no_list (Alu a) ds h e g = absurd (true≢false g)
 no_list Merge ds h e g = absurd (true≢false g)
@@ -220,9 +239,18 @@ no_list Nop ds h e g = h refl
 no_list Halt ds h e g = h refl
 
 abbrev pub instr_line : ℕ → plain.Instr → Line
-instr_line n i = line.Instr (record { own = At n; op = i.op; note = i.note; fits = true; dests = map target_of i.dests; others = map target_of i.others })
+instr_line n i =
+    line.Instr (record {
+      own = At n;
+      op = i.op;
+      note = i.note;
+      fits = true;
+      dests = map target_of i.dests;
+      others = map target_of i.others;
+    })
 
-pub instr_says : (image : plain.Image) (n : ℕ) (i : plain.Instr) → Formed image → n < 2 ^ 32 → InstrIn image i → Says (instr_lexemes n i) (instr_line n i)
+pub instr_says : (image : plain.Image) (n : ℕ) (i : plain.Instr) → Formed image → n < 2 ^ 32 → InstrIn image i
+    → Says (instr_lexemes n i) (instr_line n i)
 unfolding instr_lexemes
 instr_says image n i f h g =
     let ds = dests_narrow image i.dests f g.dests in
@@ -230,9 +258,20 @@ instr_says image n i f h g =
     let o = op_fits image i.op f g.op g.within.send in
     let op : AreLexemes (op_lexemes i.op) = (op_is_word i.op, op_number i.op o g.within.const) in
     let note = note_are_lexemes i.note g.within.note in
-    let all = both_lexemes (op_lexemes i.op ++ note_lexemes i.note) (list_lexemes i.op i.dests i.others) (both_lexemes (op_lexemes i.op) (note_lexemes i.note) op note) (list_are_lexemes i.op i.dests i.others ds os) in
+    let all =
+    both_lexemes (op_lexemes i.op ++ note_lexemes i.note) (list_lexemes i.op i.dests i.others)
+    (both_lexemes (op_lexemes i.op) (note_lexemes i.note) op note)
+    (list_are_lexemes i.op i.dests i.others ds os)
+    in
     says _ _ _ (wide n h, (tt, all))
-    (instr_again n i h o g.note g.within.note (record { dests = ds; others = os; one = one_list i.op i.others g.other; none = no_list i.op i.dests g.list }))
+    (instr_again n i h o g.note g.within.note
+    (record {
+      dests = ds;
+      others = os;
+      one = one_list i.op i.others g.other;
+      none = no_list i.op i.dests
+          g.list;
+    }))
 
 -- Exits.
 
@@ -250,7 +289,8 @@ instr_small : (image : plain.Image) (k : ℕ) → Formed image → plain.IsInstr
 unfolding most_instrs
 instr_small image k f h = omega (arith, h.1, f.few_instrs)
 
-blocks_small : (image : plain.Image) (bs : List ℕ) → Formed image → AllByRecursion (IsBlock image) bs → SmallNumbers bs
+blocks_small : (image : plain.Image) (bs : List ℕ) → Formed image → AllByRecursion (IsBlock image) bs
+    → SmallNumbers bs
 blocks_small image [] f h = tt
 blocks_small image (b ∷ bs) f h = (block_small image b f h.0, blocks_small image bs f h.1)
 
@@ -259,7 +299,8 @@ unfolding numbers
 numbers_lexemes [] h = tt
 numbers_lexemes (n ∷ ns) h = (wide n h.0, numbers_lexemes ns h.1)
 
-pub exit_says : (image : plain.Image) (e : plain.Exit) → Formed image → ExitIn image e → SomeLanding e → Says (exit_lexemes e) (exit_line e)
+pub exit_says : (image : plain.Image) (e : plain.Exit) → Formed image → ExitIn image e → SomeLanding e
+    → Says (exit_lexemes e) (exit_line e)
 unfolding exit_lexemes
 exit_says image (plain.Goto b) f h l =
     let k = block_small image b f h in
