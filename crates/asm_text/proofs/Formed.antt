@@ -1,5 +1,5 @@
 -- What is read is formed.
-use Rattle.std.proofs.Common.{◌≡◌, ◌⊎◌, inl, inr, ℕ, zero, suc, ◌+◌, ◌-◌, ◌<◌, ◌≤◌, Bool, true, false, IfOk, List, [], ◌∷◌, ◌++◌, length, map, slice_get, Option, Some, None, Result, Ok, Err, refl, sym, ap, subst, ◌∙◌, append-nil, arith}
+use Rattle.std.proofs.Common.{◌≡◌, ◌⊎◌, inl, inr, ℕ, zero, suc, ◌-◌, ◌<◌, ◌≤◌, true, IfOk, List, [], ◌∷◌, ◌++◌, length, map, slice_get, Some, None, Result, Ok, Err, refl, ap, subst, ◌∙◌, append-nil, arith}
 use Rattle.std.specs.List.{AllByRecursion}
 use Rattle.std.proofs.lemmas.Bool.{false≢true, ltb-true}
 use Rattle.std.proofs.lemmas.Result.{IfOk-at_ok}
@@ -17,7 +17,7 @@ use Rattle.asm_text.specs.Reading.{lines_of, passed, made, nothing, is_ended, re
 use Rattle.asm_text.proofs.Walks.{length_map}
 use Rattle.asm_text.proofs.HeldSteps.{then_ok}
 use Rattle.asm_text.proofs.HeldNames.{NamesThere, Among, DestFor, passed_names}
-use Rattle.asm_text.proofs.Held.{DestsFor, OpFor, ExitFor, ExitHeld, InstrHeld, PadHeld, PadsHeld, Rises, BlockHeld, InstrsHeld, Exited, Stands, so_far, Held}
+use Rattle.asm_text.proofs.Held.{DestsFor, OpFor, ExitFor, InstrHeld, PadHeld, Rises, BlockHeld, InstrsHeld, Exited, Stands, so_far}
 use Rattle.asm_text.proofs.HeldTexts.{AtEnd, nothing_held, lines_held}
 
 all_with : {A : Type 0} (P Q : A → Type 0) → ((x : A) → P x → Q x) → (xs : List A) → AllByRecursion P xs → AllByRecursion Q xs

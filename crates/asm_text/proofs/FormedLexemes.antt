@@ -1,5 +1,5 @@
 -- The lexemes of a text are words, and numbers of 64 bits.
-use Rattle.std.proofs.Common.{◌≡◌, ℕ, zero, suc, ◌+◌, ◌-◌, ◌^◌, ◌<◌, ◌==◌, ◌||◌, ◌&&◌, cond, nat_lt, Bool, true, false, IfSome, List, [], ◌∷◌, ◌++◌, Option, Some, None, take, arith, refl}
+use Rattle.std.proofs.Common.{◌≡◌, ℕ, zero, suc, ◌+◌, ◌-◌, ◌^◌, ◌<◌, ◌==◌, cond, nat_lt, Bool, true, false, IfSome, List, [], ◌∷◌, ◌++◌, Option, Some, None, take, arith, refl}
 use Rattle.std.specs.List.{AllByRecursion, prefix_len}
 use Rattle.std.specs.Option.{option_map, option_and_then}
 use Rattle.std.proofs.lemmas.Bool.{or_left, and_from, ltb-true}
@@ -8,8 +8,7 @@ use Rattle.ws_isa.specs.Formed.{is_letter, is_word_byte, is_word}
 use Rattle.asm_text.specs.declared.lexeme.Front.{Front}
 use Rattle.asm_text.specs.declared.lexeme.Lexeme.{Lexeme}
 use Rattle.asm_text.specs.declared.lexeme.Lexeme.TheVariants.{Word, Number, Mark}
-use Rattle.asm_text.specs.declared.lexeme.Mark.TheVariants.{Arrow}
-use Rattle.asm_text.specs.Lexing.{is_blank, lone, word_front, number_front, number_of, mark_of, begins, sign_front, front, Lexed, found_items, behind, scan, lexed}
+use Rattle.asm_text.specs.Lexing.{is_blank, lone, number_of, mark_of, begins, front, Lexed, found_items, behind, scan, lexed}
 use Rattle.asm_text.proofs.Runs.{prefix_all}
 
 abbrev pub LexemeFits : Lexeme → Type 0

@@ -1,6 +1,5 @@
 -- What the form of a line says: names are words, notes and lists suit their instruction.
-use Rattle.std.proofs.Common.{◌≡◌, ℕ, suc, ◌^◌, ◌<◌, ◌≤◌, ◌==◌, min, cond, Bool, true, false, IfSome, List, [], ◌∷◌, length, Option, Some, None, arith, refl}
-use Rattle.std.specs.List.{AllByRecursion}
+use Rattle.std.proofs.Common.{◌≡◌, ℕ, ◌^◌, ◌<◌, ◌≤◌, ◌==◌, cond, Bool, true, false, IfSome, List, [], ◌∷◌, length, Option, Some, None, arith, refl}
 use Rattle.std.proofs.lemmas.Bool.{false≢true}
 use Rattle.ws_isa.specs.declared.instr.Op.{Op}
 use Rattle.ws_isa.specs.declared.instr.Op.TheVariants as op
@@ -25,7 +24,7 @@ use Rattle.asm_text.specs.Words.{head_of, op_of, in_word, has_number, with_numbe
 use Rattle.asm_text.specs.Forms.{◌>>=◌, mark_number, expect, number_at, word_at, label_at, targets_at, labels_at, done, link_at, note_at, op_at, noted, lists_at, instr_line, some, branch_line, send_line, array_line, pad_line, last_number, last_label, headed, word_line, is_own, line_of}
 use Rattle.asm_text.specs.Lexing.{Lexed, lexed}
 use Rattle.asm_text.specs.Reading.{formed, read_items, read_lexed, reading}
-use Rattle.asm_text.proofs.FormedLexemes.{LexemeFits, AllFit, either, lexed_fits}
+use Rattle.asm_text.proofs.FormedLexemes.{AllFit, either, lexed_fits}
 
 -- an instruction without a result and a send have no list
 abbrev pub DestsGiven : Op → List Target → Type 0

@@ -1,13 +1,13 @@
 -- Each kind of line keeps what holds of the state and of what is built.
-use Rattle.std.proofs.Common.{◌≡◌, ◌⊎◌, inl, inr, ℕ, suc, ◌+◌, ◌<◌, ◌≤◌, ◌&&◌, nat_lt, nat_le, ◌==◌, Bool, true, false, IfOk, List, [], ◌∷◌, ◌++◌, length, map, Option, Some, None, Result, Ok, Err, refl, sym, ap, subst, ◌∙◌, append_assoc, append-nil, arith}
-use Rattle.std.specs.List.{AllByRecursion, list_all}
+use Rattle.std.proofs.Common.{◌≡◌, ◌⊎◌, inl, inr, ℕ, suc, ◌+◌, ◌<◌, ◌≤◌, ◌&&◌, nat_lt, nat_le, Bool, true, false, IfOk, List, [], ◌∷◌, ◌++◌, length, Option, Some, None, Ok, Err, refl, sym, ap, subst, ◌∙◌, append_assoc, append-nil, arith}
+use Rattle.std.specs.List.{list_all}
 use Rattle.std.proofs.lemmas.Bool.{false≢true, and_parts, ltb-true, leb-true, eqb-true}
 use Rattle.std.proofs.lemmas.Bool.Decides.{nat_tests}
 use Rattle.std.proofs.lemmas.Option.{none-some, same_Some}
 use Rattle.ws_isa.specs.declared.instr.Op.{Op}
 use Rattle.ws_isa.specs.declared.instr.Op.TheVariants as op
 use Rattle.ws_isa.specs.declared.instr.Dest.{Dest}
-use Rattle.ws_isa.specs.Image.{Array, Block, Pad, Instr, Exit, Goto, Branch, Landings, Stop, flat, ports_of}
+use Rattle.ws_isa.specs.Image.{Array, Block, Pad, Instr, Exit, flat, ports_of}
 use Rattle.ws_isa.specs.Formed.{most_arrays, most_length, most_cells, most_instrs, most_blocks, most_waves, most_dests, most_pads, most_landings, most_name, NameFormed, SendWithin}
 use Rattle.asm_text.specs.declared.line.Label.{Label}
 use Rattle.asm_text.specs.declared.line.Target.{Target}
@@ -18,12 +18,12 @@ use Rattle.asm_text.specs.declared.state.Place.{Place}
 use Rattle.asm_text.specs.declared.state.Place.TheVariants as place
 use Rattle.asm_text.specs.declared.state.State.{State}
 use Rattle.asm_text.specs.State.{next_place, is_numbered, is_above, are_ports, is_within, is_within_cells, is_within_op, is_short, is_short_name, are_few, are_short, limit, counted}
-use Rattle.asm_text.specs.Building.{◌>>=◌, Maybe, Built, instr_of, block_of, blocks_of, dests_of, is_array, is_known, with_array, with_pad, with_instr, closed, exit_of, left_by, with_exit, built}
+use Rattle.asm_text.specs.Building.{Maybe, Built, instr_of, block_of, blocks_of, dests_of, is_known, with_array, with_pad, with_instr, closed, exit_of, with_exit, built}
 use Rattle.asm_text.proofs.Counts.{waves_few, blocks_few, instrs_few}
 use Rattle.asm_text.proofs.FormedLines.{LineFits, InstrFits}
 use Rattle.asm_text.proofs.HeldSteps.{if_ok, then_ok}
 use Rattle.asm_text.proofs.HeldNames.{NamesThere, Among, DestFor, EachOf, instr_in, block_in, dests_in, blocks_in, dests_suit, others_suit}
-use Rattle.asm_text.proofs.Held.{OpFor, ExitFor, ExitHeld, InstrHeld, PadHeld, PadsHeld, BlockHeld, InstrsHeld, last_pad, last_wave, Shut, Exited, Inside, Stands, so_far, Held, after}
+use Rattle.asm_text.proofs.Held.{OpFor, ExitHeld, InstrHeld, PadHeld, InstrsHeld, last_pad, last_wave, Shut, Inside, Stands, so_far, Held, after}
 use Rattle.asm_text.proofs.HeldLists.{arrays_more, instrs_more, flat_snoc, last_pad_snoc, pads_more, last_wave_snoc, blocks_more}
 
 at_place : (P : Place → Type 0) (q p : Place) → Some q ≡ Some p → P q → P p

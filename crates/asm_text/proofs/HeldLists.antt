@@ -1,8 +1,8 @@
 -- Lists with one more item.
-use Rattle.std.proofs.Common.{◌≡◌, ◌⊎◌, inl, inr, ℕ, suc, ◌+◌, ◌<◌, ◌≤◌, Bool, true, List, [], ◌∷◌, ◌++◌, length, map, Option, Some, None, refl, sym, ap, subst, ◌∙◌, append_assoc, append-nil, arith}
+use Rattle.std.proofs.Common.{◌≡◌, ◌⊎◌, ℕ, suc, ◌+◌, ◌<◌, ◌≤◌, true, List, [], ◌∷◌, ◌++◌, length, Option, Some, None, refl, sym, ap, ◌∙◌, append_assoc, append-nil, arith}
 use Rattle.std.specs.List.{AllByRecursion}
 use Rattle.ws_isa.specs.Image.{Array, Block, Pad, Instr, flat, ports_of}
-use Rattle.ws_isa.specs.Formed.{most_arrays, most_length, most_cells, most_instrs, total_length, ArraysFormed, NameFormed, WavesFrom}
+use Rattle.ws_isa.specs.Formed.{most_arrays, most_length, most_cells, most_instrs, total_length, NameFormed, WavesFrom}
 use Rattle.asm_text.specs.declared.state.State.{State}
 use Rattle.asm_text.specs.State.{is_above}
 use Rattle.asm_text.proofs.FormedLexemes.{all_append}

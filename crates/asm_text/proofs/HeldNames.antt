@@ -1,5 +1,5 @@
 -- Each name that the first pass keeps stands for a block or an instruction that is there.
-use Rattle.std.proofs.Common.{◌≡◌, ℕ, suc, ◌+◌, ◌<◌, ◌≤◌, cond, nat_lt, nat_le, ◌&&◌, Bool, true, false, IfSome, IfOk, List, [], ◌∷◌, ◌++◌, length, length-append, Option, Some, None, Result, Ok, Err, refl, sym, ap, arith}
+use Rattle.std.proofs.Common.{◌≡◌, ℕ, suc, ◌+◌, ◌<◌, ◌≤◌, nat_lt, nat_le, ◌&&◌, IfSome, IfOk, List, [], ◌∷◌, ◌++◌, length, length-append, Option, Some, None, refl, ap, arith}
 use Rattle.std.specs.List.{AllByRecursion}
 use Rattle.std.proofs.lemmas.Bool.{and_parts, ltb-true, leb-true}
 use Rattle.ws_isa.specs.declared.instr.Dest.{Dest}
@@ -18,7 +18,7 @@ use Rattle.asm_text.specs.declared.reading.Reading.{Reading}
 use Rattle.asm_text.specs.declared.reading.Reading.TheVariants.{Blank, Wrong, Found}
 use Rattle.asm_text.specs.declared.state.State.{State}
 use Rattle.asm_text.specs.State.{counted, with_name, opening}
-use Rattle.asm_text.specs.Building.{◌>>=◌, Maybe, by_name, place_of, instr_of, block_of, ports_at, dest_of, dests_of, blocks_of, each}
+use Rattle.asm_text.specs.Building.{Maybe, by_name, place_of, instr_of, block_of, ports_at, dest_of, dests_of, blocks_of, each}
 use Rattle.asm_text.specs.Reading.{step, reading, passed, is_ended}
 use Rattle.asm_text.proofs.FormedLexemes.{all_append, either}
 use Rattle.asm_text.proofs.FormedLines.{DestsGiven, OthersGiven}

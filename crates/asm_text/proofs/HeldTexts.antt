@@ -1,11 +1,8 @@
 -- Behind all lines of a text the state and what is built hold together.
-use Rattle.std.proofs.Common.{◌≡◌, ℕ, ◌+◌, ◌≤◌, cond, Bool, true, false, IfOk, List, [], ◌∷◌, length, Option, Some, None, Result, Ok, Err, refl, subst, arith}
-use Rattle.std.specs.List.{AllByRecursion}
-use Rattle.ws_isa.specs.Formed.{most_arrays, most_cells, most_instrs, most_blocks, most_waves}
+use Rattle.std.proofs.Common.{◌≡◌, ℕ, ◌+◌, cond, Bool, true, false, IfOk, List, [], ◌∷◌, Result, Ok, Err, refl, subst, arith}
 use Rattle.asm_text.specs.declared.reading.Reading.{Reading}
 use Rattle.asm_text.specs.declared.reading.Reading.TheVariants.{Blank, Wrong, Found}
 use Rattle.asm_text.specs.declared.state.State.{State}
-use Rattle.asm_text.specs.declared.fault.AsmKind as kind
 use Rattle.asm_text.specs.State.{opening}
 use Rattle.asm_text.specs.Building.{◌>>=◌, Maybe, Built, built}
 use Rattle.asm_text.specs.Reading.{step, add, reading, on_line, passed, made, nothing, is_ended, Fault}
