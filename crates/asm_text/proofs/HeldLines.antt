@@ -17,6 +17,7 @@ use Rattle.asm_text.specs.declared.line.Line.TheVariants as line
 use Rattle.asm_text.specs.declared.state.Place.{Place}
 use Rattle.asm_text.specs.declared.state.Place.TheVariants as place
 use Rattle.asm_text.specs.declared.state.State.{State}
+use Rattle.asm_text.specs.Limits.{first_most_instrs, first_most_landings}
 use Rattle.asm_text.specs.State.{next_place, is_numbered, is_above, are_ports, is_within, is_within_cells, is_within_op, is_short, is_short_name, are_few, are_short, limit, counted}
 use Rattle.asm_text.specs.Building.{Maybe, Built, instr_of, block_of, blocks_of, dests_of, is_known, with_array, with_pad, with_instr, closed, exit_of, with_exit, built}
 use Rattle.asm_text.proofs.Counts.{waves_few, blocks_few, instrs_few}
@@ -67,7 +68,7 @@ hidden_place q n = refl
 
 wave_held : (s t : State) (b : Built) (k : ℕ) (p : Place) → Held s t b → next_place t.place (line.Wave k) ≡ Some p → is_numbered t (line.Wave k) ≡ true → is_within t (line.Wave k) ≡ true
     → Held s (after t (line.Wave k) p) (record b { wave = k })
-unfolding counted next_place is_numbered most_waves
+unfolding counted next_place is_numbered
 wave_held s t b k p h e n w =
     let next : k ≡ t.waves + 1 = eqb-true k (t.waves + 1) n in
     let few = waves_few t k w in
@@ -82,7 +83,7 @@ wave_held s t b k p h e n w =
 
 block_held : (s t : State) (b : Built) (l : Label) (p : Place) → Held s t b → next_place t.place (line.Block l) ≡ Some p → is_within t (line.Block l) ≡ true
     → Held s (after t (line.Block l) p) b
-unfolding counted next_place most_blocks
+unfolding counted next_place
 block_held s t b l p h e w =
     let few = blocks_few t l w in
     record { arrays = h.arrays; instrs = h.instrs; pads = h.pads; blocks = h.blocks; wave = h.wave; few = omega arith; stands = by t.place e h.stands }
@@ -147,10 +148,10 @@ instr_held : (s t : State) (b : Built) (i : InstrLine) (ds os : List Dest) (p : 
     → EachOf (DestFor s) i.dests ds → EachOf (DestFor s) i.others os
     → next_place t.place (line.Instr i) ≡ Some p → is_within t (line.Instr i) ≡ true
     → Held s (after t (line.Instr i) p) (with_instr b (record { op = i.op; note = i.note; dests = ds; others = os }))
-unfolding counted next_place is_within most_instrs
+unfolding counted next_place is_within
 instr_held s t b i ds os p h fits known each other e w =
     let x : Instr = record { op = i.op; note = i.note; dests = ds; others = os } in
-    let parts = six (nat_lt (length t.ports) (limit t.named 2097152 most_instrs)) (is_short i.own) (is_within_op i.op) i.fits (are_few i.dests) (are_few i.others) w in
+    let parts = six (nat_lt (length t.ports) (limit t.named first_most_instrs most_instrs)) (is_short i.own) (is_within_op i.op) i.fits (are_few i.dests) (are_few i.others) w in
     let held : InstrHeld s x = record {
       within = record { dests = few_targets i.dests ds each.many parts.1; others = few_targets i.others os other.many parts.2; const = fits.const; send = send_within i.op parts.0; note = fits.within };
       op = op_for s i.op known parts.0;
@@ -248,10 +249,10 @@ end_held s t b p h e = record { arrays = h.arrays; instrs = h.instrs; pads = h.p
     by place.Exited e k = at_place (λ p. Stands p (after t line.End p) b) place.Ended p e k
     by q e k = nowhere p e
 
-few_landings : (b : Bool) (n : ℕ) → nat_le n (limit b 1024 most_landings) ≡ true → n ≤ most_landings
-unfolding most_landings
-few_landings true n h = leb-true n 2048 h
-few_landings false n h = let l = leb-true n 1024 h in omega arith
+few_landings : (b : Bool) (n : ℕ) → nat_le n (limit b first_most_landings most_landings) ≡ true → n ≤ most_landings
+unfolding first_most_landings most_landings
+few_landings true n h = leb-true n most_landings h
+few_landings false n h = let l = leb-true n first_most_landings h in omega arith
 
 middle : (a b c : Bool) → (a && b && c) ≡ true → b ≡ true
 middle true true true h = refl
@@ -259,7 +260,7 @@ middle a b c h = absurd (false≢true h)
 
 send_few : (t : State) (l : Label) (ls : List Label) → is_within t (line.Send l ls) ≡ true → length ls ≤ most_landings
 unfolding is_within
-send_few t l ls w = few_landings t.named (length ls) (middle (is_short l) (nat_le (length ls) (limit t.named 1024 most_landings)) (list_all is_short ls) w)
+send_few t l ls w = few_landings t.named (length ls) (middle (is_short l) (nat_le (length ls) (limit t.named first_most_landings most_landings)) (list_all is_short ls) w)
 
 array_parts : (t : State) (v : List ℕ) (n : ℕ) → is_within t (line.Array v n) ≡ true → (is_within_cells t n ≡ true) × (length v ≤ most_name)
 unfolding is_within
