@@ -12,7 +12,9 @@ use Rattle.asm_text.specs.declared.state.Place.{Place}
 use Rattle.asm_text.specs.declared.state.Place.TheVariants as place
 use Rattle.asm_text.specs.declared.state.State.{State}
 use Rattle.asm_text.specs.State.{opening}
-use Rattle.asm_text.specs.Building.{◌>>=◌, Built, or_zero, ports_at}
+use Rattle.ws_isa.specs.View as view
+use Rattle.asm_text.specs.declared.build.Builder.{Builder}
+use Rattle.asm_text.specs.Building.{◌>>=◌, Built, or_zero, ports_at, view_of}
 use Rattle.asm_text.specs.Reading.{lines_of, passed, made, nothing, is_ended, read, Fault}
 use Rattle.asm_text.proofs.Walks.{length_map}
 use Rattle.asm_text.proofs.HeldSteps.{then_ok}
@@ -158,3 +160,9 @@ text_formed text = by (passed opening 0 (lines_of text)) refl
 
 pub read_formed : (text : List ℕ) (image : Image) → read text ≡ Ok image → Formed image
 read_formed text image e = IfOk-at_ok Formed e (text_formed text)
+
+-- what the code builds of a text is formed
+pub made_formed : (text : List ℕ) (s : State) (b : Builder) → passed opening 0 (lines_of text) ≡ Ok s → made s nothing 0 (lines_of text) ≡ Ok (view_of b)
+    → Formed (view.parts b.arrays.items b.blocks.items)
+unfolding read
+made_formed text s b e f = read_formed text (view.parts b.arrays.items b.blocks.items) (rw (e, f))
