@@ -54,11 +54,13 @@ ReadingFits Blank = Unit {0}
 ReadingFits Wrong = Unit {0}
 ReadingFits (Found l wide) = LineFits l
 
-bound : {A B : Type 0} (P : A → Type 0) (Q : B → Type 0) (o : Option A) (f : A → Option B) → IfSome o P → ((a : A) → P a → IfSome (f a) Q) → IfSome (o >>= f) Q
+bound : {A B : Type 0} (P : A → Type 0) (Q : B → Type 0) (o : Option A) (f : A → Option B) → IfSome o P
+    → ((a : A) → P a → IfSome (f a) Q) → IfSome (o >>= f) Q
 bound P Q None f h k = tt
 bound P Q (Some a) f h k = k a h
 
-bound_any : {A B : Type 0} (Q : B → Type 0) (o : Option A) (f : A → Option B) → ((a : A) → IfSome (f a) Q) → IfSome (o >>= f) Q
+bound_any : {A B : Type 0} (Q : B → Type 0) (o : Option A) (f : A → Option B) → ((a : A) → IfSome (f a) Q)
+    → IfSome (o >>= f) Q
 bound_any Q None f k = tt
 bound_any Q (Some a) f k = k a
 
@@ -96,7 +98,8 @@ OpFits x = ConstWithin x.0
 
 numbered : (o : Op) (ls : List Lexeme) → AllFit ls
     → IfSome (cond (has_number o) (number_at ls >>= λ n. Some (with_number o n.0, n.1)) (Some (o, ls))) OpFits
-numbered (op.Const k) ls h = bound (λ x. (x.0 < 2 ^ 64) × AllFit x.1) OpFits (number_at ls) _ (number_rest ls h) (λ n f. f.0)
+numbered (op.Const k) ls h =
+    bound (λ x. (x.0 < 2 ^ 64) × AllFit x.1) OpFits (number_at ls) _ (number_rest ls h) (λ n f. f.0)
 numbered (op.Send k) ls h = bound_any OpFits (number_at ls) _ (λ n. tt)
 numbered (op.Load a) ls h = bound_any OpFits (number_at ls) _ (λ n. tt)
 numbered (op.Store a) ls h = bound_any OpFits (number_at ls) _ (λ n. tt)
@@ -106,7 +109,9 @@ numbered o ls h = tt
 
 op_fits : (ls : List Lexeme) → AllFit ls → IfSome (op_at ls) OpFits
 unfolding op_at
-op_fits ls h = bound (λ x. (is_word x.0 ≡ true) × AllFit x.1) OpFits (word_at ls) _ (word_rest ls h) (λ w f. bound_any OpFits (op_of w.0) _ (λ o. numbered o w.1 f.1))
+op_fits ls h =
+    bound (λ x. (is_word x.0 ≡ true) × AllFit x.1) OpFits (word_at ls) _ (word_rest ls h)
+    (λ w f. bound_any OpFits (op_of w.0) _ (λ o. numbered o w.1 f.1))
 
 word_small : (n : ℕ) → in_word n < 2 ^ 32
 word_small n = omega arith
@@ -139,7 +144,9 @@ NotedFits o x = NoteSuits o x.0.0 × NoteWithin x.0.0
 
 noted_fits : (o : Op) (ls : List Lexeme) → IfSome (noted o ls) (NotedFits o)
 unfolding noted
-noted_fits o ls = either (NotedFits o) (is_memory_op o) _ _ (λ e. bound NoteFits (NotedFits o) (note_at ls) _ (note_within ls) (λ n w. (e, w))) (λ e. (e, tt))
+noted_fits o ls =
+    either (NotedFits o) (is_memory_op o) _ _
+    (λ e. bound NoteFits (NotedFits o) (note_at ls) _ (note_within ls) (λ n w. (e, w))) (λ e. (e, tt))
 
 abbrev Lists : Type 0
 Lists = List Target × List Target
@@ -147,8 +154,11 @@ Lists = List Target × List Target
 abbrev ListsGiven : Op → Lists → Type 0
 ListsGiven o x = DestsGiven o x.0 × OthersGiven o x.1
 
-one_list : (P : Lists → Type 0) (ls : List Lexeme) → ((ts : List Target) → P (ts, [])) → IfSome (expect Arrow ls >>= λ arrow. done (targets_at arrow).1 ((targets_at arrow).0, [])) P
-one_list P ls h = bound_any P (expect Arrow ls) (λ arrow. done (targets_at arrow).1 ((targets_at arrow).0, [])) (λ arrow. done_some P (targets_at arrow).1 _ (h (targets_at arrow).0))
+one_list : (P : Lists → Type 0) (ls : List Lexeme) → ((ts : List Target) → P (ts, []))
+    → IfSome (expect Arrow ls >>= λ arrow. done (targets_at arrow).1 ((targets_at arrow).0, [])) P
+one_list P ls h =
+    bound_any P (expect Arrow ls) (λ arrow. done (targets_at arrow).1 ((targets_at arrow).0, []))
+    (λ arrow. done_some P (targets_at arrow).1 _ (h (targets_at arrow).0))
 
 not_silent : {P : Type 0} → false ≡ true → P
 not_silent e = absurd (false≢true e)
@@ -191,12 +201,15 @@ send_fits : (ls : List Lexeme) → IfSome (send_line ls) LineFits
 unfolding send_line
 send_fits ls =
     bound_any LineFits (label_at ls) _ (λ s.
-    either LineFits (some (labels_at s.1).0) _ _ (λ e. done_some LineFits (labels_at s.1).1 _ (some_length (labels_at s.1).0 e)) (λ _. tt))
+    either LineFits (some (labels_at s.1).0) _ _
+    (λ e. done_some LineFits (labels_at s.1).1 _ (some_length (labels_at s.1).0 e)) (λ _. tt))
 
 branch_fits : (ls : List Lexeme) → IfSome (branch_line ls) LineFits
 unfolding branch_line
 branch_fits ls =
-    bound_any LineFits (label_at ls) _ (λ s. bound_any LineFits (label_at s.1) _ (λ b. bound_any LineFits (label_at b.1) _ (λ c. done_some LineFits c.1 _ tt)))
+    bound_any LineFits (label_at ls) _
+    (λ s. bound_any LineFits (label_at s.1) _
+    (λ b. bound_any LineFits (label_at b.1) _ (λ c. done_some LineFits c.1 _ tt)))
 
 pad_fits : (ls : List Lexeme) → IfSome (pad_line ls) LineFits
 unfolding pad_line
@@ -227,7 +240,8 @@ unfolding line_of
 line_fits ls h =
     either LineFits (is_own ls) _ _
     (λ _. bound (λ x. AllFit x.1) LineFits (label_at ls) _ (label_rest ls h) (λ own r.
-    bound AllFit LineFits (expect Colon own.1) _ (expect_rest Colon own.1 r) (λ colon q. instr_fits own.0 colon q)))
+    bound AllFit LineFits (expect Colon own.1) _ (expect_rest Colon own.1 r)
+    (λ colon q. instr_fits own.0 colon q)))
     (λ _. word_line_fits ls h)
 
 formed_fits : (o : Option Line) (wide : Bool) → IfSome o LineFits → ReadingFits (formed o wide)

@@ -101,7 +101,10 @@ Exited t b = Shut t b × (t.waves ≡ last_wave 0 b.blocks) × (1 ≤ t.waves) �
 
 -- in a block, which isn't in the list yet
 abbrev pub Inside : State → Built → Type 0
-Inside t b = (t.blocks ≡ length b.blocks + 1) × ((t.waves ≡ last_wave 0 b.blocks) ⊎ (t.waves ≡ suc (last_wave 0 b.blocks))) × (1 ≤ t.waves) × (t.pad ≡ last_pad None b.pads)
+Inside t b =
+    (t.blocks ≡ length b.blocks + 1) ×
+    ((t.waves ≡ last_wave 0 b.blocks) ⊎ (t.waves ≡ suc (last_wave 0 b.blocks))) × (1 ≤ t.waves) ×
+    (t.pad ≡ last_pad None b.pads)
 
 abbrev pub Stands : Place → State → Built → Type 0
 Stands place.Start t b = Shut t b × (t.waves ≡ last_wave 0 b.blocks)
