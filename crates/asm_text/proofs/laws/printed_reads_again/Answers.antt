@@ -1,0 +1,5 @@
+use Rattle.asm_text.proofs.RoundTrip.{reads_again}
+use Rattle.asm_text.proofs.laws.printed_reads_again.Goals as goal
+
+pub returns : goal.returns
+returns c = reads_again

@@ -1,0 +1,5 @@
+use Rattle.asm_text.proofs.TextTold.{read_spelled}
+use Rattle.asm_text.proofs.laws.read_texts_spell.Goals as goal
+
+pub returns : goal.returns
+returns c = read_spelled

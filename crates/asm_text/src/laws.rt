@@ -1,0 +1,26 @@
+//! Laws over the definitions of reading and printing.
+
+ghost use Rattle.std.specs.Prelude.{◌≡◌, ℕ, List, Ok};
+ghost use Rattle.ws_isa.specs.Image.{Image};
+ghost use Rattle.ws_isa.specs.Formed.{Formed};
+ghost use Rattle.asm_text.specs.Printed.{printed};
+ghost use Rattle.asm_text.specs.Reading.{read};
+ghost use Rattle.asm_text.specs.Spelling.{Spelled};
+
+/// The printed form of a formed image is read as that image.
+pub fn printed_reads_again()
+    ensures { (image : Image) → Formed image → read (printed image) ≡ Ok image }
+{}
+
+/// The image of a text is formed: it is within the limits of version 2, its references are there,
+/// its lists and notes suit its instructions, and its pads and waves are in order.
+pub fn read_images_are_formed()
+    ensures { (text : List ℕ) (image : Image) → read text ≡ Ok image → Formed image }
+{}
+
+/// The lines of a text spell the items of its image one by one: the version, the arrays, each wave
+/// with its blocks, each block with its pads, instructions and exit, and the end. In version 2
+/// names may stand for the numbers of blocks and of instructions, each for one.
+pub fn read_texts_spell()
+    ensures { (text : List ℕ) (image : Image) → read text ≡ Ok image → Spelled text image }
+{}
