@@ -40,9 +40,14 @@ more_shape image f s = record {
   pads_to_advances = λ b p j q h. (s b h).pads.pads_to_advances p j q;
 }
 
-pub block_shape : (image : Image) → ShapeRules image → MoreShape image → (b : ℕ) → IsBlock image b → BlockShape image b
+pub block_shape : (image : Image) → ShapeRules image → MoreShape image → (b : ℕ) → IsBlock image b →
+    BlockShape image b
 block_shape image s m b h = record {
-  instrs = λ k i. record { dests = λ j q. m.dests_ahead b k j q h i; others = λ j q. m.others_ahead b k j q h i };
+  instrs = λ k i. record {
+    dests = λ j q. m.dests_ahead b k j q h i;
+    others =
+        λ j q. m.others_ahead b k j q h i;
+  };
   exit = record {
     later = λ r g n. s.later b r h g n;
     source = λ t x y. s.source b t x y h;
@@ -52,7 +57,12 @@ block_shape image s m b h = record {
     landing_first = λ t r ls. m.landing_first b t r ls h;
   };
   front = record { advances = λ k. s.advances b k h; front = λ j k. s.front b j k h };
-  halts = record { halt_stops = λ k. m.halt_stops b k h; stop_halts = m.stop_halts b h; halt_last = λ j k. m.halt_last b j k h };
+  halts = record {
+    halt_stops = λ k. m.halt_stops b k h;
+    stop_halts = m.stop_halts b h;
+    halt_last =
+        λ j k. m.halt_last b j k h;
+  };
   pads = record {
     pad_zero = λ e. subst (λ n. HasPad (block_at image n).pads 0) (sym e) m.pad_zero;
     pads_first = m.pads_first b h;
@@ -69,5 +79,6 @@ in_range [] k a b l = absurd (omega arith)
 in_range (x ∷ xs) zero a b l = refl
 in_range (x ∷ xs) (suc k) a b l = in_range xs k a b (omega arith)
 
-pub start_read : (image : Image) (starts : List ℕ) (n r : ℕ) → StartsOf image starts → n ≤ suc (length image.blocks) → r ≡ get_or starts n r → r ≡ first_number image n
+pub start_read : (image : Image) (starts : List ℕ) (n r : ℕ) → StartsOf image starts →
+    n ≤ suc (length image.blocks) → r ≡ get_or starts n r → r ≡ first_number image n
 start_read image starts n r s l e = e ∙ (in_range starts n r 0 (omega (arith, s.0, l)) ∙ s.1 n l)

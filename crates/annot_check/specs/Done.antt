@@ -10,7 +10,8 @@ pub record EdgeDone (image : Image) (known : ℕ → Option Slots) (b r : ℕ) (
   pub slots : Slots
   pub lands : known (target image b r) ≡ Some slots
   pub leaves : all_opened (opens_at image b r) o ≡ slots
-  pub crossing : is_first image (target image b r) ≡ true → AdvancesOpen image (target image b r) slots
+  pub crossing : is_first image (target image b r) ≡ true →
+      AdvancesOpen image (target image b r) slots
 
 -- the end of a block: nothing is open at a stop, and each edge is done
 pub record Ended (image : Image) (known : ℕ → Option Slots) (b : ℕ) (o : Slots) : Type 0 where

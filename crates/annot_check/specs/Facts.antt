@@ -10,7 +10,8 @@ use Rattle.annot_check.specs.Open.{bit}
 pub record TableOf (facts : Facts) (image : Image) : Type 0 where
   pub ops : (k : ℕ) → slice_index_or facts.ops.items k Halt ≡ (instr_at image k).op
   pub advances : (k : ℕ) → bit facts.advances.items k ≡ is_advance image k
-  pub waves : (k : ℕ) → slice_index_or facts.waves.items k 0 ≡ (block_at image (block_of image k)).wave
+  pub waves : (k : ℕ) → slice_index_or facts.waves.items k 0 ≡ (block_at image
+      (block_of image k)).wave
 
 -- Whether instructions are advances, and in which waves they stand, by their numbers.
 
@@ -26,10 +27,12 @@ abbrev pub ops_of : List Block → List Op
 ops_of [] = []
 ops_of (b ∷ bs) = map (λ i. i.op) b.instrs ++ ops_of bs
 
--- among the instructions of block b before instruction `at`, `halted` is the halt, or 0 where there is none
+-- among the instructions of block b before instruction `at`, `halted` is the halt, or 0 where there
+-- is none
 pub record HaltState (image : Image) (b first at halted : ℕ) : Type 0 where
   pub halt : (k : ℕ) → first ≤ k → k < at → (instr_at image k).op ≡ Halt → k ≡ halted
-  pub halted_is : 1 ≤ halted → (first ≤ halted) × (halted < at) × ((instr_at image halted).op ≡ Halt) × (stops image b ≡ true)
+  pub halted_is : 1 ≤ halted → (first ≤ halted) × (halted < at) ×
+      ((instr_at image halted).op ≡ Halt) × (stops image b ≡ true)
   pub last : (j : ℕ) → first ≤ j → j < at → is_memory image j ≡ true → 1 ≤ halted → j ≤ halted
 
 -- the halt is this one after one more operation

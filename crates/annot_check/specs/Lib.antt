@@ -1,5 +1,5 @@
--- What a reader has to believe of refusals: Breach, Breaches, LinkBreaches, Shape. The laws on links and ripples speak
--- of Order too, whose tables the annotator makes for its own images.
+-- What a reader has to believe of refusals: Breach, Breaches, LinkBreaches, Shape.
+-- Order says what the law on links and ripples speaks of, a table of what is kept of paths.
 -- The others serve the proof of the code alone.
 pub mod Sets
 pub mod Runs

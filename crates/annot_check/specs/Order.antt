@@ -1,4 +1,5 @@
--- What the checker keeps of the paths inside a wave, and when a table of it gives the rules on links and ripples.
+-- What is kept of the paths inside a wave, and when a table of it gives the rules on links and
+-- ripples.
 use Rattle.std.specs.Prelude.{ℕ, zero, suc, ◌≡◌, ◌<◌, ◌≤◌, ◌⊎◌, Bool, true, false, cond, ◌&&◌, ◌||◌, List, Option, Some, None, eqb, ltb}
 use Rattle.ws_isa.specs.declared.instr.Link.{Link}
 use Rattle.ws_isa.specs.declared.instr.Link.TheVariants.{Unknown, Nothing, Is}
@@ -42,9 +43,9 @@ pub record ComesBy (image : Image) (b k j : ℕ) : Type 0 where
 abbrev pub MarkIs : Image → Mark → Type 0
 MarkIs image m = m.note ≡ note_of image m.op
 
--- What is kept of the paths to a point. `top` has the largest sequence number of their last operations,
--- `other` is another last operation, `odd` one with another successor than `top`, and `writer` has the
--- largest sequence number of the writing operations on them.
+-- What is kept of the paths to a point. `top` has the largest sequence number of their last
+-- operations, `other` is another last operation, `odd` one with another successor than `top`, and
+-- `writer` has the largest sequence number of the writing operations on them.
 pub record LastsOk (image : Image) (b k : ℕ) (l : Lasts) : Type 0 where
   pub comes : Comes image b k
   pub top_is : MarkIs image l.top
@@ -63,7 +64,8 @@ pub record LastsOk (image : Image) (b k : ℕ) (l : Lasts) : Type 0 where
 pub data InLasts (image : Image) (l : Lasts) : Option ℕ → Type 0 where
   at_start : l.none ≡ true → InLasts image l None
   is_top : {m : ℕ} → 1 ≤ l.top.op → m ≡ l.top.op → InLasts image l (Some m)
-  is_less : {m : ℕ} → 1 ≤ l.other.op → seq image m ≤ l.top.note.seq → ((note_of image m).succ ≡ l.top.note.succ) ⊎ (1 ≤ l.odd.op) → InLasts image l (Some m)
+  is_less : {m : ℕ} → 1 ≤ l.other.op → seq image m ≤ l.top.note.seq →
+      ((note_of image m).succ ≡ l.top.note.succ) ⊎ (1 ≤ l.odd.op) → InLasts image l (Some m)
 
 -- all that is kept of some paths is kept of more of them
 pub record Within (image : Image) (l m : Lasts) : Type 0 where
@@ -85,10 +87,12 @@ pub data PassBad (l : Lasts) (k : ℕ) (note : Note) (writing : Bool) : Bad → 
   low : note.seq ≡ 0 → PassBad l k note writing (Link' k k)
   start : l.none ≡ true → (note.pred ≡ Nothing → ⊥) → PassBad l k note writing (Link' 0 k)
   top : 1 ≤ l.top.op → agrees l.top.note note ≡ false → PassBad l k note writing (Link' l.top.op k)
-  other : 1 ≤ l.other.op → agrees l.other.note note ≡ false → PassBad l k note writing (Link' l.other.op k)
+  other : 1 ≤ l.other.op → agrees l.other.note note ≡ false →
+      PassBad l k note writing (Link' l.other.op k)
   odd : 1 ≤ l.odd.op → agrees l.odd.note note ≡ false → PassBad l k note writing (Link' l.odd.op k)
   own : writing ≡ true → (note.ripple ≡ note.seq → ⊥) → PassBad l k note writing (Ripple k k)
-  above : writing ≡ false → note.ripple < l.writer.note.seq → PassBad l k note writing (Ripple k l.writer.op)
+  above : writing ≡ false → note.ripple < l.writer.note.seq →
+      PassBad l k note writing (Ripple k l.writer.op)
 
 -- a wave ends behind these
 pub record EndOk (l : Lasts) : Type 0 where
@@ -107,18 +111,33 @@ abbrev pub no_mark : Mark
 no_mark = record { op = 0; note = no_note }
 
 abbrev pub first_lasts : Lasts
-first_lasts = record { none = true; top = no_mark; other = no_mark; odd = no_mark; writer = no_mark }
+first_lasts = record {
+  none = true;
+  top = no_mark;
+  other = no_mark;
+  odd = no_mark;
+  writer =
+      no_mark;
+}
 
 abbrev pub mark_at : Image → ℕ → Mark
 mark_at image k = record { op = k; note = note_of image k }
 
 -- the writing operation with the largest number behind operation k
 abbrev pub writer_after : Image → ℕ → Mark → Mark
-writer_after image k w = cond (is_writing image k && ltb w.note.seq (seq image k)) (mark_at image k) w
+writer_after image k w = cond (is_writing image k && ltb w.note.seq (seq image k))
+    (mark_at image k) w
 
 -- what is kept behind instruction k
 abbrev pub after : Image → ℕ → Lasts → Lasts
-after image k l = cond (is_memory image k) (record { none = false; top = mark_at image k; other = no_mark; odd = no_mark; writer = writer_after image k l.writer }) l
+after image k l = cond (is_memory image k) (record {
+  none = false;
+  top = mark_at image k;
+  other =
+      no_mark;
+  odd = no_mark;
+  writer = writer_after image k l.writer;
+}) l
 
 abbrev pub passed : Image → ℕ → ℕ → Lasts → Lasts
 passed image zero k l = l
@@ -126,7 +145,8 @@ passed image (suc n) k l = passed image n (suc k) (after image k l)
 
 abbrev pub GoodPass : Image → ℕ → ℕ → Lasts → Type 0
 GoodPass image zero k l = Unit {0}
-GoodPass image (suc n) k l = (is_memory image k ≡ true → PassOk l (note_of image k) (is_writing image k)) × GoodPass image n (suc k) (after image k l)
+GoodPass image (suc n) k l = (is_memory image k ≡ true →
+    PassOk l (note_of image k) (is_writing image k)) × GoodPass image n (suc k) (after image k l)
 
 abbrev pub link_eq : Link → Link → Bool
 link_eq Unknown Unknown = true
@@ -135,34 +155,52 @@ link_eq (Is n) (Is m) = eqb n m
 link_eq _ _ = false
 
 abbrev pub placed : Lasts → Mark → Mark → Lasts
-placed l big rest = record { none = l.none; top = big; other = rest; odd = cond (link_eq rest.note.succ big.note.succ) l.odd rest; writer = l.writer }
+placed l big rest = record {
+  none = l.none;
+  top = big;
+  other = rest;
+  odd =
+      cond (link_eq rest.note.succ big.note.succ) l.odd rest;
+  writer = l.writer;
+}
 
 -- one more operation that may have been last
 abbrev pub added : Lasts → Mark → Lasts
-added l x = cond (eqb l.top.op 0) (record { none = l.none; top = x; other = no_mark; odd = no_mark; writer = l.writer })
-    (cond (eqb x.op l.top.op) l (cond (ltb l.top.note.seq x.note.seq) (placed l x l.top) (placed l l.top x)))
+added l x = cond (eqb l.top.op 0) (record {
+  none = l.none;
+  top = x;
+  other = no_mark;
+  odd = no_mark;
+  writer = l.writer;
+})
+    (cond (eqb x.op l.top.op) l (cond (ltb l.top.note.seq x.note.seq) (placed l x l.top)
+    (placed l l.top x)))
 
 -- what is kept at the end of block b
 unfoldable pub out_of : Image → ℕ → Lasts → Lasts
 out_of image b l = passed image (size_of image b) (first_number image b) l
 
 abbrev pub EndsAt : Image → ℕ → Type 0
-EndsAt image b = (stops image b ≡ true) ⊎ ((stops image b ≡ false) × ((r : ℕ) × (is_first image (target image b r) ≡ true)))
+EndsAt image b = (stops image b ≡ true) ⊎ ((stops image b ≡ false) × ((r : ℕ) ×
+    (is_first image (target image b r) ≡ true)))
 
 -- the table has what is kept along the edge at r
-pub record EdgePassed (image : Image) (known : ℕ → Option Lasts) (b r : ℕ) (l : Lasts) : Type 0 where
+pub record EdgePassed (image : Image) (known : ℕ →
+    Option Lasts) (b r : ℕ) (l : Lasts) : Type 0 where
   pub more : Lasts
   pub lands : known (target image b r) ≡ Some more
   pub within : Within image l more
 
 pub record BlockPassed (image : Image) (known : ℕ → Option Lasts) (b : ℕ) (l : Lasts) : Type 0 where
   pub good : GoodPass image (size_of image b) (first_number image b) l
-  pub edges : stops image b ≡ false → (r : ℕ) → is_first image (target image b r) ≡ false → EdgePassed image known b r (out_of image b l)
+  pub edges : stops image b ≡ false → (r : ℕ) → is_first image (target image b r) ≡ false →
+      EdgePassed image known b r (out_of image b l)
   pub ends : EndsAt image b → EndOk (out_of image b l)
 
 -- operations of blocks of one wave that the table has differ in their numbers
 abbrev pub AllApart : Image → (ℕ → Option Lasts) → Type 0
-AllApart image known = (b c j k : ℕ) (l m : Lasts) → known b ≡ Some l → known c ≡ Some m → IsIn image b j → IsIn image c k → is_memory image j ≡ true → is_memory image k ≡ true →
+AllApart image known = (b c j k : ℕ) (l m : Lasts) → known b ≡ Some l → known c ≡ Some m →
+    IsIn image b j → IsIn image c k → is_memory image j ≡ true → is_memory image k ≡ true →
     (block_at image b).wave ≡ (block_at image c).wave → seq image j ≡ seq image k → j ≡ k
 
 -- a table that is closed under edges
@@ -174,7 +212,14 @@ pub record Passed (image : Image) (known : ℕ → Option Lasts) : Type 0 where
 
 -- the starts and the writers of both
 abbrev pub joint : Lasts → Lasts → Lasts
-joint l m = record { none = l.none || m.none; top = l.top; other = l.other; odd = l.odd; writer = cond (ltb l.writer.note.seq m.writer.note.seq) m.writer l.writer }
+joint l m = record {
+  none = l.none || m.none;
+  top = l.top;
+  other = l.other;
+  odd = l.odd;
+  writer =
+      cond (ltb l.writer.note.seq m.writer.note.seq) m.writer l.writer;
+}
 
 -- what is kept of both
 pub record Merged (image : Image) (b k : ℕ) (l m r : Lasts) : Type 0 where

@@ -30,7 +30,8 @@ pub record GoodTurn (i : Instr) (k : ℕ) (o : Slots) : Type 0 where
 
 abbrev pub GoodRun : List Instr → ℕ → Slots → Type 0
 GoodRun [] k o = Unit {0}
-GoodRun (i ∷ is) k o = GoodTurn i k o × GoodRun is (suc k) (all_opened (now_of i.op i.dests) (closed k o))
+GoodRun (i ∷ is) k o = GoodTurn i k o × GoodRun is (suc k) (all_opened (now_of i.op i.dests)
+    (closed k o))
 
 -- at its turn an instruction lacks slot j q, or opens it although it is open
 pub data BadTurn (i : Instr) (k : ℕ) (o : Slots) : ℕ → ℕ → Type 0 where
@@ -39,7 +40,8 @@ pub data BadTurn (i : Instr) (k : ℕ) (o : Slots) : ℕ → ℕ → Type 0 wher
 
 abbrev pub BadRun : List Instr → ℕ → Slots → ℕ → ℕ → Type 0
 BadRun [] k o j q = ⊥
-BadRun (i ∷ is) k o j q = BadTurn i k o j q ⊎ BadRun is (suc k) (all_opened (now_of i.op i.dests) (closed k o)) j q
+BadRun (i ∷ is) k o j q = BadTurn i k o j q ⊎ BadRun is (suc k) (all_opened (now_of i.op i.dests)
+    (closed k o)) j q
 
 abbrev pub AllRunOn : ℕ → List Instr → ℕ → Type 0
 AllRunOn n [] k = Unit {0}
@@ -58,4 +60,8 @@ edge_list pads r (i ∷ is) = sent_of pads r i i.op ++ edge_list pads r is
 -- the slots of the advances among instructions, the first of which is number k
 abbrev pub advance_list : List Instr → ℕ → List Dest
 advance_list [] k = []
-advance_list (i ∷ is) k = cond (is_advance_op i.op) (record { instr = k; port = 0 } ∷ advance_list is (suc k)) (advance_list is (suc k))
+advance_list (i ∷ is) k = cond (is_advance_op i.op) (record {
+  instr = k;
+  port =
+      0;
+} ∷ advance_list is (suc k)) (advance_list is (suc k))

@@ -31,14 +31,18 @@ pub record CameWith (image : Image) (w n j : ℕ) : Type 0 where
   pub number : seq image j ≡ n
 
 -- the operations of a wave that were passed, by their sequence numbers
-pub record SeenOk (image : Image) (known : ℕ → Option Lasts) (w n : ℕ) (seen : ℕ → Option ℕ) : Type 0 where
+pub record SeenOk (image : Image) (known : ℕ → Option Lasts) (w n : ℕ) (seen : ℕ →
+    Option ℕ) : Type 0 where
   pub came : (s j : ℕ) → seen s ≡ Some j → CameWith image w s j
   pub fewer : (s j : ℕ) → seen s ≡ Some j → j < n
-  pub has : (b k : ℕ) (l : Lasts) → known b ≡ Some l → IsIn image b k → k < n → is_memory image k ≡ true → (block_at image b).wave ≡ w → seen (seq image k) ≡ Some k
+  pub has : (b k : ℕ) (l : Lasts) → known b ≡ Some l → IsIn image b k → k < n →
+      is_memory image k ≡ true → (block_at image b).wave ≡ w → seen (seq image k) ≡ Some k
 
 -- those below n differ in their numbers
 abbrev pub ApartBelow : Image → (ℕ → Option Lasts) → ℕ → Type 0
-ApartBelow image known n = (b c j k : ℕ) (l m : Lasts) → known b ≡ Some l → known c ≡ Some m → IsIn image b j → IsIn image c k → j < n → k < n → is_memory image j ≡ true → is_memory image k ≡ true →
+ApartBelow image known n = (b c j k : ℕ) (l m : Lasts) → known b ≡ Some l → known c ≡ Some m →
+    IsIn image b j → IsIn image c k → j < n → k < n → is_memory image j ≡ true →
+    is_memory image k ≡ true →
     (block_at image b).wave ≡ (block_at image c).wave → seq image j ≡ seq image k → j ≡ k
 
 abbrev pub lasts_at : List (Option Lasts) → ℕ → Option Lasts
@@ -53,15 +57,21 @@ pub record OrderReady (t : Order) : Type 0 where
   pub shape : ShapeRules (order_image t)
   pub starts_are : StartsOf (order_image t) t.starts.now
   pub table_size : length t.table.items ≡ length (order_image t).blocks + 1
-  pub ok : (b : ℕ) (l : Lasts) → lasts_at t.table.items b ≡ Some l → IsBlock (order_image t) b × LastsOk (order_image t) b (first_number (order_image t) b) l
+  pub ok : (b : ℕ) (l : Lasts) → lasts_at t.table.items b ≡ Some l → IsBlock (order_image t) b ×
+      LastsOk (order_image t) b (first_number (order_image t) b) l
 
 -- the blocks below this number are passed
 pub record OrderOk (t : Order) (number : ℕ) : Type 0 where
   pub ready : OrderReady t
-  pub first : (b : ℕ) → b < number → IsBlock (order_image t) b → is_first (order_image t) b ≡ true → lasts_at t.table.items b ≡ Some first_lasts
-  pub done : (b : ℕ) (l : Lasts) → b < number → lasts_at t.table.items b ≡ Some l → BlockPassed (order_image t) (lasts_at t.table.items) b l
-  pub apart : ApartBelow (order_image t) (lasts_at t.table.items) (first_number (order_image t) number)
-  pub seen : is_first (order_image t) number ≡ false → SeenOk (order_image t) (lasts_at t.table.items) (block_at (order_image t) number).wave (first_number (order_image t) number) (op_with t.seen)
+  pub first : (b : ℕ) → b < number → IsBlock (order_image t) b → is_first (order_image t) b ≡ true →
+      lasts_at t.table.items b ≡ Some first_lasts
+  pub done : (b : ℕ) (l : Lasts) → b < number → lasts_at t.table.items b ≡ Some l →
+      BlockPassed (order_image t) (lasts_at t.table.items) b l
+  pub apart : ApartBelow (order_image t) (lasts_at t.table.items) (first_number
+      (order_image t) number)
+  pub seen : is_first (order_image t) number ≡ false →
+      SeenOk (order_image t) (lasts_at t.table.items) (block_at (order_image t) number).wave
+      (first_number (order_image t) number) (op_with t.seen)
 
 abbrev pub OrderBreach : Image → CheckFault → Type 0
 OrderBreach image (Refused (bad.Link j k)) = LinkBreach image j k
@@ -75,11 +85,20 @@ abbrev pub mark_of : ℕ → Instr → Mark
 mark_of k i = record { op = k; note = or_else i.note no_note }
 
 abbrev pub stepped : Lasts → ℕ → Instr → Lasts
-stepped l k i = cond (is_memory_op i.op) (record { none = false; top = mark_of k i; other = no_mark; odd = no_mark; writer = cond (is_writing_op i.op && ltb l.writer.note.seq (mark_of k i).note.seq) (mark_of k i) l.writer }) l
+stepped l k i = cond (is_memory_op i.op) (record {
+  none = false;
+  top = mark_of k i;
+  other = no_mark;
+  odd = no_mark;
+  writer = cond (is_writing_op i.op && ltb l.writer.note.seq
+      (mark_of k i).note.seq) (mark_of k i) l.writer;
+}) l
 
 pub data StepBreaks (seen : ℕ → Option ℕ) (l : Lasts) (k : ℕ) (i : Instr) : Bad → Type 0 where
-  broken : {b : Bad} → is_memory_op i.op ≡ true → PassBad l k (mark_of k i).note (is_writing_op i.op) b → StepBreaks seen l k i b
-  repeated : {j : ℕ} → is_memory_op i.op ≡ true → seen (mark_of k i).note.seq ≡ Some j → StepBreaks seen l k i (bad.Link j k)
+  broken : {b : Bad} → is_memory_op i.op ≡ true → PassBad l k (mark_of k i).note
+      (is_writing_op i.op) b → StepBreaks seen l k i b
+  repeated : {j : ℕ} → is_memory_op i.op ≡ true → seen (mark_of k i).note.seq ≡ Some j →
+      StepBreaks seen l k i (bad.Link j k)
 
 abbrev pub StepBad : (ℕ → Option ℕ) → Lasts → ℕ → Instr → CheckFault → Type 0
 StepBad seen l k i (Refused b) = StepBreaks seen l k i b
@@ -87,23 +106,28 @@ StepBad seen l k i NoMemory = Unit {0}
 
 pub record StepSeen (old new : ℕ → Option ℕ) (k : ℕ) (i : Instr) : Type 0 where
   pub is_new : is_memory_op i.op ≡ true → old (mark_of k i).note.seq ≡ None
-  pub put : is_memory_op i.op ≡ true → (n : ℕ) → new n ≡ cond (eqb (mark_of k i).note.seq n) (Some k) (old n)
+  pub put : is_memory_op i.op ≡ true → (n : ℕ) → new n ≡ cond (eqb (mark_of k i).note.seq n)
+      (Some k) (old n)
   pub same : is_memory_op i.op ≡ false → (n : ℕ) → new n ≡ old n
 
 abbrev pub CameAll : Image → ℕ → (ℕ → Option ℕ) → Type 0
 CameAll image w seen = (s j : ℕ) → seen s ≡ Some j → CameWith image w s j
 
 -- before instruction k of block b, which is come into with what is kept in `start`
-pub record PassState (image : Image) (b : ℕ) (start : Lasts) (old : ℕ → Option ℕ) (k : ℕ) (here : Lasts) (seen : ℕ → Option ℕ) : Type 0 where
+pub record PassState (image : Image) (b : ℕ) (start : Lasts) (old : ℕ →
+    Option ℕ) (k : ℕ) (here : Lasts) (seen : ℕ → Option ℕ) : Type 0 where
   pub low : first_number image b ≤ k
   pub left : ℕ
   pub ends : k + left ≡ first_number image (suc b)
   pub ok : LastsOk image b k here
   pub kept : passed image left k here ≡ out_of image b start
-  pub good : GoodPass image left k here → GoodPass image (size_of image b) (first_number image b) start
+  pub good : GoodPass image left k here → GoodPass image (size_of image b)
+      (first_number image b) start
   pub came : CameAll image (block_at image b).wave seen
   pub fewer : (s j : ℕ) → seen s ≡ Some j → j < k
-  pub grows : (known : ℕ → Option Lasts) (l : Lasts) → known b ≡ Some l → SeenOk image known (block_at image b).wave (first_number image b) old → ApartBelow image known (first_number image b) →
+  pub grows : (known : ℕ → Option Lasts) (l : Lasts) → known b ≡ Some l →
+      SeenOk image known (block_at image b).wave (first_number image b) old →
+      ApartBelow image known (first_number image b) →
       SeenOk image known (block_at image b).wave k seen × ApartBelow image known k
 
 -- block b has more paths, and other blocks as many
@@ -115,26 +139,36 @@ pub record Delivered (image : Image) (old new : ℕ → Option Lasts) (b : ℕ) 
   pub others : (c : ℕ) → (c ≡ b → ⊥) → new c ≡ old c
 
 -- how far the edges of block b are followed: those at choices below r
-pub record LeaveState (image : Image) (old new : ℕ → Option Lasts) (b r : ℕ) (l : Lasts) : Type 0 where
+pub record LeaveState (image : Image) (old new : ℕ →
+    Option Lasts) (b r : ℕ) (l : Lasts) : Type 0 where
   pub same : (c : ℕ) → c ≤ b → new c ≡ old c
-  pub grows : (c : ℕ) (m : Lasts) → old c ≡ Some m → (n : Lasts) × (new c ≡ Some n) × Within image m n
-  pub edges : (q : ℕ) → q < r → is_first image (target image b q) ≡ false → EdgePassed image new b q l
+  pub grows : (c : ℕ) (m : Lasts) → old c ≡ Some m → (n : Lasts) × (new c ≡ Some n) ×
+      Within image m n
+  pub edges : (q : ℕ) → q < r → is_first image (target image b q) ≡ false →
+      EdgePassed image new b q l
   pub ends : (q : ℕ) → q < r → is_first image (target image b q) ≡ true → EndOk l
 
 abbrev pub SameOrder : Order → Order → Type 0
-SameOrder old new = (new.image.now ≡ old.image.now) × (new.starts.now ≡ old.starts.now) × (new.seen ≡ old.seen)
+SameOrder old new = (new.image.now ≡ old.image.now) × (new.starts.now ≡ old.starts.now) ×
+    (new.seen ≡ old.seen)
 
 -- block `number` is come into
 pub record EnteredOk (t : Order) (number : ℕ) : Type 0 where
   pub ready : OrderReady t
-  pub first : (b : ℕ) → b ≤ number → IsBlock (order_image t) b → is_first (order_image t) b ≡ true → lasts_at t.table.items b ≡ Some first_lasts
-  pub done : (b : ℕ) (l : Lasts) → b < number → lasts_at t.table.items b ≡ Some l → BlockPassed (order_image t) (lasts_at t.table.items) b l
-  pub apart : ApartBelow (order_image t) (lasts_at t.table.items) (first_number (order_image t) number)
-  pub seen : SeenOk (order_image t) (lasts_at t.table.items) (block_at (order_image t) number).wave (first_number (order_image t) number) (op_with t.seen)
+  pub first : (b : ℕ) → b ≤ number → IsBlock (order_image t) b → is_first (order_image t) b ≡ true →
+      lasts_at t.table.items b ≡ Some first_lasts
+  pub done : (b : ℕ) (l : Lasts) → b < number → lasts_at t.table.items b ≡ Some l →
+      BlockPassed (order_image t) (lasts_at t.table.items) b l
+  pub apart : ApartBelow (order_image t) (lasts_at t.table.items) (first_number
+      (order_image t) number)
+  pub seen : SeenOk (order_image t) (lasts_at t.table.items) (block_at (order_image t) number).wave
+      (first_number (order_image t) number) (op_with t.seen)
 
 -- the edges of block b are followed, and where a wave may end behind it the rules are kept
 pub record EndState (image : Image) (old new : ℕ → Option Lasts) (b : ℕ) (l : Lasts) : Type 0 where
   pub same : (c : ℕ) → c ≤ b → new c ≡ old c
-  pub grows : (c : ℕ) (m : Lasts) → old c ≡ Some m → (n : Lasts) × (new c ≡ Some n) × Within image m n
-  pub edges : stops image b ≡ false → (r : ℕ) → is_first image (target image b r) ≡ false → EdgePassed image new b r l
+  pub grows : (c : ℕ) (m : Lasts) → old c ≡ Some m → (n : Lasts) × (new c ≡ Some n) ×
+      Within image m n
+  pub edges : stops image b ≡ false → (r : ℕ) → is_first image (target image b r) ≡ false →
+      EdgePassed image new b r l
   pub ends : EndsAt image b → EndOk l

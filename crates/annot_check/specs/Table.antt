@@ -47,7 +47,8 @@ length_of (Landings s ls) = length ls
 length_of _ = 0
 
 abbrev pub StartsOf : Image → List ℕ → Type 0
-StartsOf image starts = (length starts ≡ length image.blocks + 2) × ((b : ℕ) → b ≤ suc (length image.blocks) → slice_index_or starts b 0 ≡ first_number image b)
+StartsOf image starts = (length starts ≡ length image.blocks + 2) × ((b : ℕ) →
+    b ≤ suc (length image.blocks) → slice_index_or starts b 0 ≡ first_number image b)
 
 -- a path comes into block b with these slots
 pub data Arrives (image : Image) (from b : ℕ) (o : Slots) : Type 0 where
@@ -85,9 +86,11 @@ HasNumber (x ∷ xs) b = (x ≡ b) ⊎ HasNumber xs b
 pub record TableGrows (old new : List (Option Entry)) (old_todo new_todo : List ℕ) : Type 0 where
   pub size : length new ≡ length old
   pub keeps : (b : ℕ) (e : Entry) → entry_at old b ≡ Some e → entry_at new b ≡ Some e
-  pub is_new : (b : ℕ) (e : Entry) → entry_at new b ≡ Some e → (entry_at old b ≡ Some e) ⊎ HasNumber new_todo b
+  pub is_new : (b : ℕ) (e : Entry) → entry_at new b ≡ Some e → (entry_at old b ≡ Some e) ⊎
+      HasNumber new_todo b
   pub todo : (b : ℕ) → HasNumber old_todo b → HasNumber new_todo b
-  pub todo_new : (b : ℕ) → HasNumber new_todo b → HasNumber old_todo b ⊎ ((e : Entry) × (entry_at new b ≡ Some e))
+  pub todo_new : (b : ℕ) → HasNumber new_todo b → HasNumber old_todo b ⊎
+      ((e : Entry) × (entry_at new b ≡ Some e))
   pub less : free new + length new_todo ≤ free old + length old_todo
 
 -- what stays, and what has grown
@@ -111,7 +114,8 @@ pub record Lands (t : Trace) (b : ℕ) (o : Slots) : Type 0 where
 
 -- each block of the table is done, or to be done
 abbrev pub AllDone : Trace → Type 0
-AllDone t = (b : ℕ) (e : Entry) → entry_at t.table.items b ≡ Some e → HasNumber t.todo.items b ⊎ BlockDone (image_of t) (known t) b (set_slots t e.set)
+AllDone t = (b : ℕ) (e : Entry) → entry_at t.table.items b ≡ Some e → HasNumber t.todo.items b ⊎
+    BlockDone (image_of t) (known t) b (set_slots t e.set)
 
 abbrev pub AllBlocks : Trace → Type 0
 AllBlocks t = (b : ℕ) → HasNumber t.todo.items b → IsBlock (image_of t) b

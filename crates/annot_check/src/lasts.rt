@@ -1,7 +1,7 @@
 //! What the checker keeps of the paths inside a wave: which operations may have been last.
 //!
-//! Where several may have been, all of them have to name the same successor. So those that tell most
-//! are kept, and not all: the checks of these are the checks of all.
+//! Where several may have been, all of them have to name the same successor. So those that tell
+//! most are kept, and not all: the checks of these are the checks of all.
 
 ghost use Rattle.std.specs.Prelude.{◌≡◌, ◌<◌, ◌≤◌, ℕ, Bool, true, false, IfSome, IfNone, IfOk, IfErr, Some, None, cond, ltb};
 ghost use Rattle.ws_isa.specs.Image.{no_note, or_else};
@@ -24,8 +24,8 @@ pub struct Mark {
     pub note: Note,
 }
 
-/// Whether a path without an operation leads here, and operations that may have been last: `top` has
-/// the largest sequence number, `other` is another, and `odd` has another successor than `top`.
+/// Whether a path without an operation leads here, and operations that may have been last: `top`
+/// has the largest sequence number, `other` is another, and `odd` has another successor than `top`.
 /// `writer` is the writing operation with the largest sequence number on any path.
 #[derive(Clone, Copy, Drop)]
 pub struct Lasts {
@@ -212,8 +212,10 @@ fn place(lasts: &Lasts, top: Mark, rest: Mark) -> Lasts
 /// One more operation that may have been last, unless another has its sequence number.
 pub fn add(lasts: &Lasts, mark: Mark) -> Option<Lasts>
     ensures added { IfSome result (λ more. more ≡ added lasts.now mark) }
-    ensures apart { IfSome result (λ more. 1 ≤ lasts.now.top.op → (mark.op ≡ lasts.now.top.op → ⊥) → mark.note.seq ≡ lasts.now.top.note.seq → ⊥) }
-    ensures none { IfNone result ((1 ≤ lasts.now.top.op) × (mark.op ≡ lasts.now.top.op → ⊥) × (mark.note.seq ≡ lasts.now.top.note.seq)) }
+    ensures apart { IfSome result (λ more. 1 ≤ lasts.now.top.op → (mark.op ≡ lasts.now.top.op → ⊥) →
+        mark.note.seq ≡ lasts.now.top.note.seq → ⊥) }
+    ensures none { IfNone result ((1 ≤ lasts.now.top.op) × (mark.op ≡ lasts.now.top.op → ⊥) ×
+        (mark.note.seq ≡ lasts.now.top.note.seq)) }
 {
     if lasts.top.op == 0 {
         return Some(Lasts {
@@ -254,9 +256,14 @@ pub fn no_op() -> Mark
 
 // Adds an operation if there is one.
 fn add_some(lasts: &Lasts, mark: Mark) -> Result<Lasts, Bad>
-    ensures added { IfOk result (λ more. (1 ≤ mark.op → more ≡ added lasts.now mark) × (mark.op ≡ 0 → more ≡ lasts.now)) }
-    ensures apart { IfOk result (λ more. 1 ≤ mark.op → 1 ≤ lasts.now.top.op → (mark.op ≡ lasts.now.top.op → ⊥) → mark.note.seq ≡ lasts.now.top.note.seq → ⊥) }
-    ensures refused { IfErr result (λ bad. (1 ≤ mark.op) × (1 ≤ lasts.now.top.op) × (mark.op ≡ lasts.now.top.op → ⊥) × (mark.note.seq ≡ lasts.now.top.note.seq) × (bad ≡ cond (ltb lasts.now.top.op mark.op) (LinkBad lasts.now.top.op mark.op) (LinkBad mark.op lasts.now.top.op))) }
+    ensures added { IfOk result (λ more. (1 ≤ mark.op → more ≡ added lasts.now mark) ×
+        (mark.op ≡ 0 → more ≡ lasts.now)) }
+    ensures apart { IfOk result (λ more. 1 ≤ mark.op → 1 ≤ lasts.now.top.op →
+        (mark.op ≡ lasts.now.top.op → ⊥) → mark.note.seq ≡ lasts.now.top.note.seq → ⊥) }
+    ensures refused { IfErr result (λ bad. (1 ≤ mark.op) × (1 ≤ lasts.now.top.op) ×
+        (mark.op ≡ lasts.now.top.op → ⊥) × (mark.note.seq ≡ lasts.now.top.note.seq) ×
+        (bad ≡ cond (ltb lasts.now.top.op mark.op) (LinkBad lasts.now.top.op mark.op)
+        (LinkBad mark.op lasts.now.top.op))) }
 {
     if mark.op == 0 {
         return Ok(*lasts);
@@ -308,12 +315,24 @@ fn greater(mark: Mark, other: Mark) -> Mark
 
 /// What is kept of the paths of both, unless two operations have one sequence number.
 pub fn merge(lasts: &Lasts, others: &Lasts) -> Result<Lasts, Bad>
-    ensures merged { IfOk result (λ more. (image : PlainImage) (b k : ℕ) → LastsOk image b k lasts.now → LastsOk image b k others.now → Merged image b k lasts.now others.now more) }
-    ensures refused { IfErr result (λ bad. (image : PlainImage) (b k : ℕ) → ShapeRules image → LastsOk image b k lasts.now → LastsOk image b k others.now → OrderBreach image (Refused bad)) }
+    ensures merged { IfOk result (λ more. (image : PlainImage) (b k : ℕ) →
+        LastsOk image b k lasts.now → LastsOk image b k others.now →
+        Merged image b k lasts.now others.now more) }
+    ensures refused { IfErr result (λ bad. (image : PlainImage) (b k : ℕ) → ShapeRules image →
+        LastsOk image b k lasts.now → LastsOk image b k others.now →
+        OrderBreach image (Refused bad)) }
 {
     let joint = joint(lasts, others);
-    let first = add_some(&joint, others.top)?;
-    let second = add_some(&first, others.other)?;
-    let third = add_some(&second, others.odd)?;
-    Ok(third)
+    let first = match add_some(&joint, others.top) {
+        Ok(first) => first,
+        Err(bad) => return Err(bad),
+    };
+    let second = match add_some(&first, others.other) {
+        Ok(second) => second,
+        Err(bad) => return Err(bad),
+    };
+    match add_some(&second, others.odd) {
+        Ok(third) => Ok(third),
+        Err(bad) => Err(bad),
+    }
 }

@@ -59,7 +59,8 @@ fn is_writing_instr(op: Op) -> bool
 // Gives an operation its sequence number, and answers the operation that had it.
 fn take_number(seen: &mut BTreeMap<u32, u32>, seq: u32, op: u32) -> Result<Option<u32>, NoMemory>
     ensures had { IfOk result (λ earlier. earlier ≡ op_with seen.old seq) }
-    ensures taken { OnOk result ((n : ℕ) → op_with seen.new n ≡ cond (eqb seq n) (Some op) (op_with seen.old n)) }
+    ensures taken { OnOk result ((n : ℕ) → op_with seen.new n ≡ cond (eqb seq n) (Some op)
+        (op_with seen.old n)) }
 {
     Ok(seen.insert(seq, op)?)
 }
@@ -81,7 +82,8 @@ fn behind(lasts: &Lasts, mark: Mark, writing: bool) -> Lasts
     ensures top { result.top ≡ mark }
     ensures other { result.other ≡ no_mark }
     ensures odd { result.odd ≡ no_mark }
-    ensures writer { result.writer ≡ cond (writing && ltb lasts.now.writer.note.seq mark.note.seq) mark lasts.now.writer }
+    ensures writer { result.writer ≡ cond
+        (writing && ltb lasts.now.writer.note.seq mark.note.seq) mark lasts.now.writer }
 {
     let writer = later_writer(lasts.writer, mark, writing);
     Lasts {
@@ -101,9 +103,12 @@ fn pass(
     instr: &Instr,
 ) -> Result<Lasts, CheckFault>
     ensures kept { IfOk result (λ more. more ≡ stepped lasts.now op (view.instr instr.now)) }
-    ensures ok { OnOk result (is_memory_op instr.now.op ≡ true → PassOk lasts.now (mark_of op (view.instr instr.now)).note (is_writing_op instr.now.op)) }
-    ensures seen { OnOk result (StepSeen (op_with seen.old) (op_with seen.new) op (view.instr instr.now)) }
-    ensures refused { IfErr result (λ fault. StepBad (op_with seen.old) lasts.now op (view.instr instr.now) fault) }
+    ensures ok { OnOk result (is_memory_op instr.now.op ≡ true →
+        PassOk lasts.now (mark_of op (view.instr instr.now)).note (is_writing_op instr.now.op)) }
+    ensures seen { OnOk result (StepSeen (op_with seen.old) (op_with seen.new) op
+        (view.instr instr.now)) }
+    ensures refused { IfErr result (λ fault. StepBad (op_with seen.old) lasts.now op
+        (view.instr instr.now) fault) }
 {
     if !is_memory_instr(instr.op) {
         return Ok(*lasts);
@@ -135,9 +140,12 @@ fn pass_all(
     requires block { IsBlock (view.image image.now) number }
     requires first { first ≡ first_number (view.image image.now) number }
     requires ok { LastsOk (view.image image.now) number first start }
-    requires came { CameAll (view.image image.now) (block_at (view.image image.now) number).wave (op_with seen.now) }
+    requires came { CameAll (view.image image.now) (block_at (view.image image.now) number).wave
+        (op_with seen.now) }
     requires fewer { (s j : ℕ) → op_with seen.now s ≡ Some j → j < first }
-    ensures state { IfOk result (λ more. PassState (view.image image.now) number start (op_with seen.old) (first_number (view.image image.now) (suc number)) more (op_with seen.new)) }
+    ensures state { IfOk result (λ more. PassState (view.image image.now) number start
+        (op_with seen.old) (first_number (view.image image.now) (suc number)) more
+        (op_with seen.new)) }
     ensures refused { IfErr result (λ fault. OrderBreach (view.image image.now) fault) }
 {
     let mut lasts = start;
@@ -157,10 +165,13 @@ impl<'a> Order<'a> {
     fn more_at(&self, to: u32, lasts: &Lasts) -> Result<Lasts, CheckFault>
         requires ready { OrderReady self.now }
         requires block { IsBlock (order_image self.now) to }
-        requires comes { LastsOk (order_image self.now) to (first_number (order_image self.now) to) lasts.now }
-        ensures ok { IfOk result (λ more. LastsOk (order_image self.now) to (first_number (order_image self.now) to) more) }
+        requires comes { LastsOk (order_image self.now) to (first_number
+            (order_image self.now) to) lasts.now }
+        ensures ok { IfOk result (λ more. LastsOk (order_image self.now) to
+            (first_number (order_image self.now) to) more) }
         ensures within { IfOk result (λ more. Within (order_image self.now) lasts.now more) }
-        ensures before { IfOk result (λ more. (m : Lasts) → lasts_at self.now.table.items to ≡ Some m → Within (order_image self.now) m more) }
+        ensures before { IfOk result (λ more. (m : Lasts) →
+            lasts_at self.now.table.items to ≡ Some m → Within (order_image self.now) m more) }
         ensures refused { IfErr result (λ fault. OrderBreach (order_image self.now) fault) }
     {
         match self.table[to as usize] {
@@ -176,10 +187,12 @@ impl<'a> Order<'a> {
     fn deliver(&mut self, to: u32, lasts: &Lasts) -> Result<(), CheckFault>
         requires ready { OrderReady self.now }
         requires block { IsBlock (order_image self.now) to }
-        requires comes { LastsOk (order_image self.now) to (first_number (order_image self.now) to) lasts.now }
+        requires comes { LastsOk (order_image self.now) to (first_number
+            (order_image self.now) to) lasts.now }
         ensures same { SameOrder self.old self.new }
         ensures ready { OnOk result (OrderReady self.new) }
-        ensures delivered { OnOk result (Delivered (order_image self.old) (lasts_at self.old.table.items) (lasts_at self.new.table.items) to lasts.now) }
+        ensures delivered { OnOk result (Delivered (order_image self.old)
+            (lasts_at self.old.table.items) (lasts_at self.new.table.items) to lasts.now) }
         ensures refused { IfErr result (λ fault. OrderBreach (order_image self.old) fault) }
     {
         let more = self.more_at(to, lasts)?;
@@ -192,11 +205,18 @@ impl<'a> Order<'a> {
         requires ready { OrderReady self.now }
         requires block { IsBlock (order_image self.now) number }
         requires goes_on { stops (order_image self.now) number ≡ false }
-        requires comes { LastsOk (order_image self.now) number (first_number (order_image self.now) (suc number)) lasts.now }
+        requires comes { LastsOk (order_image self.now) number (first_number (order_image self.now)
+            (suc number)) lasts.now }
         ensures same { SameOrder self.old self.new }
         ensures ready { OnOk result (OrderReady self.new) }
-        ensures crosses { OnOk result (is_first (order_image self.old) (target (order_image self.old) number choice) ≡ true → (self.new.table.items ≡ self.old.table.items) × EndOk lasts.now) }
-        ensures inside { OnOk result (is_first (order_image self.old) (target (order_image self.old) number choice) ≡ false → Delivered (order_image self.old) (lasts_at self.old.table.items) (lasts_at self.new.table.items) (target (order_image self.old) number choice) lasts.now) }
+        ensures crosses { OnOk result (is_first (order_image self.old)
+            (target (order_image self.old) number choice) ≡ true →
+            (self.new.table.items ≡ self.old.table.items) × EndOk lasts.now) }
+        ensures inside { OnOk result (is_first (order_image self.old)
+            (target (order_image self.old) number choice) ≡ false →
+            Delivered (order_image self.old) (lasts_at self.old.table.items)
+            (lasts_at self.new.table.items) (target
+            (order_image self.old) number choice) lasts.now) }
         ensures refused { IfErr result (λ fault. OrderBreach (order_image self.old) fault) }
     {
         let to = target_of(self.image, number, choice);
@@ -214,10 +234,13 @@ impl<'a> Order<'a> {
         requires ready { OrderReady self.now }
         requires block { IsBlock (order_image self.now) number }
         requires goes_on { stops (order_image self.now) number ≡ false }
-        requires comes { LastsOk (order_image self.now) number (first_number (order_image self.now) (suc number)) lasts.now }
+        requires comes { LastsOk (order_image self.now) number (first_number (order_image self.now)
+            (suc number)) lasts.now }
         ensures same { SameOrder self.old self.new }
         ensures ready { OnOk result (OrderReady self.new) }
-        ensures left { OnOk result (LeaveState (order_image self.old) (lasts_at self.old.table.items) (lasts_at self.new.table.items) number (choices_of (block_at (order_image self.old) number).exit) lasts.now) }
+        ensures left { OnOk result (LeaveState (order_image self.old)
+            (lasts_at self.old.table.items) (lasts_at self.new.table.items) number
+            (choices_of (block_at (order_image self.old) number).exit) lasts.now) }
         ensures refused { IfErr result (λ fault. OrderBreach (order_image self.old) fault) }
     {
         for choice in 0..choices(self.image, number) {
@@ -230,10 +253,12 @@ impl<'a> Order<'a> {
     fn end(&mut self, number: u32, lasts: &Lasts) -> Result<(), CheckFault>
         requires ready { OrderReady self.now }
         requires block { IsBlock (order_image self.now) number }
-        requires comes { LastsOk (order_image self.now) number (first_number (order_image self.now) (suc number)) lasts.now }
+        requires comes { LastsOk (order_image self.now) number (first_number (order_image self.now)
+            (suc number)) lasts.now }
         ensures same { SameOrder self.old self.new }
         ensures ready { OnOk result (OrderReady self.new) }
-        ensures left { OnOk result (EndState (order_image self.old) (lasts_at self.old.table.items) (lasts_at self.new.table.items) number lasts.now) }
+        ensures left { OnOk result (EndState (order_image self.old) (lasts_at self.old.table.items)
+            (lasts_at self.new.table.items) number lasts.now) }
         ensures refused { IfErr result (λ fault. OrderBreach (order_image self.old) fault) }
     {
         if !stops_at(self.image, number) {
@@ -309,7 +334,8 @@ fn blank_lasts(alloc: Global, size: usize) -> Result<Vec<Option<Lasts>>, NoMemor
     Ok(table)
 }
 
-/// The rules on links and ripples of a formed image whose shape is right are kept, or a breach is named.
+/// The rules on links and ripples of a formed image whose shape is right are kept, or a breach is
+/// named.
 pub fn check_order(alloc: Global, image: &Image, starts: &[u32]) -> Result<(), CheckFault>
     requires formed { Formed (view.image image.now) }
     requires shape { ShapeRules (view.image image.now) }

@@ -41,7 +41,9 @@ pub fn open_all(held: &mut Open, dests: &[Dest]) -> Result<Option<Dest>, NoMemor
     ensures ok { OnOk result (OpenOk held.new) }
     ensures moved { OnOk result (Moved held.old held.new) }
     ensures low { held.new.low ≡ held.old.low }
-    ensures done { IfOk result (λ slot. MatchOption slot (Fresh dests.now (look held.old) × (look held.new ≡ all_opened dests.now (look held.old))) (λ d. Taken dests.now (look held.old) d.instr d.port)) }
+    ensures done { IfOk result (λ slot. MatchOption slot (Fresh dests.now (look held.old) ×
+        (look held.new ≡ all_opened dests.now (look held.old))) (λ d. Taken dests.now
+        (look held.old) d.instr d.port)) }
 {
     for dest in dests {
         if held.is_open(*dest) {
@@ -58,7 +60,8 @@ fn lacking(held: &Open, number: u32, ports: u8) -> Option<Dest>
     requires on { 4 * number + 4 ≤ length held.now.board.items }
     requires few { ports < 4 }
     ensures none { IfNone result ((q : ℕ) → q < ports → look held.now number q ≡ true) }
-    ensures some { IfSome result (λ d. (d.instr ≡ number) × (d.port < ports) × (look held.now number d.port ≡ false)) }
+    ensures some { IfSome result (λ d. (d.instr ≡ number) × (d.port < ports) ×
+        (look held.now number d.port ≡ false)) }
 {
     for port in 0..ports {
         let slot = Dest {
@@ -83,10 +86,22 @@ fn close_all(held: &mut Open, number: u32) -> Result<(), NoMemory>
     ensures low { OnOk result (held.new.low ≡ number + 1) }
     ensures closed { OnOk result (look held.new ≡ closed number (look held.old)) }
 {
-    held.close(Dest { instr: number, port: 0 })?;
-    held.close(Dest { instr: number, port: 1 })?;
-    held.close(Dest { instr: number, port: 2 })?;
-    held.close(Dest { instr: number, port: 3 })?;
+    held.close(Dest {
+        instr: number,
+        port: 0,
+    })?;
+    held.close(Dest {
+        instr: number,
+        port: 1,
+    })?;
+    held.close(Dest {
+        instr: number,
+        port: 2,
+    })?;
+    held.close(Dest {
+        instr: number,
+        port: 3,
+    })?;
     held.low = number + 1;
     Ok(())
 }
@@ -101,7 +116,10 @@ fn turn(held: &mut Open, instr: &Instr, number: u32) -> Result<Option<Dest>, NoM
     ensures ok { OnOk result (OpenOk held.new) }
     ensures moved { OnOk result (Moved held.old held.new) }
     ensures low { IfOk result (λ slot. IfNone slot (held.new.low ≡ number + 1)) }
-    ensures done { IfOk result (λ slot. MatchOption slot (GoodTurn (view.instr instr.now) number (look held.old) × (look held.new ≡ all_opened (now_of instr.now.op instr.now.dests.items) (closed number (look held.old)))) (λ d. BadTurn (view.instr instr.now) number (look held.old) d.instr d.port)) }
+    ensures done { IfOk result (λ slot. MatchOption slot (GoodTurn (view.instr instr.now) number
+        (look held.old) × (look held.new ≡ all_opened (now_of instr.now.op instr.now.dests.items)
+        (closed number (look held.old)))) (λ d. BadTurn (view.instr instr.now) number
+        (look held.old) d.instr d.port)) }
 {
     if let Some(slot) = lacking(held, number, ports(instr.op)) {
         return Ok(Some(slot));
@@ -119,7 +137,9 @@ pub fn run_block(held: &mut Open, instrs: &[Instr], first: u32) -> Result<Option
     ensures ok { OnOk result (OpenOk held.new) }
     ensures moved { OnOk result (Moved held.old held.new) }
     ensures low { IfOk result (λ slot. IfNone slot (held.new.low ≡ held.new.high)) }
-    ensures done { IfOk result (λ slot. MatchOption slot (GoodRun (map view.instr instrs.now) first (look held.old) × (look held.new ≡ run (map view.instr instrs.now) first (look held.old))) (λ d. BadRun (map view.instr instrs.now) first (look held.old) d.instr d.port)) }
+    ensures done { IfOk result (λ slot. MatchOption slot (GoodRun (map view.instr instrs.now) first
+        (look held.old) × (look held.new ≡ run (map view.instr instrs.now) first (look held.old)))
+        (λ d. BadRun (map view.instr instrs.now) first (look held.old) d.instr d.port)) }
 {
     let mut number = first;
     for instr in instrs {

@@ -40,9 +40,12 @@ pub struct Facts {
 
 // The instructions of one more block.
 fn add_block(facts: &mut Facts, block: &Block) -> Result<(), NoMemory>
-    ensures ops { OnOk result (facts.new.ops.items ≡ facts.old.ops.items ++ map (λ i. i.op) (map view.instr block.now.instrs.items)) }
-    ensures advances { OnOk result (facts.new.advances.items ≡ facts.old.advances.items ++ map (λ i. is_advance_op i.op) (map view.instr block.now.instrs.items)) }
-    ensures waves { OnOk result (facts.new.waves.items ≡ facts.old.waves.items ++ map (λ i. block.now.wave) (map view.instr block.now.instrs.items)) }
+    ensures ops { OnOk result (facts.new.ops.items ≡ facts.old.ops.items ++ map (λ i. i.op)
+        (map view.instr block.now.instrs.items)) }
+    ensures advances { OnOk result (facts.new.advances.items ≡ facts.old.advances.items ++ map
+        (λ i. is_advance_op i.op) (map view.instr block.now.instrs.items)) }
+    ensures waves { OnOk result (facts.new.waves.items ≡ facts.old.waves.items ++ map
+        (λ i. block.now.wave) (map view.instr block.now.instrs.items)) }
 {
     for instr in &block.instrs {
         facts.ops.push(instr.op)?;
@@ -54,9 +57,12 @@ fn add_block(facts: &mut Facts, block: &Block) -> Result<(), NoMemory>
 
 /// The facts of all instructions.
 fn facts_of(alloc: Global, image: &Image) -> Result<Facts, NoMemory>
-    ensures ops { IfOk result (λ facts. facts.ops.items ≡ Halt ∷ ops_of (map view.block image.now.blocks.items)) }
-    ensures advances { IfOk result (λ facts. facts.advances.items ≡ false ∷ advances_of (map view.block image.now.blocks.items)) }
-    ensures waves { IfOk result (λ facts. facts.waves.items ≡ 0 ∷ waves_of (map view.block image.now.blocks.items)) }
+    ensures ops { IfOk result (λ facts. facts.ops.items ≡ Halt ∷ ops_of
+        (map view.block image.now.blocks.items)) }
+    ensures advances { IfOk result (λ facts. facts.advances.items ≡ false ∷ advances_of
+        (map view.block image.now.blocks.items)) }
+    ensures waves { IfOk result (λ facts. facts.waves.items ≡ 0 ∷ waves_of
+        (map view.block image.now.blocks.items)) }
 {
     let mut facts = Facts {
         ops: Vec::new(alloc),
@@ -106,8 +112,10 @@ impl Facts {
     fn all_ahead(&self, image: &Image, number: u32, op: u32, dests: &[Dest]) -> bool
         requires facts { TableOf self.now (view.image image.now) }
         requires block { IsBlock (view.image image.now) number }
-        ensures yes { result ≡ true → (j q : ℕ) → HasDest dests.now j q → IsAhead (view.image image.now) number op j }
-        ensures no { result ≡ false → ((j q : ℕ) → HasDest dests.now j q → IsAhead (view.image image.now) number op j) → ⊥ }
+        ensures yes { result ≡ true → (j q : ℕ) → HasDest dests.now j q →
+            IsAhead (view.image image.now) number op j }
+        ensures no { result ≡ false → ((j q : ℕ) → HasDest dests.now j q →
+            IsAhead (view.image image.now) number op j) → ⊥ }
     {
         for dest in dests {
             if !self.is_ahead(image, number, op, *dest) {
@@ -123,8 +131,10 @@ impl Facts {
         requires formed { Formed (view.image image.now) }
         requires block { IsBlock (view.image image.now) number }
         requires first { first ≡ first_number (view.image image.now) number }
-        ensures yes { result ≡ true → (k : ℕ) → IsIn (view.image image.now) number k → InstrShape (view.image image.now) number k }
-        ensures no { result ≡ false → ((k : ℕ) → IsIn (view.image image.now) number k → InstrShape (view.image image.now) number k) → ⊥ }
+        ensures yes { result ≡ true → (k : ℕ) → IsIn (view.image image.now) number k →
+            InstrShape (view.image image.now) number k }
+        ensures no { result ≡ false → ((k : ℕ) → IsIn (view.image image.now) number k →
+            InstrShape (view.image image.now) number k) → ⊥ }
     {
         let mut op = first;
         for instr in &block(image, number).instrs {
@@ -161,8 +171,12 @@ impl Facts {
 
     // Whether the destinations of a block's pads are advances of the block.
     fn pads_lead(&self, pads: &[Pad], first: u32, next: u32) -> bool
-        ensures yes { result ≡ true → (p : PlainPad) (j q : ℕ) → In p (map view.pad pads.now) → HasDest p.dests j q → (first ≤ j) × (j < next) × (bit self.now.advances.items j ≡ true) }
-        ensures no { result ≡ false → ((p : PlainPad) (j q : ℕ) → In p (map view.pad pads.now) → HasDest p.dests j q → (first ≤ j) × (j < next) × (bit self.now.advances.items j ≡ true)) → ⊥ }
+        ensures yes { result ≡ true → (p : PlainPad) (j q : ℕ) → In p (map view.pad pads.now) →
+            HasDest p.dests j q → (first ≤ j) × (j < next) ×
+            (bit self.now.advances.items j ≡ true) }
+        ensures no { result ≡ false → ((p : PlainPad) (j q : ℕ) → In p (map view.pad pads.now) →
+            HasDest p.dests j q → (first ≤ j) × (j < next) ×
+            (bit self.now.advances.items j ≡ true)) → ⊥ }
     {
         for pad in pads {
             if !self.pad_leads(&pad.dests, first, next) {
@@ -173,8 +187,10 @@ impl Facts {
     }
 
     fn pad_leads(&self, dests: &[Dest], first: u32, next: u32) -> bool
-        ensures yes { result ≡ true → (j q : ℕ) → HasDest dests.now j q → (first ≤ j) × (j < next) × (bit self.now.advances.items j ≡ true) }
-        ensures no { result ≡ false → ((j q : ℕ) → HasDest dests.now j q → (first ≤ j) × (j < next) × (bit self.now.advances.items j ≡ true)) → ⊥ }
+        ensures yes { result ≡ true → (j q : ℕ) → HasDest dests.now j q → (first ≤ j) × (j < next) ×
+            (bit self.now.advances.items j ≡ true) }
+        ensures no { result ≡ false → ((j q : ℕ) → HasDest dests.now j q → (first ≤ j) ×
+            (j < next) × (bit self.now.advances.items j ≡ true)) → ⊥ }
     {
         for dest in dests {
             if !self.is_advance_of(dest.instr, first, next) {
@@ -185,8 +201,10 @@ impl Facts {
     }
 
     fn is_advance_of(&self, op: u32, first: u32, next: u32) -> bool
-        ensures yes { result ≡ true → (first ≤ op) × (op < next) × (bit self.now.advances.items op ≡ true) }
-        ensures no { result ≡ false → (first ≤ op) × (op < next) × (bit self.now.advances.items op ≡ true) → ⊥ }
+        ensures yes { result ≡ true → (first ≤ op) × (op < next) ×
+            (bit self.now.advances.items op ≡ true) }
+        ensures no { result ≡ false → (first ≤ op) × (op < next) ×
+            (bit self.now.advances.items op ≡ true) → ⊥ }
     {
         first <= op && op < next && self.is_advance(op)
     }
@@ -200,7 +218,8 @@ impl Facts {
         }
     }
 
-    // Whether a halt stands exactly where the block stops, once, behind all other memory instructions.
+    // Whether a halt stands exactly where the block stops, once, behind all other memory
+    // instructions.
     fn halts_ok(&self, image: &Image, number: u32, first: u32, next: u32) -> bool
         requires facts { TableOf self.now (view.image image.now) }
         requires block { IsBlock (view.image image.now) number }
@@ -224,13 +243,16 @@ impl Facts {
         !stops
     }
 
-    // Whether the exit's instruction stands in the block, has a result and is neither a steer nor a send.
+    // Whether the exit's instruction stands in the block, has a result and is neither a steer nor a
+    // send.
     fn source_ok(&self, image: &Image, number: u32, first: u32, next: u32, source: u32) -> bool
         requires facts { TableOf self.now (view.image image.now) }
         requires first { first ≡ first_number (view.image image.now) number }
         requires next { next ≡ first_number (view.image image.now) (suc number) }
-        ensures yes { result ≡ true → IsIn (view.image image.now) number source × (is_giving (view.image image.now) source ≡ true) }
-        ensures no { result ≡ false → IsIn (view.image image.now) number source → is_giving (view.image image.now) source ≡ true → ⊥ }
+        ensures yes { result ≡ true → IsIn (view.image image.now) number source ×
+            (is_giving (view.image image.now) source ≡ true) }
+        ensures no { result ≡ false → IsIn (view.image image.now) number source →
+            is_giving (view.image image.now) source ≡ true → ⊥ }
     {
         if source < first || next <= source {
             return false;
@@ -250,11 +272,7 @@ fn halt_step(op: Op, halted: u32, at: u32, stops: bool) -> Option<u32>
     if !is_halt(op) {
         return Some(halted);
     }
-    if stops {
-        Some(at)
-    } else {
-        None
-    }
+    if stops { Some(at) } else { None }
 }
 
 fn is_halt(op: Op) -> bool
@@ -278,7 +296,8 @@ fn edges_later(image: &Image, number: u32) -> bool
     requires formed { Formed (view.image image.now) }
     requires block { IsBlock (view.image image.now) number }
     requires goes_on { stops (view.image image.now) number ≡ false }
-    ensures yes { result ≡ true → (r : ℕ) → r < choices_of (block_at (view.image image.now) number).exit → IsLater (view.image image.now) number r }
+    ensures yes { result ≡ true → (r : ℕ) → r < choices_of
+        (block_at (view.image image.now) number).exit → IsLater (view.image image.now) number r }
     ensures no { result ≡ false → ((r : ℕ) → IsLater (view.image image.now) number r) → ⊥ }
 {
     for choice in 0..choices(image, number) {
@@ -305,8 +324,11 @@ fn edges_cross(image: &Image, number: u32) -> bool
     requires formed { Formed (view.image image.now) }
     requires block { IsBlock (view.image image.now) number }
     requires goes_on { stops (view.image image.now) number ≡ false }
-    ensures yes { result ≡ true → (r : ℕ) → r < choices_of (block_at (view.image image.now) number).exit → is_first (view.image image.now) (target (view.image image.now) number r) ≡ true }
-    ensures no { result ≡ false → ((r : ℕ) → is_first (view.image image.now) (target (view.image image.now) number r) ≡ true) → ⊥ }
+    ensures yes { result ≡ true → (r : ℕ) → r < choices_of
+        (block_at (view.image image.now) number).exit →
+        is_first (view.image image.now) (target (view.image image.now) number r) ≡ true }
+    ensures no { result ≡ false → ((r : ℕ) → is_first (view.image image.now)
+        (target (view.image image.now) number r) ≡ true) → ⊥ }
 {
     for choice in 0..choices(image, number) {
         if !starts_wave(image, target_of(image, number, choice)) {
@@ -337,12 +359,21 @@ impl Spread {
         requires hits { next ≤ length self.now.hits.items }
         ensures size { length self.new.marks.items ≡ length self.old.marks.items }
         ensures hit_size { length self.new.hits.items ≡ length self.old.hits.items }
-        ensures marks_stay { (m : ℕ) → bit self.old.marks.items m ≡ true → bit self.new.marks.items m ≡ true }
-        ensures hits_stay { (m : ℕ) → bit self.old.hits.items m ≡ true → bit self.new.hits.items m ≡ true }
-        ensures marks_new { (m : ℕ) → bit self.new.marks.items m ≡ true → (bit self.old.marks.items m ≡ true) ⊎ ((m ≡ dest.instr) × (first ≤ m) × (m < next) × (dest.port ≡ 0) × (slice_index_or facts.now.ops.items m Halt ≡ Merge)) }
-        ensures hits_new { (m : ℕ) → bit self.new.hits.items m ≡ true → (bit self.old.hits.items m ≡ true) ⊎ ((m ≡ dest.instr) × (first ≤ m) × (m < next) × (dest.port ≡ port)) }
-        ensures hit { first ≤ dest.instr → dest.instr < next → dest.port ≡ port → bit self.new.hits.items dest.instr ≡ true }
-        ensures mark { first ≤ dest.instr → dest.instr < next → dest.port ≡ 0 → slice_index_or facts.now.ops.items dest.instr Halt ≡ Merge → bit self.new.marks.items dest.instr ≡ true }
+        ensures marks_stay { (m : ℕ) → bit self.old.marks.items m ≡ true →
+            bit self.new.marks.items m ≡ true }
+        ensures hits_stay { (m : ℕ) → bit self.old.hits.items m ≡ true →
+            bit self.new.hits.items m ≡ true }
+        ensures marks_new { (m : ℕ) → bit self.new.marks.items m ≡ true →
+            (bit self.old.marks.items m ≡ true) ⊎ ((m ≡ dest.instr) × (first ≤ m) × (m < next) ×
+            (dest.port ≡ 0) × (slice_index_or facts.now.ops.items m Halt ≡ Merge)) }
+        ensures hits_new { (m : ℕ) → bit self.new.hits.items m ≡ true →
+            (bit self.old.hits.items m ≡ true) ⊎ ((m ≡ dest.instr) × (first ≤ m) × (m < next) ×
+            (dest.port ≡ port)) }
+        ensures hit { first ≤ dest.instr → dest.instr < next → dest.port ≡ port →
+            bit self.new.hits.items dest.instr ≡ true }
+        ensures mark { first ≤ dest.instr → dest.instr < next → dest.port ≡ 0 →
+            slice_index_or facts.now.ops.items dest.instr Halt ≡ Merge →
+            bit self.new.marks.items dest.instr ≡ true }
     {
         if dest.instr < first || next <= dest.instr {
             return;
@@ -398,15 +429,23 @@ impl Spread {
         requires next { next ≡ first_number (view.image image.now) (suc number) }
         requires inside { IsIn (view.image image.now) number at }
         requires lists { InstrShape (view.image image.now) number at }
-        requires state { SpreadState (view.image image.now) number source port at self.now.marks.items self.now.hits.items }
+        requires state { SpreadState
+            (view.image image.now) number source port at self.now.marks.items self.now.hits.items }
         ensures size { length self.new.marks.items ≡ length self.old.marks.items }
         ensures hit_size { length self.new.hits.items ≡ length self.old.hits.items }
-        ensures state { SpreadState (view.image image.now) number source port (at + 1) self.new.marks.items self.new.hits.items }
+        ensures state { SpreadState (view.image image.now) number source port
+            (at + 1) self.new.marks.items self.new.hits.items }
     {
         if !self.marks[at as usize] {
             return;
         }
-        self.reach_all(facts, now_dests(instr_of(image, number, first, at)), port, first, next);
+        self.reach_all(
+            facts,
+            now_dests(instr_of(image, number, first, at)),
+            port,
+            first,
+            next,
+        );
     }
 
     // From the exit's instruction to all to which its result comes.
@@ -425,7 +464,8 @@ impl Spread {
         requires first { first ≡ first_number (view.image image.now) number }
         requires next { next ≡ first_number (view.image image.now) (suc number) }
         requires source { IsIn (view.image image.now) number source }
-        requires lists { (k : ℕ) → IsIn (view.image image.now) number k → InstrShape (view.image image.now) number k }
+        requires lists { (k : ℕ) → IsIn (view.image image.now) number k →
+            InstrShape (view.image image.now) number k }
         requires marks { next ≤ length self.now.marks.items }
         requires hits { next ≤ length self.now.hits.items }
         requires no_mark { (m : ℕ) → first ≤ m → bit self.now.marks.items m ≡ false }
@@ -434,8 +474,10 @@ impl Spread {
         ensures hit_size { length self.new.hits.items ≡ length self.old.hits.items }
         ensures no_mark { (m : ℕ) → next ≤ m → bit self.new.marks.items m ≡ false }
         ensures no_hit { (m : ℕ) → next ≤ m → bit self.new.hits.items m ≡ false }
-        ensures sound { (m : ℕ) → IsIn (view.image image.now) number m → bit self.new.hits.items m ≡ true → Carries (view.image image.now) number source m port }
-        ensures complete { (m : ℕ) → IsIn (view.image image.now) number m → Carries (view.image image.now) number source m port → bit self.new.hits.items m ≡ true }
+        ensures sound { (m : ℕ) → IsIn (view.image image.now) number m →
+            bit self.new.hits.items m ≡ true → Carries (view.image image.now) number source m port }
+        ensures complete { (m : ℕ) → IsIn (view.image image.now) number m →
+            Carries (view.image image.now) number source m port → bit self.new.hits.items m ≡ true }
     {
         self.marks[source as usize] = true;
         for at in first..next {
@@ -444,7 +486,8 @@ impl Spread {
     }
 }
 
-// Whether an operation may stand where it does: a steer at a branch, a send at a landing exit, and hit.
+// Whether an operation may stand where it does: a steer at a branch, a send at a landing exit, and
+// hit.
 fn hangs(op: Op, branch: bool, landings: bool, hit: bool) -> bool
     ensures yes { result ≡ true → Hangs op branch landings hit }
     ensures no { result ≡ false → Hangs op branch landings hit → ⊥ }
@@ -459,8 +502,10 @@ fn hangs(op: Op, branch: bool, landings: bool, hit: bool) -> bool
 impl Spread {
     fn all_hang(&self, facts: &Facts, first: u32, next: u32, branch: bool, landings: bool) -> bool
         requires hits { next ≤ length self.now.hits.items }
-        ensures yes { result ≡ true → (k : ℕ) → first ≤ k → k < next → Hangs (op_of facts.now.ops.items k) branch landings (bit self.now.hits.items k) }
-        ensures no { result ≡ false → ((k : ℕ) → first ≤ k → k < next → Hangs (op_of facts.now.ops.items k) branch landings (bit self.now.hits.items k)) → ⊥ }
+        ensures yes { result ≡ true → (k : ℕ) → first ≤ k → k < next →
+            Hangs (op_of facts.now.ops.items k) branch landings (bit self.now.hits.items k) }
+        ensures no { result ≡ false → ((k : ℕ) → first ≤ k → k < next →
+            Hangs (op_of facts.now.ops.items k) branch landings (bit self.now.hits.items k)) → ⊥ }
     {
         for at in first..next {
             if !hangs(facts.op(at), branch, landings, self.hits[at as usize]) {
@@ -488,8 +533,11 @@ fn edges_have(image: &Image, number: u32, pad: u8) -> bool
     requires formed { Formed (view.image image.now) }
     requires block { IsBlock (view.image image.now) number }
     requires goes_on { stops (view.image image.now) number ≡ false }
-    ensures yes { result ≡ true → (r : ℕ) → r < choices_of (block_at (view.image image.now) number).exit → HasPad (block_at (view.image image.now) (target (view.image image.now) number r)).pads pad }
-    ensures no { result ≡ false → ((r : ℕ) → HasPad (block_at (view.image image.now) (target (view.image image.now) number r)).pads pad) → ⊥ }
+    ensures yes { result ≡ true → (r : ℕ) → r < choices_of
+        (block_at (view.image image.now) number).exit →
+        HasPad (block_at (view.image image.now) (target (view.image image.now) number r)).pads pad }
+    ensures no { result ≡ false → ((r : ℕ) → HasPad (block_at (view.image image.now)
+        (target (view.image image.now) number r)).pads pad) → ⊥ }
 {
     for choice in 0..choices(image, number) {
         if !lands(image, target_of(image, number, choice), pad) {
@@ -520,7 +568,8 @@ fn is_send(op: Op, pad: u8) -> bool
 impl Facts {
     fn sends(&self, first: u32, next: u32, pad: u8) -> bool
         ensures yes { result ≡ true → SendAt self.now.ops.items first next pad }
-        ensures no { result ≡ false → (k : ℕ) → first ≤ k → k < next → op_of self.now.ops.items k ≡ Send pad → ⊥ }
+        ensures no { result ≡ false → (k : ℕ) → first ≤ k → k < next →
+            op_of self.now.ops.items k ≡ Send pad → ⊥ }
     {
         for at in first..next {
             if is_send(self.op(at), pad) {
@@ -535,8 +584,14 @@ impl Facts {
         requires formed { Formed (view.image image.now) }
         requires block { IsBlock (view.image image.now) number }
         requires goes_on { stops (view.image image.now) number ≡ false }
-        ensures yes { result ≡ true → (k p r : ℕ) → first ≤ k → k < next → op_of self.now.ops.items k ≡ Send p → p < 16 → r < choices_of (block_at (view.image image.now) number).exit → HasPad (block_at (view.image image.now) (target (view.image image.now) number r)).pads p }
-        ensures no { result ≡ false → ((k p r : ℕ) → first ≤ k → k < next → op_of self.now.ops.items k ≡ Send p → HasPad (block_at (view.image image.now) (target (view.image image.now) number r)).pads p) → ⊥ }
+        ensures yes { result ≡ true → (k p r : ℕ) → first ≤ k → k < next →
+            op_of self.now.ops.items k ≡ Send p → p < 16 →
+            r < choices_of (block_at (view.image image.now) number).exit →
+            HasPad (block_at (view.image image.now)
+            (target (view.image image.now) number r)).pads p }
+        ensures no { result ≡ false → ((k p r : ℕ) → first ≤ k → k < next →
+            op_of self.now.ops.items k ≡ Send p → HasPad (block_at (view.image image.now)
+            (target (view.image image.now) number r)).pads p) → ⊥ }
     {
         for pad in 0..16u8 {
             if self.sends(first, next, pad) && !edges_have(image, number, pad) {
@@ -562,9 +617,13 @@ impl Spread {
         requires first { first ≡ first_number (view.image image.now) number }
         requires next { next ≡ first_number (view.image image.now) (suc number) }
         requires order { first ≤ next }
-        requires source { (s x y : ℕ) → (block_at (view.image image.now) number).exit ≡ Branch s x y → IsIn (view.image image.now) number s }
-        requires address { (s : ℕ) (ls : List ℕ) → (block_at (view.image image.now) number).exit ≡ Landings s ls → IsIn (view.image image.now) number s }
-        requires lists { (k : ℕ) → IsIn (view.image image.now) number k → InstrShape (view.image image.now) number k }
+        requires source { (s x y : ℕ) → (block_at (view.image image.now) number).exit ≡
+            Branch s x y → IsIn (view.image image.now) number s }
+        requires address { (s : ℕ) (ls : List ℕ) →
+            (block_at (view.image image.now) number).exit ≡ Landings s ls →
+            IsIn (view.image image.now) number s }
+        requires lists { (k : ℕ) → IsIn (view.image image.now) number k →
+            InstrShape (view.image image.now) number k }
         requires marks { next ≤ length self.now.marks.items }
         requires hits { next ≤ length self.now.hits.items }
         requires no_mark { (m : ℕ) → first ≤ m → bit self.now.marks.items m ≡ false }
@@ -723,25 +782,25 @@ fn start_of(image: &Image, starts: &[u32], number: u32) -> u32
 }
 
 // Whether the block with this number keeps the rules on shape.
-fn visit(
-    facts: &Facts,
-    spread: &mut Spread,
-    image: &Image,
-    starts: &[u32],
-    number: u32,
-) -> bool
+fn visit(facts: &Facts, spread: &mut Spread, image: &Image, starts: &[u32], number: u32) -> bool
     requires facts { TableOf facts.now (view.image image.now) }
     requires formed { Formed (view.image image.now) }
     requires starts { StartsOf (view.image image.now) starts.now }
     requires block { IsBlock (view.image image.now) number }
-    requires marks { first_number (view.image image.now) (suc number) ≤ length spread.now.marks.items }
-    requires hits { first_number (view.image image.now) (suc number) ≤ length spread.now.hits.items }
-    requires no_mark { (m : ℕ) → first_number (view.image image.now) number ≤ m → bit spread.now.marks.items m ≡ false }
-    requires no_hit { (m : ℕ) → first_number (view.image image.now) number ≤ m → bit spread.now.hits.items m ≡ false }
+    requires marks { first_number (view.image image.now)
+        (suc number) ≤ length spread.now.marks.items }
+    requires hits { first_number (view.image image.now)
+        (suc number) ≤ length spread.now.hits.items }
+    requires no_mark { (m : ℕ) → first_number (view.image image.now) number ≤ m →
+        bit spread.now.marks.items m ≡ false }
+    requires no_hit { (m : ℕ) → first_number (view.image image.now) number ≤ m →
+        bit spread.now.hits.items m ≡ false }
     ensures size { length spread.new.marks.items ≡ length spread.old.marks.items }
     ensures hit_size { length spread.new.hits.items ≡ length spread.old.hits.items }
-    ensures no_mark { (m : ℕ) → first_number (view.image image.now) (suc number) ≤ m → bit spread.new.marks.items m ≡ false }
-    ensures no_hit { (m : ℕ) → first_number (view.image image.now) (suc number) ≤ m → bit spread.new.hits.items m ≡ false }
+    ensures no_mark { (m : ℕ) → first_number (view.image image.now) (suc number) ≤ m →
+        bit spread.new.marks.items m ≡ false }
+    ensures no_hit { (m : ℕ) → first_number (view.image image.now) (suc number) ≤ m →
+        bit spread.new.hits.items m ≡ false }
     ensures yes { result ≡ true → BlockShape (view.image image.now) number }
     ensures no { result ≡ false → BlockShape (view.image image.now) number → ⊥ }
 {

@@ -1,7 +1,7 @@
 //! The paths of an image, and the slots that are open on them.
 //!
-//! Blocks are visited from block 1 on, each once, with the slots with which its first edge came. Every
-//! other edge into a block has to come with the same.
+//! Blocks are visited from block 1 on, each once, with the slots with which its first edge came.
+//! Every other edge into a block has to come with the same.
 
 ghost use Rattle.std.specs.Prelude.{◌≡◌, ◌+◌, ◌*◌, ◌^◌, ◌<◌, ◌≤◌, ℕ, [], suc, length, map, IfOk, OnOk, IfErr, IfSome, IfNone, true, false, not, Some, None};
 ghost use Rattle.ws_isa.specs.Image.{is_first, stops, first_number, IsBlock};
@@ -51,7 +51,8 @@ fn open_advances(held: &mut Open, instrs: &[Instr], first: u32) -> Result<(), No
     ensures ok { OnOk result (OpenOk held.new) }
     ensures moved { OnOk result (Moved held.old held.new) }
     ensures low { held.new.low ≡ held.old.low }
-    ensures opened { OnOk result (look held.new ≡ all_opened (advance_list (map view.instr instrs.now) first) none_open) }
+    ensures opened { OnOk result (look held.new ≡ all_opened (advance_list
+        (map view.instr instrs.now) first) none_open) }
 {
     let mut number = first;
     for instr in instrs {
@@ -76,7 +77,8 @@ fn advance_set(held: &mut Open, instrs: &[Instr], first: u32) -> Result<u32, NoM
     ensures low { held.new.low ≡ held.old.low }
     ensures set { OnOk result (held.new.set ≡ held.old.set) }
     ensures there { IfOk result (λ set. set < length (nodes_of held.new)) }
-    ensures advances { IfOk result (λ set. slots_in (nodes_of held.new) held.new.depth set ≡ all_opened (advance_list (map view.instr instrs.now) first) none_open) }
+    ensures advances { IfOk result (λ set. slots_in (nodes_of held.new) held.new.depth set ≡
+        all_opened (advance_list (map view.instr instrs.now) first) none_open) }
 {
     let saved = held.set;
     held.set = 0;
@@ -94,7 +96,8 @@ impl<'a> Trace<'a> {
         requires block { IsBlock (image_of self.now) number }
         requires is_new { entry_at self.now.table.items number ≡ None }
         requires arrives { Arrives (image_of self.now) from number (look self.now.held) }
-        requires crossing { is_first (image_of self.now) number ≡ true → AdvancesOpen (image_of self.now) number (look self.now.held) }
+        requires crossing { is_first (image_of self.now) number ≡ true →
+            AdvancesOpen (image_of self.now) number (look self.now.held) }
         ensures ready { OnOk result (Ready self.new) }
         ensures grows { OnOk result (Grows self.old self.new) }
         ensures held { OnOk result (self.new.held ≡ self.old.held) }
@@ -113,9 +116,14 @@ impl<'a> Trace<'a> {
         requires ready { Ready self.now }
         requires shut { Shut self.now }
         ensures none { IfNone result (look self.now.held ≡ set_slots self.now set) }
-        ensures some { IfSome result (λ d. look self.now.held d.instr d.port ≡ not (set_slots self.now set d.instr d.port)) }
+        ensures some { IfSome result (λ d. look self.now.held d.instr d.port ≡ not
+            (set_slots self.now set d.instr d.port)) }
     {
-        match self.held.sets.differing(self.held.depth, self.held.set, set) {
+        match self
+            .held
+            .sets
+            .differing(self.held.depth, self.held.set, set)
+        {
             Some(key) => Some(Dest {
                 instr: key / 4,
                 port: (key % 4) as u8,
@@ -130,7 +138,8 @@ impl<'a> Trace<'a> {
         requires has { entry_at self.now.table.items number ≡ Some entry }
         requires block { IsBlock (image_of self.now) number }
         requires arrives { Arrives (image_of self.now) from number (look self.now.held) }
-        requires differs { look self.now.held slot.instr slot.port ≡ not (set_slots self.now entry.set slot.instr slot.port) }
+        requires differs { look self.now.held slot.instr slot.port ≡ not
+            (set_slots self.now entry.set slot.instr slot.port) }
         ensures { SlotBreach (image_of self.now) result }
     {
         if starts_wave(self.image, number) {
@@ -159,7 +168,8 @@ impl<'a> Trace<'a> {
         ensures table { OnOk result (self.new.table.items ≡ self.old.table.items) }
         ensures shut { OnOk result (Shut self.new) }
         ensures same { OnOk result (look self.new.held ≡ look self.old.held) }
-        ensures advances { OnOk result (AdvancesOpen (image_of self.old) number (look self.old.held)) }
+        ensures advances { OnOk result (AdvancesOpen (image_of self.old) number
+            (look self.old.held)) }
         ensures refused { IfErr result (λ fault. SlotBreach (image_of self.old) fault) }
     {
         let instrs = block(self.image, number).instrs.as_slice();
@@ -201,17 +211,25 @@ impl<'a> Trace<'a> {
     }
 
     // One edge of a block that is left with the slots of a set.
-    fn leave_by(&mut self, alloc: Global, number: u32, choice: u32, base: u32) -> Result<(), CheckFault>
+    fn leave_by(
+        &mut self,
+        alloc: Global,
+        number: u32,
+        choice: u32,
+        base: u32,
+    ) -> Result<(), CheckFault>
         requires ready { Ready self.now }
         requires shut { Shut self.now }
         requires block { IsBlock (image_of self.now) number }
         requires goes_on { stops (image_of self.now) number ≡ false }
         requires base { base < length (trace_nodes self.now) }
-        requires path { Opens (image_of self.now) number (first_number (image_of self.now) (suc number)) (set_slots self.now base) }
+        requires path { Opens (image_of self.now) number (first_number (image_of self.now)
+            (suc number)) (set_slots self.now base) }
         ensures ready { OnOk result (Ready self.new) }
         ensures grows { OnOk result (Grows self.old self.new) }
         ensures shut { OnOk result (Shut self.new) }
-        ensures done { OnOk result (EdgeDone (image_of self.new) (known self.new) number choice (set_slots self.old base)) }
+        ensures done { OnOk result (EdgeDone (image_of self.new) (known self.new) number choice
+            (set_slots self.old base)) }
         ensures refused { IfErr result (λ fault. SlotBreach (image_of self.old) fault) }
     {
         self.held.set = base;
@@ -231,11 +249,13 @@ impl<'a> Trace<'a> {
         requires shut { Shut self.now }
         requires block { IsBlock (image_of self.now) number }
         requires goes_on { stops (image_of self.now) number ≡ false }
-        requires path { Opens (image_of self.now) number (first_number (image_of self.now) (suc number)) (look self.now.held) }
+        requires path { Opens (image_of self.now) number (first_number (image_of self.now)
+            (suc number)) (look self.now.held) }
         ensures ready { OnOk result (Ready self.new) }
         ensures grows { OnOk result (Grows self.old self.new) }
         ensures shut { OnOk result (Shut self.new) }
-        ensures done { OnOk result ((r : ℕ) → EdgeDone (image_of self.new) (known self.new) number r (look self.old.held)) }
+        ensures done { OnOk result ((r : ℕ) → EdgeDone (image_of self.new) (known self.new) number r
+            (look self.old.held)) }
         ensures refused { IfErr result (λ fault. SlotBreach (image_of self.old) fault) }
     {
         let base = self.held.set;
@@ -250,11 +270,13 @@ impl<'a> Trace<'a> {
         requires ready { Ready self.now }
         requires shut { Shut self.now }
         requires block { IsBlock (image_of self.now) number }
-        requires path { Opens (image_of self.now) number (first_number (image_of self.now) (suc number)) (look self.now.held) }
+        requires path { Opens (image_of self.now) number (first_number (image_of self.now)
+            (suc number)) (look self.now.held) }
         ensures ready { OnOk result (Ready self.new) }
         ensures grows { OnOk result (Grows self.old self.new) }
         ensures shut { OnOk result (Shut self.new) }
-        ensures ended { OnOk result (Ended (image_of self.new) (known self.new) number (look self.old.held)) }
+        ensures ended { OnOk result (Ended (image_of self.new) (known self.new) number
+            (look self.old.held)) }
         ensures refused { IfErr result (λ fault. SlotBreach (image_of self.old) fault) }
     {
         if !stops_at(self.image, number) {
@@ -277,7 +299,8 @@ impl<'a> Trace<'a> {
         ensures ready { OnOk result (Ready self.new) }
         ensures grows { OnOk result (Grows self.old self.new) }
         ensures shut { OnOk result (Shut self.new) }
-        ensures done { OnOk result ((e : Entry) → entry_at self.old.table.items number ≡ Some e → BlockDone (image_of self.new) (known self.new) number (set_slots self.old e.set)) }
+        ensures done { OnOk result ((e : Entry) → entry_at self.old.table.items number ≡ Some e →
+            BlockDone (image_of self.new) (known self.new) number (set_slots self.old e.set)) }
         ensures refused { IfErr result (λ fault. SlotBreach (image_of self.old) fault) }
     {
         let entry = match self.table[number as usize] {
@@ -287,7 +310,8 @@ impl<'a> Trace<'a> {
         let starts = self.starts;
         let first = starts[number as usize];
         let instrs = block(self.image, number).instrs.as_slice();
-        self.held.load(entry.set, first, starts[number as usize + 1]);
+        self.held
+            .load(entry.set, first, starts[number as usize + 1]);
         if let Some(slot) = run_block(&mut self.held, instrs, first)? {
             return Err(CheckFault::Refused(Bad::Port {
                 instr: slot.instr,

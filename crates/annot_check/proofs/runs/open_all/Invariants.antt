@@ -14,5 +14,6 @@ invariant-loop-dest l = record {
   on : AllOn (length l.held.board.items) (drop l.dest-index l.dests);
   opened : all_opened (drop l.dest-index l.dests) (look l.held) ≡ all_opened l.dests (look l.fn.held);
   fresh : Fresh (drop l.dest-index l.dests) (look l.held) → Fresh l.dests (look l.fn.held);
-  taken : (j q : ℕ) → Taken (drop l.dest-index l.dests) (look l.held) j q → Taken l.dests (look l.fn.held) j q;
+  taken : (j q : ℕ) → Taken (drop l.dest-index l.dests) (look l.held) j q →
+      Taken l.dests (look l.fn.held) j q;
 }
