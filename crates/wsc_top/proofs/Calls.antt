@@ -7,15 +7,22 @@ use Rattle.ws_io.specs.Streams.{Rose, Takes, TakesAll}
 use Rattle.src_ast.specs.Syntax.{Part}
 use Rattle.wsc_top.specs.declared.task.JobTask.{JobTask}
 use Rattle.wsc_top.specs.declared.task.Task.{Task}
-use Rattle.wsc_top.specs.declared.task.Task.TheVariants.{Job, Generate}
+use Rattle.wsc_top.specs.declared.task.Task.TheVariants.{Job, Assembly, Generate}
+use Rattle.wsc_top.specs.declared.task.AssemblyTask.{AssemblyTask}
+use Rattle.ws_isa.specs.Image.{Image}
+use Rattle.wsc_top.specs.declared.assembly.AsmRefusal.{AsmRefusal}
+use Rattle.wsc_top.specs.declared.assembly.AssemblyFault.{AssemblyFault}
+use Rattle.wsc_top.specs.declared.assembly.AssemblyFault.TheVariants as fault
+use Rattle.wsc_top.specs.Assembly.{assembly_limit, IsAssembly, IsAssemblyFault}
+use Rattle.wsc_top.specs.Answers as answers
 use Rattle.wsc_top.specs.declared.status.Status.{Status}
 use Rattle.wsc_top.specs.declared.status.Status.TheVariants.{Done, Usage, Refused, Budget, ReadFault, WriteFault, NoMemory}
 use Rattle.work_gen.specs.Job.{job_text}
 use Rattle.wsc_top.specs.Tasks.{IsLine, IsNoLine}
 use Rattle.wsc_top.proofs.Tasks.{OneLine, same_task_by}
 use Rattle.wsc_top.specs.Job.{IsJob}
-use Rattle.wsc_top.specs.Texts.{usage_text, unread_text, long_text}
-use Rattle.wsc_top.specs.Answers.{job_limit, unfit_for, ran, formatted, ended, faulted, going, Answered, refused, done, IsReader, limit_of, Answers, usage, generated, unread, long, read, WereRead, IsToldJob, IsToldOther}
+use Rattle.wsc_top.specs.Texts.{usage_text, unread_text, long_text, asm_refusal_text}
+use Rattle.wsc_top.specs.Answers.{job_limit, unfit_for, ran, formatted, ended, faulted, going, Answered, refused, done, IsReader, limit_of, text_of, AssemblyAnswered, Answers, usage, generated, unread, long, read, assembled, WereRead, IsToldJob, IsToldOther, IsToldAssembly, IsToldNoAssembly}
 
 -- the answer where the words are no line
 pub usage_answers : (words : List (List ℕ)) (left : Option (List ℕ)) (m n : ℕ) (out : List ℕ) → IsNoLine words → out ≡ usage_text → Answers words left left m n Usage out
@@ -28,19 +35,47 @@ generated_answers words left m n number out h e =
     subst (λ o. Answers words left left m n Done o) (sym e) (generated number h refl)
 
 -- the answer where reading failed
-pub unread_answers : (words : List (List ℕ)) (left after : Option (List ℕ)) (m n : ℕ) (out : List ℕ) (c : JobTask) → IsLine words (Job c) → Rose m n
-    → (bytes : List ℕ) × (length bytes ≤ job_limit) × Takes left bytes after → out ≡ unread_text → Answers words left after m n ReadFault out
-unread_answers words left after m n out c r f t e = subst (λ o. Answers words left after m n ReadFault o) (sym e) (unread (Job c) t.0 r tt f t.1 t.2)
+pub unread_answers : (words : List (List ℕ)) (left after : Option (List ℕ)) (m n : ℕ) (out : List ℕ) (t : Task)
+    → IsLine words t → IsReader t → Rose m n
+    → (bytes : List ℕ) × (length bytes ≤ limit_of t) × Takes left bytes after → out ≡ unread_text
+    → Answers words left after m n ReadFault out
+unread_answers words left after m n out t r is f b e =
+    subst (λ o. Answers words left after m n ReadFault o) (sym e) (unread t b.0 r is f b.1 b.2)
 
 -- the answer where there are too many bytes
-pub long_answers : (words : List (List ℕ)) (left after : Option (List ℕ)) (m n : ℕ) (out : List ℕ) (c : JobTask) → IsLine words (Job c)
-    → (bytes : List ℕ) × (length bytes ≡ job_limit + 1) × Takes left bytes after → out ≡ long_text → Answers words left after m n Refused out
-long_answers words left after m n out c r t e = subst (λ o. Answers words left after m n Refused o) (sym e) (long (Job c) t.0 r tt t.1 t.2)
+pub long_answers : (words : List (List ℕ)) (left after : Option (List ℕ)) (m n : ℕ) (out : List ℕ) (t : Task)
+    → IsLine words t → IsReader t
+    → (bytes : List ℕ) × (length bytes ≡ limit_of t + 1) × Takes left bytes after → out ≡ long_text
+    → Answers words left after m n Refused out
+long_answers words left after m n out t r is b e =
+    subst (λ o. Answers words left after m n Refused o) (sym e) (long t b.0 r is b.1 b.2)
 
 -- the answer where the whole text was read
 pub read_answers : (words : List (List ℕ)) (left after : Option (List ℕ)) (m n : ℕ) (text same out : List ℕ) (c : JobTask) (status : Status) → IsLine words (Job c) → length text ≤ job_limit
     → TakesAll left text after → same ≡ text → Answered c same status out → Answers words left after m n status out
 read_answers words left after m n text same out c status r l t e a = read c text r l t (subst (λ x. Answered c x status out) e a)
+
+-- the answer where the whole text of an assembly was read
+pub assembled_answers : (words : List (List ℕ)) (left after : Option (List ℕ)) (m n : ℕ) (text same out : List ℕ)
+    (c : AssemblyTask) (status : Status) → IsLine words (Assembly c) → length text ≤ assembly_limit
+    → TakesAll left text after → same ≡ text → AssemblyAnswered c same status out → Answers words left after m n status out
+assembled_answers words left after m n text same out c status r l t e a =
+    assembled c text r l t (subst (λ x. AssemblyAnswered c x status out) e a)
+
+-- what is written of a sound image
+pub sound_answers : (task t : AssemblyTask) (text out : List ℕ) (image : Image) (input : List ℕ)
+    → IsAssembly text image input → task ≡ t → out ≡ text_of t image → AssemblyAnswered task text Done out
+sound_answers task t text out image input a e f =
+    subst (λ x. AssemblyAnswered x text Done out) (sym e)
+    (subst (λ o. AssemblyAnswered t text Done o) (sym f) (answers.AssemblyAnswered.done image input a))
+
+-- what is written where an assembly is refused
+pub unsound_answers : (task : AssemblyTask) (text out : List ℕ) (f : AssemblyFault) (why : AsmRefusal)
+    → f ≡ fault.Refused why → IsAssemblyFault text f → out ≡ asm_refusal_text why
+    → AssemblyAnswered task text Refused out
+unsound_answers task text out f why is h e =
+    subst (λ o. AssemblyAnswered task text Refused o) (sym e)
+    (answers.AssemblyAnswered.refused why (subst (λ x. IsAssemblyFault text x) is h))
 
 -- any told text that is no job is refused
 other_refused : OneLine → (words : List (List ℕ)) (c : JobTask) (text : List ℕ) (after : Option (List ℕ)) (m n : ℕ) (status : Status) (out : List ℕ) → Answers words (Some text) after m n status out
@@ -55,15 +90,42 @@ other_refused one words c text after m n status out (read d other q k t (done ps
     let whole : Job d ≡ Job c = same_task_by one words (Job d) (Job c) q r in
     let same : d ≡ c = cc in
     absurd (b (subst (λ x. length x ≤ job_limit) (sym t.0) k) ps input (subst (λ x. IsJob (unfit_for c) x ps input) (sym t.0) (subst (λ e. IsJob (unfit_for e) other ps input) same a)))
+other_refused one words c text after m n status out (assembled d other q k t a) r b f =
+    let same : Assembly d ≡ Job c = same_task_by one words (Assembly d) (Job c) q r in absurd cc
+
+-- any told text that is no assembly is refused
+none_refused : OneLine → (words : List (List ℕ)) (c : AssemblyTask) (text : List ℕ) (after : Option (List ℕ)) (m n : ℕ)
+    (status : Status) (out : List ℕ) → Answers words (Some text) after m n status out → IsLine words (Assembly c)
+    → (length text ≤ assembly_limit → (image : Image) (input : List ℕ) → IsAssembly text image input → ⊥)
+    → (status ≡ ReadFault → ⊥) → status ≡ Refused
+none_refused one words c text after m n status out (usage h e) r b f = absurd (h (Assembly c) r)
+none_refused one words c text after m n status out (generated k q e) r b f =
+    let same : Generate k ≡ Assembly c = same_task_by one words (Generate k) (Assembly c) q r in absurd cc
+none_refused one words c text after m n status out (unread d bytes q is rose k t) r b f = absurd (f refl)
+none_refused one words c text after m n status out (long d bytes q is k t) r b f = refl
+none_refused one words c text after m n status out (read d other q k t a) r b f =
+    let same : Job d ≡ Assembly c = same_task_by one words (Job d) (Assembly c) q r in absurd cc
+none_refused one words c text after m n status out (assembled d other q k t (answers.AssemblyAnswered.refused x h)) r b f = refl
+none_refused one words c text after m n status out (assembled d other q k t (answers.AssemblyAnswered.done image input a)) r b f =
+    absurd (b (subst (λ x. length x ≤ assembly_limit) (sym t.0) k) image input (subst (λ x. IsAssembly x image input) (sym t.0) a))
+
+-- a told text that is no assembly is refused, or reading failed
+pub told_unassembled : OneLine → (words : List (List ℕ)) (c : AssemblyTask) (left after : Option (List ℕ)) (m n : ℕ)
+    (out : List ℕ) (status : Status) → Answers words left after m n status out → IsToldNoAssembly words left c
+    → (status ≡ ReadFault → ⊥) → status ≡ Refused
+told_unassembled one words c left after m n out status a t =
+    none_refused one words c t.text after m n status out (subst (λ l. Answers words l after m n status out) t.told a) t.line t.other
 
 -- a told text that is no job is refused, or reading failed
 pub told_refused : OneLine → (words : List (List ℕ)) (c : JobTask) (left after : Option (List ℕ)) (m n : ℕ) (out : List ℕ) (status : Status) → Answers words left after m n status out
     → IsToldOther words left c → (status ≡ ReadFault → ⊥) → status ≡ Refused
 told_refused one words c left after m n out status a t = other_refused one words c t.text after m n status out (subst (λ l. Answers words l after m n status out) t.told a) t.line t.other
 
--- of a told text within the limit no byte more than the limit is read
-pub too_much : (left : Option (List ℕ)) (text bytes : List ℕ) (after : Option (List ℕ)) → left ≡ Some text → length text ≤ job_limit → length bytes ≡ job_limit + 1 → Takes left bytes after → ⊥
-too_much left text bytes after e h l t = let u = subst (λ x. Takes x bytes after) e t in omega (arith, ap length u.1, length-append bytes u.0)
+-- of a told text within a limit no byte more than the limit is read
+pub too_much : (limit : ℕ) (left : Option (List ℕ)) (text bytes : List ℕ) (after : Option (List ℕ)) → left ≡ Some text
+    → length text ≤ limit → length bytes ≡ limit + 1 → Takes left bytes after → ⊥
+too_much limit left text bytes after e h l t =
+    let u = subst (λ x. Takes x bytes after) e t in omega (arith, ap length u.1, length-append bytes u.0)
 
 -- what is read whole is what is told
 pub told_text : (left : Option (List ℕ)) (text same : List ℕ) (after : Option (List ℕ)) → left ≡ Some text → TakesAll left same after → same ≡ text
@@ -85,6 +147,11 @@ text_status c text status out (done ps input a (ended n e r w)) = tt
 text_status c text status out (done ps input a (faulted n x s f w)) = tt
 text_status c text status out (done ps input a (going now g)) = tt
 
+assembly_status : (c : AssemblyTask) (text : List ℕ) (status : Status) (out : List ℕ) → AssemblyAnswered c text status out
+    → IsOfText status
+assembly_status c text status out (answers.AssemblyAnswered.refused x h) = tt
+assembly_status c text status out (answers.AssemblyAnswered.done image input a) = tt
+
 -- no answer has this status
 pub not_memory : (words : List (List ℕ)) (left after : Option (List ℕ)) (m n : ℕ) (status : Status) (out : List ℕ) → Answers words left after m n status out → status ≡ NoMemory → ⊥
 not_memory words left after m n status out (usage g e) h = cc
@@ -92,6 +159,7 @@ not_memory words left after m n status out (generated k q e) h = cc
 not_memory words left after m n status out (unread c bytes q is f k t) h = cc
 not_memory words left after m n status out (long c bytes q is k t) h = cc
 not_memory words left after m n status out (read c text q k t a) h = subst IsOfText h (text_status c text status out a)
+not_memory words left after m n status out (assembled c text q k t a) h = subst IsOfText h (assembly_status c text status out a)
 
 -- nor this one
 pub not_write_fault : (words : List (List ℕ)) (left after : Option (List ℕ)) (m n : ℕ) (status : Status) (out : List ℕ) → Answers words left after m n status out → status ≡ WriteFault → ⊥
@@ -100,6 +168,7 @@ not_write_fault words left after m n status out (generated k q e) h = cc
 not_write_fault words left after m n status out (unread c bytes q is f k t) h = cc
 not_write_fault words left after m n status out (long c bytes q is k t) h = cc
 not_write_fault words left after m n status out (read c text q k t a) h = subst IsOfText h (text_status c text status out a)
+not_write_fault words left after m n status out (assembled c text q k t a) h = subst IsOfText h (assembly_status c text status out a)
 
 -- where no task is found the words are no line
 pub no_line : (words : List (List ℕ)) (found : Option Task) → IfNone found (IsNoLine words)
@@ -114,6 +183,13 @@ pub told_is : (c : JobTask) (left after : Option (List ℕ)) (text same view : L
 told_is c left after text same view parts input e job t v =
     subst (λ x. IsJob (unfit_for c) x parts input) (sym (v ∙ told_text left text same after e t)) job
 
+-- the same of an assembly
+pub assembly_is : (left after : Option (List ℕ)) (text same view : List ℕ) (image : Image) (input : List ℕ)
+    → left ≡ Some text → IsAssembly text image input → TakesAll left same after → view ≡ same
+    → IsAssembly view image input
+assembly_is left after text same view image input e a t v =
+    subst (λ x. IsAssembly x image input) (sym (v ∙ told_text left text same after e t)) a
+
 -- where the answer is that reading failed, the count rose
 pub read_rose : (words : List (List ℕ)) (left after : Option (List ℕ)) (m n : ℕ) (status : Status) (out : List ℕ) → Answers words left after m n status out → status ≡ ReadFault → Rose m n
 read_rose words left after m n status out (usage g e) h = cc
@@ -121,6 +197,7 @@ read_rose words left after m n status out (generated k q e) h = cc
 read_rose words left after m n status out (unread c bytes q is rose k t) h = rose
 read_rose words left after m n status out (long c bytes q is k t) h = cc
 read_rose words left after m n status out (read c text q k t a) h = absurd (subst IsOfText h (text_status c text status out a))
+read_rose words left after m n status out (assembled c text q k t a) h = absurd (subst IsOfText h (assembly_status c text status out a))
 
 -- nothing is taken from a source that stays as it is
 pub takes_none : (left : Option (List ℕ)) → Takes left [] left
@@ -132,11 +209,11 @@ pub none_read : (words : List (List ℕ)) (left : Option (List ℕ))
     → (bytes : List ℕ) × WereRead words bytes × Takes left bytes left
 none_read words left = ([], inl refl, takes_none left)
 
--- these bytes were read for a job
-pub some_read : (words : List (List ℕ)) (left after : Option (List ℕ)) (c : JobTask) → IsLine words (Job c)
-    → (bytes : List ℕ) × (length bytes ≤ job_limit + 1) × Takes left bytes after
+-- these bytes were read
+pub some_read : (words : List (List ℕ)) (left after : Option (List ℕ)) (t : Task) → IsLine words t → IsReader t
+    → (bytes : List ℕ) × (length bytes ≤ limit_of t + 1) × Takes left bytes after
     → (bytes : List ℕ) × WereRead words bytes × Takes left bytes after
-some_read words left after c r t = (t.0, inr (Job c, r, tt, t.1), t.2)
+some_read words left after t r is b = (b.0, inr (t, r, is, b.1), b.2)
 
 -- words that are no line have the answer that says so
 pub no_line_usage : (words : List (List ℕ)) (left after : Option (List ℕ)) (m n : ℕ) (status : Status) (out : List ℕ)
@@ -146,3 +223,4 @@ no_line_usage words left after m n status out (generated k q e) h = absurd (h (G
 no_line_usage words left after m n status out (unread c bytes q is rose k t) h = absurd (h c q)
 no_line_usage words left after m n status out (long c bytes q is k t) h = absurd (h c q)
 no_line_usage words left after m n status out (read c text q k t a) h = absurd (h (Job c) q)
+no_line_usage words left after m n status out (assembled c text q k t a) h = absurd (h (Assembly c) q)

@@ -7,9 +7,9 @@ use Rattle.std.proofs.lemmas.List.{nil_from_length, take-append-drop}
 use Rattle.std.proofs.lemmas.Bool.{eqb-true, ltb-true, lt-ltb}
 use Rattle.ws_words.specs.Digits.{is_number, value_of}
 use Rattle.src_ast.specs.declared.lexeme.Place.{Place}
-use Rattle.src_ast.specs.Lexemes.{after, is_blank, starts_without}
+use Rattle.src_ast.specs.Lexemes.{start, after, is_blank, starts_without}
 use Rattle.src_ast.specs.Once.{ExactlyOne}
-use Rattle.wsc_top.specs.Sections.{IsItem, IsWordText, Items, stop, next, InputWords, InputFault, IsInputAnswer}
+use Rattle.wsc_top.specs.Sections.{program_of, input_place, IsItem, IsWordText, Items, stop, next, InputWords, InputFault, IsInputAnswer}
 
 abbrev is_dense : ℕ → Bool
 is_dense b = not (is_blank b)
@@ -273,3 +273,8 @@ one_answer at text = go (found_in (length text) at text (omega arith))
     go : Found at text → ExactlyOne (IsInputAnswer at text)
     go (inl f) = record { answer = Ok f.0; holds = f.1; only = only_words f.0 f.1 }
     go (inr f) = record { answer = Err f.0; holds = f.1; only = only_fault f.0 f.1 }
+
+-- where an input section begins
+pub section_at : (text section : List ℕ) (p : Place) → section ≡ program_of text → p ≡ after start section
+    → record { line = p.line + 1; column = 1 } ≡ input_place text
+section_at text section p s e = ap (λ q. record { line = q.line + 1; column = 1 }) (e ∙ ap (after start) s)

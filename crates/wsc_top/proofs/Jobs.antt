@@ -59,26 +59,18 @@ fits unfit found first e none = go (unfit found) (λ p h. none p (e ∙ h))
     go [] h = refl
     go (p ∷ ps) h = absurd (h p refl)
 
-pub section_at : (text section : List ℕ) (p : Place) → section ≡ program_of text → p ≡ after start section → record { line = p.line + 1; column = 1 } ≡ input_place text
-section_at text section p s e = ap (λ q. record { line = q.line + 1; column = 1 }) (e ∙ ap (after start) s)
-
-pub words_only : (unfit : Unfit) (text section : List ℕ) (at : Place) (e : TextFault) → section ≡ input_of text → at ≡ input_place text
-    → ((ws : List ℕ) → InputWords at section ws → AnswersWords (Err e) ws)
+pub words_only : (unfit : Unfit) (text : List ℕ) (e : TextFault)
+    → ((ws : List ℕ) → InputWords (input_place text) (input_of text) ws → AnswersWords (Err e) ws)
     → (parts : List Part) (ws : List ℕ) → IsJob unfit text parts ws → e ≡ fault.NoMemory
-words_only unfit text section at fault.NoMemory s p h parts ws j = refl
-words_only unfit text section at (fault.Refused r) s p h parts ws j = absurd (h ws (subst (λ x. InputWords at x ws) (sym s) (subst (λ q. InputWords q (input_of text) ws) (sym p) j.words)))
+words_only unfit text fault.NoMemory h parts ws j = refl
+words_only unfit text (fault.Refused r) h parts ws j = absurd (h ws j.words)
 
-pub words_same : (unfit : Unfit) (text section : List ℕ) (at : Place) (found : List ℕ) → section ≡ input_of text → at ≡ input_place text
-    → ((ws : List ℕ) → InputWords at section ws → AnswersWords (Ok found) ws)
-    → (parts : List Part) (ws : List ℕ) → IsJob unfit text parts ws → found ≡ ws
-words_same unfit text section at found s p h parts ws j = h ws (subst (λ x. InputWords at x ws) (sym s) (subst (λ q. InputWords q (input_of text) ws) (sym p) j.words))
-
-pub words_refused : (unfit : Unfit) (text section : List ℕ) (at : Place) (found : List Part) (e : TextFault) → section ≡ input_of text → at ≡ input_place text
-    → ReadsAs text found → unfit found ≡ [] → IsInputFault at section e → IsRefused unfit text e
-words_refused unfit text section at found fault.NoMemory s p r f h = tt
-words_refused unfit text section at found (fault.Refused x) s p r f h =
-    let here = subst (λ q. IsInputFault q (input_of text) (fault.Refused x)) p (subst (λ y. IsInputFault at y (fault.Refused x)) s h) in
-    subst (λ kind. Refuses unfit text (record { kind = kind; place = x.place })) (sym here.0) (input found x.place r f here.1)
+pub words_refused : (unfit : Unfit) (text : List ℕ) (found : List Part) (e : TextFault)
+    → ReadsAs text found → unfit found ≡ [] → IsInputFault (input_place text) (input_of text) e
+    → IsRefused unfit text e
+words_refused unfit text found fault.NoMemory r f h = tt
+words_refused unfit text found (fault.Refused x) r f h =
+    subst (λ kind. Refuses unfit text (record { kind = kind; place = x.place })) (sym h.0) (input found x.place r f h.1)
 
 pub job_written : (unfit : Unfit) (text : List ℕ) (parts : List Part) (ws : List ℕ)
     → ((bytes : List ℕ) (ls : List Lexeme) (finish : Place) (all : List Part) → Lex bytes ls finish → KeepLimits 0 0 ls → Tree ls all → IsAccepted all finish → IsWritten all)

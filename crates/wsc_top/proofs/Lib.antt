@@ -7,6 +7,7 @@ pub mod Mains
 pub mod Jobs
 pub mod TextAnswers
 pub mod Tasks
+pub mod Assemblies
 pub mod Calls
 pub mod PlainTexts
 pub mod Outcomes

@@ -11,15 +11,21 @@ use Rattle.src_ast.specs.Written.{ReadsTheSame}
 use Rattle.wsc_top.specs.declared.status.Status.{Status}
 use Rattle.wsc_top.specs.declared.status.Status.TheVariants.{Done, Usage, Refused, Budget, ReadFault, NoMemory, Fault}
 use Rattle.wsc_top.specs.declared.task.Task.{Task}
-use Rattle.wsc_top.specs.declared.task.Task.TheVariants.{Job, Generate}
+use Rattle.wsc_top.specs.declared.task.Task.TheVariants.{Job, Assembly, Generate}
 use Rattle.wsc_top.specs.declared.task.JobTask.{JobTask}
 use Rattle.wsc_top.specs.declared.task.JobTask.TheVariants.{Run, Format, Plain}
+use Rattle.wsc_top.specs.declared.task.AssemblyTask.{AssemblyTask}
+use Rattle.wsc_top.specs.declared.task.AssemblyTask.TheVariants.{Check, List as Listing}
 use Rattle.wsc_top.specs.declared.task.PlainOptions.{PlainOptions}
+use Rattle.wsc_top.specs.declared.assembly.AsmRefusal.{AsmRefusal}
+use Rattle.ws_isa.specs.Image.{Image}
+use Rattle.list_out.specs.Listing.{listing}
+use Rattle.wsc_top.specs.Assembly.{assembly_limit, IsAssembly, RefusesAssembly}
 use Rattle.work_gen.specs.Job.{job_text}
 use Rattle.wsc_top.specs.Tasks.{IsLine, IsNoLine}
 use Rattle.wsc_top.specs.Straights.{unbuilt_places}
 use Rattle.wsc_top.specs.Job.{Unfit, IsJob, Refuses, world_of}
-use Rattle.wsc_top.specs.Texts.{done_text, ended_text, faulted_text, going_text, usage_text, unread_text, long_text, refusal_text}
+use Rattle.wsc_top.specs.Texts.{done_text, ended_text, faulted_text, going_text, usage_text, unread_text, long_text, refusal_text, sound_text, asm_refusal_text}
 
 -- the most bytes of a job
 abbrev pub job_limit : ℕ
@@ -100,14 +106,30 @@ pub data Answered (task : JobTask) (text : List ℕ) : Status → List ℕ → T
 abbrev pub IsAnswer : JobTask → List ℕ → Status × List ℕ → Type 0
 IsAnswer task text answer = Answered task text answer.0 answer.1
 
+-- what is written of a sound image
+abbrev pub text_of : AssemblyTask → Image → List ℕ
+text_of Check image = sound_text
+text_of Listing image = listing image
+
+-- The status and the text of the answer of a task to an assembly.
+pub data AssemblyAnswered (task : AssemblyTask) (text : List ℕ) : Status → List ℕ → Type 0 where
+  -- it is refused
+  refused : (r : AsmRefusal) → RefusesAssembly text r
+      → AssemblyAnswered task text Refused (asm_refusal_text r)
+  -- it is sound, and this is written of it
+  done : (image : Image) (input : List ℕ) → IsAssembly text image input
+      → AssemblyAnswered task text Done (text_of task image)
+
 -- a task that reads from the source
 abbrev pub IsReader : Task → Type 0
 IsReader (Job task) = Unit {0}
+IsReader (Assembly task) = Unit {0}
 IsReader (Generate number) = ⊥
 
 -- the most bytes that it reads as a text
 abbrev pub limit_of : Task → ℕ
 limit_of (Job task) = job_limit
+limit_of (Assembly task) = assembly_limit
 limit_of (Generate number) = 0
 
 -- The status and the text of the answer to these words, where the source had these bytes left
@@ -131,6 +153,10 @@ pub data Answers (words : List (List ℕ)) (left after : Option (List ℕ)) (fau
   read : {status : Status} {out : List ℕ} (task : JobTask) (text : List ℕ)
       → IsLine words (Job task) → length text ≤ job_limit → TakesAll left text after
       → Answered task text status out
+      → Answers words left after faults counted status out
+  assembled : {status : Status} {out : List ℕ} (task : AssemblyTask) (text : List ℕ)
+      → IsLine words (Assembly task) → length text ≤ assembly_limit → TakesAll left text after
+      → AssemblyAnswered task text status out
       → Answers words left after faults counted status out
 
 -- These bytes were read: none, or where the words ask for a task that reads, at most one more than
@@ -156,6 +182,24 @@ pub record IsToldOther (words : List (List ℕ)) (left : Option (List ℕ)) (tas
   pub told : left ≡ Some text
   pub other : length text ≤ job_limit → (parts : List Part) (input : List ℕ)
       → IsJob (unfit_for task) text parts input → ⊥
+
+-- all that the source has left is told, and it is an assembly: this sound image and these words
+pub record IsToldAssembly (words : List (List ℕ)) (left : Option (List ℕ)) (task : AssemblyTask)
+    (image : Image) (input : List ℕ) : Type 0 where
+  pub text : List ℕ
+  pub line : IsLine words (Assembly task)
+  pub told : left ≡ Some text
+  pub short : length text ≤ assembly_limit
+  pub assembly : IsAssembly text image input
+
+-- all that the source has left is told, and it is no such assembly
+pub record IsToldNoAssembly (words : List (List ℕ)) (left : Option (List ℕ)) (task : AssemblyTask)
+    : Type 0 where
+  pub text : List ℕ
+  pub line : IsLine words (Assembly task)
+  pub told : left ≡ Some text
+  pub other : length text ≤ assembly_limit → (image : Image) (input : List ℕ)
+      → IsAssembly text image input → ⊥
 
 -- the status is this one, unless memory ran out
 abbrev pub OrNoMemory : Status → Status → Type 0

@@ -3,5 +3,6 @@ pub mod Tasks
 pub mod Sections
 pub mod Straights
 pub mod Job
+pub mod Assembly
 pub mod Texts
 pub mod Answers

@@ -5,8 +5,9 @@ use Rattle.wsc_words.specs.declared.line.Line.{Line}
 use Rattle.wsc_words.specs.declared.command.Command.{Command}
 use Rattle.wsc_words.specs.declared.command.Command.TheVariants as command
 use Rattle.wsc_top.specs.declared.task.Task.{Task}
-use Rattle.wsc_top.specs.declared.task.Task.TheVariants.{Job, Generate}
+use Rattle.wsc_top.specs.declared.task.Task.TheVariants.{Job, Assembly, Generate}
 use Rattle.wsc_top.specs.declared.task.JobTask.TheVariants.{Run, Format, Plain}
+use Rattle.wsc_top.specs.declared.task.AssemblyTask.TheVariants as assembly
 
 -- no option of a run is built so far
 abbrev pub is_bare : Line → Bool
@@ -16,8 +17,13 @@ is_bare line =
 abbrev pub task_by : Command → Line → Option Task
 task_by command.Run line = cond (is_bare line) (Some (Job Run)) None
 task_by command.Plain line = Some (Job (Plain (record {
-    turns = line.turns; memory = line.memory; stats = line.stats })))
+  turns = line.turns;
+  memory = line.memory;
+  stats = line.stats;
+})))
 task_by command.Format line = Some (Job Format)
+task_by command.Check line = Some (Assembly assembly.Check)
+task_by command.List line = Some (Assembly assembly.List)
 task_by command.Gen line = Some (Generate line.number)
 task_by _ line = None
 

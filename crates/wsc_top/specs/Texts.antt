@@ -6,6 +6,12 @@ use Rattle.src_ast.specs.declared.fault.Refusal.{Refusal}
 use Rattle.src_ast.specs.declared.fault.RefusalKind.{RefusalKind}
 use Rattle.src_ast.specs.declared.fault.RefusalKind.TheVariants.{Byte, Wide, Syntax, Unknown, Twice, Kind, Count, Main, Limit, TooLong, Input, Unbuilt}
 use Rattle.src_ast.specs.declared.lexeme.Name.{Name}
+use Rattle.asm_text.specs.declared.fault.AsmKind as asm
+use Rattle.asm_text.specs.declared.fault.AsmKind.TheVariants as Asm
+use Rattle.annot_check.specs.declared.fault.Bad.{Bad}
+use Rattle.annot_check.specs.declared.fault.Bad.TheVariants as bad
+use Rattle.wsc_top.specs.declared.assembly.AsmRefusal.{AsmRefusal}
+use Rattle.wsc_top.specs.declared.assembly.AsmRefusal.TheVariants as refusal
 
 -- a word in decimal, and a line feed
 abbrev pub word_line : ℕ → List ℕ
@@ -56,6 +62,38 @@ abbrev pub refusal_text : Refusal → List ℕ
 refusal_text r =
     codes "refused " ++ decimal r.place.line ++ codes ":" ++ decimal r.place.column
     ++ codes " " ++ kind_word r.kind ++ codes "\n"
+
+-- the answer where an assembly is sound
+abbrev pub sound_text : List ℕ
+sound_text = codes "sound\n"
+
+-- what is printed for a faulty line of an assembly
+abbrev pub asm_word : asm.AsmKind → List ℕ
+asm_word Asm.Line = codes "line"
+asm_word Asm.Number = codes "number"
+asm_word Asm.Limit = codes "limit"
+asm_word Asm.Version = codes "version"
+asm_word Asm.Name = codes "name"
+
+-- a word and numbers that break the rule that it names
+abbrev pub broken_text : List ℕ → ℕ → ℕ → List ℕ
+broken_text rule m n =
+    codes "refused " ++ rule ++ codes " " ++ decimal m ++ codes " " ++ decimal n ++ codes "\n"
+
+abbrev pub bad_text : Bad → List ℕ
+bad_text (bad.Port i p) = broken_text (codes "port") i p
+bad_text (bad.Pending c d) = broken_text (codes "pending") c d
+bad_text (bad.Link j k) = broken_text (codes "link") j k
+bad_text (bad.Ripple j k) = broken_text (codes "ripple") j k
+bad_text (bad.Shape b) = codes "refused shape " ++ decimal b ++ codes "\n"
+
+-- an assembly that is refused
+abbrev pub asm_refusal_text : AsmRefusal → List ℕ
+asm_refusal_text (refusal.Text kind line) =
+    codes "refused " ++ decimal line ++ codes " " ++ asm_word kind ++ codes "\n"
+asm_refusal_text (refusal.Unsound b) = bad_text b
+asm_refusal_text (refusal.Input place) =
+    refusal_text (record { kind = Input; place = place })
 
 -- a word in decimal after a comma and a space
 abbrev pub further_word : ℕ → List ℕ

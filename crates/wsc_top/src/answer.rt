@@ -4,25 +4,33 @@ ghost use Rattle.std.specs.Prelude.{◌≡◌, ◌≢◌, ◌≤◌, ◌+◌, �
 ghost use Rattle.ws_io.specs.Streams.{Rose, Takes};
 ghost use Rattle.src_ast.specs.Syntax.{Part};
 ghost use Rattle.wsc_top.specs.declared.task.Task.{Task};
+ghost use Rattle.ws_isa.specs.Image.{Image};
 ghost use Rattle.wsc_top.specs.declared.task.JobTask.{JobTask};
+ghost use Rattle.wsc_top.specs.declared.task.AssemblyTask.{AssemblyTask};
 ghost use Rattle.wsc_top.specs.Tasks.{IsLine};
 ghost use Rattle.wsc_top.specs.declared.status.Status.{Status};
 ghost use Rattle.wsc_top.specs.Job.{IsJob};
-ghost use Rattle.wsc_top.specs.Answers.{job_limit, unfit_for, EndsSo, Answered, Answers, WereRead, IsToldJob};
+ghost use Rattle.wsc_top.specs.Assembly.{assembly_limit, IsAssembly};
+ghost use Rattle.wsc_top.specs.Answers.{job_limit, unfit_for, EndsSo, Answered, AssemblyAnswered, Answers, WereRead, IsToldJob, IsToldAssembly};
 
-use crate::task::{JobTask, Task, read_task};
+use crate::assembly::{self, AssemblyFault};
 use crate::status::Status;
+use crate::task::{AssemblyTask, JobTask, Task, read_task};
 use crate::yields::yielded;
 use crate::{job, texts};
+use list_out::list_image;
 use src_ast::{TextFault, read_is_written};
 use std::alloc::Global;
-use ws_io::{ReadEnd, Source, read_all};
 use work_gen::workload;
+use ws_io::{ReadEnd, Source, read_all};
 use ws_words::{Bytes, NoMemory};
 use wsc_words::words_are_one_line;
 
 /// The most bytes of a job.
 const JOB_LIMIT: usize = 1_048_576;
+
+/// The most bytes of an assembly with its sections.
+const ASSEMBLY_LIMIT: usize = 134_217_728;
 
 // The status and the text of the answer of a task to the text of a job.
 #[tactic(auto, using(crate::proofs::Jobs::refused_answers, crate::proofs::Jobs::job_done))]
@@ -68,6 +76,53 @@ fn of_job<S: Source>(
     }
 }
 
+// The status and the text of the answer of a task to the text of an assembly.
+fn to_assembly(alloc: Global, task: AssemblyTask, text: &[u8]) -> Result<(Status, Bytes), NoMemory>
+    requires { length text.now ≤ assembly_limit }
+    ensures answered { IfOk result (λ a. AssemblyAnswered task text.now a.0 a.1) }
+    ensures done { (image : Image) (input : List ℕ) → IsAssembly text.now image input
+        → IfOk result (λ a. a.0 ≡ Status.Done) }
+{
+    match assembly::read(alloc, text) {
+        Ok((image, _)) => match task {
+            AssemblyTask::Check => Ok((Status::Done, Bytes::from_slice(alloc, texts::SOUND)?)),
+            AssemblyTask::List => Ok((Status::Done, list_image(alloc, &image)?)),
+        },
+        Err(AssemblyFault::Refused(why)) => {
+            Ok((Status::Refused, texts::asm_refused(alloc, why)?))
+        }
+        Err(AssemblyFault::NoMemory) => Err(NoMemory),
+    }
+}
+
+// The status and the text of the answer to what the source gives, of which an assembly is to be
+// read.
+fn of_assembly<S: Source>(
+    alloc: Global,
+    task: AssemblyTask,
+    source: &mut S,
+) -> Result<(Status, Bytes), NoMemory>
+    ensures ok { IfOk result (λ a. (words : List (List ℕ)) → IsLine words (Task.Assembly task)
+        → Answers words (S.left source.old) (S.left source.new)
+        (S.faults source.old) (S.faults source.new) a.0 a.1) }
+    ensures done { (text : List ℕ) (image : Image) (input : List ℕ)
+        → S.left source.old ≡ Some text → length text ≤ assembly_limit
+        → IsAssembly text image input
+        → IfOk result (λ a. a.0 ≢ Status.ReadFault → a.0 ≡ Status.Done) }
+    ensures memory { OnErr result ((bytes : List ℕ) × (length bytes ≤ assembly_limit + 1)
+        × Takes (S.left source.old) bytes (S.left source.new)) }
+{
+    match read_all(alloc, source, ASSEMBLY_LIMIT) {
+        Ok(text) => {
+            let (status, answer) = to_assembly(alloc, task, text.as_slice())?;
+            Ok((status, answer))
+        }
+        Err(ReadEnd::Failed) => Ok((Status::ReadFault, Bytes::from_slice(alloc, texts::FAULT)?)),
+        Err(ReadEnd::TooLong) => Ok((Status::Refused, Bytes::from_slice(alloc, texts::LONG)?)),
+        Err(ReadEnd::NoMemory) => Err(NoMemory),
+    }
+}
+
 /// The status and the text of the answer to these words of the command line and what the source
 /// gives.
 pub fn to_words<S: Source>(
@@ -84,6 +139,9 @@ pub fn to_words<S: Source>(
     ensures job { (task : JobTask) (parts : List Part) (input : List ℕ)
         → IsToldJob (map string_bytes words.now) (S.left source.old) task parts input
         → IfOk result (λ a. a.0 ≢ Status.ReadFault → EndsSo task parts input a.0) }
+    ensures assembled { (task : AssemblyTask) (image : Image) (input : List ℕ)
+        → IsToldAssembly (map string_bytes words.now) (S.left source.old) task image input
+        → IfOk result (λ a. a.0 ≢ Status.ReadFault → a.0 ≡ Status.Done) }
     ensures memory { OnErr result ((bytes : List ℕ)
         × WereRead (map string_bytes words.now) bytes
         × Takes (S.left source.old) bytes (S.left source.new)) }
@@ -94,6 +152,10 @@ pub fn to_words<S: Source>(
         Some(Task::Generate(number)) => Ok((Status::Done, workload(alloc, number)?)),
         Some(Task::Job(task)) => {
             let (status, answer) = of_job(alloc, task, source)?;
+            Ok((status, answer))
+        }
+        Some(Task::Assembly(task)) => {
+            let (status, answer) = of_assembly(alloc, task, source)?;
             Ok((status, answer))
         }
     }

@@ -4,10 +4,12 @@ ghost use Rattle.std.specs.Prelude.{◌≡◌, ◌≢◌, ℕ, ◌≤◌, List, 
 ghost use Rattle.ws_io.specs.Streams.{Rose, Takes, Adds, Flushes};
 ghost use Rattle.src_ast.specs.Syntax.{Part};
 ghost use Rattle.wsc_top.specs.declared.task.Task.{Task};
+ghost use Rattle.ws_isa.specs.Image.{Image};
 ghost use Rattle.wsc_top.specs.declared.task.JobTask.{JobTask};
+ghost use Rattle.wsc_top.specs.declared.task.AssemblyTask.{AssemblyTask};
 ghost use Rattle.wsc_top.specs.declared.status.Status.{Status};
 ghost use Rattle.wsc_top.specs.Tasks.{IsLine, IsNoLine};
-ghost use Rattle.wsc_top.specs.Answers.{ComesToItsEnd, MeetsFault, WantsTurns, Answers, WereRead, IsToldJob, IsToldOther, OrNoMemory};
+ghost use Rattle.wsc_top.specs.Answers.{ComesToItsEnd, MeetsFault, WantsTurns, Answers, WereRead, IsToldJob, IsToldOther, IsToldAssembly, IsToldNoAssembly, OrNoMemory};
 
 use crate::answer::to_words;
 use crate::status::{Outcome, Status};
@@ -81,6 +83,16 @@ pub fn wsc<S: Source, K: Sink>(
         → OrNoMemory result.status Status.Budget }
     ensures refused { (task : JobTask)
         → IsToldOther (map string_bytes words.now) (S.left source.old) task
+        → ¬ Rose (S.faults source.old) (S.faults source.new)
+        → ¬ Rose (K.faults sink.old) (K.faults sink.new)
+        → OrNoMemory result.status Status.Refused }
+    ensures assembled { (task : AssemblyTask) (image : Image) (input : List ℕ)
+        → IsToldAssembly (map string_bytes words.now) (S.left source.old) task image input
+        → ¬ Rose (S.faults source.old) (S.faults source.new)
+        → ¬ Rose (K.faults sink.old) (K.faults sink.new)
+        → OrNoMemory result.status Status.Done }
+    ensures unassembled { (task : AssemblyTask)
+        → IsToldNoAssembly (map string_bytes words.now) (S.left source.old) task
         → ¬ Rose (S.faults source.old) (S.faults source.new)
         → ¬ Rose (K.faults sink.old) (K.faults sink.new)
         → OrNoMemory result.status Status.Refused }

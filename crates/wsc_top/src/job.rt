@@ -7,22 +7,16 @@ ghost use Rattle.src_ast.specs.declared.fault.TextFault.{TextFault};
 ghost use Rattle.wsc_top.specs.Job.{first_of, IsJob, IsRefused};
 ghost use Rattle.wsc_top.specs.Answers.{job_limit, unfit_for};
 
-mod input;
 mod program;
-mod sections;
 
-use crate::task::JobTask;
+use crate::input::input_words;
+use crate::sections::split;
 use crate::straight::first_unbuilt;
-use input::words;
-use sections::split;
+use crate::task::JobTask;
 use src_ast::{Place, Program, Refusal, RefusalKind, TextFault};
 use src_check::Accepted;
-use src_lex::place_after;
 use std::alloc::Global;
 use ws_words::Words;
-
-/// Where a text begins.
-const START: Place = Place { line: 1, column: 1 };
 
 // The first place in the text of what a task can't take.
 fn unfit(task: JobTask, program: &Program) -> Option<Place>
@@ -48,7 +42,7 @@ pub fn read(alloc: Global, task: JobTask, text: &[u8]) -> Result<(Accepted, Word
         → IfOk result (λ x. (view.parts x.0.program.items.items ≡ parts) × (x.1 ≡ input)) }
     ensures refused { IfErr result (λ e. IsRefused (unfit_for task) text.now e) }
 {
-    let (program, input) = split(text);
+    let (program, _) = split(text);
     let accepted = match program::read(alloc, text, program) {
         Ok(accepted) => accepted,
         Err(fault) => return Err(fault),
@@ -59,11 +53,7 @@ pub fn read(alloc: Global, task: JobTask, text: &[u8]) -> Result<(Accepted, Word
             place,
         }));
     }
-    let at = Place {
-        line: place_after(START, program).line + 1,
-        column: 1,
-    };
-    match words(alloc, input, at) {
+    match input_words(alloc, text) {
         Ok(words) => Ok((accepted, words)),
         Err(fault) => Err(fault),
     }

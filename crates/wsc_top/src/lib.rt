@@ -3,12 +3,15 @@
 #![tactic(auto)]
 
 mod answer;
+mod assembly;
 mod call;
+mod input;
 mod job;
 mod laws;
-mod task;
+mod sections;
 mod status;
 mod straight;
+mod task;
 mod texts;
 mod yields;
 

@@ -29,11 +29,22 @@ pub enum JobTask {
     Plain(PlainOptions),
 }
 
+/// What is done with an assembly.
+#[derive(Clone, Copy, Debug, PartialEq, Eq)]
+pub enum AssemblyTask {
+    /// It is said to be sound.
+    Check,
+    /// Its blocks and memory operations are listed.
+    List,
+}
+
 /// What the program does, of what is built so far.
 #[derive(Clone, Copy, Debug, PartialEq, Eq)]
 pub enum Task {
     /// It reads a job.
     Job(JobTask),
+    /// It reads an assembly.
+    Assembly(AssemblyTask),
     /// It writes the generated job of a number, and reads nothing.
     Generate(u32),
 }
@@ -63,6 +74,8 @@ fn task_of(line: &Line) -> Option<Task>
             stats: line.stats,
         }))),
         Command::Format => Some(Task::Job(JobTask::Format)),
+        Command::Check => Some(Task::Assembly(AssemblyTask::Check)),
+        Command::List => Some(Task::Assembly(AssemblyTask::List)),
         Command::Gen => Some(Task::Generate(line.number)),
         _ => None,
     }

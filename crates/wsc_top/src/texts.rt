@@ -3,8 +3,13 @@
 ghost use Rattle.std.specs.Prelude.{◌≡◌, ◌++◌, List, [], ◌∷◌, flat_map, slice_get, IfOk, OnOk};
 ghost use Rattle.src_ast.specs.View as view;
 ghost use Rattle.src_ast.specs.Meaning.{arrays_of};
-ghost use Rattle.wsc_top.specs.Texts.{word_line, done_text, kind_word, refusal_text, separated_words, further_word, maybe_line, array_line, array_lines, turns_line, array_name, ended_text, faulted_text, going_text};
+ghost use Rattle.annot_check.specs.declared.fault.Bad.TheVariants as bad;
+ghost use Rattle.wsc_top.specs.declared.assembly.AsmRefusal.TheVariants as refusal;
+ghost use Rattle.wsc_top.specs.Texts.{asm_word, broken_text, bad_text, asm_refusal_text, word_line, done_text, kind_word, refusal_text, separated_words, further_word, maybe_line, array_line, array_lines, turns_line, array_name, ended_text, faulted_text, going_text};
 
+use crate::assembly::AsmRefusal;
+use annot_check::Bad;
+use asm_text::AsmKind;
 use src_ast::{Item, Name, Program, Quantity, Refusal, RefusalKind};
 use std::alloc::Global;
 use ws_io::put_decimal;
@@ -84,6 +89,89 @@ pub fn refused(alloc: Global, refusal: Refusal) -> Result<Bytes, NoMemory>
     text.extend(word(refusal.kind))?;
     text.push(b'\n')?;
     Ok(text)
+}
+
+/// The answer where an assembly is sound.
+pub const SOUND: &[u8] = b"sound\n";
+
+// What is printed for a faulty line of an assembly.
+fn asm_word(kind: AsmKind) -> &'static [u8]
+    ensures { result.now ≡ asm_word kind }
+{
+    match kind {
+        AsmKind::Line => b"line",
+        AsmKind::Number => b"number",
+        AsmKind::Limit => b"limit",
+        AsmKind::Version => b"version",
+        AsmKind::Name => b"name",
+    }
+}
+
+// A refusal that names a rule and two numbers.
+fn broken(alloc: Global, rule: &[u8], first: u64, second: u64) -> Result<Bytes, NoMemory>
+    ensures { IfOk result (λ text. text ≡ broken_text rule.now first second) }
+{
+    let mut text = Bytes::from_slice(alloc, b"refused ")?;
+    text.extend(rule)?;
+    text.push(b' ')?;
+    put_decimal(&mut text, first)?;
+    text.push(b' ')?;
+    put_decimal(&mut text, second)?;
+    text.push(b'\n')?;
+    Ok(text)
+}
+
+// A refusal that names a block.
+fn shapeless(alloc: Global, block: u32) -> Result<Bytes, NoMemory>
+    ensures { IfOk result (λ text. text ≡ bad_text (bad.Shape block)) }
+{
+    let mut text = Bytes::from_slice(alloc, b"refused shape ")?;
+    put_decimal(&mut text, u64::from(block))?;
+    text.push(b'\n')?;
+    Ok(text)
+}
+
+// The answer where an image isn't sound.
+fn unsound(alloc: Global, bad: Bad) -> Result<Bytes, NoMemory>
+    ensures { IfOk result (λ text. text ≡ bad_text bad) }
+{
+    match bad {
+        Bad::Port { instr, port } => broken(alloc, b"port", u64::from(instr), u64::from(port)),
+        Bad::Pending { first, second } => {
+            broken(alloc, b"pending", u64::from(first), u64::from(second))
+        }
+        Bad::Link { first, second } => broken(alloc, b"link", u64::from(first), u64::from(second)),
+        Bad::Ripple { first, second } => {
+            broken(alloc, b"ripple", u64::from(first), u64::from(second))
+        }
+        Bad::Shape { block } => shapeless(alloc, block),
+    }
+}
+
+// The answer where a line of an assembly is faulty.
+fn faulty(alloc: Global, kind: AsmKind, line: u32) -> Result<Bytes, NoMemory>
+    ensures { IfOk result (λ text. text ≡ asm_refusal_text (refusal.Text kind line)) }
+{
+    let mut text = Bytes::from_slice(alloc, b"refused ")?;
+    put_decimal(&mut text, u64::from(line))?;
+    text.push(b' ')?;
+    text.extend(asm_word(kind))?;
+    text.push(b'\n')?;
+    Ok(text)
+}
+
+/// The answer where an assembly is refused.
+pub fn asm_refused(alloc: Global, why: AsmRefusal) -> Result<Bytes, NoMemory>
+    ensures { IfOk result (λ text. text ≡ asm_refusal_text why) }
+{
+    match why {
+        AsmRefusal::Text(kind, line) => faulty(alloc, kind, line),
+        AsmRefusal::Unsound(bad) => unsound(alloc, bad),
+        AsmRefusal::Input(place) => {
+            let kind = RefusalKind::Input;
+            refused(alloc, Refusal { kind, place })
+        }
+    }
 }
 
 // Puts words after a text, each after a comma and a space.

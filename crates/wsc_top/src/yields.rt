@@ -10,9 +10,9 @@ ghost use Rattle.wsc_top.specs.Answers.{unfit_for, Yields, EndsSo};
 ghost use Rattle.wsc_top.specs.declared.task.JobTask.{JobTask};
 ghost use Rattle.wsc_top.specs.declared.status.Status.{Status};
 
-use crate::task::{JobTask, PlainOptions};
 use crate::status::Status;
 use crate::straight::straight_image;
+use crate::task::{JobTask, PlainOptions};
 use crate::texts;
 use df_core::{Core, built_is_straight};
 use seq_run::run_plain;

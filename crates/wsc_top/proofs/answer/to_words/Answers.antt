@@ -1,5 +1,5 @@
 use Rattle.std.proofs.Common.{subst, sym}
-use Rattle.wsc_top.specs.declared.task.Task.TheVariants.{Job, Generate}
+use Rattle.wsc_top.specs.declared.task.Task.TheVariants.{Job, Assembly, Generate}
 use Rattle.wsc_top.specs.Job.{IsJob}
 use Rattle.wsc_top.specs.Answers.{EndsSo, unfit_for}
 use Rattle.wsc_top.proofs.Tasks.{found_line, same_job}
@@ -30,3 +30,11 @@ returns-in_ok-status-in-Some-Job-clause-job g c task parts input told f =
     let same = same_job c.words_are_one_line.ensures _ task c.in-Some-Job.task told.line line in
     subst (λ d. EndsSo d parts input c.in_ok-status-in-Some-Job.status) (sym same)
     (c.in_ok-status-in-Some-Job.ensures.job told.text parts input told.told told.short (subst (λ d. IsJob (unfit_for d) told.text parts input) same told.job) f)
+
+pub returns-in_ok-from_slice-in-None-clause-assembled : goal.returns-in_ok-from_slice-in-None-clause-assembled
+returns-in_ok-from_slice-in-None-clause-assembled g c task image input told f =
+    absurd (no_line _ c.in_ok-read_task.field-0 c.in_ok-read_task.ensures.none (λ t e. cc) (Assembly task) told.line)
+
+pub returns-in_ok-status-in-Some-Assembly-clause-assembled : goal.returns-in_ok-status-in-Some-Assembly-clause-assembled
+returns-in_ok-status-in-Some-Assembly-clause-assembled g c task image input told f =
+    c.in_ok-status-in-Some-Assembly.ensures.done told.text image input told.told told.short told.assembly f

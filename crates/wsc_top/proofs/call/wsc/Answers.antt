@@ -1,5 +1,5 @@
 use Rattle.std.proofs.Common.{inl}
-use Rattle.wsc_top.proofs.Calls.{not_memory, not_write_fault, read_rose, told_refused, no_line_usage}
+use Rattle.wsc_top.proofs.Calls.{not_memory, not_write_fault, read_rose, told_refused, told_unassembled, no_line_usage}
 use Rattle.wsc_top.proofs.call.wsc.Goals as goal
 
 pub returns-in-Ok-write_all-clause-memory : goal.returns-in-Ok-write_all-clause-memory
@@ -35,3 +35,11 @@ returns-in-Ok-write_all-clause-generated g c number line sink = inl (c.in-Ok.ens
 
 pub returns-in-Ok-write_all-clause-usage : goal.returns-in-Ok-write_all-clause-usage
 returns-in-Ok-write_all-clause-usage g c none sink = inl (no_line_usage _ _ _ _ _ _ _ c.in-Ok.ensures.ok none)
+
+pub returns-in-Ok-write_all-clause-assembled : goal.returns-in-Ok-write_all-clause-assembled
+returns-in-Ok-write_all-clause-assembled g c task image input told source sink =
+    inl (c.in-Ok.ensures.assembled task image input told (λ f. source (read_rose _ _ _ _ _ _ _ c.in-Ok.ensures.ok f)))
+
+pub returns-in-Ok-write_all-clause-unassembled : goal.returns-in-Ok-write_all-clause-unassembled
+returns-in-Ok-write_all-clause-unassembled g c task told source sink =
+    inl (told_unassembled c.words_are_one_line.ensures _ task _ _ _ _ _ c.in-Ok.status c.in-Ok.ensures.ok told (λ f. source (read_rose _ _ _ _ _ _ _ c.in-Ok.ensures.ok f)))

@@ -1,7 +1,7 @@
 use Rattle.std.proofs.Common.{sym, ap, subst}
 use Rattle.src_ast.specs.View as view
 use Rattle.wsc_top.specs.Answers.{unfit_for}
-use Rattle.wsc_top.proofs.Jobs.{program_only, program_refused, unfit_only, unfit_refused, fits, section_at, words_only, words_same, words_refused}
+use Rattle.wsc_top.proofs.Jobs.{program_only, program_refused, unfit_only, unfit_refused, fits, words_only, words_refused}
 use Rattle.wsc_top.proofs.job.read.Goals as goal
 
 pub returns-in-Err-clause-only : goal.returns-in-Err-clause-only
@@ -16,16 +16,16 @@ returns-in-Some-clause-only c parts input j = absurd (unfit_only (unfit_for c.ar
 pub returns-in-Some-clause-refused : goal.returns-in-Some-clause-refused
 returns-in-Some-clause-refused c = unfit_refused _ _ (view.parts c.in-Ok.accepted.program.items.items) _ c.in-Ok.ensures.ok (sym c.in-Some.ensures)
 
-pub returns-in-Err-words-clause-only : goal.returns-in-Err-words-clause-only
-returns-in-Err-words-clause-only c = words_only _ _ _ _ _ c.split.ensures.input (section_at c.args.text.now _ c.place_after.result c.split.ensures.program c.place_after.ensures.following) c.in-Err-words.ensures.only
+pub returns-in-Err-input_words-clause-only : goal.returns-in-Err-input_words-clause-only
+returns-in-Err-input_words-clause-only c = words_only _ _ _ c.in-Err-input_words.ensures.only
 
-pub returns-in-Err-words-clause-refused : goal.returns-in-Err-words-clause-refused
-returns-in-Err-words-clause-refused c =
-    words_refused _ _ _ _ (view.parts c.in-Ok.accepted.program.items.items) _ c.split.ensures.input (section_at c.args.text.now _ c.place_after.result c.split.ensures.program c.place_after.ensures.following) c.in-Ok.ensures.ok
-    (fits (unfit_for c.args.task) (view.parts c.in-Ok.accepted.program.items.items) c.unfit.result c.unfit.ensures c.in_default.not-Some) c.in-Err-words.ensures.refused
+pub returns-in-Err-input_words-clause-refused : goal.returns-in-Err-input_words-clause-refused
+returns-in-Err-input_words-clause-refused c =
+    words_refused _ _ (view.parts c.in-Ok.accepted.program.items.items) _ c.in-Ok.ensures.ok
+    (fits (unfit_for c.args.task) (view.parts c.in-Ok.accepted.program.items.items) c.unfit.result c.unfit.ensures c.in_default.not-Some) c.in-Err-input_words.ensures.refused
 
-pub returns-in-Ok-words-clause-same : goal.returns-in-Ok-words-clause-same
-returns-in-Ok-words-clause-same c parts input j = (
+pub returns-in-Ok-input_words-clause-same : goal.returns-in-Ok-input_words-clause-same
+returns-in-Ok-input_words-clause-same c parts input j = (
   c.in-Ok.ensures.only parts j.reads,
-  words_same (unfit_for c.args.task) c.args.text.now _ _ _ c.split.ensures.input (section_at c.args.text.now _ c.place_after.result c.split.ensures.program c.place_after.ensures.following) c.in-Ok-words.ensures.only parts input j,
+  c.in-Ok-input_words.ensures.only input j.words,
 )

@@ -1,6 +1,6 @@
 use Rattle.std.proofs.Common.{◌≡◌, ◌+◌, ◌<◌, ◌≤◌, ◌^◌, length}
 use Rattle.wsc_top.proofs.Inputs.{Reading}
-use Rattle.wsc_top.proofs.job.input.words.Given as goal
+use Rattle.wsc_top.proofs.input.words.Given as goal
 
 abbrev pub invariant-items : goal.invariant-items
 invariant-items l = record {

@@ -1,6 +1,6 @@
 use Rattle.std.proofs.Common.{◌≡◌, ◌++◌, take, drop, true}
 use Rattle.wsc_top.specs.Sections.{front_of, rest_of}
-use Rattle.wsc_top.proofs.job.sections.program_length.Given as goal
+use Rattle.wsc_top.proofs.sections.program_length.Given as goal
 
 abbrev pub invariant-loop-place : goal.invariant-loop-place
 invariant-loop-place l = record {

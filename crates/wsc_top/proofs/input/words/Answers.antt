@@ -1,6 +1,6 @@
 use Rattle.std.proofs.Common.{arith, refl, ap, length, length-append}
 use Rattle.wsc_top.proofs.Inputs.{reads_end, reads_fault, reads_word, one_list, no_fault_in_words, empty_is}
-use Rattle.wsc_top.proofs.job.input.words.Goals as goal
+use Rattle.wsc_top.proofs.input.words.Goals as goal
 
 pub returns-then-is_empty-clause-ok : goal.returns-then-is_empty-clause-ok
 returns-then-is_empty-clause-ok c = reads_end _ _ _ _ _ _ _ c.items.invariant.read c.blanks.ensures.whole c.blanks.ensures.blank (empty_is _ _ c.is_empty.ensures c.if-is_empty.true)

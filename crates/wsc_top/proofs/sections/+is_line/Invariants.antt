@@ -1,5 +1,5 @@
 use Rattle.std.proofs.Common.{length}
-use Rattle.wsc_top.proofs.job.sections.+is_line.Given as goal
+use Rattle.wsc_top.proofs.sections.+is_line.Given as goal
 
 abbrev pub decreases-is_line : goal.decreases-is_line
 decreases-is_line l = length l.line.now

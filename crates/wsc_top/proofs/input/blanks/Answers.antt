@@ -1,5 +1,5 @@
 use Rattle.wsc_top.proofs.Inputs.{blank_run}
-use Rattle.wsc_top.proofs.job.input.blanks.Goals as goal
+use Rattle.wsc_top.proofs.input.blanks.Goals as goal
 
 pub returns-clause-blank : goal.returns-clause-blank
 returns-clause-blank c = (blank_run _ _ _ _ c.blanks_length.ensures.longest c.split_at.ensures.front c.split_at.ensures.back).0

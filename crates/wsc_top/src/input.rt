@@ -3,13 +3,18 @@
 ghost use Rattle.std.specs.Prelude.{◌≡◌, ℕ, ◌+◌, ◌<◌, ◌≤◌, ◌^◌, ◌++◌, List, length, not, IsTrue, IfOk, IfErr};
 ghost use Rattle.std.specs.List.{list_all, prefix_len};
 ghost use Rattle.src_ast.specs.Lexemes.{is_blank, starts_without};
-ghost use Rattle.wsc_top.specs.Sections.{IsItem, InputWords, IsInputFault, AnswersWords};
+ghost use Rattle.wsc_top.specs.Sections.{input_of, input_place, IsItem, InputWords, IsInputFault, AnswersWords};
+ghost use Rattle.wsc_top.specs.Assembly.{assembly_limit};
 
+use crate::sections::split;
 use src_ast::{Place, Refusal, RefusalKind, TextFault};
 use src_lex::{is_blank, place_after};
 use std::alloc::Global;
 use ws_io::decimal;
 use ws_words::Words;
+
+/// Where a text begins.
+const START: Place = Place { line: 1, column: 1 };
 
 // How many blanks the text begins with.
 fn blanks_length(text: &[u8]) -> usize
@@ -48,7 +53,7 @@ fn item(text: &[u8]) -> (&[u8], &[u8])
 }
 
 /// The words of an input section that begins at a place, or its first item that is no word.
-pub fn words(alloc: Global, text: &[u8], at: Place) -> Result<Words, TextFault>
+fn words(alloc: Global, text: &[u8], at: Place) -> Result<Words, TextFault>
     requires line { 0 < at.line }
     requires column { 0 < at.column }
     requires room { at.line + at.column + length text.now ≤ 2 ^ 32 }
@@ -76,4 +81,23 @@ pub fn words(alloc: Global, text: &[u8], at: Place) -> Result<Words, TextFault>
         place = place_after(place, item);
         rest = further;
     }
+}
+
+/// The words of the input section of a text.
+#[tactic(auto, using(crate::proofs::Inputs::section_at))]
+pub fn input_words(alloc: Global, text: &[u8]) -> Result<Words, TextFault>
+    requires { length text.now ≤ assembly_limit }
+    ensures ok { IfOk result (λ words.
+        InputWords (input_place text.now) (input_of text.now) words) }
+    ensures only { (words : List ℕ) → InputWords (input_place text.now) (input_of text.now) words
+        → AnswersWords result words }
+    ensures refused { IfErr result (λ e.
+        IsInputFault (input_place text.now) (input_of text.now) e) }
+{
+    let (section, input) = split(text);
+    let at = Place {
+        line: place_after(START, section).line + 1,
+        column: 1,
+    };
+    words(alloc, input, at)
 }

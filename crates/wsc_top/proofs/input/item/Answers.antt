@@ -1,5 +1,5 @@
 use Rattle.wsc_top.proofs.Inputs.{item_run}
-use Rattle.wsc_top.proofs.job.input.item.Goals as goal
+use Rattle.wsc_top.proofs.input.item.Goals as goal
 
 pub returns-clause-item : goal.returns-clause-item
 returns-clause-item c = (item_run _ _ _ _ c.requires.some c.requires.no_blank c.item_length.ensures.longest c.split_at.ensures.front c.split_at.ensures.back).1

@@ -1,6 +1,6 @@
 use Rattle.std.proofs.Common.{◌≡◌, ◌≤◌, length}
 use Rattle.wsc_top.specs.Sections.{after_line}
-use Rattle.wsc_top.proofs.job.sections.after_line.Given as goal
+use Rattle.wsc_top.proofs.sections.after_line.Given as goal
 
 abbrev pub invariant-lines : goal.invariant-lines
 invariant-lines l = record {

@@ -1,0 +1,52 @@
+-- Why the text of an assembly is refused.
+use Rattle.std.specs.Prelude.{◌≡◌, ℕ, List, Ok, Err}
+use Rattle.std.proofs.Common.{subst, sym}
+use Rattle.ws_isa.specs.Image.{Image}
+use Rattle.image_walk.specs.Sound.{Sound}
+use Rattle.asm_text.specs.Reading.{read}
+use Rattle.annot_check.specs.declared.fault.Bad.{Bad}
+use Rattle.annot_check.specs.declared.fault.CheckFault.{CheckFault}
+use Rattle.annot_check.specs.declared.fault.CheckFault.TheVariants as check
+use Rattle.annot_check.specs.Breach.{BadBreach, Breach}
+use Rattle.wsc_top.specs.declared.assembly.AsmRefusal.TheVariants.{Text, Unsound, Input}
+use Rattle.wsc_top.specs.declared.assembly.AssemblyFault.{AssemblyFault}
+use Rattle.wsc_top.specs.declared.assembly.AssemblyFault.TheVariants as fault
+use Rattle.wsc_top.specs.Sections.{program_of, input_of, input_place, IsInputFault, AnswersWords}
+use Rattle.src_ast.specs.declared.fault.TextFault.{TextFault}
+use Rattle.src_ast.specs.declared.fault.TextFault.TheVariants as text_fault
+use Rattle.wsc_top.specs.declared.assembly.AsmRefusal.{AsmRefusal}
+use Rattle.wsc_top.specs.Assembly.{fault_of_input, AnswersAssembly, IsSectionFault, IsAssemblyFault, RefusesAssembly, assembly, unsound, input}
+
+pub bad_of : (image : Image) (f : CheckFault) (bad : Bad) → f ≡ check.Refused bad → Breach image f → BadBreach image bad
+bad_of image f bad e h = subst (λ x. Breach image x) e h
+
+-- what is wrong with the assembly section is wrong with the text
+pub section_fault : (text : List ℕ) (e : AssemblyFault) → IsSectionFault text e → IsAssemblyFault text e
+section_fault text fault.NoMemory h = tt
+section_fault text (fault.Refused (Text kind line)) h = assembly kind line h
+section_fault text (fault.Refused (Unsound bad)) h = unsound h.0 bad h.1 h.2
+section_fault text (fault.Refused (Input place)) h = absurd h
+
+-- so is what is wrong with its input section
+pub input_refused : (text : List ℕ) (image : Image) (f : TextFault) (e : AssemblyFault) → e ≡ fault_of_input f
+    → read (program_of text) ≡ Ok image → Sound image → IsInputFault (input_place text) (input_of text) f
+    → IsAssemblyFault text e
+input_refused text image f e is reads s h = subst (λ x. IsAssemblyFault text x) (sym is) (go f h)
+  where
+    go : (f : TextFault) → IsInputFault (input_place text) (input_of text) f → IsAssemblyFault text (fault_of_input f)
+    go text_fault.NoMemory h = tt
+    go (text_fault.Refused r) h = input image r.place reads s h.1
+
+-- words that are refused are no others
+pub no_words : (f : TextFault) (e : AssemblyFault) (image : Image) (ws : List ℕ) → e ≡ fault_of_input f
+    → AnswersWords (Err f) ws → AnswersAssembly (Err e) image ws
+no_words f e image ws is h = subst (λ x. AnswersAssembly (Err x) image ws) (sym is) (go f h)
+  where
+    go : (f : TextFault) → AnswersWords (Err f) ws → AnswersAssembly (Err (fault_of_input f)) image ws
+    go text_fault.NoMemory h = tt
+    go (text_fault.Refused r) h = absurd h
+
+-- an assembly that is refused is no other
+pub no_assembly : (e : AssemblyFault) (why : AsmRefusal) (image : Image) (ws : List ℕ) → e ≡ fault.Refused why
+    → AnswersAssembly (Err e) image ws → ⊥
+no_assembly e why image ws is h = subst (λ x. AnswersAssembly (Err x) image ws) is h

@@ -1,0 +1,84 @@
+//! The text of an assembly: its image, and the words that it reads.
+
+ghost use Rattle.std.specs.Prelude.{◌≡◌, ◌≤◌, ℕ, List, length, IfOk, IfErr, Ok};
+ghost use Rattle.ws_isa.specs.Image.{Image};
+ghost use Rattle.image_walk.specs.Sound.{Sound};
+ghost use Rattle.asm_text.specs.Reading.{read};
+ghost use Rattle.wsc_top.specs.Sections.{program_of};
+ghost use Rattle.wsc_top.specs.Assembly.{assembly_limit, IsAssembly, IsSectionFault, IsAssemblyFault, AnswersAssembly, fault_of_input};
+
+use crate::input::input_words;
+use crate::sections::split;
+use annot_check::{Bad, CheckFault, breaches_break, check_image};
+use asm_text::{AsmFault, AsmKind, read_asm};
+use image_walk::Checked;
+use src_ast::{Place, TextFault};
+use std::alloc::Global;
+use ws_words::Words;
+
+/// Why the text of an assembly is refused: its first faulty line, counted from 1, numbers that
+/// break a rule of sound images, or the place of the first item of its input that is no word.
+#[derive(Clone, Copy, Debug, PartialEq, Eq)]
+pub enum AsmRefusal {
+    Text(AsmKind, u32),
+    Unsound(Bad),
+    Input(Place),
+}
+
+/// Why the text of an assembly has no image.
+#[derive(Clone, Copy, Debug, PartialEq, Eq)]
+pub enum AssemblyFault {
+    Refused(AsmRefusal),
+    NoMemory,
+}
+
+// The sound image of the assembly section of a text, or why it has none.
+fn checked(alloc: Global, text: &[u8]) -> Result<Checked, AssemblyFault>
+    requires { length text.now ≤ assembly_limit }
+    ensures ok { IfOk result (λ image. read (program_of text.now) ≡ Ok image) }
+    ensures sound { IfOk result (λ image. Sound image) }
+    ensures refused { IfErr result (IsSectionFault text.now) }
+{
+    breaches_break();
+    let (section, _) = split(text);
+    match read_asm(alloc, section) {
+        Ok(image) => match check_image(alloc, image) {
+            Ok(image) => Ok(image),
+            Err(CheckFault::Refused(bad)) => Err(AssemblyFault::Refused(AsmRefusal::Unsound(bad))),
+            Err(CheckFault::NoMemory) => Err(AssemblyFault::NoMemory),
+        },
+        Err(AsmFault::Refused { kind, line }) => {
+            Err(AssemblyFault::Refused(AsmRefusal::Text(kind, line)))
+        }
+        Err(AsmFault::NoMemory) => Err(AssemblyFault::NoMemory),
+    }
+}
+
+// What is wrong with an input section, as the fault of an assembly.
+fn input_fault(fault: TextFault) -> AssemblyFault
+    ensures { result ≡ fault_of_input fault }
+{
+    match fault {
+        TextFault::Refused(refusal) => AssemblyFault::Refused(AsmRefusal::Input(refusal.place)),
+        TextFault::NoMemory => AssemblyFault::NoMemory,
+    }
+}
+
+/// The image of an assembly and the words that it reads, or why the text is refused.
+pub fn read(alloc: Global, text: &[u8]) -> Result<(Checked, Words), AssemblyFault>
+    requires { length text.now ≤ assembly_limit }
+    ensures ok { IfOk result (λ x. IsAssembly text.now x.0 x.1) }
+    ensures only { (image : Image) (input : List ℕ) → IsAssembly text.now image input
+        → AnswersAssembly result image input }
+    ensures refused { IfErr result (IsAssemblyFault text.now) }
+{
+    breaches_break();
+    let image = match checked(alloc, text) {
+        Ok(image) => image,
+        Err(fault) => return Err(fault),
+    };
+    match input_words(alloc, text) {
+        Ok(words) => Ok((image, words)),
+        Err(fault) => Err(input_fault(fault)),
+    }
+}
