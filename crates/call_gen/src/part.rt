@@ -27,10 +27,12 @@ ghost use Rattle.call_gen.specs.Part.{
   part,
 };
 
-use crate::copy::{arrays, numbers as copy_numbers, operations, term, terms};
+use crate::copy::{arrays, numbers as copy_numbers, operations};
 use crate::counts::one_if;
 use crate::find::find;
-use cfg_core::{Graph, GraphBlock, GraphBlocks, GraphProc, GraphProcs, Leave, Table};
+use cfg_core::{
+    Graph, GraphBlock, GraphBlocks, GraphProc, GraphProcs, Leave, Table, copy_term, copy_terms,
+};
 use std::alloc::Global;
 use ws_words::NoMemory;
 
@@ -118,7 +120,7 @@ impl<'a> Part<'a> {
         match exit {
             Leave::Goto(c) => Ok(Leave::Goto(self.place(*c))),
             Leave::Branch(test, c, d) => {
-                let test = term(alloc, test)?;
+                let test = copy_term(alloc, test)?;
                 Ok(Leave::Branch(test, self.place(*c), self.place(*d)))
             }
             Leave::Call {
@@ -129,10 +131,10 @@ impl<'a> Part<'a> {
             } => Ok(Leave::Call {
                 result: *result,
                 callee: self.number(*callee),
-                values: terms(alloc, values)?,
+                values: copy_terms(alloc, values)?,
                 back: self.place(*back),
             }),
-            Leave::Return(t) => Ok(Leave::Return(term(alloc, t)?)),
+            Leave::Return(t) => Ok(Leave::Return(copy_term(alloc, t)?)),
             Leave::Send { .. } => Ok(Leave::Stop),
             Leave::Stop => Ok(Leave::Stop),
         }
