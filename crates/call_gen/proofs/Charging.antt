@@ -1,5 +1,5 @@
 -- What stands for the blocks of the given graph, and what its walks weigh.
-use Rattle.std.proofs.Common.{ℕ, zero, suc, ◌+◌, ◌-◌, ◌*◌, ◌==◌, ◌&&◌, ◌≡◌, ◌<◌, ◌≤◌, ◌⊎◌, not, nat_lt, Bool, true, false, if◌then◌else◌, List, [], ◌∷◌, ◌++◌, length, map, refl, sym, ap, ◌∙◌, subst, inl, inr, Option, Some, None, arith}
+use Rattle.std.proofs.Common.{ℕ, zero, suc, ◌+◌, ◌-◌, ◌*◌, ◌==◌, ◌&&◌, ◌≡◌, ◌<◌, ◌≤◌, ◌⊎◌, not, nat_lt, Bool, true, false, if◌then◌else◌, List, [], ◌∷◌, ◌++◌, length, map, refl, sym, ap, ◌∙◌, subst, inl, inr, Option, arith}
 use Rattle.std.specs.List.{AllByRecursion, filter, sum_by}
 use Rattle.std.proofs.lemmas.Bool.Decides.{nat_tests}
 use Rattle.std.proofs.lemmas.List.{length-map, length_push}
@@ -13,7 +13,7 @@ use Rattle.call_gen.specs.Spelled.{is_called, is_result, is_saved, is_unset, mov
 use Rattle.call_gen.specs.Charged.{IsSave, IsLoad, IsClear, live_count, most_saved, StandsForExit, StandsFor, GoesOnAfter, CallsCharged}
 use Rattle.call_gen.proofs.Counting.{one_at_most}
 use Rattle.call_gen.proofs.Facts.{Given, Placed}
-use Rattle.call_gen.proofs.Slots.{below_count, below_all}
+use Rattle.call_gen.proofs.Slots.{below_count}
 use Rattle.call_gen.proofs.Standing.{places}
 use Rattle.call_gen.proofs.Alongside.{first_is, weighs}
 use Rattle.call_gen.proofs.Places.{all_placed, all_celled}

@@ -62,13 +62,13 @@ StandsForExit p _ y = y ≡ Stop
 -- Block c of the second graph stands for block b of the first: it does the same, then saves. What is
 -- live there was live before, or is the variable that has the return address.
 pub record StandsFor (g : Graph) (live : List (List ℕ)) (h : Graph) (p : Places) (b c : ℕ) : Type 0
-    where
-  pub exit : StandsForExit p (block_at g b).exit (block_at h c).exit
-  pub saves : List Op
-  pub are_saves : AllByRecursion IsSave saves
-  pub few : length saves ≤ most_saved live (spot_at g b).vars (block_at g b).exit
-  pub ops : (block_at h c).ops ≡ (block_at g b).ops ++ saves
-  pub held : (x : ℕ) → Live h c x → Live g b x ⊎ (x ≡ (spot_at g b).vars)
+  where
+    pub exit : StandsForExit p (block_at g b).exit (block_at h c).exit
+    pub saves : List Op
+    pub are_saves : AllByRecursion IsSave saves
+    pub few : length saves ≤ most_saved live (spot_at g b).vars (block_at g b).exit
+    pub ops : (block_at h c).ops ≡ (block_at g b).ops ++ saves
+    pub held : (x : ℕ) → Live h c x → Live g b x ⊎ (x ≡ (spot_at g b).vars)
 
 -- Block c, where a Send may land, holds such operations and goes on to one block. It names at most
 -- so many variables and has with them at most so many operations, and only what it names is live.

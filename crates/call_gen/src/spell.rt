@@ -10,7 +10,6 @@ ghost use Rattle.call_gen.specs.Spelled as spelled;
 ghost use Rattle.call_gen.specs.Plans.{PlanIs};
 
 use crate::copy::operations;
-use crate::counts::calls_before;
 use crate::plan::{Plan, push_if};
 use cfg_core::{GraphBlock, GraphOp, GraphOps, Leave, Term, copy_term, copy_terms};
 use std::alloc::Global;
@@ -143,7 +142,7 @@ impl<'a> Plan<'a> {
             (spelled.address g callee b) ∷ []) (spelled.door g callee ∷ [])) }
     {
         let mut sent = copy_terms(alloc, values)?;
-        let address = calls_before(&self.table, b as usize, callee);
+        let address = self.address(b, callee);
         sent.push(Term::Number(address as u64))?;
         let mut landings = Vec::new(alloc);
         landings.push(self.door(callee))?;

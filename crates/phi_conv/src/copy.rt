@@ -3,9 +3,7 @@
 ghost use Rattle.std.specs.Prelude.{◌≡◌, ◌++◌, map, IfOk, OnOk};
 ghost use Rattle.cfg_core.specs.View as view;
 
-use cfg_core::{
-    GraphArray, GraphArrays, GraphOp, GraphOps, Leave, Numbers, copy_term, copy_terms,
-};
+use cfg_core::{GraphArray, GraphArrays, GraphOp, GraphOps, Leave, Numbers, copy_term, copy_terms};
 use std::alloc::Global;
 use ws_words::{Bytes, NoMemory};
 
