@@ -34,3 +34,4 @@ pub mod Sizing
 pub mod PartSizing
 pub mod Arms
 pub mod Tallying
+pub mod PartSame

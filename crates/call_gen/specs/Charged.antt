@@ -3,7 +3,7 @@ use Rattle.std.specs.Prelude.{◌≡◌, ℕ, zero, suc, ◌+◌, ◌-◌, ◌<�
 use Rattle.std.specs.List.{AllByRecursion}
 use Rattle.cfg_core.specs.Graph.{Number, Var, Cell, Op, Assign, Store, Exit, Goto, Branch, Call, Return, Send, Stop, Graph, spots, spot_at, block_at, proc_at}
 use Rattle.cfg_core.specs.Rules.{In, calls}
-use Rattle.cfg_core.specs.Weights.{jumps_of, exit_nodes, first_block, WalksWeigh}
+use Rattle.cfg_core.specs.Weights.{first_block, WalksWeigh}
 use Rattle.live_vars.specs.Live.{Live}
 use Rattle.live_vars.specs.Marks.{has}
 use Rattle.call_gen.specs.Reached.{Reached}
@@ -96,20 +96,28 @@ pub record CallsCharged (g : Graph) (live : List (List ℕ)) (h : Graph) : Type 
       WalksWeigh g (charged g places weight) base pay →
       WalksWeigh h weight (base + weight (first_block h)) pay
 
--- block c of the second graph does what block b of the first does, on as many variables
-pub record DoesTheSame (g h : Graph) (b c : ℕ) : Type 0 where
-  pub vars : (spot_at h c).vars ≡ (spot_at g b).vars
-  pub ops : (block_at h c).ops ≡ (block_at g b).ops
-  pub jumps : jumps_of (block_at h c).exit ≡ jumps_of (block_at g b).exit
-  pub calls : calls (block_at h c).exit ≡ calls (block_at g b).exit
-  pub nodes : exit_nodes (block_at h c).exit ≡ exit_nodes (block_at g b).exit
+-- the same exit, to the places of its blocks
+abbrev pub SameExit : (ℕ → ℕ) → Exit → Exit → Type 0
+SameExit place (Goto b) y = y ≡ Goto (place b)
+SameExit place (Branch t a b) y = y ≡ Branch t (place a) (place b)
+SameExit place (Call x f ts back) y = (e : ℕ) × (y ≡ Call x e ts (place back))
+SameExit place (Return t) y = y ≡ Return t
+SameExit place _ y = y ≡ Stop
+
+-- in its place in the second graph a block does what it did in the first, on as many variables, and
+-- no more are live
+pub record DoesTheSame (g h : Graph) (place : ℕ → ℕ) (b : ℕ) : Type 0 where
+  pub vars : (spot_at h (place b)).vars ≡ (spot_at g b).vars
+  pub ops : (block_at h (place b)).ops ≡ (block_at g b).ops
+  pub exit : SameExit place (block_at g b).exit (block_at h (place b)).exit
+  pub held : (x : ℕ) → Live h (place b) x → Live g b x
 
 -- Each block that is reached has a place in the second graph. Whatever the blocks of the second
 -- weigh, its walks weigh no more than those of the first where each block that is reached weighs as
 -- much as the one in its place, or more.
 pub record ReachedInPlace (g h : Graph) : Type 0 where
   pub place : ℕ → ℕ
-  pub same : (b : ℕ) → b < length (spots g) → Reached g b → DoesTheSame g h b (place b)
+  pub same : (b : ℕ) → b < length (spots g) → Reached g b → DoesTheSame g h place b
   pub walks : (weight given : ℕ → ℕ) (base pay : ℕ) →
       ((b : ℕ) → b < length (spots g) → Reached g b → weight (place b) ≤ given b) →
       WalksWeigh g given base pay → WalksWeigh h weight base pay

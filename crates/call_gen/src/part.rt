@@ -3,7 +3,7 @@
 ghost use Rattle.std.specs.Prelude.{◌≡◌, ◌+◌, ◌++◌, ◌∷◌, [], ◌<◌, ◌≤◌, ℕ, map, length, slice_index, if◌then◌else◌, IfOk, OnOk};
 ghost use Rattle.cfg_core.specs.Graph.{spots};
 ghost use Rattle.cfg_core.specs.Rules.{IsGraph};
-ghost use Rattle.cfg_core.specs.Shape.{IsShaped};
+ghost use Rattle.cfg_core.specs.Shape.{IsShaped, ArmsAlone};
 ghost use Rattle.cfg_core.specs.Shown.{SameWalks, SameArrays};
 ghost use Rattle.cfg_core.specs.View as view;
 ghost use Rattle.cfg_core.specs.Shows.{TableIs};
@@ -277,6 +277,8 @@ pub fn reached(alloc: Global, graph: &Graph) -> Result<Graph, NoMemory>
     ensures no_send { IfOk result (λ made. HasNoSend (view.graph made)) }
     ensures shape { IfOk result (λ made. IsShaped (view.graph graph.now) →
         IsShaped (view.graph made)) }
+    ensures arms { IfOk result (λ made. ArmsAlone (view.graph graph.now) →
+        ArmsAlone (view.graph made)) }
     ensures sizes { IfOk result (λ made. (z : Sizes) → IsWithin z (view.graph graph.now) →
         IsWithin z (view.graph made)) }
 
