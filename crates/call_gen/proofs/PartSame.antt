@@ -80,6 +80,7 @@ module _ (g : Graph) (keep : ℕ → Bool) (rules : IsGraph g) (C : Closed g kee
   does_the_same b kept =
       let e = block_is b kept in
       record {
+        there = walks.block_there g keep rules C b kept;
         vars = ap (λ (s : Spot). s.vars) e;
         ops = ap (λ (s : Spot). s.block.ops) e;
         exit = subst (λ (s : Spot). SameExit place (block_at g b).exit s.block.exit) (sym e) (exit_same (block_at g b).exit (no_send b));

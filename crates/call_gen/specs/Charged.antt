@@ -107,6 +107,7 @@ SameExit place _ y = y ≡ Stop
 -- in its place in the second graph a block does what it did in the first, on as many variables, and
 -- no more are live
 pub record DoesTheSame (g h : Graph) (place : ℕ → ℕ) (b : ℕ) : Type 0 where
+  pub there : place b < length (spots h)
   pub vars : (spot_at h (place b)).vars ≡ (spot_at g b).vars
   pub ops : (block_at h (place b)).ops ≡ (block_at g b).ops
   pub exit : SameExit place (block_at g b).exit (block_at h (place b)).exit
