@@ -1,6 +1,6 @@
 #!/usr/bin/env python3
-"""Times lowering on programs as large as the limits allow, and the walk of a control graph beside the
-sequential run.
+"""Times lowering and the passes over control graphs on programs as large as the limits allow, and the
+walk of a control graph beside the sequential run.
 
 No command of `wsc` lowers a program, so a small program that does is proved and built in a temporary
 folder, over the libraries of the repository. It reads a program and does one thing to it so many times.
@@ -20,7 +20,9 @@ sys.dont_write_bytecode = True
 import plain
 
 ROOT = pathlib.Path(__file__).resolve().parent.parent
-USES = "ws_words ws_io src_ast src_lex src_parse src_check seq_run cfg_core cfg_build"
+USES = "ws_words ws_io src_ast src_lex src_parse src_check seq_run cfg_core cfg_build live_vars wave_cut call_gen phi_conv"
+TOPS = "cfg_build wave_cut call_gen phi_conv"
+PASSES = ("reached", "live", "join_short", "live again", "spell_calls", "live at last", "cut")
 RUNS = 5
 
 # 3,999,998 turns, of which 1,333,332 are calls.
@@ -36,15 +38,21 @@ proc main() {
 }
 """
 
-MAIN = """//! Lowers, walks or runs a program, so many times.
+MAIN = """//! Lowers, walks or runs a program, or does a pass over its graph, so many times.
 #![tactic(auto)]
 
 ghost use Rattle.std.specs.Prelude.{◌≡◌, ◌<◌, ◌^◌, ◌-◌, length, IfOk};
 ghost use Rattle.cfg_core.specs.View as view;
 ghost use Rattle.cfg_core.specs.Rules.{IsGraph};
+ghost use Rattle.cfg_build.specs.Keeps.{IsFirstForm};
+ghost use Rattle.live_vars.specs.Marks.{AreLive};
+ghost use Rattle.call_gen.specs.Keeps.{HasNoSend};
 
+use call_gen::{reached, spell_calls};
 use cfg_build::lower;
 use cfg_core::{Graph, run_graph};
+use live_vars::{LiveSets, live};
+use phi_conv::join_short;
 use seq_run::run_plain;
 use src_check::{Accepted, check};
 use src_lex::lex;
@@ -53,6 +61,7 @@ use std::alloc::Global;
 use std::env;
 use std::env::Env;
 use std::process::ExitCode;
+use wave_cut::cut;
 use ws_io::{StdSource, decimal, read_all};
 use ws_words::{Cells, NoMemory, Plain, Words, World};
 
@@ -126,6 +135,94 @@ fn ran(alloc: Global, accepted: &Accepted, times: u64) -> Result<u64, NoMemory> 
     Ok(sum)
 }
 
+fn reached_so(alloc: Global, graph: &Graph, times: u64) -> Result<u64, NoMemory>
+    requires rules { IsGraph (view.graph graph.now) }
+    requires no_send { HasNoSend (view.graph graph.now) }
+{
+    let mut sum = 0u64;
+    for _ in 0..times {
+        let made = reached(alloc, graph)?;
+        sum = sum.wrapping_add(blocks_of(&made));
+    }
+    Ok(sum)
+}
+
+fn live_so(alloc: Global, graph: &Graph, times: u64) -> Result<u64, NoMemory> {
+    let mut sum = 0u64;
+    for _ in 0..times {
+        let _sets = live(alloc, graph)?;
+        sum = sum.wrapping_add(1);
+    }
+    Ok(sum)
+}
+
+fn joined_so(alloc: Global, graph: &Graph, sets: &LiveSets, times: u64) -> Result<u64, NoMemory>
+    requires rules { IsGraph (view.graph graph.now) }
+    requires live { AreLive (view.graph graph.now) sets.now }
+{
+    let mut sum = 0u64;
+    for _ in 0..times {
+        let made = join_short(alloc, graph, sets)?;
+        sum = sum.wrapping_add(blocks_of(&made));
+    }
+    Ok(sum)
+}
+
+fn spelled_so(alloc: Global, graph: &Graph, sets: &LiveSets, times: u64) -> Result<u64, NoMemory>
+    requires rules { IsGraph (view.graph graph.now) }
+    requires live { AreLive (view.graph graph.now) sets.now }
+    requires no_send { HasNoSend (view.graph graph.now) }
+{
+    let mut sum = 0u64;
+    for _ in 0..times {
+        let made = spell_calls(alloc, graph, sets)?;
+        sum = sum.wrapping_add(blocks_of(&made));
+    }
+    Ok(sum)
+}
+
+fn cut_so(alloc: Global, graph: &Graph, times: u64) -> Result<u64, NoMemory> {
+    let mut sum = 0u64;
+    for _ in 0..times {
+        let waves = cut(alloc, graph)?;
+        sum = sum.wrapping_add(u64::from(waves.count()));
+    }
+    Ok(sum)
+}
+
+// All passes once, then this one so many times.
+#[tactic(auto, using(crate::proofs::Sends::first_has_none, crate::proofs::Sends::kept_has_none))]
+fn passed(alloc: Global, lowered: &Graph, what: &str, times: u64) -> Result<u64, NoMemory>
+    requires rules { IsGraph (view.graph lowered.now) }
+    requires form { IsFirstForm (view.graph lowered.now) }
+{
+    let reached = reached(alloc, lowered)?;
+    let needed = live(alloc, &reached)?;
+    let joined = join_short(alloc, &reached, &needed)?;
+    let wanted = live(alloc, &joined)?;
+    let spelled = spell_calls(alloc, &joined, &wanted)?;
+    match what {
+        "reached" => reached_so(alloc, lowered, times),
+        "live" => live_so(alloc, &reached, times),
+        "join_short" => joined_so(alloc, &reached, &needed, times),
+        "live again" => live_so(alloc, &joined, times),
+        "spell_calls" => spelled_so(alloc, &joined, &wanted, times),
+        "live at last" => live_so(alloc, &spelled, times),
+        "cut" => cut_so(alloc, &spelled, times),
+        _ => Err(NoMemory),
+    }
+}
+
+fn graph_passed(
+    alloc: Global,
+    accepted: &Accepted,
+    what: &str,
+    times: u64,
+) -> Result<u64, NoMemory> {
+    let graph = lower(alloc, accepted)?;
+    passed(alloc, &graph, what, times)
+}
+
 // What the words of the command line ask for, as a sum over all times.
 fn asked<R: Env + AllocGlobal>(rt: &R, accepted: &Accepted) -> Option<u64> {
     let alloc = rt.alloc();
@@ -136,7 +233,7 @@ fn asked<R: Env + AllocGlobal>(rt: &R, accepted: &Accepted) -> Option<u64> {
         "lower" => lowered(alloc, accepted, times).ok(),
         "walk" => walked(alloc, accepted, times).ok(),
         "run" => ran(alloc, accepted, times).ok(),
-        _ => None,
+        pass => graph_passed(alloc, accepted, pass, times).ok(),
     }
 }
 
@@ -224,7 +321,7 @@ def build(folder):
     """Proves and builds the program in this folder, and gives its path."""
     print("lowering: proving and building, which takes some minutes", file=sys.stderr)
     # The libraries are proved where they stand, so that a second run finds them proved.
-    said = rt("lib", ROOT / "crates" / "cfg_build")
+    said = "".join(rt("lib", ROOT / "crates" / crate) for crate in TOPS.split())
     uses = USES.split()
     for crate in uses:
         for part in ("src", "specs", "proofs", "out/rlib"):
@@ -235,6 +332,9 @@ def build(folder):
     crate = folder / "crates" / "lowering"
     (crate / "src").mkdir(parents=True)
     (crate / "src" / "main.rt").write_text(MAIN)
+    (crate / "proofs").mkdir()
+    (crate / "proofs" / "Lib.antt").write_text("pub mod Sends\n")
+    shutil.copy(ROOT / "crates" / "wsc_tests" / "proofs" / "Sends.antt", crate / "proofs" / "Sends.antt")
     # rt run also runs the program, without words, which it answers with a failure.
     said += rt("run", crate)
     program = crate / "out" / "lowering"
@@ -276,6 +376,9 @@ def main():
                 file.write_text(text)
                 took, blocks = each(program, file, "lower", 20)
                 print(f"lower {kind}, {count} statements, {len(text)} bytes, {blocks} blocks: {took:.5f} s", flush=True)
+            for what in PASSES:
+                took, out = each(program, file, what, 20)
+                print(f"{what} {kind}, {out}: {took:.5f} s", flush=True)
         for kind, text in (("loop", plain.LOOP), ("calls", CALLS), ("sieve", plain.SIEVE)):
             file.write_text(text)
             took, out = each(program, file, "walk", 10)

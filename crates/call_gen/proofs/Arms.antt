@@ -5,9 +5,9 @@ use Rattle.std.proofs.lemmas.List.{length_push}
 use Rattle.cfg_core.specs.Graph.{Term, Exit, Goto, Branch, Call, Return, Send, Stop, Block, GraphProc, Graph, Spot, spots, spots_in, spots_from, nth, or_else, no_spot, no_proc, spot_at, block_at, proc_at, entry_of, entry_from}
 use Rattle.cfg_core.specs.Rules.{calls, In, Leads}
 use Rattle.cfg_core.specs.Edges.{Edge}
-use Rattle.cfg_core.specs.Shape.{OnlyFrom, IsShaped}
+use Rattle.cfg_core.specs.Shape.{OnlyFrom, IsShaped, ArmsAlone}
 use Rattle.call_gen.specs.Spelled.{count_of, is_call, is_called, moved, door, landings, left, after, below, spelled_blocks, spelled_procs, spelled}
-use Rattle.call_gen.specs.Keeps.{NoSend, ArmsAlone}
+use Rattle.call_gen.specs.Keeps.{NoSend}
 use Rattle.call_gen.proofs.Facts.{Given, Placed}
 use Rattle.call_gen.proofs.Placing.{nth_left, nth_right, take_left, take_right, count_both, spots_in_count, spots_in_both, in_blocks, door_in, door_later, head_count, after_count}
 use Rattle.call_gen.proofs.Places.{all_placed}

@@ -1,18 +1,23 @@
 -- What stands for the blocks of the given graph, and what its walks weigh.
-use Rattle.std.proofs.Common.{ℕ, suc, ◌+◌, ◌*◌, ◌≡◌, ◌<◌, ◌≤◌, Bool, true, false, if◌then◌else◌, List, [], ◌∷◌, ◌++◌, length, map, refl, sym, subst, inl, inr, Option, arith}
-use Rattle.std.specs.List.{filter, sum_by}
-use Rattle.std.proofs.lemmas.List.{length-append, length-map, length_push}
+use Rattle.std.proofs.Common.{ℕ, zero, suc, ◌+◌, ◌-◌, ◌*◌, ◌==◌, ◌&&◌, ◌≡◌, ◌<◌, ◌≤◌, ◌⊎◌, not, nat_lt, Bool, true, false, if◌then◌else◌, List, [], ◌∷◌, ◌++◌, length, map, refl, sym, ap, ◌∙◌, subst, inl, inr, Option, arith}
+use Rattle.std.specs.List.{AllByRecursion, filter, sum_by}
+use Rattle.std.proofs.lemmas.Bool.Decides.{nat_tests}
+use Rattle.std.proofs.lemmas.List.{length-map, length_push}
 use Rattle.std.proofs.lemmas.List.Sums.{sum_by-cons, sum_by-append}
-use Rattle.cfg_core.specs.Graph.{Term, Number, Var, Op, Exit, Goto, Branch, Call, Return, Send, Stop, Graph, Spot, spots, spot_at, block_at, proc_at}
-use Rattle.cfg_core.specs.Rules.{calls}
-use Rattle.cfg_core.specs.Weights.{turns_of, acts_of, term_nodes, op_nodes, exit_nodes}
-use Rattle.call_gen.specs.Spelled.{is_called, is_saved, is_unset, moved, door, address, landings, below, saved, save, load, saves, left, clear, spelled_block, return_block, door_block, spelled}
-use Rattle.call_gen.specs.Charged.{more_nodes, StandsForExit, StandsFor, GoesOnAfter, CallsCharged}
+use Rattle.cfg_core.specs.Graph.{Term, Number, Var, Op, Exit, Goto, Branch, Call, Return, Send, Stop, GraphProc, Graph, Spot, spots, spot_at, block_at, nth, or_else, no_proc, proc_at}
+use Rattle.cfg_core.specs.Rules.{In, calls, ProcNumbers}
+use Rattle.cfg_core.specs.Weights.{term_nodes}
+use Rattle.live_vars.specs.Live.{Live}
+use Rattle.live_vars.specs.Marks.{has}
+use Rattle.call_gen.specs.Spelled.{is_called, is_result, is_saved, is_unset, moved, door, address, landings, below, saved, save, load, saves, left, clear, spelled}
+use Rattle.call_gen.specs.Charged.{IsSave, IsLoad, IsClear, live_count, most_saved, StandsForExit, StandsFor, GoesOnAfter, CallsCharged}
+use Rattle.call_gen.proofs.Counting.{one_at_most}
 use Rattle.call_gen.proofs.Facts.{Given, Placed}
 use Rattle.call_gen.proofs.Slots.{below_count}
 use Rattle.call_gen.proofs.Standing.{places}
 use Rattle.call_gen.proofs.Alongside.{first_is, weighs}
 use Rattle.call_gen.proofs.Places.{all_placed, all_celled}
+use Rattle.call_gen.proofs.Crossing.{Known, live_there, door_live, point_live, named_door}
 
 -- a filter leaves no more
 pub filter_few : (p : ℕ → Bool) (xs : List ℕ) → length (filter p xs) ≤ length xs
@@ -22,6 +27,36 @@ filter_few p (x ∷ xs) = by_test (p x) (filter_few p xs)
     by_test : (v : Bool) → length (filter p xs) ≤ length xs → length (if v then x ∷ filter p xs else filter p xs) ≤ suc (length xs)
     by_test true h = omega arith
     by_test false h = omega arith
+
+filter_push : (p : ℕ → Bool) (xs : List ℕ) (y : ℕ) → length (filter p (xs ++ y ∷ [])) ≡ length (filter p xs) + (if p y then 1 else 0)
+filter_push p [] y = by_test (p y)
+  where
+    by_test : (v : Bool) → length (if v then y ∷ [] else []) ≡ 0 + (if v then 1 else 0)
+    by_test true = refl
+    by_test false = refl
+filter_push p (x ∷ xs) y = by_test (p x) (filter_push p xs y)
+  where
+    by_test : (v : Bool) → length (filter p (xs ++ y ∷ [])) ≡ length (filter p xs) + (if p y then 1 else 0)
+        → length (if v then x ∷ filter p (xs ++ y ∷ []) else filter p (xs ++ y ∷ [])) ≡ length (if v then x ∷ filter p xs else filter p xs) + (if p y then 1 else 0)
+    by_test true h = omega (arith, h)
+    by_test false h = h
+
+-- a filter of numbers from m on
+filter_from : (p : ℕ → Bool) (m n : ℕ) → ((x : ℕ) → p x ≡ true → m ≤ x) → length (filter p (below n)) ≤ n - m
+filter_from p m zero h = omega arith
+filter_from p m (suc n) h = by_test (p n) refl (filter_from p m n h) (filter_push p (below n) n)
+  where
+    by_test : (v : Bool) → p n ≡ v → length (filter p (below n)) ≤ n - m → length (filter p (below n ++ n ∷ [])) ≡ length (filter p (below n)) + (if p n then 1 else 0) → length (filter p (below n ++ n ∷ [])) ≤ suc n - m
+    by_test true e i q =
+        let one : 0 + (if p n then 1 else 0) ≡ 0 + 1 = ap (λ (c : Bool). 0 + (if c then 1 else 0)) e in
+        let le : m ≤ n = h n e in omega (arith, one, le, i, q)
+    by_test false e i q =
+        let none : 0 + (if p n then 1 else 0) ≡ 0 + 0 = ap (λ (c : Bool). 0 + (if c then 1 else 0)) e in omega (arith, none, i, q)
+
+and_true : (a c : Bool) → (a && c) ≡ true → (a ≡ true) × (c ≡ true)
+and_true true true e = (refl, refl)
+and_true true false e = absurd (cc)
+and_true false c e = absurd (cc)
 
 -- values with an address after them
 pub terms_push : (ts : List Term) (n : ℕ) → sum_by term_nodes (ts ++ Number n ∷ []) ≡ sum_by term_nodes ts + 1
@@ -35,94 +70,63 @@ each_sum f op k (x ∷ xs) h =
     let s : sum_by f (map op (x ∷ xs)) ≡ f (op x) + sum_by f (map op xs) = sum_by-cons f (op x) (map op xs) in
     omega (arith, h x, each_sum f op k xs h, e, s)
 
+map_all : (P : Op → Type 0) (op : ℕ → Op) (xs : List ℕ) → ((x : ℕ) → P (op x)) → AllByRecursion P (map op xs)
+map_all P op [] h = tt
+map_all P op (x ∷ xs) h = (h x, map_all P op xs h)
+
 module _ (g : Graph) (live : List (List ℕ)) where
-  saved_few : (home v : ℕ) (r : Option ℕ) (back : ℕ) → length (saved g live home v r back) ≤ suc v
-  saved_few home v r back = omega (arith, filter_few (is_saved g live home v r back) (below (suc v)), below_count (suc v))
-
-  -- the saves before an exit
-  record Saves (v : ℕ) (x : Exit) (ops : List Op) : Type 0 where
-    count : length ops ≤ (if calls x then suc v else 0)
-    acts : sum_by acts_of ops ≤ (if calls x then suc v else 0)
-    turns : sum_by turns_of ops ≡ 0
-    nodes : sum_by op_nodes ops ≤ 2 * (if calls x then suc v else 0)
-
-  saves_few : (home v : ℕ) (x : Exit) → Saves v x (saves g live home v x)
-  saves_few home v (Call r f ts back) =
-      let xs = saved g live home v r back in
-      let s = saved_few home v r back in
-      record {
-        count = omega (arith, length-map xs (save g home), s);
-        acts = omega (arith, each_sum acts_of (save g home) 1 xs (λ x. refl), s);
-        turns = omega (arith, each_sum turns_of (save g home) 0 xs (λ x. refl));
-        nodes = omega (arith, each_sum op_nodes (save g home) 2 xs (λ x. refl), s);
-      }
-  saves_few home v (Goto c) = record { count = omega arith; acts = omega arith; turns = refl; nodes = omega arith }
-  saves_few home v (Branch t c d) = record { count = omega arith; acts = omega arith; turns = refl; nodes = omega arith }
-  saves_few home v (Return t) = record { count = omega arith; acts = omega arith; turns = refl; nodes = omega arith }
-  saves_few home v (Send t ts ls) = record { count = omega arith; acts = omega arith; turns = refl; nodes = omega arith }
-  saves_few home v Stop = record { count = omega arith; acts = omega arith; turns = refl; nodes = omega arith }
-
-  left_nodes : (home v b : ℕ) (x : Exit) → exit_nodes (left g home v b x) ≤ exit_nodes x + more_nodes x
-  left_nodes home v b (Goto c) = omega arith
-  left_nodes home v b (Branch t c d) = omega arith
-  left_nodes home v b (Call r f ts back) = omega (arith, terms_push ts (address g f b))
-  left_nodes home v b (Return t) = by_called (is_called g home)
+  counted : (p : ℕ → Bool) (b n : ℕ) → ((x : ℕ) → x < n → p x ≡ true → has live b x ≡ true) → length (filter p (below n)) ≤ live_count live b n
+  counted p b zero h = omega arith
+  counted p b (suc n) h = by_test (p n) refl (has live b n) refl (counted p b n (λ x lt e. h x (omega arith) e)) (filter_push p (below n) n)
     where
-      by_called : (c : Bool) → exit_nodes (if c then Send (Var v) (t ∷ []) (landings g home) else Return t) ≤ term_nodes t + 1
-      by_called true = omega arith
-      by_called false = omega arith
-  left_nodes home v b (Send t ts ls) = omega arith
-  left_nodes home v b Stop = omega arith
+      by_test : (v : Bool) → p n ≡ v → (w : Bool) → has live b n ≡ w → length (filter p (below n)) ≤ live_count live b n → length (filter p (below n ++ n ∷ [])) ≡ length (filter p (below n)) + (if p n then 1 else 0) → length (filter p (below n ++ n ∷ [])) ≤ live_count live b n + (if has live b n then 1 else 0)
+      by_test true e true f i q =
+          let o : 0 + (if p n then 1 else 0) ≡ 0 + 1 = ap (λ (c : Bool). 0 + (if c then 1 else 0)) e in
+          let t : 0 + (if has live b n then 1 else 0) ≡ 0 + 1 = ap (λ (c : Bool). 0 + (if c then 1 else 0)) f in omega (arith, o, t, i, q)
+      by_test true e false f i q = absurd (let t : has live b n ≡ true = h n (omega arith) e in cc)
+      by_test false e w f i q =
+          let o : 0 + (if p n then 1 else 0) ≡ 0 + 0 = ap (λ (c : Bool). 0 + (if c then 1 else 0)) e in omega (arith, o, i, q)
 
-  left_stands : (home v b : ℕ) (x : Exit) → StandsForExit x (left g home v b x)
-  left_stands home v b (Goto c) = (_, refl)
-  left_stands home v b (Branch t c d) = (_, _, refl)
-  left_stands home v b (Call r f ts back) =
-      let sent : List Term = ts ++ Number (address g f b) ∷ [] in
-      let one_more : length sent ≡ suc (length ts) = omega (arith, length_push ts (Number (address g f b))) in
-      (Number 0, sent, door g f ∷ [], refl, one_more)
+  -- what is saved is live where the call goes on, or the address
+  pub saved_few : (home v : ℕ) (r : Option ℕ) (back : ℕ) → length (saved g live home v r back) ≤ suc (live_count live back v)
+  saved_few home v r back =
+      let p = is_saved g live home v r back in
+      omega (arith, filter_push p (below v) v, counted p back v live_one, one_at_most (p v))
+    where
+      live_one : (x : ℕ) → x < v → is_saved g live home v r back x ≡ true → has live back x ≡ true
+      live_one x lt e = by_test (x == v) refl e
+        where
+          by_test : (t : Bool) → (x == v) ≡ t → (if t then is_called g home else (has live back x && not (is_result r x))) ≡ true → has live back x ≡ true
+          by_test true ev h = absurd (let z : x ≡ v = grind (arith, nat_tests) in omega (arith, z, lt))
+          by_test false ev h = (and_true (has live back x) (not (is_result r x)) h).0
+
+  saves_all : (home v : ℕ) (x : Exit) → AllByRecursion IsSave (saves g live home v x)
+  saves_all home v (Call r f ts back) = map_all IsSave (save g home) (saved g live home v r back) (λ x. tt)
+  saves_all home v (Goto c) = tt
+  saves_all home v (Branch t c d) = tt
+  saves_all home v (Return t) = tt
+  saves_all home v (Send t ts ls) = tt
+  saves_all home v Stop = tt
+
+  saves_few : (home v : ℕ) (x : Exit) → length (saves g live home v x) ≤ most_saved live v x
+  saves_few home v (Call r f ts back) = omega (arith, length-map (saved g live home v r back) (save g home), saved_few home v r back)
+  saves_few home v (Goto c) = omega arith
+  saves_few home v (Branch t c d) = omega arith
+  saves_few home v (Return t) = omega arith
+  saves_few home v (Send t ts ls) = omega arith
+  saves_few home v Stop = omega arith
+
+  left_stands : (home v b : ℕ) (x : Exit) → StandsForExit (places g live) x (left g home v b x)
+  left_stands home v b (Goto c) = refl
+  left_stands home v b (Branch t c d) = refl
+  left_stands home v b (Call r f ts back) = (address g f b, refl)
   left_stands home v b (Return t) = by_called (is_called g home)
     where
-      by_called : (c : Bool) → StandsForExit (Return t) (if c then Send (Var v) (t ∷ []) (landings g home) else Return t)
-      by_called true = inr (_, _, refl)
+      by_called : (c : Bool) → StandsForExit (places g live) (Return t) (if c then Send (Var v) (t ∷ []) (landings g home) else Return t)
+      by_called true = inr (v, landings g home, refl)
       by_called false = inl refl
   left_stands home v b (Send t ts ls) = refl
   left_stands home v b Stop = refl
-
-  block_stands : (b : ℕ) → StandsFor g b (spelled_block g live (spot_at g b).home (spot_at g b).vars b (block_at g b))
-  block_stands b =
-      let x = (block_at g b).exit in
-      let ops = (block_at g b).ops in
-      let more = saves g live (spot_at g b).home (spot_at g b).vars x in
-      let s = saves_few (spot_at g b).home (spot_at g b).vars x in
-      record {
-        exit = left_stands (spot_at g b).home (spot_at g b).vars b x;
-        ops = omega (arith, length-append ops more, s.count);
-        acts = omega (arith, sum_by-append acts_of ops more, s.acts);
-        turns = omega (arith, sum_by-append turns_of ops more, s.turns);
-        nodes = omega (arith, sum_by-append op_nodes ops more, s.nodes, left_nodes (spot_at g b).home (spot_at g b).vars b x);
-      }
-
-  door_stands : (f : ℕ) → GoesOnAfter (proc_at g f).vars (proc_at g f).vars (door_block g live f (proc_at g f))
-  door_stands f =
-      let p = proc_at g f in
-      let xs = filter (is_unset g live f p.params) (below p.vars) in
-      let few : length xs ≤ p.vars = omega (arith, filter_few (is_unset g live f p.params) (below p.vars), below_count p.vars) in
-      record {
-        ops = omega (arith, length-map xs clear, few);
-        nodes = omega (arith, each_sum op_nodes clear 1 xs (λ x. refl), few);
-        goes = (_, refl);
-      }
-
-  point_stands : (home v : ℕ) (r : Option ℕ) (back : ℕ) → GoesOnAfter (suc v) (2 * suc v) (return_block g live home v r back)
-  point_stands home v r back =
-      let xs = saved g live home v r back in
-      let s = saved_few home v r back in
-      record {
-        ops = omega (arith, length-map xs (load g home), s);
-        nodes = omega (arith, each_sum op_nodes (load g home) 2 xs (λ x. refl), s);
-        goes = (_, refl);
-      }
 
 module _ (g : Graph) (live : List (List ℕ)) (G : Given g live) where
   abbrev h : Graph
@@ -131,10 +135,95 @@ module _ (g : Graph) (live : List (List ℕ)) (G : Given g live) where
   F : Placed g live
   F = all_placed g live G.rules
 
-  point_at : (b : ℕ) → b < length (spots g) → (x : Exit) → (block_at g b).exit ≡ x → calls x ≡ true → GoesOnAfter (if calls x then suc (spot_at g b).vars else 0) (2 * (if calls x then suc (spot_at g b).vars else 0)) (block_at h (suc (moved g b)))
-  point_at b lt (Call r f ts back) e c =
+  block_stands : (b : ℕ) → b < length (spots g) → StandsFor g live h (places g live) b (moved g b)
+  block_stands b lt =
+      let home = (spot_at g b).home in
       let v = (spot_at g b).vars in
-      subst (λ (s : Spot). GoesOnAfter (suc v) (2 * suc v) s.block) (sym (F.point b r f ts back lt e)) (point_stands g live (spot_at g b).home v r back)
+      let x = (block_at g b).exit in
+      record {
+        exit = subst (λ (s : Spot). StandsForExit (places g live) x s.block.exit) (sym (F.plain b lt)) (left_stands g live home v b x);
+        saves = saves g live home v x;
+        are_saves = saves_all g live home v x;
+        few = saves_few g live home v x;
+        ops = ap (λ (s : Spot). s.block.ops) (F.plain b lt);
+        held = λ y l. known y (live_there g live G (moved g b) y l b lt refl);
+      }
+    where
+      known : (y : ℕ) → Known g live G b y → Live g b y ⊎ (y ≡ (spot_at g b).vars)
+      known y (inl k) = inl k.1
+      known y (inr k) = inr k.0
+
+  params_low : (f : ℕ) → f < length g.procs → (proc_at g f).params ≤ (proc_at g f).vars
+  unfolding proc_at
+  params_low f lt = each g.procs f G.rules.numbers.procs lt
+    where
+      each : (ps : List GraphProc) (f : ℕ) → AllByRecursion ProcNumbers ps → f < length ps → (or_else (nth ps f) no_proc).params ≤ (or_else (nth ps f) no_proc).vars
+      each [] f i lt = absurd (omega arith)
+      each (p ∷ ps) zero i lt = i.0.params
+      each (p ∷ ps) (suc f) i lt = each ps f i.1 (omega arith)
+
+  module _ (f : ℕ) (lt : f < length g.procs) where
+    abbrev params : ℕ
+    params = (proc_at g f).params
+
+    abbrev vf : ℕ
+    vf = (proc_at g f).vars
+
+    abbrev unset : List ℕ
+    unset = filter (is_unset g live f params) (below vf)
+
+    abbrev names : Bool → List ℕ
+    names c = if c then below params ++ vf ∷ [] else []
+
+    names_few : (c : Bool) → length (names c) ≤ suc params
+    names_few true = omega (arith, length_push (below params) vf, below_count params)
+    names_few false = omega arith
+
+    both_few : (c : Bool) → is_called g f ≡ c → length (names c) + length unset ≤ suc vf
+    both_few true e =
+        let from = filter_from (is_unset g live f params) params vf (λ x h. given x (and_true (has live _ x) _ h).1) in
+        omega (arith, length_push (below params) vf, below_count params, params_low f lt, from)
+      where
+        given : (x : ℕ) → (if is_called g f then not (nat_lt x params) else true) ≡ true → params ≤ x
+        given x h = by_test (nat_lt x params) refl (ap (λ (c : Bool). if c then not (nat_lt x params) else true) (sym e) ∙ h)
+          where
+            by_test : (t : Bool) → nat_lt x params ≡ t → not t ≡ true → params ≤ x
+            by_test true q z = absurd (cc)
+            by_test false q z = grind (arith, nat_tests)
+    both_few false e = omega (arith, filter_few (is_unset g live f params) (below vf), below_count vf)
+
+    door_stands : GoesOnAfter IsClear (suc params) (suc vf) h (door g f)
+    door_stands =
+        let same = F.entry f lt in
+        let n = named_door g live G f lt in
+        record {
+          ops = subst (λ (s : Spot). AllByRecursion IsClear s.block.ops) (sym same) (map_all IsClear clear unset (λ x. tt));
+          named = subst (λ (xs : List ℕ). length xs ≤ suc params) (sym n) (names_few (is_called g f));
+          few =
+              let ops : length (block_at h (door g f)).ops ≡ length unset = ap (λ (s : Spot). length s.block.ops) same ∙ length-map unset clear in
+              let count : length (block_at h (door g f)).named ≡ length (names (is_called g f)) = ap length n in
+              omega (arith, ops, count, both_few (is_called g f) refl);
+          goes = (_, ap (λ (s : Spot). s.block.exit) same);
+          held = λ x l. subst (λ (xs : List ℕ). In x xs) (sym n) (door_live g live G f lt (door g f) refl x l);
+        }
+
+  point_at : (b : ℕ) → b < length (spots g) → (x : Exit) → (block_at g b).exit ≡ x → calls x ≡ true → GoesOnAfter IsLoad 1 (suc (most_saved live (spot_at g b).vars x)) h (suc (moved g b))
+  point_at b lt (Call r f ts back) e c =
+      let home = (spot_at g b).home in
+      let v = (spot_at g b).vars in
+      let xs = saved g live home v r back in
+      let same = F.point b r f ts back lt e in
+      let n : (block_at h (suc (moved g b))).named ≡ or_else r v ∷ [] = ap (λ (s : Spot). s.block.named) same in
+      record {
+        ops = subst (λ (s : Spot). AllByRecursion IsLoad s.block.ops) (sym same) (map_all IsLoad (load g home) xs (λ x. tt));
+        named = let one : length (block_at h (suc (moved g b))).named ≡ 1 = ap length n in omega (arith, one);
+        few =
+            let one : length (block_at h (suc (moved g b))).named ≡ 1 = ap length n in
+            let ops : length (block_at h (suc (moved g b))).ops ≡ length xs = ap (λ (s : Spot). length s.block.ops) same ∙ length-map xs (load g home) in
+            omega (arith, one, ops, saved_few g live home v r back);
+        goes = (_, ap (λ (s : Spot). s.block.exit) same);
+        held = λ x l. subst (λ (ys : List ℕ). In x ys) (sym n) (inl (point_live g live G b r f ts back lt e (suc (moved g b)) refl x l));
+      }
   point_at b lt (Goto c) e no_call = absurd (cc)
   point_at b lt (Branch t c d) e no_call = absurd (cc)
   point_at b lt (Return t) e no_call = absurd (cc)
@@ -142,11 +231,11 @@ module _ (g : Graph) (live : List (List ℕ)) (G : Given g live) where
   point_at b lt Stop e no_call = absurd (cc)
 
   -- the blocks of the given graph pay for all blocks
-  pub calls_charged : CallsCharged g h
+  pub calls_charged : CallsCharged g live h
   calls_charged = record {
     places = places g live;
-    blocks = λ b lt. subst (λ (s : Spot). StandsFor g b s.block) (sym (F.plain b lt)) (block_stands g live b);
-    doors = λ f lt. subst (λ (s : Spot). GoesOnAfter (proc_at g f).vars (proc_at g f).vars s.block) (sym (F.entry f lt)) (door_stands g live f);
+    blocks = block_stands;
+    doors = door_stands;
     points = λ b lt c. point_at b lt (block_at g b).exit refl c;
     begins = first_is g live G F (all_celled g live G.rules) (λ b. 0);
     walks = λ w base pay. weighs g live G F (all_celled g live G.rules) w base pay;

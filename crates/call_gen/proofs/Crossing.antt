@@ -6,6 +6,7 @@ use Rattle.std.proofs.lemmas.Bool.Decides.{nat_tests}
 use Rattle.std.proofs.lemmas.List.{length_push}
 use Rattle.cfg_core.specs.Graph.{Term, Number, Var, Cell, Flip, Not, Neg, Binary, Op, Assign, Store, Print, Read, Give, Take, Choose, Tick, TickBy, Exit, Goto, Branch, Call, Return, Send, Stop, Graph, Spot, spots, spot_at, no_spot, block_at, proc_at, entry_of, or_else}
 use Rattle.cfg_core.specs.Rules.{TermIn, OpIn, In}
+use Rattle.cfg_core.specs.Weights.{first_block}
 use Rattle.cfg_core.proofs.Total.{each_at}
 use Rattle.live_vars.specs.Live.{Mentions, OneMentions, OpReads, OpWrites, ExitReads, ExitWrites, Carries, WrittenIn, ReadsFirst, Live, reads, passes}
 use Rattle.live_vars.specs.Marks.{has}
@@ -120,7 +121,7 @@ module _ (g : Graph) (live : List (List ℕ)) (G : Given g live) where
   clears_write (y ∷ xs) x (inr i) = inr (clears_write xs x i)
 
   -- live in the given graph, or the return address of a procedure that is called
-  abbrev Known : ℕ → ℕ → Type 0
+  abbrev pub Known : ℕ → ℕ → Type 0
   Known b x = ((x < (spot_at g b).vars) × Live g b x) ⊎ ((x ≡ (spot_at g b).vars) × (is_called g (spot_at g b).home ≡ true))
 
   same_vars : (b c : ℕ) → b < length (spots g) → c < length (spots g) → (spot_at g c).home ≡ (spot_at g b).home → (spot_at g c).vars ≡ (spot_at g b).vars
@@ -217,7 +218,8 @@ module _ (g : Graph) (live : List (List ℕ)) (G : Given g live) where
     from_edge (Send t ts ls) e x c never k rest = absurd k
     from_edge Stop e x c never k rest = absurd k
 
-  live_there : (m x : ℕ) → Live h m x → (b : ℕ) → b < length (spots g) → m ≡ moved g b → Known b x
+  -- what is live at the place of a block
+  pub live_there : (m x : ℕ) → Live h m x → (b : ℕ) → b < length (spots g) → m ≡ moved g b → Known b x
   live_there m x (reads _ _ r) b lt e =
       let same = ap (spot_at h) e ∙ F.plain b lt in
       from_reads b lt (block_at g b).exit refl x (subst (λ (s : Spot). ReadsFirst s.block.ops s.block.exit x) same r)
@@ -275,7 +277,7 @@ module _ (g : Graph) (live : List (List ℕ)) (G : Given g live) where
             not_less false e le = refl
         by_called false e = absurd (cleared (ap (λ t. t && (if is_called g f then not (nat_lt x params) else true)) known ∙ ap (λ (c : Bool). if c then not (nat_lt x params) else true) e))
 
-    door_live : (m : ℕ) → m ≡ door g f → (x : ℕ) → Live h m x → In x (names (is_called g f))
+    pub door_live : (m : ℕ) → m ≡ door g f → (x : ℕ) → Live h m x → In x (names (is_called g f))
     door_live m e x (reads _ _ r) =
         let same = ap (spot_at h) e ∙ F.entry f there in
         absurd (clears_read (filter (is_unset g live f params) (below vf)) (moved g (entry_of g f)) x (subst (λ (s : Spot). ReadsFirst s.block.ops s.block.exit x) same r))
@@ -319,7 +321,7 @@ module _ (g : Graph) (live : List (List ℕ)) (G : Given g live) where
         by_result : (q : Option ℕ) → q ≡ r → x ≡ or_else r vb
         by_result q e = by_test (is_result r x) refl
 
-    point_live : (m : ℕ) → m ≡ suc (moved g b) → (x : ℕ) → Live h m x → x ≡ or_else r vb
+    pub point_live : (m : ℕ) → m ≡ suc (moved g b) → (x : ℕ) → Live h m x → x ≡ or_else r vb
     point_live m e x (reads _ _ q) =
         let same = ap (spot_at h) e ∙ F.point b r f ts back there is in
         absurd (loads_read (spot_at g b).home kept (moved g back) x (subst (λ (s : Spot). ReadsFirst s.block.ops s.block.exit x) same q))
@@ -328,8 +330,8 @@ module _ (g : Graph) (live : List (List ℕ)) (G : Given g live) where
         at_point x (λ w. nw (subst (λ (s : Spot). WrittenIn s.block.ops x) (sym same) w))
         (live_there c x l back back_there (subst (λ (s : Spot). Carries s.block.exit c) same k))
 
-  -- of each exit
-  named_door : (f : ℕ) → f < length g.procs → (block_at h (door g f)).named ≡ (if is_called g f then below (proc_at g f).params ++ (proc_at g f).vars ∷ [] else [])
+  -- what a door names
+  pub named_door : (f : ℕ) → f < length g.procs → (block_at h (door g f)).named ≡ (if is_called g f then below (proc_at g f).params ++ (proc_at g f).vars ∷ [] else [])
   named_door f lt = ap (λ (s : Spot). s.block.named) (F.entry f lt)
 
   landing_live : (b : ℕ) → b < length (spots g) → (y : Exit) → (block_at g b).exit ≡ y → NoneAcross h (left g (spot_at g b).home (spot_at g b).vars b y)
@@ -377,6 +379,18 @@ module _ (g : Graph) (live : List (List ℕ)) (G : Given g live) where
       by_called : (c : Bool) → is_called g (length g.procs - 1) ≡ c → In x (if c then below (proc_at g (length g.procs - 1)).params ++ (proc_at g (length g.procs - 1)).vars ∷ [] else []) → ⊥
       by_called true e i = omega (arith, F.last (length g.procs - 1) e)
       by_called false e i = i
+
+  -- where the walk begins no variable is named
+  pub none_named : (block_at h (first_block h)).named ≡ []
+  none_named =
+      let main = length g.procs - 1 in
+      let there : main < length g.procs = omega (arith, G.rules.numbers.some_proc) in
+      let place : first_block h ≡ door g main = ap (λ n. entry_of h (n - 1)) F.count ∙ F.entry_is main there in
+      ap (λ n. (block_at h n).named) place ∙ named_door main there ∙ by_called (is_called g main) refl
+    where
+      by_called : (c : Bool) → is_called g (length g.procs - 1) ≡ c → (if c then below (proc_at g (length g.procs - 1)).params ++ (proc_at g (length g.procs - 1)).vars ∷ [] else []) ≡ []
+      by_called true e = absurd (omega (arith, F.last (length g.procs - 1) e))
+      by_called false e = refl
 
   pub none_live_across : NoneLiveAcross h
   unfolding spot_at

@@ -33,3 +33,5 @@ pub mod Charging
 pub mod Sizing
 pub mod PartSizing
 pub mod Arms
+pub mod Tallying
+pub mod PartSame

@@ -5,12 +5,14 @@ use Rattle.std.proofs.lemmas.List.{map-append, length-map, length-append}
 use Rattle.cfg_core.specs.Graph as plain
 use Rattle.cfg_core.specs.Graph.{Graph, GraphArray, Spot, spots, spots_in, spots_from, block_at}
 use Rattle.cfg_core.specs.Rules.{IsGraph}
+use Rattle.cfg_core.specs.Shape.{ArmsAlone}
+use Rattle.cfg_core.specs.Weights.{first_block}
 use Rattle.cfg_core.specs.Shown.{SameWalks, SameArrays}
 use Rattle.cfg_core.specs.View as view
 use Rattle.cfg_core.specs.declared.blocks.GraphProc.{GraphProc}
 use Rattle.cfg_core.specs.declared.blocks.GraphBlock.{GraphBlock}
 use Rattle.call_gen.specs.Spelled.{cells_in_all, hidden_arrays, spelled_proc, spelled_procs, spelled}
-use Rattle.call_gen.specs.Keeps.{HasNoCall, NoneLiveAcross, ParamsAtMost, SendsAtMost, ArmsAlone}
+use Rattle.call_gen.specs.Keeps.{HasNoCall, NoneLiveAcross, ParamsAtMost, SendsAtMost}
 use Rattle.call_gen.specs.Sizes.{Sizes, IsWithin, spelled_sizes}
 use Rattle.call_gen.specs.Charged.{CallsCharged}
 use Rattle.call_gen.proofs.Facts.{Given}
@@ -19,7 +21,7 @@ use Rattle.call_gen.proofs.Charging.{calls_charged}
 use Rattle.call_gen.proofs.Arms.{arms_alone}
 use Rattle.call_gen.proofs.Kept.{walks_kept, arrays_kept}
 use Rattle.call_gen.proofs.Ruled.{is_graph, has_no_call}
-use Rattle.call_gen.proofs.Crossing.{none_live_across, few_sent}
+use Rattle.call_gen.proofs.Crossing.{none_live_across, none_named, few_sent}
 
 pub split_all : (P : Spot → Type 0) (xs ys : List Spot) → AllByRecursion P (xs ++ ys) → AllByRecursion P xs × AllByRecursion P ys
 split_all P [] ys h = (tt, h)
@@ -59,7 +61,7 @@ hidden_is g arrays old count total ec et e =
     e ∙ ap (λ n. old ++ replicate n (record { name = None; length = total / 192 + 1 })) (ec ∙ ap (λ n. min 192 n) et) ∙ ap (λ n. old ++ replicate (min 192 (cells_in_all g)) (record { name = None; length = n })) size
 
 -- all that is said of it
-pub record AllKept (g made : Graph) : Type 0 where
+pub record AllKept (g : Graph) (live : List (List ℕ)) (made : Graph) : Type 0 where
   pub walks : SameWalks g made
   pub arrays : SameArrays g made
   pub rules : IsGraph made
@@ -68,10 +70,11 @@ pub record AllKept (g made : Graph) : Type 0 where
   pub values : (n : ℕ) → ParamsAtMost n g → (b : ℕ) → SendsAtMost (suc n) (block_at made b).exit
   pub sizes : (z : Sizes) → IsWithin z g → IsWithin (spelled_sizes z) made
   pub arms : ArmsAlone g → ArmsAlone made
-  pub charged : CallsCharged g made
+  pub charged : CallsCharged g live made
+  pub start : (block_at made (first_block made)).named ≡ []
 
-pub all_kept : (g : Graph) (live : List (List ℕ)) (made : Graph) → made ≡ spelled g live → Given g live → AllKept g made
-all_kept g live made e G = subst (λ (h : Graph). AllKept g h) (sym e) (record {
+pub all_kept : (g : Graph) (live : List (List ℕ)) (made : Graph) → made ≡ spelled g live → Given g live → AllKept g live made
+all_kept g live made e G = subst (λ (h : Graph). AllKept g live h) (sym e) (record {
   walks = walks_kept g live G;
   arrays = arrays_kept g live G;
   rules = is_graph g live G;
@@ -81,4 +84,5 @@ all_kept g live made e G = subst (λ (h : Graph). AllKept g h) (sym e) (record {
   sizes = is_within g live G;
   arms = arms_alone g live G;
   charged = calls_charged g live G;
+  start = none_named g live G;
 })

@@ -5,7 +5,7 @@ use Rattle.std.proofs.lemmas.List.{length-map}
 use Rattle.cfg_core.specs.Graph as plain
 use Rattle.cfg_core.specs.Graph.{Exit, Goto, Branch, Call, Return, Send, Stop, Block, Graph, spots, spots_in, spots_from}
 use Rattle.cfg_core.specs.Rules.{ExitIn, BlockNumbers, IsGraph}
-use Rattle.cfg_core.specs.Shape.{IsShaped}
+use Rattle.cfg_core.specs.Shape.{IsShaped, ArmsAlone}
 use Rattle.cfg_core.specs.Shown.{SameWalks, SameArrays}
 use Rattle.cfg_core.specs.View as view
 use Rattle.cfg_core.specs.declared.blocks.GraphProc.{GraphProc}
@@ -15,8 +15,9 @@ use Rattle.call_gen.specs.Sizes.{Sizes, IsWithin}
 use Rattle.call_gen.specs.Charged.{ReachedInPlace}
 use Rattle.call_gen.specs.Part.{before, part_proc, part_procs, part, ExitThere, BlocksThere, flag_at, AreReached}
 use Rattle.call_gen.proofs.Making.{split_all}
-use Rattle.call_gen.proofs.PartWalk.{walks_kept, arrays_kept, weighs_no_more, does_the_same}
-use Rattle.call_gen.proofs.PartRules.{is_graph, sends_nothing, is_shaped}
+use Rattle.call_gen.proofs.PartWalk.{walks_kept, arrays_kept, weighs_no_more}
+use Rattle.call_gen.proofs.PartRules.{is_graph, sends_nothing, is_shaped, arms_alone}
+use Rattle.call_gen.proofs.PartSame.{does_the_same}
 use Rattle.call_gen.proofs.PartSizing.{is_within}
 use Rattle.call_gen.proofs.PartReached.{closed, all_reached}
 
@@ -68,6 +69,7 @@ pub record ReachedKept (g made : Graph) : Type 0 where
   pub no_send : HasNoSend made
   pub shape : IsShaped g → IsShaped made
   pub sizes : (z : Sizes) → IsWithin z g → IsWithin z made
+  pub arms : ArmsAlone g → ArmsAlone made
   pub places : ReachedInPlace g made
 
 pub reached_kept : (g made : Graph) (flags : List Bool) → made ≡ part g (flag_at flags) → IsGraph g → HasNoSend g → AreReached g flags → ReachedKept g made
@@ -81,6 +83,7 @@ reached_kept g made flags e rules no_send A =
       no_send = sends_nothing g (flag_at flags) rules C no_send;
       shape = is_shaped g (flag_at flags) rules C no_send;
       sizes = is_within g (flag_at flags) rules C no_send;
+      arms = arms_alone g (flag_at flags) rules C no_send;
       places = record {
         place = λ b. before (flag_at flags) b;
         same = λ b lt r. does_the_same g (flag_at flags) rules C no_send b (A.all b lt r);

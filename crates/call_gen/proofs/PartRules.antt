@@ -5,7 +5,7 @@ use Rattle.std.proofs.lemmas.Bool.{cases_lt}
 use Rattle.cfg_core.specs.Graph.{Term, Number, Var, Cell, Flip, Not, Neg, Binary, Op, Assign, Store, Print, Read, Give, Take, Choose, Tick, TickBy, Exit, Goto, Branch, Call, Return, Send, Stop, GraphProc, Graph, Spot, spots, nth, or_else, no_spot, spot_at, block_at, entry_of}
 use Rattle.cfg_core.specs.Rules.{TermIn, OpIn, StaysIn, ExitIn, Leads, BlockNumbers, Lands, CallsEarlier, calls, has_tick, has_turn, ChoosesBare, Quiet, one, more, IsGraph}
 use Rattle.cfg_core.specs.Edges.{Edge, IsHeader}
-use Rattle.cfg_core.specs.Shape.{is_branch, TestsInATurn, OnlyFrom, BranchesApart, IsShaped}
+use Rattle.cfg_core.specs.Shape.{is_branch, TestsInATurn, OnlyFrom, BranchesApart, IsShaped, ArmsAlone}
 use Rattle.cfg_core.proofs.Total.{each_at}
 use Rattle.call_gen.specs.Keeps.{NoSend, HasNoSend}
 use Rattle.call_gen.specs.Reached.{Enters}
@@ -297,6 +297,72 @@ module _ (g : Graph) (keep : ℕ → Bool) (rules : IsGraph g) (C : Closed g kee
   branch_same (Send t ts ls) = refl
   branch_same Stop = refl
 
+  -- a branch of the part is one of the graph
+  named_branch : (x : Exit) (t : Term) (b c : ℕ) → named x ≡ Branch t b c → (d : ℕ) × (e : ℕ) × (x ≡ Branch t d e) × (b ≡ place d) × (c ≡ place e)
+  named_branch (Branch u d e) t b c h =
+      let term : u ≡ t = cc in
+      (d, e, ap (λ (v : Term). Branch v d e) term, cc, cc)
+  named_branch (Goto d) t b c h = absurd (cc)
+  named_branch (Call r f ts back) t b c h = absurd (cc)
+  named_branch (Return u) t b c h = absurd (cc)
+  named_branch (Send u ts ls) t b c h = absurd (cc)
+  named_branch Stop t b c h = absurd (cc)
+
+  only_from : (a b d : ℕ) → keep a ≡ true → keep d ≡ true → b ≡ place d → OnlyFrom g a d → OnlyFrom h (place a) b
+  only_from a b d ka kd e only other l =
+      let r = came other b l in
+      let to : r.to ≡ d = same_place r.to d r.kept_to kd (sym r.place_to ∙ e) in
+      let from : r.from ≡ a = only r.from (subst (λ n. Edge g r.from n) to r.edge) in
+      r.place_from ∙ ap place from
+
+  -- a branch of the part at the places of one of the graph
+  pub record Parted (a : ℕ) (t : Term) (b c : ℕ) : Type 0 where
+    pub from : ℕ
+    pub first : ℕ
+    pub second : ℕ
+    pub exit : (block_at g from).exit ≡ Branch t first second
+    pub kept : keep from ≡ true
+    pub kept_first : keep first ≡ true
+    pub kept_second : keep second ≡ true
+    pub is : a ≡ place from
+    pub is_first : b ≡ place first
+    pub is_second : c ≡ place second
+
+  parted : (a : ℕ) (t : Term) (b c : ℕ) → (block_at h a).exit ≡ Branch t b c → Parted a t b c
+  parted a t b c e =
+      let r = came a b (subst (λ (x : Exit). Leads x b) (sym e) (inl refl)) in
+      let is : spot_at h a ≡ moved (spot_at g r.from) = ap (spot_at h) r.place_from ∙ block_is r.from r.kept_from in
+      let f = named_branch (block_at g r.from).exit t b c (sym (ap (λ (s : Spot). s.block.exit) is) ∙ e) in
+      record {
+        from = r.from;
+        first = f.0;
+        second = f.1;
+        exit = f.2;
+        kept = r.kept_from;
+        kept_first = edge_kept r.from (Branch t f.0 f.1) f.0 r.kept_from f.2 (inl refl);
+        kept_second = edge_kept r.from (Branch t f.0 f.1) f.1 r.kept_from f.2 (inr refl);
+        is = r.place_from;
+        is_first = f.3;
+        is_second = f.4;
+      }
+
+  apart_still : (a : ℕ) (t : Term) (b c : ℕ) (p : Parted a t b c) → BranchesApart g p.from p.first p.second → BranchesApart h a b c
+  apart_still a t b c p apart = record {
+    differ = λ same. apart.differ (same_place p.first p.second p.kept_first p.kept_second (sym p.is_first ∙ same ∙ p.is_second));
+    first = subst (λ n. OnlyFrom h n b) (sym p.is) (only_from p.from b p.first p.kept p.kept_first p.is_first apart.first);
+    second = subst (λ n. OnlyFrom h n c) (sym p.is) (only_from p.from c p.second p.kept p.kept_second p.is_second apart.second);
+  }
+
+  -- branches still lead forward, each to blocks of its own
+  pub arms_alone : ArmsAlone g → ArmsAlone h
+  arms_alone alone = record {
+    apart = λ a t b c e. let p = parted a t b c e in apart_still a t b c p (alone.apart p.from t p.first p.second p.exit);
+    ahead = λ a t b c e.
+        let p = parted a t b c e in
+        let up = alone.ahead p.from t p.first p.second p.exit in
+        (omega (arith, p.is, p.is_first, before_less keep p.from p.first p.kept up.0), omega (arith, p.is, p.is_second, before_less keep p.from p.second p.kept up.1));
+  }
+
   module _ (shape : IsShaped g) where
     headers : (c : ℕ) → IsHeader h c → TestsInATurn h c
     headers c (b, le, l) =
@@ -316,37 +382,8 @@ module _ (g : Graph) (keep : ℕ → Bool) (rules : IsGraph g) (C : Closed g kee
         let is : spot_at h b ≡ moved (spot_at g r.from) = ap (spot_at h) r.place_from ∙ block_is r.from r.kept_from in
         ap (λ (s : Spot). s.block.exit) is ∙ ap named (shape.backward r.from r.to r.edge up) ∙ ap (λ n. Goto n) (sym r.place_to)
 
-    -- a branch of the part is one of the graph
-    named_branch : (x : Exit) (t : Term) (b c : ℕ) → named x ≡ Branch t b c → (d : ℕ) × (e : ℕ) × (x ≡ Branch t d e) × (b ≡ place d) × (c ≡ place e)
-    named_branch (Branch u d e) t b c h =
-        let term : u ≡ t = cc in
-        (d, e, ap (λ (v : Term). Branch v d e) term, cc, cc)
-    named_branch (Goto d) t b c h = absurd (cc)
-    named_branch (Call r f ts back) t b c h = absurd (cc)
-    named_branch (Return u) t b c h = absurd (cc)
-    named_branch (Send u ts ls) t b c h = absurd (cc)
-    named_branch Stop t b c h = absurd (cc)
-
-    only_from : (a b d : ℕ) → keep a ≡ true → keep d ≡ true → b ≡ place d → OnlyFrom g a d → OnlyFrom h (place a) b
-    only_from a b d ka kd e only other l =
-        let r = came other b l in
-        let to : r.to ≡ d = same_place r.to d r.kept_to kd (sym r.place_to ∙ e) in
-        let from : r.from ≡ a = only r.from (subst (λ n. Edge g r.from n) to r.edge) in
-        r.place_from ∙ ap place from
-
     branches : (a : ℕ) (t : Term) (b c : ℕ) → (block_at h a).exit ≡ Branch t b c → BranchesApart h a b c
-    branches a t b c e =
-        let r = came a b (subst (λ (x : Exit). Leads x b) (sym e) (inl refl)) in
-        let is : spot_at h a ≡ moved (spot_at g r.from) = ap (spot_at h) r.place_from ∙ block_is r.from r.kept_from in
-        let f = named_branch (block_at g r.from).exit t b c (sym (ap (λ (s : Spot). s.block.exit) is) ∙ e) in
-        let apart = shape.branches r.from t f.0 f.1 f.2 in
-        let kd : keep f.0 ≡ true = edge_kept r.from (Branch t f.0 f.1) f.0 r.kept_from f.2 (inl refl) in
-        let ke : keep f.1 ≡ true = edge_kept r.from (Branch t f.0 f.1) f.1 r.kept_from f.2 (inr refl) in
-        record {
-          differ = λ same. apart.differ (same_place f.0 f.1 kd ke (sym f.3 ∙ same ∙ f.4));
-          first = subst (λ n. OnlyFrom h n b) (sym r.place_from) (only_from r.from b f.0 r.kept_from kd f.3 apart.first);
-          second = subst (λ n. OnlyFrom h n c) (sym r.place_from) (only_from r.from c f.1 r.kept_from ke f.4 apart.second);
-        }
+    branches a t b c e = let p = parted a t b c e in apart_still a t b c p (shape.branches p.from t p.first p.second p.exit)
 
     pub is_shaped : IsShaped h
     is_shaped = record { headers = headers; backward = backward; branches = branches }

@@ -4,17 +4,16 @@ use Rattle.std.specs.List.{AllByRecursion, sum_by}
 use Rattle.std.proofs.lemmas.List.Sums.{sum_by-append}
 use Rattle.ws_words.specs.Outside.{Outside, State, World, zeros, opening_out}
 use Rattle.cfg_core.specs.Graph.{Exit, Goto, Branch, Call, Return, Send, Stop, GraphProc, Graph, Spot, spots, nth, or_else, no_spot, no_proc, spot_at, block_at, proc_at, entry_of}
-use Rattle.cfg_core.specs.Rules.{calls, ExitIn, Leads, BlockNumbers, CallsEarlier, IsGraph}
+use Rattle.cfg_core.specs.Rules.{ExitIn, Leads, BlockNumbers, CallsEarlier, IsGraph}
 use Rattle.cfg_core.specs.Edges.{Edge}
 use Rattle.cfg_core.specs.Walk.{value_of, values_of, Outcome, Done, Out, run_ops, Frame, Config, At, Over, Going, entered, returned, leave, passed, step, walk, cells_of, opening, IsOver}
 use Rattle.cfg_core.specs.Shown.{SameShown, SameWalks, SameArrays, AllInside}
-use Rattle.cfg_core.specs.Weights.{jumps_of, exit_nodes, block_left, path, WalksWeigh}
+use Rattle.cfg_core.specs.Weights.{block_left, path, WalksWeigh}
 use Rattle.cfg_core.proofs.Total.{each_at}
 use Rattle.cfg_core.proofs.Paired as paired
 use Rattle.cfg_core.proofs.Paired.{Match}
 use Rattle.call_gen.specs.Keeps.{NoSend, HasNoSend}
 use Rattle.call_gen.specs.Reached.{Enters}
-use Rattle.call_gen.specs.Charged.{DoesTheSame}
 use Rattle.call_gen.specs.Part.{before, part_proc, keeps, number, name, part}
 use Rattle.call_gen.proofs.Facts.{Placed}
 use Rattle.call_gen.proofs.Placing.{nth_there}
@@ -226,42 +225,6 @@ module _ (g : Graph) (keep : ℕ → Bool) (rules : IsGraph g) (C : Closed g kee
       -- the walks of the part weigh no more
       pub weighs_no_more : (base pay : ℕ) → WalksWeigh g given base pay → WalksWeigh h w base pay
       weighs_no_more base pay most world turns m = omega (arith, path_few m (opening g world turns) (opening h world turns) (opens world turns), most world turns m)
-
-    -- a block that is kept does what it did
-    pub does_the_same : (b : ℕ) → keep b ≡ true → DoesTheSame g h b (place b)
-    does_the_same b kept =
-        let e = block_is b kept in
-        record {
-          vars = ap (λ (s : Spot). s.vars) e;
-          ops = ap (λ (s : Spot). s.block.ops) e;
-          jumps = ap (λ (s : Spot). jumps_of s.block.exit) e ∙ same_jumps (block_at g b).exit (no_send b);
-          calls = ap (λ (s : Spot). calls s.block.exit) e ∙ same_calls (block_at g b).exit (no_send b);
-          nodes = ap (λ (s : Spot). exit_nodes s.block.exit) e ∙ same_nodes (block_at g b).exit (no_send b);
-        }
-      where
-        same_jumps : (x : Exit) → NoSend x → jumps_of (named x) ≡ jumps_of x
-        same_jumps (Goto c) n = refl
-        same_jumps (Branch t c d) n = refl
-        same_jumps (Call r f ts back) n = refl
-        same_jumps (Return t) n = refl
-        same_jumps (Send t ts ls) n = absurd n
-        same_jumps Stop n = refl
-
-        same_calls : (x : Exit) → NoSend x → calls (named x) ≡ calls x
-        same_calls (Goto c) n = refl
-        same_calls (Branch t c d) n = refl
-        same_calls (Call r f ts back) n = refl
-        same_calls (Return t) n = refl
-        same_calls (Send t ts ls) n = absurd n
-        same_calls Stop n = refl
-
-        same_nodes : (x : Exit) → NoSend x → exit_nodes (named x) ≡ exit_nodes x
-        same_nodes (Goto c) n = refl
-        same_nodes (Branch t c d) n = refl
-        same_nodes (Call r f ts back) n = refl
-        same_nodes (Return t) n = refl
-        same_nodes (Send t ts ls) n = absurd n
-        same_nodes Stop n = refl
 
     abbrev Same : Outside → Outside → Type 0
     Same o p = o ≡ p

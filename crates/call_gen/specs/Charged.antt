@@ -1,9 +1,11 @@
 -- What stands for the blocks of a graph in the one that a pass makes of it, and what pays for that.
-use Rattle.std.specs.Prelude.{◌≡◌, ℕ, suc, ◌+◌, ◌-◌, ◌*◌, ◌<◌, ◌≤◌, ◌⊎◌, true, List, [], ◌∷◌, length, if◌then◌else◌}
-use Rattle.std.specs.List.{sum_by}
-use Rattle.cfg_core.specs.Graph.{Term, Exit, Goto, Branch, Call, Return, Send, Stop, Block, Graph, spots, spot_at, block_at, proc_at}
-use Rattle.cfg_core.specs.Rules.{calls}
-use Rattle.cfg_core.specs.Weights.{turns_of, turns_at, acts_of, acts_at, jumps_of, exit_nodes, block_nodes, first_block, WalksWeigh}
+use Rattle.std.specs.Prelude.{◌≡◌, ℕ, zero, suc, ◌+◌, ◌-◌, ◌<◌, ◌≤◌, ◌⊎◌, true, List, [], ◌∷◌, ◌++◌, length, if◌then◌else◌}
+use Rattle.std.specs.List.{AllByRecursion}
+use Rattle.cfg_core.specs.Graph.{Number, Var, Cell, Op, Assign, Store, Exit, Goto, Branch, Call, Return, Send, Stop, Graph, spots, spot_at, block_at, proc_at}
+use Rattle.cfg_core.specs.Rules.{In, calls}
+use Rattle.cfg_core.specs.Weights.{first_block, WalksWeigh}
+use Rattle.live_vars.specs.Live.{Live}
+use Rattle.live_vars.specs.Marks.{has}
 use Rattle.call_gen.specs.Reached.{Reached}
 
 -- Where each block stands once calls are spelled out, the door of each procedure, by which its
@@ -22,74 +24,101 @@ beside weight p b _ = 0
 abbrev pub charged : Graph → Places → (ℕ → ℕ) → ℕ → ℕ
 charged g p weight b = weight (p.block b) + beside weight p b (block_at g b).exit
 
--- how many variables a block saves at most: where it calls, those of its procedure, and the address
--- to which that returns
-abbrev pub most_saved : Graph → ℕ → ℕ
-most_saved g b = if calls (block_at g b).exit then suc (spot_at g b).vars else 0
+-- a save of a variable in a cell, a load of one, and a variable that begins with 0
+abbrev pub IsSave : Op → Type 0
+IsSave (Store a (Number n) (Var x)) = Unit {0}
+IsSave _ = ⊥
 
--- how many nodes an exit gets: the address of a Send, and the one that a call sends along
-abbrev pub more_nodes : Exit → ℕ
-more_nodes (Call x f ts back) = 2
-more_nodes (Return t) = 1
-more_nodes _ = 0
+abbrev pub IsLoad : Op → Type 0
+IsLoad (Assign x (Cell a (Number n))) = Unit {0}
+IsLoad _ = ⊥
 
--- The exit that stands for another: one value more for a call, and a Send for a return from a call.
-abbrev pub StandsForExit : Exit → Exit → Type 0
-StandsForExit (Goto b) y = (c : ℕ) × (y ≡ Goto c)
-StandsForExit (Branch t a b) y = (c : ℕ) × (d : ℕ) × (y ≡ Branch t c d)
-StandsForExit (Call x f ts back) y =
-    (u : Term) × (vs : List Term) × (ls : List ℕ) × (y ≡ Send u vs ls) ×
-    (length vs ≡ suc (length ts))
-StandsForExit (Return t) y =
-    (y ≡ Return t) ⊎ ((u : Term) × (ls : List ℕ) × (y ≡ Send u (t ∷ []) ls))
-StandsForExit _ y = y ≡ Stop
+abbrev pub IsClear : Op → Type 0
+IsClear (Assign x (Number zero)) = Unit {0}
+IsClear _ = ⊥
 
--- a block that may stand for block b: as many turns, and for each variable that is saved an act
--- with two nodes more
-pub record StandsFor (g : Graph) (b : ℕ) (block : Block) : Type 0 where
-  pub exit : StandsForExit (block_at g b).exit block.exit
-  pub ops : length block.ops ≤ length (block_at g b).ops + most_saved g b
-  pub acts : sum_by acts_of block.ops ≤ acts_at g b + most_saved g b
-  pub turns : sum_by turns_of block.ops ≡ turns_at g b
-  pub nodes :
-      block_nodes block ≤
-      block_nodes (block_at g b) + 2 * most_saved g b + more_nodes (block_at g b).exit
+-- how many of the first n variables are live at block b by the sets
+abbrev pub live_count : List (List ℕ) → ℕ → ℕ → ℕ
+live_count live b zero = 0
+live_count live b (suc n) = live_count live b n + (if has live b n then 1 else 0)
 
--- a block of at most so many operations and nodes that goes on to one block
-pub record GoesOnAfter (most_ops most_nodes : ℕ) (block : Block) : Type 0 where
-  pub ops : length block.ops ≤ most_ops
-  pub nodes : block_nodes block ≤ most_nodes
-  pub goes : (c : ℕ) × (block.exit ≡ Goto c)
+-- how many variables an exit of a procedure with so many saves at most: a call those that are live
+-- where it goes on, and the address to which its procedure returns
+abbrev pub most_saved : List (List ℕ) → ℕ → Exit → ℕ
+most_saved live vars (Call x f ts back) = suc (live_count live back vars)
+most_saved live vars _ = 0
 
--- What stands in the second graph for the blocks of the first, and that these pay for it: whatever
--- the blocks of the second weigh, its walks weigh no more than those of the first where each block
--- is charged with all that stands for it, and the door by which the walk begins.
-pub record CallsCharged (g h : Graph) : Type 0 where
+-- The exit that stands for another: a call sends its values and a number to the callee's door, and a
+-- return from a call sends its value to where a variable says.
+abbrev pub StandsForExit : Places → Exit → Exit → Type 0
+StandsForExit p (Goto b) y = y ≡ Goto (p.block b)
+StandsForExit p (Branch t a b) y = y ≡ Branch t (p.block a) (p.block b)
+StandsForExit p (Call x f ts back) y =
+    (n : ℕ) × (y ≡ Send (Number 0) (ts ++ Number n ∷ []) (p.door f ∷ []))
+StandsForExit p (Return t) y =
+    (y ≡ Return t) ⊎ ((x : ℕ) × (ls : List ℕ) × (y ≡ Send (Var x) (t ∷ []) ls))
+StandsForExit p _ y = y ≡ Stop
+
+-- Block c of the second graph stands for block b of the first: it does the same, then saves. What is
+-- live there was live before, or is the variable that has the return address.
+pub record StandsFor (g : Graph) (live : List (List ℕ)) (h : Graph) (p : Places) (b c : ℕ) : Type 0
+  where
+    pub exit : StandsForExit p (block_at g b).exit (block_at h c).exit
+    pub saves : List Op
+    pub are_saves : AllByRecursion IsSave saves
+    pub few : length saves ≤ most_saved live (spot_at g b).vars (block_at g b).exit
+    pub ops : (block_at h c).ops ≡ (block_at g b).ops ++ saves
+    pub held : (x : ℕ) → Live h c x → Live g b x ⊎ (x ≡ (spot_at g b).vars)
+
+-- Block c, where a Send may land, holds such operations and goes on to one block. It names at most
+-- so many variables and has with them at most so many operations, and only what it names is live.
+pub record GoesOnAfter (Is : Op → Type 0) (names most : ℕ) (h : Graph) (c : ℕ) : Type 0 where
+  pub ops : AllByRecursion Is (block_at h c).ops
+  pub named : length (block_at h c).named ≤ names
+  pub few : length (block_at h c).named + length (block_at h c).ops ≤ most
+  pub goes : (d : ℕ) × ((block_at h c).exit ≡ Goto d)
+  pub held : (x : ℕ) → Live h c x → In x (block_at h c).named
+
+-- What stands in the second graph for the blocks of the first, by these sets of live variables, and
+-- that these pay for it: whatever the blocks of the second weigh, its walks weigh no more than those
+-- of the first where each block is charged with all that stands for it, and the door by which the
+-- walk begins.
+pub record CallsCharged (g : Graph) (live : List (List ℕ)) (h : Graph) : Type 0 where
   pub places : Places
-  pub blocks : (b : ℕ) → b < length (spots g) → StandsFor g b (block_at h (places.block b))
+  pub blocks : (b : ℕ) → b < length (spots g) → StandsFor g live h places b (places.block b)
   pub doors : (f : ℕ) → f < length g.procs →
-      GoesOnAfter (proc_at g f).vars (proc_at g f).vars (block_at h (places.door f))
+      GoesOnAfter IsClear (suc (proc_at g f).params) (suc (proc_at g f).vars) h (places.door f)
   pub points : (b : ℕ) → b < length (spots g) → calls (block_at g b).exit ≡ true →
-      GoesOnAfter (most_saved g b) (2 * most_saved g b) (block_at h (places.point b))
+      GoesOnAfter IsLoad 1 (suc (most_saved live (spot_at g b).vars (block_at g b).exit)) h
+      (places.point b)
   pub begins : first_block h ≡ places.door (length g.procs - 1)
   pub walks : (weight : ℕ → ℕ) (base pay : ℕ) →
       WalksWeigh g (charged g places weight) base pay →
       WalksWeigh h weight (base + weight (first_block h)) pay
 
--- block c of the second graph does what block b of the first does, on as many variables
-pub record DoesTheSame (g h : Graph) (b c : ℕ) : Type 0 where
-  pub vars : (spot_at h c).vars ≡ (spot_at g b).vars
-  pub ops : (block_at h c).ops ≡ (block_at g b).ops
-  pub jumps : jumps_of (block_at h c).exit ≡ jumps_of (block_at g b).exit
-  pub calls : calls (block_at h c).exit ≡ calls (block_at g b).exit
-  pub nodes : exit_nodes (block_at h c).exit ≡ exit_nodes (block_at g b).exit
+-- the same exit, to the places of its blocks
+abbrev pub SameExit : (ℕ → ℕ) → Exit → Exit → Type 0
+SameExit place (Goto b) y = y ≡ Goto (place b)
+SameExit place (Branch t a b) y = y ≡ Branch t (place a) (place b)
+SameExit place (Call x f ts back) y = (e : ℕ) × (y ≡ Call x e ts (place back))
+SameExit place (Return t) y = y ≡ Return t
+SameExit place _ y = y ≡ Stop
+
+-- in its place in the second graph a block does what it did in the first, on as many variables, and
+-- no more are live
+pub record DoesTheSame (g h : Graph) (place : ℕ → ℕ) (b : ℕ) : Type 0 where
+  pub there : place b < length (spots h)
+  pub vars : (spot_at h (place b)).vars ≡ (spot_at g b).vars
+  pub ops : (block_at h (place b)).ops ≡ (block_at g b).ops
+  pub exit : SameExit place (block_at g b).exit (block_at h (place b)).exit
+  pub held : (x : ℕ) → Live h (place b) x → Live g b x
 
 -- Each block that is reached has a place in the second graph. Whatever the blocks of the second
 -- weigh, its walks weigh no more than those of the first where each block that is reached weighs as
 -- much as the one in its place, or more.
 pub record ReachedInPlace (g h : Graph) : Type 0 where
   pub place : ℕ → ℕ
-  pub same : (b : ℕ) → b < length (spots g) → Reached g b → DoesTheSame g h b (place b)
+  pub same : (b : ℕ) → b < length (spots g) → Reached g b → DoesTheSame g h place b
   pub walks : (weight given : ℕ → ℕ) (base pay : ℕ) →
       ((b : ℕ) → b < length (spots g) → Reached g b → weight (place b) ≤ given b) →
       WalksWeigh g given base pay → WalksWeigh h weight base pay

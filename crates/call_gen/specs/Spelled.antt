@@ -11,6 +11,11 @@ abbrev pub callee_is : Exit → ℕ → Bool
 callee_is (Call r f ts back) e = f == e
 callee_is _ e = false
 
+-- the procedure that an exit calls
+abbrev pub callee : Exit → Option ℕ
+callee (Call r f ts back) = Some f
+callee _ = None
+
 abbrev pub some_of : (Spot → Bool) → List Spot → Bool
 some_of p [] = false
 some_of p (s ∷ ss) = p s || some_of p ss

@@ -5,7 +5,7 @@ ghost use Rattle.cfg_core.specs.Graph.{spots, spot_at, block_at};
 ghost use Rattle.cfg_core.specs.Rules.{calls};
 ghost use Rattle.cfg_core.specs.View as view;
 ghost use Rattle.cfg_core.specs.Shows.{TableIs};
-ghost use Rattle.call_gen.specs.Spelled.{callee_is, count_of, is_call, is_called, is_calling, address};
+ghost use Rattle.call_gen.specs.Spelled.{callee_is, callee, count_of, is_call, is_called, is_calling, address};
 
 use cfg_core::{Leave, Table};
 
@@ -47,6 +47,26 @@ pub(crate) fn calls_to_at(table: &Table<'_>, b: usize, f: u32) -> bool
     match table.spot(b) {
         Some(spot) => calls_to(&spot.block.exit, f),
         None => false,
+    }
+}
+
+fn callee(exit: &Leave) -> Option<u32>
+    ensures { result ≡ callee (view.exit exit.now) }
+{
+    match exit {
+        Leave::Call { callee, .. } => Some(*callee),
+        _ => None,
+    }
+}
+
+/// The procedure that the block with this number calls.
+pub(crate) fn callee_at(table: &Table<'_>, b: usize) -> Option<u32>
+    requires { TableIs table.now }
+    ensures { result ≡ callee (block_at (view.graph table.now.graph.now) b).exit }
+{
+    match table.spot(b) {
+        Some(spot) => callee(&spot.block.exit),
+        None => None,
     }
 }
 

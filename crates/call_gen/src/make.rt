@@ -1,17 +1,18 @@
 //! The graph whose calls are spelled out.
 
-ghost use Rattle.std.specs.Prelude.{◌≡◌, ◌+◌, ◌++◌, ◌∷◌, ◌<◌, ◌≤◌, ◌^◌, ℕ, suc, min, map, length, IfOk, OnOk};
+ghost use Rattle.std.specs.Prelude.{◌≡◌, ◌+◌, ◌++◌, ◌∷◌, [], ◌<◌, ◌≤◌, ◌^◌, ℕ, suc, min, map, length, IfOk, OnOk};
 ghost use Rattle.std.specs.List.{AllByRecursion};
 ghost use Rattle.cfg_core.specs.Graph as plain;
 ghost use Rattle.cfg_core.specs.Graph.{spots, spots_in, block_at};
 ghost use Rattle.cfg_core.specs.Rules.{IsGraph, BlockNumbers};
-ghost use Rattle.cfg_core.specs.Shape.{IsShaped};
+ghost use Rattle.cfg_core.specs.Shape.{IsShaped, ArmsAlone};
 ghost use Rattle.cfg_core.specs.Shown.{SameWalks, SameArrays};
 ghost use Rattle.cfg_core.specs.View as view;
+ghost use Rattle.cfg_core.specs.Weights.{first_block};
 ghost use Rattle.live_vars.specs.Marks.{AreLive};
 ghost use Rattle.call_gen.specs.Spelled as spelled;
 ghost use Rattle.call_gen.specs.Plans.{PlanIs};
-ghost use Rattle.call_gen.specs.Keeps.{HasNoSend, HasNoCall, NoneLiveAcross, ParamsAtMost, SendsAtMost, ArmsAlone};
+ghost use Rattle.call_gen.specs.Keeps.{HasNoSend, HasNoCall, NoneLiveAcross, ParamsAtMost, SendsAtMost};
 ghost use Rattle.call_gen.specs.Sizes.{Sizes, IsWithin, spelled_sizes};
 ghost use Rattle.call_gen.specs.Charged.{CallsCharged};
 
@@ -169,8 +170,12 @@ pub fn spell_calls(alloc: Global, graph: &Graph, live: &LiveSets) -> Result<Grap
     ensures arms { IfOk result (λ made. ArmsAlone (view.graph graph.now) →
         ArmsAlone (view.graph made)) }
 
+    ensures start { IfOk result (λ made.
+        (block_at (view.graph made) (first_block (view.graph made))).named ≡ []) }
+
     // the blocks of the graph pay for what walks pass here
-    ensures charged { IfOk result (λ made. CallsCharged (view.graph graph.now) (view.graph made)) }
+    ensures charged { IfOk result (λ made. CallsCharged (view.graph graph.now) live.now
+        (view.graph made)) }
 {
     let plan = Plan::of(alloc, graph, live)?;
     let graph = made(alloc, &plan)?;

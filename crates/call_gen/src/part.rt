@@ -3,7 +3,7 @@
 ghost use Rattle.std.specs.Prelude.{◌≡◌, ◌+◌, ◌++◌, ◌∷◌, [], ◌<◌, ◌≤◌, ℕ, map, length, slice_index, if◌then◌else◌, IfOk, OnOk};
 ghost use Rattle.cfg_core.specs.Graph.{spots};
 ghost use Rattle.cfg_core.specs.Rules.{IsGraph};
-ghost use Rattle.cfg_core.specs.Shape.{IsShaped};
+ghost use Rattle.cfg_core.specs.Shape.{IsShaped, ArmsAlone};
 ghost use Rattle.cfg_core.specs.Shown.{SameWalks, SameArrays};
 ghost use Rattle.cfg_core.specs.View as view;
 ghost use Rattle.cfg_core.specs.Shows.{TableIs};
@@ -27,10 +27,12 @@ ghost use Rattle.call_gen.specs.Part.{
   part,
 };
 
-use crate::copy::{arrays, numbers as copy_numbers, operations, term, terms};
+use crate::copy::{arrays, numbers as copy_numbers, operations};
 use crate::counts::one_if;
 use crate::find::find;
-use cfg_core::{Graph, GraphBlock, GraphBlocks, GraphProc, GraphProcs, Leave, Table};
+use cfg_core::{
+    Graph, GraphBlock, GraphBlocks, GraphProc, GraphProcs, Leave, Table, copy_term, copy_terms,
+};
 use std::alloc::Global;
 use ws_words::NoMemory;
 
@@ -118,7 +120,7 @@ impl<'a> Part<'a> {
         match exit {
             Leave::Goto(c) => Ok(Leave::Goto(self.place(*c))),
             Leave::Branch(test, c, d) => {
-                let test = term(alloc, test)?;
+                let test = copy_term(alloc, test)?;
                 Ok(Leave::Branch(test, self.place(*c), self.place(*d)))
             }
             Leave::Call {
@@ -129,10 +131,10 @@ impl<'a> Part<'a> {
             } => Ok(Leave::Call {
                 result: *result,
                 callee: self.number(*callee),
-                values: terms(alloc, values)?,
+                values: copy_terms(alloc, values)?,
                 back: self.place(*back),
             }),
-            Leave::Return(t) => Ok(Leave::Return(term(alloc, t)?)),
+            Leave::Return(t) => Ok(Leave::Return(copy_term(alloc, t)?)),
             Leave::Send { .. } => Ok(Leave::Stop),
             Leave::Stop => Ok(Leave::Stop),
         }
@@ -275,6 +277,8 @@ pub fn reached(alloc: Global, graph: &Graph) -> Result<Graph, NoMemory>
     ensures no_send { IfOk result (λ made. HasNoSend (view.graph made)) }
     ensures shape { IfOk result (λ made. IsShaped (view.graph graph.now) →
         IsShaped (view.graph made)) }
+    ensures arms { IfOk result (λ made. ArmsAlone (view.graph graph.now) →
+        ArmsAlone (view.graph made)) }
     ensures sizes { IfOk result (λ made. (z : Sizes) → IsWithin z (view.graph graph.now) →
         IsWithin z (view.graph made)) }
 

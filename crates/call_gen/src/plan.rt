@@ -1,14 +1,16 @@
 //! Where the blocks and hidden cells of the spelled graph stand.
 
-ghost use Rattle.std.specs.Prelude.{◌≡◌, ◌+◌, ◌<◌, ◌≤◌, ◌^◌, ℕ, IsTrue, map, length, slice_index, slice_index_or, replicate, ◌++◌, ◌∷◌, [], if◌then◌else◌, false, IfOk, OnOk};
+ghost use Rattle.std.specs.Prelude.{◌≡◌, ◌+◌, ◌<◌, ◌≤◌, ◌^◌, ℕ, IsTrue, map, length, slice_index, slice_index_or, slice_set, replicate, ◌++◌, ◌∷◌, [], if◌then◌else◌, false, IfOk, OnOk};
 ghost use Rattle.cfg_core.specs.Graph.{spots};
 ghost use Rattle.cfg_core.specs.Rules.{IsGraph};
 ghost use Rattle.cfg_core.specs.View as view;
 ghost use Rattle.cfg_core.specs.Shows.{TableIs};
-ghost use Rattle.call_gen.specs.Spelled.{is_called, moved, door, landings, first_cell, own_cells, cell, cells_in_all, array_of, index_of};
-ghost use Rattle.call_gen.specs.Plans.{Few, PlanIs};
+ghost use Rattle.call_gen.specs.Spelled.{is_called, moved, door, landings, address, first_cell, own_cells, cell, cells_in_all, array_of, index_of};
+ghost use Rattle.call_gen.specs.Plans.{CallPlaced, Few, PlanIs, Tallied};
 
-use crate::counts::{calls_at, calls_to_at, is_called, is_calling, one_if};
+use crate::counts::{
+    callee_at, calls_at, calls_before, calls_to_at, is_called, is_calling, one_if,
+};
 use cfg_core::{Graph, Table};
 use live_vars::LiveSets;
 use std::alloc::Global;
@@ -20,14 +22,15 @@ pub(crate) const HIDDEN_ARRAYS: u64 = 192;
 // A graph has fewer blocks, procedures and arrays, so that the spelled one's have 32 bits.
 const MOST: usize = 1 << 30;
 
-/// What the spelled graph's numbers are made from: for each block its procedure and its new number,
-/// for each procedure whether it is called and the number of its first hidden cell.
+/// What the spelled graph's numbers are made from: for each block its procedure, its new number and
+/// the place of its call, for each procedure whether it is called and the number of its first hidden cell.
 #[derive(Drop)]
 pub(crate) struct Plan<'a> {
     pub(crate) table: Table<'a>,
     pub(crate) live: &'a LiveSets,
     pub(crate) homes: Vec<u32>,
     pub(crate) places: Vec<u32>,
+    pub(crate) addresses: Vec<u32>,
     pub(crate) called: Vec<bool>,
     pub(crate) cells: Vec<u64>,
     pub(crate) total: u64,
@@ -79,6 +82,54 @@ pub(crate) fn places(alloc: Global, table: &Table<'_>, homes: &[u32]) -> Result<
         calls += one_if(calls_at(table, b));
     }
     Ok(places)
+}
+
+// One call more of a procedure, if it exists: how many there were.
+fn tally(counts: &mut Vec<u32>, f: u32) -> u32
+    requires { slice_index counts.old.items f + 1 < 2 ^ 32 }
+    ensures before { result ≡ slice_index counts.old.items f }
+    ensures after { counts.new.items ≡
+        slice_set counts.old.items f (slice_index counts.old.items f + 1) }
+{
+    let place = f as usize;
+    if place < counts.len() {
+        let before = counts[place];
+        counts[place] = before + 1;
+        before
+    } else {
+        0
+    }
+}
+
+// The place of block b's call among those of its callee, where the counts are those of the blocks
+// before it; then they are those of the blocks before the next one.
+fn next_place(counts: &mut Vec<u32>, table: &Table<'_>, b: usize) -> u32
+    requires table { TableIs table.now }
+    requires few { Few (view.graph table.now.graph.now) }
+    requires there { b < length (spots (view.graph table.now.graph.now)) }
+    requires counts { Tallied (view.graph table.now.graph.now) counts.old.items b }
+    ensures place { CallPlaced (view.graph table.now.graph.now) b result }
+    ensures counts { Tallied (view.graph table.now.graph.now) counts.new.items (b + 1) }
+{
+    match callee_at(table, b) {
+        Some(f) => tally(counts, f),
+        None => 0,
+    }
+}
+
+/// The place of each block's call among those of its callee.
+pub(crate) fn addresses(alloc: Global, table: &Table<'_>) -> Result<Vec<u32>, NoMemory>
+    requires table { TableIs table.now }
+    requires few { Few (view.graph table.now.graph.now) }
+    ensures { IfOk result (λ list. (b : ℕ) → b < length (spots (view.graph table.now.graph.now)) →
+        CallPlaced (view.graph table.now.graph.now) b (slice_index list.items b)) }
+{
+    let mut counts = vec![in alloc; 0; table.rooms.len()]?;
+    let mut list = Vec::new(alloc);
+    for b in 0..table.spots.len() {
+        list.push(next_place(&mut counts, table, b))?;
+    }
+    Ok(list)
 }
 
 /// Whether each procedure is called.
@@ -176,6 +227,7 @@ impl<'a> Plan<'a> {
         }
         let homes = homes(alloc, graph)?;
         let places = places(alloc, &table, &homes)?;
+        let addresses = addresses(alloc, &table)?;
         let called = called(alloc, &table)?;
         let (cells, total) = cells(alloc, &table, &homes)?;
         Ok(Plan {
@@ -183,6 +235,7 @@ impl<'a> Plan<'a> {
             live,
             homes,
             places,
+            addresses,
             called,
             cells,
             total,
@@ -216,6 +269,21 @@ impl<'a> Plan<'a> {
         ensures { result ≡ is_called (view.graph self.now.table.graph.now) f }
     {
         self.called.get(f as usize).copied().unwrap_or(false)
+    }
+
+    /// How many of the blocks before this one call the procedure: the return address, where this one
+    /// does too.
+    pub(crate) fn address(&self, b: u32, f: u32) -> u32
+        requires plan { PlanIs self.now }
+        requires block { b < length (spots (view.graph self.now.table.graph.now)) }
+        requires there { f < length (view.graph self.now.table.graph.now).procs }
+        ensures { result ≡ address (view.graph self.now.table.graph.now) f b }
+    {
+        if calls_to_at(&self.table, b as usize, f) {
+            self.addresses.get(b as usize).copied().unwrap_or(0)
+        } else {
+            calls_before(&self.table, b as usize, f) as u32
+        }
     }
 
     fn first_cell(&self, home: u32) -> u64

@@ -9,10 +9,9 @@ ghost use Rattle.cfg_core.specs.View as view;
 ghost use Rattle.call_gen.specs.Spelled as spelled;
 ghost use Rattle.call_gen.specs.Plans.{PlanIs};
 
-use crate::copy::{operations, term, terms};
-use crate::counts::calls_before;
+use crate::copy::operations;
 use crate::plan::{Plan, push_if};
-use cfg_core::{GraphBlock, GraphOp, GraphOps, Leave, Term};
+use cfg_core::{GraphBlock, GraphOp, GraphOps, Leave, Term, copy_term, copy_terms};
 use std::alloc::Global;
 use ws_words::NoMemory;
 
@@ -122,7 +121,7 @@ impl<'a> Plan<'a> {
         match exit {
             Leave::Goto(c) => Ok(Leave::Goto(self.place(*c))),
             Leave::Branch(test, c, d) => {
-                let test = term(alloc, test)?;
+                let test = copy_term(alloc, test)?;
                 Ok(Leave::Branch(test, self.place(*c), self.place(*d)))
             }
             Leave::Call { callee, values, .. } => self.sent(alloc, b, *callee, values),
@@ -142,8 +141,8 @@ impl<'a> Plan<'a> {
             view.exit made ≡ plain.Send (plain.Number 0) (map view.term values.now ++ plain.Number
             (spelled.address g callee b) ∷ []) (spelled.door g callee ∷ [])) }
     {
-        let mut sent = terms(alloc, values)?;
-        let address = calls_before(&self.table, b as usize, callee);
+        let mut sent = copy_terms(alloc, values)?;
+        let address = self.address(b, callee);
         sent.push(Term::Number(address as u64))?;
         let mut landings = Vec::new(alloc);
         landings.push(self.door(callee))?;
@@ -162,7 +161,7 @@ impl<'a> Plan<'a> {
             spelled.left (view.graph self.now.table.graph.now) home vars 0
             (plain.Return (view.term t.now))) }
     {
-        let t = term(alloc, t)?;
+        let t = copy_term(alloc, t)?;
         if self.is_called(home) {
             let landings = self.landings(alloc, home)?;
             let mut values = Vec::new(alloc);

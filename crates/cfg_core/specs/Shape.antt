@@ -1,5 +1,5 @@
 -- The order of blocks and the edges into them.
-use Rattle.std.specs.Prelude.{◌≡◌, ◌≢◌, ℕ, ◌≤◌, Bool, true, false}
+use Rattle.std.specs.Prelude.{◌≡◌, ◌≢◌, ℕ, ◌<◌, ◌≤◌, Bool, true, false}
 use Rattle.cfg_core.specs.Graph.{Term, Exit, Goto, Branch, Graph, block_at}
 use Rattle.cfg_core.specs.Rules.{has_tick}
 use Rattle.cfg_core.specs.Edges.{Edge, IsHeader}
@@ -30,3 +30,11 @@ pub record IsShaped (g : Graph) : Type 0 where
   pub backward : (b c : ℕ) → Edge g b c → c ≤ b → (block_at g b).exit ≡ Goto c
   pub branches : (a : ℕ) (t : Term) (b c : ℕ) → (block_at g a).exit ≡ Branch t b c →
       BranchesApart g a b c
+
+-- Each branch leads forward, to two blocks that no other edge enters. So no arm of a branch is a
+-- loop's header, a landing or a join.
+pub record ArmsAlone (g : Graph) : Type 0 where
+  pub apart : (a : ℕ) (t : Term) (b c : ℕ) → (block_at g a).exit ≡ Branch t b c →
+      BranchesApart g a b c
+  pub ahead : (a : ℕ) (t : Term) (b c : ℕ) → (block_at g a).exit ≡ Branch t b c →
+      (a < b) × (a < c)

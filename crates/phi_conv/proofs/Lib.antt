@@ -21,3 +21,4 @@ pub mod Counting
 pub mod Sizing
 pub mod Paying
 pub mod Owning
+pub mod Dead

@@ -2,10 +2,10 @@
 use Rattle.std.proofs.Common.{ℕ, ◌≡◌, List, sym, ap, ◌∙◌, subst, inl, inr}
 use Rattle.cfg_core.specs.Graph.{Term, Exit, Goto, Branch, Block, Graph, block_at}
 use Rattle.cfg_core.specs.Rules.{Leads}
+use Rattle.cfg_core.specs.Shape.{OnlyFrom, ArmsAlone}
 use Rattle.phi_conv.specs.Short.{Short}
 use Rattle.phi_conv.specs.IsShort.{Way, direct, through}
 use Rattle.phi_conv.specs.Joined.{joined}
-use Rattle.phi_conv.specs.Keeps.{OnlyFrom, OwnArms}
 use Rattle.phi_conv.proofs.Sizing.{short_joined}
 
 no_both : (x : Exit) (t : Term) (b c d : ℕ) → x ≡ Branch t b c → x ≡ Goto d → ⊥
@@ -36,8 +36,10 @@ module _ (g : Graph) (live : List (List ℕ)) where
     ]
 
   -- they are so in the joined graph
-  pub own_arms : OwnArms g → OwnArms h
-  own_arms own = record {
-    first = λ a t b c e. let old = old_branch a t b c e in still_only a t b c b old (own.first a t b c old);
-    second = λ a t b c e. let old = old_branch a t b c e in still_only a t b c c old (own.second a t b c old);
+  pub arms_alone : ArmsAlone g → ArmsAlone h
+  arms_alone alone = record {
+    apart = λ a t b c e.
+        let old = old_branch a t b c e in let own = alone.apart a t b c old in
+        record { differ = own.differ; first = still_only a t b c b old own.first; second = still_only a t b c c old own.second };
+    ahead = λ a t b c e. alone.ahead a t b c (old_branch a t b c e);
   }

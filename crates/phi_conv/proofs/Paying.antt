@@ -1,5 +1,5 @@
 -- What turns of the joined graph pay for.
-use Rattle.std.proofs.Common.{ℕ, ◌+◌, ◌-◌, ◌*◌, ◌≡◌, ◌<◌, ◌≤◌, max, min, Bool, true, false, List, [], ◌∷◌, ◌++◌, length, map, Option, Some, None, refl, sym, ap, ◌∙◌, subst, arith}
+use Rattle.std.proofs.Common.{ℕ, suc, ◌+◌, ◌-◌, ◌*◌, ◌≡◌, ◌<◌, ◌≤◌, max, min, Bool, true, false, List, [], ◌∷◌, ◌++◌, length, map, Option, Some, None, refl, sym, ap, ◌∙◌, subst, arith}
 use Rattle.std.specs.List.{filter, sum_by}
 use Rattle.std.proofs.lemmas.List.Sums.{sum_by-cons}
 use Rattle.std.proofs.Math.Nat.{mul-le-mul_left}
@@ -144,23 +144,44 @@ module _ (g : Graph) (live : List (List ℕ)) where
       begins = subst (λ n. p n ≤ 1) (sym begins_there) two.begins;
     }
 
+  branches : (x : Exit) (s : Short) → short g x ≡ Some s → jumps_of x ≡ 1
+  branches (Branch t c d) s e = refl
+  branches (Goto c) s e = absurd (cc)
+  branches (Call r f ts back) s e = absurd (cc)
+  branches (Return t) s e = absurd (cc)
+  branches (Send t ts ls) s e = absurd (cc)
+  branches Stop s e = absurd (cc)
+
   module _ (most : ℕ) (pays : TurnsPayWork g most) where
-    acts_by : (b : ℕ) (r : Option Short) → short g (block_at g b).exit ≡ r → sum_by acts_of (joined_if live (spot_at g b).vars (block_at g b) r).ops + jumps_of (joined_if live (spot_at g b).vars (block_at g b) r).exit ≤ turns_at g b + most_more_ops
+    acts_by : (b : ℕ) (r : Option Short) → short g (block_at g b).exit ≡ r → sum_by acts_of (joined_if live (spot_at g b).vars (block_at g b) r).ops + jumps_of (joined_if live (spot_at g b).vars (block_at g b) r).exit ≤ suc most_more_ops * turns_at g b
     acts_by b None e = let a = pays.acts b in omega (arith, a)
     acts_by b (Some s) e =
         let a = pays.acts b in
         let c = sum_both acts_of (block_at g b).ops (joining live (spot_at g b).vars s) in
         let d = few_acts (joining live (spot_at g b).vars s) in
         let k = joining_few g live b (spot_at g b).vars s e in
-        omega (arith, a, c, d, k)
+        let j = branches (block_at g b).exit s e in
+        omega (arith, a, c, d, k, j)
 
-    -- the acts, jumps and nodes of a block are paid for but for a constant
+    nodes_by : (b : ℕ) (r : Option Short) → short g (block_at g b).exit ≡ r → block_nodes (joined_if live (spot_at g b).vars (block_at g b) r) ≤ (most + most_more_nodes) * turns_at g b + 1
+    nodes_by b None e =
+        let n = pays.nodes b in
+        let z : (most + most_more_nodes) * turns_at g b ≡ most * turns_at g b + most_more_nodes * turns_at g b = grind arith in omega (arith, n, z)
+    nodes_by b (Some s) e =
+        let n = pays.nodes b in
+        let a = pays.acts b in
+        let j = branches (block_at g b).exit s e in
+        let k = nodes_kept g live b (spot_at g b).vars (Some s) e in
+        let z : (most + most_more_nodes) * turns_at g b ≡ most * turns_at g b + most_more_nodes * turns_at g b = grind arith in
+        omega (arith, n, a, j, k, z)
+
+    -- the acts, jumps and nodes of a block are paid for by its turns
     pub turns_pay_most : TurnsPayMost h most
     turns_pay_most = record {
       acts = λ b.
-          let a = subst (λ (x : Block). sum_by acts_of x.ops + jumps_of x.exit ≤ turns_at g b + most_more_ops) (sym (block_is g live b)) (acts_by b (short g (block_at g b).exit) refl) in
+          let a = subst (λ (x : Block). sum_by acts_of x.ops + jumps_of x.exit ≤ suc most_more_ops * turns_at g b) (sym (block_is g live b)) (acts_by b (short g (block_at g b).exit) refl) in
           let t = turns_kept b in omega (arith, a, t);
       nodes = λ b.
-          let a = subst (λ (x : Block). block_nodes x ≤ block_nodes (block_at g b) + most_more_nodes) (sym (block_is g live b)) (nodes_kept g live b (spot_at g b).vars (short g (block_at g b).exit) refl) in
-          let n = pays.nodes b in let t = mul-le-mul_left most (turns_kept b) in omega (arith, a, n, t);
+          let a = subst (λ (x : Block). block_nodes x ≤ (most + most_more_nodes) * turns_at g b + 1) (sym (block_is g live b)) (nodes_by b (short g (block_at g b).exit) refl) in
+          let t = mul-le-mul_left (most + most_more_nodes) (turns_kept b) in omega (arith, a, t);
     }

@@ -168,6 +168,9 @@ module _ (g : Graph) (live : List (List ℕ)) where
     branch = e;
     is = ways g t c d s f;
     goes = ap (λ (x : Block). x.exit) (block_is g live b) ∙ ap (λ (r : Option Short). (joined_if live (spot_at g b).vars (block_at g b) r).exit) (ap (short g) e ∙ f);
+    sets = live;
+    vars = (spot_at g b).vars;
+    ops = ap (λ (x : Block). x.ops) (block_is g live b) ∙ ap (λ (r : Option Short). (joined_if live (spot_at g b).vars (block_at g b) r).ops) (ap (short g) e ∙ f);
   }
   is_joined b (Goto c) s e f = absurd (cc)
   is_joined b (Call r c ts back) s e f = absurd (cc)

@@ -8,9 +8,8 @@ ghost use Rattle.live_vars.specs.Marks.{has};
 ghost use Rattle.phi_conv.specs.Joined as joined;
 ghost use Rattle.phi_conv.specs.Found.{branch_in_code, JoinIs};
 
-use crate::copy::term;
 use crate::find::ShortBranch;
-use cfg_core::{GraphOp, GraphOps, Numbers, Term};
+use cfg_core::{GraphOp, GraphOps, Numbers, Term, copy_term};
 use live_vars::LiveSets;
 use std::alloc::Global;
 use ws_words::NoMemory;
@@ -228,7 +227,7 @@ impl<'a> Join<'a> {
             IfOk result (λ t. view.term t ≡ joined.test_of self.now.vars s) }
     {
         if self.still {
-            term(alloc, self.branch.test)
+            copy_term(alloc, self.branch.test)
         } else {
             Ok(Term::Var(self.vars))
         }
@@ -243,7 +242,7 @@ impl<'a> Join<'a> {
         if self.still {
             return Ok(());
         }
-        let test = term(alloc, self.branch.test)?;
+        let test = copy_term(alloc, self.branch.test)?;
         ops.push(GraphOp::Assign(self.vars, test))?;
         Ok(())
     }

@@ -1,76 +1,34 @@
-//! Copies of what a graph consists of.
+//! Copies of what a graph consists of, terms apart.
 
 ghost use Rattle.std.specs.Prelude.{◌≡◌, ◌++◌, map, IfOk, OnOk};
 ghost use Rattle.cfg_core.specs.View as view;
 
-use cfg_core::{GraphArray, GraphArrays, GraphOp, GraphOps, Leave, Numbers, Term, Terms};
+use cfg_core::{GraphArray, GraphArrays, GraphOp, GraphOps, Leave, Numbers, copy_term, copy_terms};
 use std::alloc::Global;
 use ws_words::{Bytes, NoMemory};
-
-/// The same term once more.
-pub(crate) fn term(alloc: Global, t: &Term) -> Result<Term, NoMemory>
-    ensures { IfOk result (λ made. view.term made ≡ view.term t.now) }
-{
-    match t {
-        Term::Number(n) => Ok(Term::Number(*n)),
-        Term::Var(x) => Ok(Term::Var(*x)),
-        Term::Cell(a, index) => {
-            let index = term(alloc, index)?;
-            Ok(Term::Cell(*a, Box::new(alloc, index)?))
-        }
-        Term::Flip(t) => {
-            let t = term(alloc, t)?;
-            Ok(Term::Flip(Box::new(alloc, t)?))
-        }
-        Term::Not(t) => {
-            let t = term(alloc, t)?;
-            Ok(Term::Not(Box::new(alloc, t)?))
-        }
-        Term::Neg(t) => {
-            let t = term(alloc, t)?;
-            Ok(Term::Neg(Box::new(alloc, t)?))
-        }
-        Term::Binary(op, a, b) => {
-            let a = term(alloc, a)?;
-            let b = term(alloc, b)?;
-            Ok(Term::Binary(*op, Box::new(alloc, a)?, Box::new(alloc, b)?))
-        }
-    }
-}
-
-// The same terms once more.
-fn terms(alloc: Global, ts: &[Term]) -> Result<Terms, NoMemory>
-    ensures { IfOk result (λ made. map view.term made.items ≡ map view.term ts.now) }
-{
-    let mut list = Vec::new(alloc);
-    for t in ts {
-        list.push(term(alloc, t)?)?;
-    }
-    Ok(list)
-}
 
 fn operation(alloc: Global, op: &GraphOp) -> Result<GraphOp, NoMemory>
     ensures { IfOk result (λ made. view.op made ≡ view.op op.now) }
 {
     match op {
-        GraphOp::Assign(x, t) => Ok(GraphOp::Assign(*x, term(alloc, t)?)),
+        GraphOp::Assign(x, t) => Ok(GraphOp::Assign(*x, copy_term(alloc, t)?)),
         GraphOp::Store(a, t, u) => {
-            let t = term(alloc, t)?;
-            let u = term(alloc, u)?;
+            let t = copy_term(alloc, t)?;
+            let u = copy_term(alloc, u)?;
             Ok(GraphOp::Store(*a, t, u))
         }
-        GraphOp::Print(t) => Ok(GraphOp::Print(term(alloc, t)?)),
+        GraphOp::Print(t) => Ok(GraphOp::Print(copy_term(alloc, t)?)),
         GraphOp::Read(x) => Ok(GraphOp::Read(*x)),
         GraphOp::Give(p, x) => Ok(GraphOp::Give(*p, *x)),
-        GraphOp::Take(p, t) => Ok(GraphOp::Take(*p, term(alloc, t)?)),
+        GraphOp::Take(p, t) => Ok(GraphOp::Take(*p, copy_term(alloc, t)?)),
         GraphOp::Choose(x, t, a, b) => {
-            let t = term(alloc, t)?;
-            let a = term(alloc, a)?;
-            let b = term(alloc, b)?;
+            let t = copy_term(alloc, t)?;
+            let a = copy_term(alloc, a)?;
+            let b = copy_term(alloc, b)?;
             Ok(GraphOp::Choose(*x, t, a, b))
         }
         GraphOp::Tick(n) => Ok(GraphOp::Tick(*n)),
-        GraphOp::TickBy(t, n, m) => Ok(GraphOp::TickBy(term(alloc, t)?, *n, *m)),
+        GraphOp::TickBy(t, n, m) => Ok(GraphOp::TickBy(copy_term(alloc, t)?, *n, *m)),
     }
 }
 
@@ -102,7 +60,7 @@ pub(crate) fn exit(alloc: Global, leave: &Leave) -> Result<Leave, NoMemory>
 {
     match leave {
         Leave::Goto(b) => Ok(Leave::Goto(*b)),
-        Leave::Branch(test, a, b) => Ok(Leave::Branch(term(alloc, test)?, *a, *b)),
+        Leave::Branch(test, a, b) => Ok(Leave::Branch(copy_term(alloc, test)?, *a, *b)),
         Leave::Call {
             result,
             callee,
@@ -111,17 +69,17 @@ pub(crate) fn exit(alloc: Global, leave: &Leave) -> Result<Leave, NoMemory>
         } => Ok(Leave::Call {
             result: *result,
             callee: *callee,
-            values: terms(alloc, values)?,
+            values: copy_terms(alloc, values)?,
             back: *back,
         }),
-        Leave::Return(t) => Ok(Leave::Return(term(alloc, t)?)),
+        Leave::Return(t) => Ok(Leave::Return(copy_term(alloc, t)?)),
         Leave::Send {
             address,
             values,
             landings,
         } => Ok(Leave::Send {
-            address: term(alloc, address)?,
-            values: terms(alloc, values)?,
+            address: copy_term(alloc, address)?,
+            values: copy_terms(alloc, values)?,
             landings: numbers(alloc, landings)?,
         }),
         Leave::Stop => Ok(Leave::Stop),

@@ -2,13 +2,14 @@
 
 ghost use Rattle.std.specs.Prelude.{◌≡◌, ◌<◌, ◌^◌, ℕ, map, IfOk};
 ghost use Rattle.cfg_core.specs.Rules.{IsGraph};
+ghost use Rattle.cfg_core.specs.Shape.{ArmsAlone};
 ghost use Rattle.cfg_core.specs.Shown.{SameWalks, SameArrays};
 ghost use Rattle.cfg_core.specs.View as view;
 ghost use Rattle.cfg_core.specs.Weights.{TwoBlocksATurn, TurnsPayWork};
 ghost use Rattle.cfg_core.specs.Shows.{TableIs};
 ghost use Rattle.live_vars.specs.Marks.{AreLive};
 ghost use Rattle.phi_conv.specs.Joined as joined;
-ghost use Rattle.phi_conv.specs.Keeps.{ExitsKept, OwnArms, PassesNoMore, ShortJoined, SizesKept, TurnsPayMost};
+ghost use Rattle.phi_conv.specs.Keeps.{ExitsKept, NoCopyLive, PassesNoMore, ShortJoined, SizesKept, TurnsPayMost};
 
 use crate::arms::Join;
 use crate::copy::{arrays, exit, numbers, operations};
@@ -123,8 +124,9 @@ pub fn join_short(alloc: Global, graph: &Graph, live: &LiveSets) -> Result<Graph
     ensures short { IfOk result (λ made. ShortJoined (view.graph graph.now) (view.graph made)) }
     ensures sizes { IfOk result (λ made. SizesKept (view.graph graph.now) (view.graph made)) }
     ensures blocks { IfOk result (λ made. PassesNoMore (view.graph graph.now) (view.graph made)) }
-    ensures arms { IfOk result (λ made. OwnArms (view.graph graph.now) →
-        OwnArms (view.graph made)) }
+    ensures arms { IfOk result (λ made. ArmsAlone (view.graph graph.now) →
+        ArmsAlone (view.graph made)) }
+    ensures copies { IfOk result (λ made. NoCopyLive (view.graph graph.now) (view.graph made)) }
 
     // what turns pay for
     ensures turns { IfOk result (λ made. TwoBlocksATurn (view.graph graph.now) →

@@ -1,0 +1,88 @@
+-- In a closed part of a graph each block does what it did, and no more is live.
+use Rattle.std.proofs.Common.{ℕ, ◌≡◌, Bool, true, List, [], ◌∷◌, refl, sym, ap, ◌∙◌, subst, inl, inr, Some, None}
+use Rattle.cfg_core.specs.Graph.{Op, Exit, Goto, Branch, Call, Return, Send, Stop, Graph, Spot, spot_at, block_at}
+use Rattle.cfg_core.specs.Rules.{Leads, IsGraph}
+use Rattle.live_vars.specs.Live.{ExitReads, ExitWrites, Carries, WrittenIn, ReadsFirst, Live, reads, passes}
+use Rattle.call_gen.specs.Keeps.{NoSend, HasNoSend}
+use Rattle.call_gen.specs.Part.{before, number, name, part}
+use Rattle.call_gen.specs.Charged.{SameExit, DoesTheSame}
+use Rattle.call_gen.proofs.PartPlaces.{part_spot}
+use Rattle.call_gen.proofs.PartWalk as walks
+use Rattle.call_gen.proofs.PartWalk.{Closed}
+
+-- operations read the same first before another exit that reads no more
+other_exit : (ops : List Op) (e f : Exit) (x : ℕ) → (ExitReads e x → ExitReads f x) → ReadsFirst ops e x → ReadsFirst ops f x
+other_exit [] e f x h r = h r
+other_exit (op ∷ ops) e f x h (inl r) = inl r
+other_exit (op ∷ ops) e f x h (inr n) = inr (n.0, other_exit ops e f x h n.1)
+
+module _ (g : Graph) (keep : ℕ → Bool) (rules : IsGraph g) (C : Closed g keep) (no_send : HasNoSend g) where
+  abbrev h : Graph
+  h = part g keep
+
+  abbrev place : ℕ → ℕ
+  place = before keep
+
+  abbrev named : Exit → Exit
+  named = name g keep
+
+  block_is : (b : ℕ) → keep b ≡ true → spot_at h (place b) ≡ part_spot keep named (number g keep) (spot_at g b)
+  block_is = walks.block_is g keep rules C
+
+  exit_same : (x : Exit) → NoSend x → SameExit place x (named x)
+  exit_same (Goto c) n = refl
+  exit_same (Branch t c d) n = refl
+  exit_same (Call r f ts back) n = (number g keep f, refl)
+  exit_same (Return t) n = refl
+  exit_same (Send t ts ls) n = absurd n
+  exit_same Stop n = refl
+
+  reads_same : (y : Exit) (x : ℕ) → ExitReads (named y) x → ExitReads y x
+  reads_same (Goto c) x r = r
+  reads_same (Branch t c d) x r = r
+  reads_same (Call p f ts back) x r = r
+  reads_same (Return t) x r = r
+  reads_same (Send t ts ls) x r = absurd r
+  reads_same Stop x r = r
+
+  writes_same : (y : Exit) (x : ℕ) → ExitWrites y x → ExitWrites (named y) x
+  writes_same (Goto c) x w = w
+  writes_same (Branch t c d) x w = w
+  writes_same (Call (Some p) f ts back) x w = w
+  writes_same (Call None f ts back) x w = w
+  writes_same (Return t) x w = w
+  writes_same (Send t ts ls) x w = absurd w
+  writes_same Stop x w = w
+
+  carries_same : (y : Exit) (d : ℕ) → Carries (named y) d → (c : ℕ) × (d ≡ place c) × Carries y c × Leads y c
+  carries_same (Goto c) d k = (c, k, refl, refl)
+  carries_same (Branch t b c) d (inl k) = (b, k, inl refl, inl refl)
+  carries_same (Branch t b c) d (inr k) = (c, k, inr refl, inr refl)
+  carries_same (Call p f ts back) d k = (back, k, refl, refl)
+  carries_same (Return t) d k = absurd k
+  carries_same (Send t ts ls) d k = absurd k
+  carries_same Stop d k = absurd k
+
+  held : (k x : ℕ) → Live h k x → (b : ℕ) → keep b ≡ true → k ≡ place b → Live g b x
+  held k x (reads _ _ r) b kept e =
+      let is = ap (spot_at h) e ∙ block_is b kept in
+      reads b x (other_exit (block_at g b).ops (named (block_at g b).exit) (block_at g b).exit x (reads_same (block_at g b).exit x) (subst (λ (s : Spot). ReadsFirst s.block.ops s.block.exit x) is r))
+  held k x (passes _ d _ nw ne c l) b kept e =
+      let is = ap (spot_at h) e ∙ block_is b kept in
+      let to = carries_same (block_at g b).exit d (subst (λ (s : Spot). Carries s.block.exit d) is c) in
+      passes b to.0 x
+      (λ w. nw (subst (λ (s : Spot). WrittenIn s.block.ops x) (sym is) w))
+      (λ w. ne (subst (λ (s : Spot). ExitWrites s.block.exit x) (sym is) (writes_same (block_at g b).exit x w)))
+      to.2 (held d x l to.0 (C.edge b to.0 kept to.3) to.1)
+
+  -- a block that is kept does what it did
+  pub does_the_same : (b : ℕ) → keep b ≡ true → DoesTheSame g h place b
+  does_the_same b kept =
+      let e = block_is b kept in
+      record {
+        there = walks.block_there g keep rules C b kept;
+        vars = ap (λ (s : Spot). s.vars) e;
+        ops = ap (λ (s : Spot). s.block.ops) e;
+        exit = subst (λ (s : Spot). SameExit place (block_at g b).exit s.block.exit) (sym e) (exit_same (block_at g b).exit (no_send b));
+        held = λ x l. held (place b) x l b kept refl;
+      }

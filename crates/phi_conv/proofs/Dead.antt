@@ -1,0 +1,213 @@
+-- No copy is live at the start of a block of the joined graph.
+use Rattle.std.proofs.Common.{ℕ, ◌+◌, ◌≡◌, ◌<◌, ◌⊎◌, Bool, true, false, if◌then◌else◌, List, [], ◌∷◌, ◌++◌, length, map, Option, Some, None, refl, sym, ap, ◌∙◌, subst, inl, inr, arith}
+use Rattle.std.proofs.lemmas.Bool.{cases_eq}
+use Rattle.std.specs.List.{AllByRecursion, filter}
+use Rattle.cfg_core.specs.Graph.{Term, Number, Var, Cell, Flip, Not, Neg, Binary, Op, Assign, Store, Print, Read, Give, Take, Choose, Tick, TickBy, Exit, Goto, Branch, Call, Return, Send, Stop, Block, Graph, Spot, spots, spot_at, block_at}
+use Rattle.cfg_core.specs.Rules.{TermIn, OpIn, StaysIn, ExitIn, In, IsGraph}
+use Rattle.live_vars.specs.Live.{Mentions, OneMentions, OpReads, ExitReads, Carries, ReadsFirst, Live, reads, passes}
+use Rattle.live_vars.specs.Marks.{has}
+use Rattle.phi_conv.specs.Short.{Short, short}
+use Rattle.phi_conv.specs.Joined.{first_base, second_base, turns_of, is_among, copied, added, renamed, arm, written, written_by, is_still, keep_test, test_if, test_of, choice, choices, joining, joined_if, joined}
+use Rattle.phi_conv.specs.Keeps.{NoCopyLive}
+use Rattle.phi_conv.proofs.Picked.{added_other, written_low, filter_in}
+use Rattle.phi_conv.proofs.Placing.{joined_spot, spots_count, spot_is, block_is}
+use Rattle.phi_conv.proofs.Standing.{same_vars, numbers_at}
+use Rattle.phi_conv.proofs.Numbered.{first_in, second_in, test_in}
+use Rattle.phi_conv.proofs.Ruled.{keeps_rules}
+
+module _ (g : Graph) (v : ℕ) where
+  -- what is mentioned is a variable of the procedure
+  low : (t : Term) (x : ℕ) → TermIn g v t → Mentions t x → x < v
+  low (Number n) x i m = absurd m
+  low (Var y) x i m = omega (arith, i, m)
+  low (Cell a t) x i m = low t x i.1 m
+  low (Flip t) x i m = low t x i m
+  low (Not t) x i m = low t x i m
+  low (Neg t) x i m = low t x i m
+  low (Binary op a b) x i (inl m) = low a x i.0 m
+  low (Binary op a b) x i (inr m) = low b x i.1 m
+
+  all_low : (ts : List Term) (x : ℕ) → AllByRecursion (TermIn g v) ts → OneMentions ts x → x < v
+  all_low [] x i m = absurd m
+  all_low (t ∷ ts) x i (inl m) = low t x i.0 m
+  all_low (t ∷ ts) x i (inr m) = all_low ts x i.1 m
+
+  op_low : (op : Op) (x : ℕ) → OpIn g v op → OpReads op x → x < v
+  op_low (Assign y t) x i m = low t x i.1 m
+  op_low (Store a t u) x i (inl m) = low t x i.1 m
+  op_low (Store a t u) x i (inr m) = low u x i.2 m
+  op_low (Print t) x i m = low t x i m
+  op_low (Read y) x i m = absurd m
+  op_low (Give p y) x i m = absurd m
+  op_low (Take p t) x i m = low t x i.1 m
+  op_low (Choose y t a b) x i (inl m) = low t x i.1 m
+  op_low (Choose y t a b) x i (inr (inl m)) = low a x i.2 m
+  op_low (Choose y t a b) x i (inr (inr m)) = low b x i.3 m
+  op_low (Tick n) x i m = absurd m
+  op_low (TickBy t n k) x i m = low t x i m
+
+  exit_low : (home : ℕ) (y : Exit) (x : ℕ) → ExitIn g home v y → ExitReads y x → x < v
+  exit_low home (Goto b) x i m = absurd m
+  exit_low home (Branch t a b) x i m = low t x i.0 m
+  exit_low home (Call r f ts back) x i m = all_low ts x i.3 m
+  exit_low home (Return t) x i m = low t x i m
+  exit_low home (Send t ts ls) x i (inl m) = low t x i.0 m
+  exit_low home (Send t ts ls) x i (inr m) = all_low ts x i.1 m
+  exit_low home Stop x i m = absurd m
+
+  after : (ops more : List Op) (exit : Exit) (x : ℕ) → AllByRecursion (OpIn g v) ops → ReadsFirst (ops ++ more) exit x → (x < v) ⊎ ReadsFirst more exit x
+  after [] more exit x i h = inr h
+  after (op ∷ ops) more exit x i (inl r) = inl (op_low op x i.0 r)
+  after (op ∷ ops) more exit x i (inr n) = after ops more exit x i.1 n.1
+
+  whole : (home : ℕ) (ops : List Op) (exit : Exit) (x : ℕ) → AllByRecursion (OpIn g v) ops → ExitIn g home v exit → ReadsFirst ops exit x → x < v
+  whole home [] exit x i j h = exit_low home exit x j h
+  whole home (op ∷ ops) exit x i j (inl r) = op_low op x i.0 r
+  whole home (op ∷ ops) exit x i j (inr n) = whole home ops exit x i.1 j n.1
+
+  -- an arm reads a copy only after it has written it
+  module _ (base : ℕ) where
+    abbrev NotCopy : List ℕ → ℕ → Type 0
+    NotCopy done x = (y : ℕ) → is_among done y ≡ true → x ≡ base + y → ⊥
+
+    copied_low : (done : List ℕ) (y x : ℕ) → NotCopy done x → y < v → x ≡ copied base done y → x < v
+    copied_low done y x n lt e = by_test (is_among done y) refl e
+      where
+        by_test : (b : Bool) → is_among done y ≡ b → x ≡ (if b then base + y else y) → x < v
+        by_test true h q = absurd (n y h q)
+        by_test false h q = omega (arith, q, lt)
+
+    renamed_low : (done : List ℕ) (t : Term) (x : ℕ) → NotCopy done x → TermIn g v t → Mentions (renamed base done t) x → x < v
+    renamed_low done (Number k) x n i m = absurd m
+    renamed_low done (Var y) x n i m = copied_low done y x n i m
+    renamed_low done (Cell a t) x n i m = renamed_low done t x n i.1 m
+    renamed_low done (Flip t) x n i m = renamed_low done t x n i m
+    renamed_low done (Not t) x n i m = renamed_low done t x n i m
+    renamed_low done (Neg t) x n i m = renamed_low done t x n i m
+    renamed_low done (Binary op a b) x n i (inl m) = renamed_low done a x n i.0 m
+    renamed_low done (Binary op a b) x n i (inr m) = renamed_low done b x n i.1 m
+
+    one_more : (done : List ℕ) (y x : ℕ) → NotCopy done x → (x ≡ base + y → ⊥) → NotCopy (added done y) x
+    one_more done y x n ne z among e = elim (cases_eq z y) [
+      | inl same ↦ ne (e ∙ ap (λ k. base + k) same)
+      | inr other ↦ n z (sym (added_other done y z other) ∙ among) e
+    ]
+
+    arm_after : (done : List ℕ) (ops more : List Op) (exit : Exit) (x : ℕ) → NotCopy done x → AllByRecursion (OpIn g v) ops → ReadsFirst (arm base done ops ++ more) exit x → (x < v) ⊎ (NotCopy (written done ops) x × ReadsFirst more exit x)
+    arm_after done [] more exit x n i h = inr (n, h)
+    arm_after done (Assign y t ∷ ops) more exit x n i (inl m) = inl (renamed_low done t x n i.0.1 m)
+    arm_after done (Assign y t ∷ ops) more exit x n i (inr h) = arm_after (added done y) ops more exit x (one_more done y x n h.0) i.1 h.1
+    arm_after done (Store a t u ∷ ops) more exit x n i h = arm_after done ops more exit x n i.1 h
+    arm_after done (Print t ∷ ops) more exit x n i h = arm_after done ops more exit x n i.1 h
+    arm_after done (Read y ∷ ops) more exit x n i h = arm_after done ops more exit x n i.1 h
+    arm_after done (Give p y ∷ ops) more exit x n i h = arm_after done ops more exit x n i.1 h
+    arm_after done (Take p t ∷ ops) more exit x n i h = arm_after done ops more exit x n i.1 h
+    arm_after done (Choose y t a b ∷ ops) more exit x n i h = arm_after done ops more exit x n i.1 h
+    arm_after done (Tick k ∷ ops) more exit x n i h = arm_after done ops more exit x n i.1 h
+    arm_after done (TickBy t k m ∷ ops) more exit x n i h = arm_after done ops more exit x n i.1 h
+
+  -- what stands for a short branch
+  module _ (live : List (List ℕ)) (s : Short) (test : TermIn g v s.test) (first : AllByRecursion (OpIn g v) s.first) (second : AllByRecursion (OpIn g v) s.second) (j x : ℕ) where
+    abbrev still : Bool
+    still = is_still (written_by s) s.test
+
+    held_low : (c : Bool) → (c ≡ false → x ≡ v → ⊥) → Mentions (test_if c v s.test) x → x < v
+    held_low true n m = low s.test x test m
+    held_low false n m = absurd (n refl m)
+
+    kept_after : (c : Bool) (more : List Op) → ReadsFirst (keep_test c v s.test ++ more) (Goto j) x → (x < v) ⊎ ((c ≡ false → x ≡ v → ⊥) × ReadsFirst more (Goto j) x)
+    kept_after true more h = inr ((λ e. absurd (cc)), h)
+    kept_after false more (inl m) = inl (low s.test x test m)
+    kept_after false more (inr n) = inr ((λ e. n.0), n.1)
+
+    choices_low : (xs : List ℕ) → ((y : ℕ) → In y xs → y < v) → NotCopy (first_base v) (written [] s.first) x → NotCopy (second_base v) (written [] s.second) x → (still ≡ false → x ≡ v → ⊥) → ReadsFirst (map (choice v s) xs) (Goto j) x → x < v
+    choices_low [] few n m k h = absurd h
+    choices_low (y ∷ xs) few n m k (inl (inl r)) = held_low still k r
+    choices_low (y ∷ xs) few n m k (inl (inr (inl r))) = copied_low (first_base v) (written [] s.first) y x n (few y (inl refl)) r
+    choices_low (y ∷ xs) few n m k (inl (inr (inr r))) = copied_low (second_base v) (written [] s.second) y x m (few y (inl refl)) r
+    choices_low (y ∷ xs) few n m k (inr h) = choices_low xs (λ z i. few z (inr i)) n m k h.1
+
+    abbrev chosen : List ℕ
+    chosen = filter (has live s.join) (written_by s)
+
+    chosen_low : (y : ℕ) → In y chosen → y < v
+    chosen_low y i = written_low g v (written [] s.first) s.second second (written_low g v [] s.first first (λ z no. absurd no)) y (filter_in (has live s.join) (written_by s) y i).0
+
+    none_copied : (base : ℕ) → NotCopy base [] x
+    none_copied base y among e = absurd (cc)
+
+    abbrev others : List Op
+    others = arm (second_base v) [] s.second ++ choices live v s
+
+    pub joining_low : ReadsFirst (joining live v s) (Goto j) x → x < v
+    joining_low h = elim (kept_after still (TickBy (test_of v s) (turns_of s.first) (turns_of s.second) ∷ (arm (first_base v) [] s.first ++ others)) h) [
+      | inl lt ↦ lt
+      | inr p ↦ elim p.1 [
+        | inl m ↦ held_low still p.0 m
+        | inr q ↦ elim (arm_after (first_base v) [] s.first others (Goto j) x (none_copied (first_base v)) first q.1) [
+          | inl lt ↦ lt
+          | inr a ↦ elim (arm_after (second_base v) [] s.second (choices live v s) (Goto j) x (none_copied (second_base v)) second a.1) [
+            | inl lt ↦ lt
+            | inr b ↦ choices_low chosen chosen_low a.0 b.0 p.0 b.1
+          ]
+        ]
+      ]
+    ]
+
+-- an edge that keeps variables stays in its procedure
+carries_stays : (q : Graph) (home vars : ℕ) (y : Exit) (c : ℕ) → ExitIn q home vars y → Carries y c → StaysIn q home c
+carries_stays q home vars (Goto d) c i k = subst (StaysIn q home) (sym k) i
+carries_stays q home vars (Branch t a d) c i (inl k) = subst (StaysIn q home) (sym k) i.1
+carries_stays q home vars (Branch t a d) c i (inr k) = subst (StaysIn q home) (sym k) i.2
+carries_stays q home vars (Call r f ts back) c i k = subst (StaysIn q home) (sym k) i.4
+carries_stays q home vars (Return t) c i k = absurd k
+carries_stays q home vars (Send t ts ls) c i k = absurd k
+carries_stays q home vars Stop c i k = absurd k
+
+module _ (g : Graph) (live : List (List ℕ)) (rules : IsGraph g) where
+  abbrev h : Graph
+  h = joined g live
+
+  abbrev V : ℕ → ℕ
+  V b = (spot_at g b).vars
+
+  block_low : (b x : ℕ) → b < length (spots g) → ReadsFirst (block_at h b).ops (block_at h b).exit x → x < V b
+  block_low b x lt r = by_short (short g (block_at g b).exit) refl (subst (λ (y : Block). ReadsFirst y.ops y.exit x) (block_is g live b) r)
+    where
+      by_exit : (y : Exit) (s : Short) → (block_at g b).exit ≡ y → short g y ≡ Some s → ReadsFirst (joining live (V b) s) (Goto s.join) x → x < V b
+      by_exit (Branch t c d) s e f q =
+          let i = subst (λ (y : Exit). ExitIn g (spot_at g b).home (V b) y) e (numbers_at g rules b).exit in
+          joining_low g (V b) live s (test_in g rules b lt t c d s i f) (first_in g rules b lt t c d s i f) (second_in g rules b lt t c d s i f) s.join x q
+      by_exit (Goto c) s e f q = absurd (cc)
+      by_exit (Call n c ts back) s e f q = absurd (cc)
+      by_exit (Return t) s e f q = absurd (cc)
+      by_exit (Send t ts ls) s e f q = absurd (cc)
+      by_exit Stop s e f q = absurd (cc)
+
+      by_short : (found : Option Short) → short g (block_at g b).exit ≡ found → ReadsFirst (joined_if live (V b) (block_at g b) found).ops (joined_if live (V b) (block_at g b) found).exit x → x < V b
+      by_short None e q = whole g (V b) (spot_at g b).home (block_at g b).ops (block_at g b).exit x (numbers_at g rules b).ops (numbers_at g rules b).exit q
+      by_short (Some s) e q = elim (after g (V b) (block_at g b).ops (joining live (V b) s) (Goto s.join) x (numbers_at g rules b).ops q) [
+        | inl low_enough ↦ low_enough
+        | inr p ↦ by_exit (block_at g b).exit s refl e p
+      ]
+
+  R : IsGraph h
+  R = keeps_rules g live rules
+
+  on_edge : (b c : ℕ) → b < length (spots g) → Carries (block_at h b).exit c → (c < length (spots g)) × (V c ≡ V b)
+  on_edge b c lt k =
+      let i = carries_stays h (spot_at h b).home (spot_at h b).vars (block_at h b).exit c (numbers_at h R b).exit k in
+      let lc : c < length (spots g) = subst (λ n. c < n) (spots_count g live) i.0 in
+      let lb : b < length (spots h) = subst (λ n. b < n) (sym (spots_count g live)) lt in
+      let same : (spot_at h c).vars ≡ (spot_at h b).vars = same_vars h R b c lb i.0 i.1 in
+      let vb : (spot_at h b).vars ≡ (joined_spot g live (spot_at g b)).vars = ap (λ (s : Spot). s.vars) (spot_is g live b lt) in
+      let vc : (spot_at h c).vars ≡ (joined_spot g live (spot_at g c)).vars = ap (λ (s : Spot). s.vars) (spot_is g live c lc) in
+      (lc, omega (arith, same, vb, vc))
+
+  dead : (b x : ℕ) → b < length (spots g) → Live h b x → x < V b
+  dead b x lt (reads _ _ r) = block_low b x lt r
+  dead b x lt (passes _ c _ nw ne k l) = let e = on_edge b c lt k in let i = dead c x e.0 l in omega (arith, i, e.1)
+
+  -- what is live is a variable of the given graph's procedure
+  pub no_copy_live : NoCopyLive g h
+  no_copy_live = dead
