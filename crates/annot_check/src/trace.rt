@@ -379,6 +379,8 @@ fn depth_of(size: usize) -> u32
         15
     } else if size <= 1 << 20 {
         20
+    } else if size <= 1 << 25 {
+        25
     } else {
         30
     }
