@@ -15,3 +15,4 @@ pub mod Shape
 pub mod Facts
 pub mod Spread
 pub mod Breach
+pub mod Samples

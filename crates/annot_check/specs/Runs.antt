@@ -57,6 +57,10 @@ abbrev pub edge_list : List Pad → ℕ → List Instr → List Dest
 edge_list pads r [] = []
 edge_list pads r (i ∷ is) = sent_of pads r i i.op ++ edge_list pads r is
 
+-- two lists of instructions open the same on each edge
+abbrev pub SameEdges : List Instr → List Instr → Type 0
+SameEdges is js = (pads : List Pad) (r : ℕ) → edge_list pads r is ≡ edge_list pads r js
+
 -- the slots of the advances among instructions, the first of which is number k
 abbrev pub advance_list : List Instr → ℕ → List Dest
 advance_list [] k = []

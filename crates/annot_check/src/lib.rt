@@ -19,3 +19,6 @@ mod trace;
 pub use check::check_image;
 pub use fault::{Bad, CheckFault};
 pub use laws::{breaches_break, passed_tables_give_order, shape_is_of_blocks};
+
+#[cfg(test)]
+mod tests;

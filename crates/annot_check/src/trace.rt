@@ -4,12 +4,12 @@
 //! Every other edge into a block has to come with the same.
 
 ghost use Rattle.std.specs.Prelude.{◌≡◌, ◌+◌, ◌*◌, ◌^◌, ◌<◌, ◌≤◌, ℕ, [], suc, length, map, IfOk, OnOk, IfErr, IfSome, IfNone, true, false, not, Some, None};
-ghost use Rattle.ws_isa.specs.Image.{is_first, stops, first_number, IsBlock};
+ghost use Rattle.ws_isa.specs.Image.{block_at, is_first, stops, first_number, IsBlock};
 ghost use Rattle.ws_isa.specs.View as view;
 ghost use Rattle.image_walk.specs.Sound.{none_open, all_opened, Opens, AdvancesOpen, SlotRules};
 ghost use Rattle.ws_isa.specs.Formed.{Formed};
 ghost use Rattle.annot_check.specs.declared.trace.Entry.{Entry};
-ghost use Rattle.annot_check.specs.Runs.{advance_list};
+ghost use Rattle.annot_check.specs.Runs.{advance_list, SameEdges};
 ghost use Rattle.annot_check.specs.Open.{look, slots_in, nodes_of, bit, OpenOk, Moved};
 ghost use Rattle.annot_check.specs.Done.{EdgeDone, Ended, BlockDone};
 ghost use Rattle.annot_check.specs.Table.{image_of, trace_nodes, set_slots, entry_at, known, Arrives, Ready, Grows, Shut, Lands, Started, StartsOf};
@@ -17,7 +17,9 @@ ghost use Rattle.annot_check.specs.Faults.{SlotBreach};
 
 use crate::fault::{Bad, CheckFault};
 use crate::open::Open;
-use crate::read::{block, choices, edge_opens, pad_dests, starts_wave, stops_at, target_of};
+use crate::read::{
+    block, choices, edge_instrs, edge_opens, pad_dests, starts_wave, stops_at, target_of,
+};
 use crate::runs::{open_all, run_block};
 use crate::sets::Sets;
 use std::alloc::Global;
@@ -217,6 +219,7 @@ impl<'a> Trace<'a> {
         number: u32,
         choice: u32,
         base: u32,
+        senders: &[Instr],
     ) -> Result<(), CheckFault>
         requires ready { Ready self.now }
         requires shut { Shut self.now }
@@ -225,6 +228,8 @@ impl<'a> Trace<'a> {
         requires base { base < length (trace_nodes self.now) }
         requires path { Opens (image_of self.now) number (first_number (image_of self.now)
             (suc number)) (set_slots self.now base) }
+        requires senders { SameEdges (map view.instr senders.now)
+            (block_at (image_of self.now) number).instrs }
         ensures ready { OnOk result (Ready self.new) }
         ensures grows { OnOk result (Grows self.old self.new) }
         ensures shut { OnOk result (Shut self.new) }
@@ -233,7 +238,7 @@ impl<'a> Trace<'a> {
         ensures refused { IfErr result (λ fault. SlotBreach (image_of self.old) fault) }
     {
         self.held.set = base;
-        let list = edge_opens(alloc, self.image, number, choice)?;
+        let list = edge_opens(alloc, self.image, number, choice, senders)?;
         if let Some(slot) = open_all(&mut self.held, &list)? {
             return Err(CheckFault::Refused(Bad::Port {
                 instr: slot.instr,
@@ -259,8 +264,10 @@ impl<'a> Trace<'a> {
         ensures refused { IfErr result (λ fault. SlotBreach (image_of self.old) fault) }
     {
         let base = self.held.set;
+        let image = self.image;
+        let senders = edge_instrs(alloc, block(image, number).instrs.as_slice())?;
         for choice in 0..choices(self.image, number) {
-            self.leave_by(alloc, number, choice, base)?;
+            self.leave_by(alloc, number, choice, base, senders.as_slice())?;
         }
         Ok(())
     }
@@ -372,6 +379,8 @@ fn depth_of(size: usize) -> u32
         15
     } else if size <= 1 << 20 {
         20
+    } else if size <= 1 << 25 {
+        25
     } else {
         30
     }
