@@ -9,6 +9,7 @@ use Rattle.wave_link.specs.declared.links.Place.{Place}
 use Rattle.wave_link.specs.Notes.{writer_next}
 use Rattle.wave_link.specs.Layout.{with_nop, nops_from, count_up, numbers_from, Tables}
 use Rattle.wave_link.specs.Grown.{number_in, note_for, seq_next, grown_instr, grown_instrs, nop_instr, nop_at, no_place, grown_block, grown_from, added_in, annotated}
+pub use Rattle.wave_link.specs.Passed.{adds}
 use Rattle.wave_link.proofs.Parts.{tables_in, places_in}
 use Rattle.wave_link.proofs.Edges.{count_kept}
 
@@ -152,11 +153,6 @@ first_there t ps added b k c (x ∷ xs) (suc n) l h =
     sums a o f c = omega arith
 
 -- The numbers of a draft.
-
--- block b gets a no-op
-unfoldable pub adds : Image → ℕ → Bool
-adds draft zero = false
-adds draft (suc n) = get_or (added_in draft.blocks) n false
 
 -- how many no-ops are added before block b
 unfoldable pub shift : Image → ℕ → ℕ
