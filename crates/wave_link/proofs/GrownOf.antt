@@ -26,7 +26,7 @@ use Rattle.wave_link.proofs.GrownEdges.{gather, gather_none, gather_one, all_ali
 use Rattle.wave_link.proofs.GrownTriggers.{trigger, whole, before, own, trigger_case, extra_is, added_if, not_added_if, now_grown, start_grown, extras_at, edge_grown, extras_steer, extras_else}
 use Rattle.wave_link.proofs.WalksForm.{ResultsLike, choice_at, WalksAlike}
 
-steer_is : (op : Op) → is_steer_op op ≡ true → op ≡ Steer
+pub steer_is : (op : Op) → is_steer_op op ≡ true → op ≡ Steer
 steer_is Steer e = refl
 steer_is _ e = absurd (cc)
 
