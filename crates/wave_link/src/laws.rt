@@ -3,11 +3,13 @@
 ghost use Rattle.std.specs.Prelude.{◌≡◌, ◌+◌, ◌≤◌, ℕ, true, length};
 ghost use Rattle.ws_words.specs.Outside.{World};
 ghost use Rattle.ws_isa.specs.Image.{Image};
+ghost use Rattle.ws_isa.specs.Formed.{Suited, Formed};
 ghost use Rattle.image_walk.specs.Open.{OpenToNotes};
 ghost use Rattle.image_walk.specs.Sound.{ShapeRules, MoreShape, SlotRules};
 ghost use Rattle.image_walk.specs.Walk.{walk, has_ended, CostAtMost};
 ghost use Rattle.wave_link.specs.Grown.{annotated};
 ghost use Rattle.wave_link.specs.Passed.{blocks_left, Follows};
+ghost use Rattle.wave_link.specs.Room.{LeavesRoom};
 
 /// The image keeps the rules on slots.
 pub fn images_keep_slots()
@@ -18,6 +20,14 @@ pub fn images_keep_slots()
 pub fn images_keep_shape()
     ensures shape { (draft : Image) → OpenToNotes draft → ShapeRules (annotated draft) }
     ensures more_shape { (draft : Image) → OpenToNotes draft → MoreShape (annotated draft) }
+{}
+
+/// What the image refers to is there, and its lists suit. It is within the limits if the draft leaves
+/// room.
+pub fn images_are_formed()
+    ensures suited { (draft : Image) → OpenToNotes draft → Suited (annotated draft) }
+    ensures formed { (draft : Image) → OpenToNotes draft → LeavesRoom draft →
+        Formed (annotated draft) }
 {}
 
 /// The image's walk does what the draft's does, and ends where it ends. It fires one no-op more for
