@@ -1,27 +1,27 @@
 -- Paths of a draft with no-ops are paths of the draft.
 use Rattle.std.proofs.Common.{ℕ, zero, suc, ◌+◌, ◌-◌, ◌≡◌, ◌<◌, ◌≤◌, ◌⊎◌, Bool, true, false, cond, List, [], ◌∷◌, ◌++◌, Option, Some, None, refl, sym, ap, ap₂, ◌∙◌, inl, inr, subst, arith, eq-eqb, ne_eqb, eqb, ltb, ◌&&◌}
 use Rattle.std.proofs.Math.Path.{fun_ext}
-use Rattle.std.proofs.lemmas.Bool.{cases_Bool, cases_eq, cases_lt, lt-ltb, le-ltb, both_ways}
+use Rattle.std.proofs.lemmas.Bool.{cases_eq, cases_lt, lt-ltb, le-ltb}
 use Rattle.ws_isa.specs.declared.instr.Dest.{Dest}
 use Rattle.ws_isa.specs.Image.{Block, Image, first_of, first_number, ports, is_advance, stops, target, now_dests, is_first, start_dests, IsIn, IsBlock}
 use Rattle.image_walk.specs.Sound.{Slots, none_open, opened, all_opened, Fresh, closed, HasDest, opens_at, Opens, begin, turn, edge, AdvancesOpen, SlotRules}
-use Rattle.wave_link.proofs.GrownForm.{Trigger, Whole, Own, Before, renamed, nop_slot, own_slot, before_slot, extra, is_pending, at_origin, lift, Grown}
+use Rattle.wave_link.proofs.GrownForm.{Trigger, Whole, Own, Before, renamed, nop_slot, own_slot, before_slot, extra, is_pending, lift, Grown}
 
 all_append : (xs bs : List Dest) (o : Slots) → all_opened (xs ++ bs) o ≡ all_opened bs (all_opened xs o)
 all_append [] bs o = refl
 all_append (a ∷ xs) bs o = all_append xs bs (opened a o)
 
-fresh_append : (xs bs : List Dest) (o : Slots) → Fresh xs o → Fresh bs (all_opened xs o) → Fresh (xs ++ bs) o
+pub fresh_append : (xs bs : List Dest) (o : Slots) → Fresh xs o → Fresh bs (all_opened xs o) → Fresh (xs ++ bs) o
 fresh_append [] bs o f g = g
 fresh_append (a ∷ xs) bs o f g = (f.0, fresh_append xs bs (opened a o) f.1 g)
 
-opened_here : (d : Dest) (o : Slots) (j q : ℕ) → d.instr ≡ j → d.port ≡ q → opened d o j q ≡ true
+pub opened_here : (d : Dest) (o : Slots) (j q : ℕ) → d.instr ≡ j → d.port ≡ q → opened d o j q ≡ true
 opened_here d o j q e f = rw (eq-eqb d.instr j e, eq-eqb d.port q f) refl
 
 opened_there : (d : Dest) (o : Slots) (j q : ℕ) → (d.instr ≡ j → ⊥) → opened d o j q ≡ o j q
 opened_there d o j q n = rw (ne_eqb d.instr j n) refl
 
-swap : (c d : Dest) (o : Slots) → opened c (opened d o) ≡ opened d (opened c o)
+pub swap : (c d : Dest) (o : Slots) → opened c (opened d o) ≡ opened d (opened c o)
 swap c d o = fun_ext (λ j. fun_ext (λ q. point j q (eqb c.instr j && eqb c.port q) (eqb d.instr j && eqb d.port q)))
   where
     point : (j q : ℕ) (a b : Bool) → cond a true (cond b true (o j q)) ≡ cond b true (cond a true (o j q))
@@ -30,7 +30,7 @@ swap c d o = fun_ext (λ j. fun_ext (λ q. point j q (eqb c.instr j && eqb c.por
     point j q false true = refl
     point j q false false = refl
 
-all_swap : (ds : List Dest) (c : Dest) (o : Slots) → all_opened ds (opened c o) ≡ opened c (all_opened ds o)
+pub all_swap : (ds : List Dest) (c : Dest) (o : Slots) → all_opened ds (opened c o) ≡ opened c (all_opened ds o)
 all_swap [] c o = refl
 all_swap (d ∷ ds) c o = ap (all_opened ds) (swap d c o) ∙ all_swap ds c (opened d o)
 

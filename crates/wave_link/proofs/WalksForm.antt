@@ -29,7 +29,7 @@ pub record WalksAlike (draft image : Image) (g : Grown draft image) : Type 0 whe
   pub choices : (b : ℕ) (new old : ℕ → ℕ) → IsBlock draft b → ResultsLike g.origin new old → choice_at image b new ≡ choice_at draft b old
   pub extras : ℕ → ℕ → ℕ → List Dest
   pub each : (b r k : ℕ) → IsBlock draft b → IsIn draft b k → edge_dests image b r (k + g.shift b) ≡ renamed g.new (edge_dests draft b r k) ++ extras b r k
-  pub extras_none : (b r k j q : ℕ) → HasDest (extras b r k) j q → g.origin j ≡ None
+  pub extras_none : (b r k j q : ℕ) → IsBlock draft b → IsIn draft b k → HasDest (extras b r k) j q → g.origin j ≡ None
   pub each_real : (b r k j q : ℕ) → IsBlock draft b → IsIn draft b k → HasDest (edge_dests draft b r k) j q → g.origin (g.new j) ≡ Some j
   pub nop_edge : (b r : ℕ) → IsBlock draft b → extra (g.trigger b) ≡ 1 → edge_dests image b r (g.nop b) ≡ []
   pub nop_op : (b : ℕ) → IsBlock draft b → extra (g.trigger b) ≡ 1 → op_at image (g.nop b) ≡ Nop

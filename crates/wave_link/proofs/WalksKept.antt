@@ -7,11 +7,11 @@ use Rattle.ws_isa.specs.declared.instr.Op.{Op}
 use Rattle.ws_isa.specs.declared.instr.Op.TheVariants.{Nop}
 use Rattle.ws_isa.specs.Image.{Image, Token, or_else, first_number, ports, is_memory, is_memory_op, is_advance, now_dests, edge_dests, size_of, stops, target, is_first, start_dests, result_of, result_of_op, answer, answer_op, after, after_op, tokens_to, IsIn, IsBlock}
 use Rattle.image_walk.specs.Sound.{HasDest}
-use Rattle.image_walk.specs.Walk.{Ports, no_ports, with_token, with_tokens, gather, Inst, Pos, enter, wave_of, operands_at, result_at, fire, choice, edge_tokens, leave, is_within, step, start_tokens, opening, opening_memory, pos, mem, fires_from, fires, with_inst, walk, has_ended}
+use Rattle.image_walk.specs.Walk.{Ports, no_ports, with_token, with_tokens, gather, Inst, Pos, enter, wave_of, operands_at, result_at, fire, choice, edge_tokens, leave, is_within, step, start_tokens, opening, pos, mem, fires_from, fires, with_inst, walk, has_ended}
 use Rattle.image_walk.proofs.Slots.{with_tokens_append}
 use Rattle.wave_link.proofs.GrownForm.{Grown, renamed, extra, nop_slot, own_slot, Trigger, Whole, Own, Before}
 use Rattle.wave_link.proofs.SlotsKept.{step_number, extra_cases}
-use Rattle.wave_link.proofs.WalksForm.{SentLike, ResultsLike, op_at, choice_at, WalksAlike, StandsFor, AtEnd}
+use Rattle.wave_link.proofs.WalksForm.{SentLike, op_at, choice_at, WalksAlike, StandsFor, AtEnd}
 
 -- a value is sent to destinations under wave w
 abbrev pub with_dest : ℕ → ℕ → Dest → Ports → Ports
@@ -212,7 +212,7 @@ module _ (draft image : Image) (g : Grown draft image) where
           let one : SentLike g.origin a' b' =
               subst (λ (x : Ports). SentLike g.origin x b') (sym (ap₂ (λ (x : ℕ) (ds : List Dest). with_dests old.wave x ds a) v (like.each old.block r k s.here i)))
               (like_both old.wave (old.results k) (edge_dests draft old.block r k) (like.extras old.block r k) a b
-              (λ j q x. like.each_real old.block r k j q s.here i x) (λ j q x. like.extras_none old.block r k j q x) like_ab) in
+              (λ j q x. like.each_real old.block r k j q s.here i x) (λ j q x. like.extras_none old.block r k j q s.here i x) like_ab) in
           let e : suc (k + g.shift old.block) ≡ suc k + g.shift old.block = omega arith in
           let rest : SentLike g.origin (edge_sent image old.block r old.wave new.results (suc k + g.shift old.block) n a') (edge_sent draft old.block r old.wave old.results (suc k) n b') =
               edge_alike r (suc k) n a' b' (omega arith) (omega arith) one in
@@ -324,7 +324,7 @@ module _ (draft image : Image) (g : Grown draft image) where
     count_leave i p e l = rw (e, le-ltb p.next (first_number i (suc p.block)) l) refl
 
     -- the no-op that a step of the draft passes
-    pub passes_at : Pos → ℕ
+    unfoldable pub passes_at : Pos → ℕ
     passes_at p = cond p.over 0 (cond (is_within draft p) 0 (extra (g.trigger p.block)))
 
     passes_over : (p : Pos) → p.over ≡ true → passes_at p ≡ 0
@@ -399,7 +399,7 @@ module _ (draft image : Image) (g : Grown draft image) where
             }
 
     -- the no-ops that t steps pass
-    pub passes_in : ℕ → Pos → ℕ
+    unfoldable pub passes_in : ℕ → Pos → ℕ
     passes_in zero p = 0
     passes_in (suc t) p = passes_in t p + passes_at (ahead draft t p)
 
@@ -436,7 +436,7 @@ module _ (draft image : Image) (g : Grown draft image) where
       same_memory = like.memory world;
     }
 
-    pos_is : (i : Image) (world : World) (t : ℕ) → pos i world t ≡ ahead i t (opening i world)
+    pub pos_is : (i : Image) (world : World) (t : ℕ) → pos i world t ≡ ahead i t (opening i world)
     unfolding pos
     pos_is i world zero = refl
     pos_is i world (suc t) = ap (step i) (pos_is i world t)
