@@ -1,0 +1,19 @@
+//! Laws of the notes that an image gets.
+
+ghost use Rattle.image_walk.specs.Open.{OpenToNotes};
+ghost use Rattle.image_walk.specs.Sound.{LinkRules, RippleRules};
+ghost use Rattle.wave_link.specs.Grown.{annotated};
+ghost use Rattle.wave_link.specs.Ripples.{ExactRipples};
+ghost use Rattle.ws_isa.specs.Image.{Image};
+
+/// A law: the image of a draft that is open to notes keeps the rules on links and ripples.
+pub fn links_and_ripples_are_sound()
+    ensures links { (draft : Image) → OpenToNotes draft → LinkRules (annotated draft) }
+    ensures ripples { (draft : Image) → OpenToNotes draft → RippleRules (annotated draft) }
+{}
+
+/// A law: the ripple of an operation that doesn't write is exactly the largest sequence number of
+/// the writing operations that may precede it in its wave, or 0.
+pub fn ripples_are_exact()
+    ensures { (draft : Image) → OpenToNotes draft → ExactRipples (annotated draft) }
+{}
