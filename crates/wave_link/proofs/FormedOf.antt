@@ -8,7 +8,7 @@ use Rattle.ws_isa.specs.declared.instr.Link.{Link}
 use Rattle.ws_isa.specs.declared.instr.Link.TheVariants.{Unknown, Nothing, Is}
 use Rattle.ws_isa.specs.declared.instr.Dest.{Dest}
 use Rattle.ws_isa.specs.Image.{Instr, Exit, Goto, Branch, Landings, Stop, Pad, Block, Image, In, no_instr, no_block, nth, or_else, flat, instr_at, block_at, first_number, ports, is_memory_op, is_writing_op, is_giving_op, IsIn, IsBlock, IsInstr}
-use Rattle.ws_isa.specs.Formed.{most_instrs, most_dests, most_pads, most_landings, sequence_limit, ArraysFormed, DestsIn, OpIn, ExitIn, References, DestsSuit, OthersSuit, ListsSuit, SomeLanding, PadsRise, RiseFrom, NoteSuits, LinkWithin, NoteWithin, ExitWithin, InstrWithin, BlockWithin, Suited, Formed}
+use Rattle.ws_isa.specs.Formed.{SendWithin, ConstWithin, most_instrs, most_dests, most_pads, most_landings, sequence_limit, ArraysFormed, DestsIn, OpIn, ExitIn, References, DestsSuit, OthersSuit, ListsSuit, SomeLanding, PadsRise, RiseFrom, NoteSuits, LinkWithin, NoteWithin, ExitWithin, InstrWithin, BlockWithin, Suited, Formed}
 use Rattle.image_walk.specs.Sound.{HasDest, ShapeRules}
 use Rattle.image_walk.specs.Open.{OpenToNotes}
 use Rattle.image_walk.proofs.Blocks.{number_last}
@@ -244,6 +244,28 @@ all_members : {A : Type 0} (P : A → Type 0) (xs : List A) → ((x : A) → In 
 all_members P [] h = tt
 all_members P (x ∷ xs) h = (h x (inl refl), all_members P xs (λ y i. h y (inr i)))
 
+member_of : {A : Type 0} (P : A → Type 0) (xs : List A) (x : A) → AllByRecursion P xs → In x xs → P x
+member_of P [] x h i = absurd i
+member_of P (y ∷ xs) x h (inl e) = subst P (sym e) h.0
+member_of P (y ∷ xs) x h (inr i) = member_of P xs x h.1 i
+
+send_within : (op : Op) → ((p : ℕ) → op ≡ Send p → p < most_pads) → SendWithin op
+send_within (Send k) h = h k refl
+send_within (Const n) h = tt
+send_within (Alu o) h = tt
+send_within Merge h = tt
+send_within Advance h = tt
+send_within Steer h = tt
+send_within Phi h = tt
+send_within (Load a) h = tt
+send_within (Store a) h = tt
+send_within Input h = tt
+send_within Output h = tt
+send_within (Give p) h = tt
+send_within (Take p) h = tt
+send_within Nop h = tt
+send_within Halt h = tt
+
 -- Exits.
 
 landing_on : (t : Tables) (x : Exit) → SomeLanding x → SomeLanding (grown_exit t x)
@@ -433,8 +455,8 @@ module _ (draft : Image) (ok : OpenToNotes draft) where
     instr_old b k h i = subst InstrWithin (sym (instr_is_grown draft b k h i)) (record {
       dests = omega (arith, list_length (tables_in draft.blocks) (instr_at draft k).dests (get_or (tables_in draft.blocks).now k 0), room.dests b k h i);
       others = omega (arith, list_length (tables_in draft.blocks) (instr_at draft k).others (get_or (tables_in draft.blocks).other k 0), room.others b k h i);
-      const = room.consts b k h i;
-      send = room.sends b k h i;
+      const = instr_of_all (λ i. ConstWithin i.op) draft k room.consts (is_instr draft b k h i);
+      send = send_within (instr_at draft k).op (λ p e. room.sends b k p h i e);
       note = note_old b k h i;
     })
 
@@ -447,7 +469,8 @@ module _ (draft : Image) (ok : OpenToNotes draft) where
       pads = subst (AllByRecursion (λ p. (p.number < most_pads) × (length p.dests ≤ most_dests))) (sym (pads_kept draft b))
           (all_map (λ p. (p.number < most_pads) × (length p.dests ≤ most_dests)) (grown_pad (tables_in draft.blocks)) (block_at draft b).pads
           (all_members (λ p. (p.number < most_pads) × (length (renamed (tables_in draft.blocks) p.dests) ≤ most_dests)) (block_at draft b).pads
-          (λ p i. ((room.pads b p h i).0, omega (arith, (room.pads b p h i).1, renamed_length (tables_in draft.blocks) p.dests)))));
+          (λ p i. (member_of (λ p. p.number < most_pads) (block_at draft b).pads p (block_of_all (λ b. AllByRecursion (λ p. p.number < most_pads) b.pads) draft b room.numbers h) i,
+            omega (arith, room.pads b p h i, renamed_length (tables_in draft.blocks) p.dests)))));
       exit = subst ExitWithin (sym (exit_kept draft b)) (exit_within (tables_in draft.blocks) (block_at draft b).exit (λ s ls e. room.landings b s ls h e));
     }
 
@@ -460,6 +483,6 @@ module _ (draft : Image) (ok : OpenToNotes draft) where
       blocks = all_blocks BlockWithin (annotated draft) (λ b h. block_within b (block_back draft b h));
       suited = suited;
       waves = (more_shape draft ok).waves;
-      pads = all_blocks (λ b. PadsRise b.pads) (annotated draft) (λ b h. subst PadsRise (sym (pads_kept draft b)) (pads_rise (tables_in draft.blocks) (block_at draft b).pads (room.rise b (block_back draft b h))));
+      pads = all_blocks (λ b. PadsRise b.pads) (annotated draft) (λ b h. subst PadsRise (sym (pads_kept draft b)) (pads_rise (tables_in draft.blocks) (block_at draft b).pads (block_of_all (λ b. PadsRise b.pads) draft b room.rise (block_back draft b h))));
       notes = all_of (λ i. NoteSuits i.op i.note) (flat (annotated draft).blocks) (λ k x e. (all_good draft k x e).suits);
     }

@@ -1,7 +1,9 @@
 -- When a draft leaves room for what is added to it.
 use Rattle.std.specs.Prelude.{ℕ, ◌+◌, ◌≡◌, ◌<◌, ◌≤◌, List, length}
+use Rattle.std.specs.List.{AllByRecursion}
+use Rattle.ws_isa.specs.declared.instr.Op.TheVariants.{Send}
 use Rattle.ws_isa.specs.Image.{Landings, Pad, Image, In, flat, instr_at, block_at, IsIn, IsBlock}
-use Rattle.ws_isa.specs.Formed.{most_instrs, most_blocks, most_waves, most_dests, most_pads, most_landings, ArraysFormed, ConstWithin, SendWithin, PadsRise}
+use Rattle.ws_isa.specs.Formed.{most_instrs, most_blocks, most_waves, most_dests, most_pads, most_landings, ArraysFormed, ConstWithin, PadsRise}
 
 -- It is within the limits, with room for one more instruction in each block and for one more
 -- destination in each list of an instruction.
@@ -14,10 +16,12 @@ pub record LeavesRoom (draft : Image) : Type 0 where
       length (instr_at draft k).dests < most_dests
   pub others : (b k : ℕ) → IsBlock draft b → IsIn draft b k →
       length (instr_at draft k).others < most_dests
-  pub consts : (b k : ℕ) → IsBlock draft b → IsIn draft b k → ConstWithin (instr_at draft k).op
-  pub sends : (b k : ℕ) → IsBlock draft b → IsIn draft b k → SendWithin (instr_at draft k).op
+  pub consts : AllByRecursion (λ i. ConstWithin i.op) (flat draft.blocks)
+  pub sends : (b k p : ℕ) → IsBlock draft b → IsIn draft b k →
+      (instr_at draft k).op ≡ Send p → p < most_pads
+  pub numbers : AllByRecursion (λ b. AllByRecursion (λ p. p.number < most_pads) b.pads) draft.blocks
   pub pads : (b : ℕ) (p : Pad) → IsBlock draft b → In p (block_at draft b).pads →
-      (p.number < most_pads) × (length p.dests ≤ most_dests)
-  pub rise : (b : ℕ) → IsBlock draft b → PadsRise (block_at draft b).pads
+      length p.dests ≤ most_dests
+  pub rise : AllByRecursion (λ b. PadsRise b.pads) draft.blocks
   pub landings : (b s : ℕ) (ls : List ℕ) → IsBlock draft b →
       (block_at draft b).exit ≡ Landings s ls → length ls ≤ most_landings
