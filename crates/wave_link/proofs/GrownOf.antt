@@ -138,7 +138,7 @@ module _ (draft : Image) (ok : OpenToNotes draft) where
   real j h = origin_new draft j h
 
   -- a block without a giving instruction is entered from a steer
-  entered : (b : ℕ) → IsBlock draft b → giver draft b ≡ 0 → EnteredBySteer draft b
+  pub entered : (b : ℕ) → IsBlock draft b → giver draft b ≡ 0 → EnteredBySteer draft b
   unfolding is_giving
   entered b h g = elim (ok.givers b h) [
     | inr e ↦ e
@@ -148,7 +148,7 @@ module _ (draft : Image) (ok : OpenToNotes draft) where
     ]
   ]
 
-  case_before : (b : ℕ) → trigger draft b ≡ Before → giver draft b ≡ 0
+  pub case_before : (b : ℕ) → trigger draft b ≡ Before → giver draft b ≡ 0
   case_before b t = elim (trigger_case draft b) [
     | whole a e ↦ absurd (cc)
     | before a g e ↦ g

@@ -167,7 +167,7 @@ dests_grown draft b k h i = ap (λ (x : Instr). x.dests) (instr_is_grown draft b
 pub others_grown : (draft : Image) (b k : ℕ) → IsBlock draft b → IsIn draft b k → (instr_at (annotated draft) (k + shift draft b)).others ≡ renamed (new draft) (instr_at draft k).others ++ extra_dest (get_or (tables_in draft.blocks).other k 0)
 others_grown draft b k h i = ap (λ (x : Instr). x.others) (instr_is_grown draft b k h i) ∙ ap (λ (ds : List Dest). ds ++ extra_dest (get_or (tables_in draft.blocks).other k 0)) (same_renamed draft (instr_at draft k).others)
 
-one_extra : (n j q : ℕ) → HasDest (extra_dest n) j q → (n ≡ j)
+pub one_extra : (n j q : ℕ) → HasDest (extra_dest n) j q → (n ≡ j)
 one_extra n j q = go (eqb n 0)
   where
     go : (v : Bool) → HasDest (cond v [] (record { instr = n; port = 0 } ∷ [])) j q → n ≡ j
@@ -175,7 +175,7 @@ one_extra n j q = go (eqb n 0)
     go false (inl x) = x.0
     go false (inr x) = absurd x
 
-no_extra : (n j q : ℕ) → n ≡ 0 → HasDest (extra_dest n) j q → ⊥
+pub no_extra : (n j q : ℕ) → n ≡ 0 → HasDest (extra_dest n) j q → ⊥
 no_extra n j q e x = subst (λ (m : ℕ). HasDest (extra_dest m) j q) e x
 
 module _ (draft : Image) (ok : OpenToNotes draft) where

@@ -8,7 +8,6 @@ use Rattle.image_walk.specs.Sound.{SlotRules}
 use Rattle.image_walk.proofs.Ending.{walk_up}
 use Rattle.wave_link.specs.Grown.{annotated}
 use Rattle.wave_link.specs.Passed.{where_left, blocks_left, added_left, FollowsFor, WalksFor}
-use Rattle.wave_link.proofs.Numbers.{one_if}
 use Rattle.wave_link.proofs.GrownOf.{sizes}
 use Rattle.wave_link.proofs.GrownForm.{extra}
 use Rattle.wave_link.proofs.SlotsKept.{slot_rules, extra_cases}

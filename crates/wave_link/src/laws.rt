@@ -9,6 +9,7 @@ ghost use Rattle.wave_link.specs.Grown.{annotated};
 ghost use Rattle.wave_link.specs.Kept.{KeepsBlocks};
 ghost use Rattle.wave_link.specs.Passed.{WalksFor};
 ghost use Rattle.wave_link.specs.Room.{LeavesRoom};
+ghost use Rattle.wave_link.specs.Triggers.{TriggeredNear};
 
 /// The image of any draft has its arrays, blocks and edges, and its instructions but for what is
 /// added.
@@ -39,4 +40,9 @@ pub fn images_are_formed()
 pub fn images_walk_alike()
     ensures { (draft : Image) (world : World) → OpenToNotes draft →
         WalksFor draft (annotated draft) world }
+{}
+
+/// The token of an added no-op comes from its block, or from a steer of the one block before.
+pub fn nops_are_triggered_near()
+    ensures { (draft : Image) → OpenToNotes draft → TriggeredNear draft (annotated draft) }
 {}
