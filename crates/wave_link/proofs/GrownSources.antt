@@ -35,6 +35,7 @@ instr_cases image (suc k) = go (cases_lt k (length (flat image.blocks)))
     past [] n l = refl
     past (x ∷ xs) zero l = absurd (omega arith)
     past (x ∷ xs) (suc n) l = past xs n (omega arith)
+
     go : (k < length (flat image.blocks)) ⊎ (length (flat image.blocks) ≤ k) → IsInstr image (suc k) ⊎ (or_else (nth (flat image.blocks) k) no_instr ≡ no_instr)
     go (inl l) = inl (omega arith, l)
     go (inr l) = inr (past (flat image.blocks) k l)
@@ -124,6 +125,7 @@ module _ (draft : Image) (ok : OpenToNotes draft) where
             | before a g e ↦ a
             | own a n e ↦ a
           ]
+
       go : (t : Trigger) → trigger draft x ≡ t → HasDest (before_slot t (nop draft x)) (nop draft b) q → IsSteerBefore (annotated draft) b (k + shift draft c)
       go Whole f y = absurd y
       go (Own u) f y = absurd y
@@ -195,15 +197,20 @@ module _ (draft : Image) (ok : OpenToNotes draft) where
     | inl n ↦ absurd (cc (n.none y.instr y.inside, ap is_steer_op y.steers))
     | inr o ↦ (let k : ℕ = steer_in draft y.before in
         let op : (instr_at draft k).op ≡ Steer = steer_is (instr_at draft k).op o.is_one in
-        let e = shape.steers y.before k y.block o.inside op in
-        (k + shift draft y.before, (0, elim (two e.1 e.2 b y.place (ap (λ (z : Exit). nth (edges_of z) y.place) (sym e.3) ∙ y.edge.is)) [
-          | inl f ↦ inl (subst (λ (ds : List Dest). HasDest ds (nop draft b) 0) (sym (dests_grown draft y.before k y.block o.inside))
-              (has_append_right (by_number (new draft) (instr_at draft k).dests) (extra_dest (get_or (tables_in draft.blocks).now k 0)) (nop draft b) 0
-              (subst (λ (l : ℕ). HasDest (extra_dest l) (nop draft b) 0) (ap (steered_by draft) (sym f) ∙ sym (now_steer draft y.before k e.0 e.1 e.2 y.block o.inside e.3 refl)) (steered_number b h t))))
-          | inr f ↦ inr (subst (λ (ds : List Dest). HasDest ds (nop draft b) 0) (sym (others_grown draft y.before k y.block o.inside))
-              (has_append_right (by_number (new draft) (instr_at draft k).others) (extra_dest (get_or (tables_in draft.blocks).other k 0)) (nop draft b) 0
-              (subst (λ (l : ℕ). HasDest (extra_dest l) (nop draft b) 0) (ap (steered_by draft) (sym f) ∙ sym (other_steer draft y.before k e.0 e.1 e.2 y.block o.inside e.3 refl)) (steered_number b h t))))
-        ])))
+        let e = shape.steers y.before k y.block o.inside op in (
+          k + shift draft y.before,
+          (
+            0,
+            elim (two e.1 e.2 b y.place (ap (λ (z : Exit). nth (edges_of z) y.place) (sym e.3) ∙ y.edge.is)) [
+              | inl f ↦ inl (subst (λ (ds : List Dest). HasDest ds (nop draft b) 0) (sym (dests_grown draft y.before k y.block o.inside))
+                  (has_append_right (by_number (new draft) (instr_at draft k).dests) (extra_dest (get_or (tables_in draft.blocks).now k 0)) (nop draft b) 0
+                  (subst (λ (l : ℕ). HasDest (extra_dest l) (nop draft b) 0) (ap (steered_by draft) (sym f) ∙ sym (now_steer draft y.before k e.0 e.1 e.2 y.block o.inside e.3 refl)) (steered_number b h t))))
+              | inr f ↦ inr (subst (λ (ds : List Dest). HasDest ds (nop draft b) 0) (sym (others_grown draft y.before k y.block o.inside))
+                  (has_append_right (by_number (new draft) (instr_at draft k).others) (extra_dest (get_or (tables_in draft.blocks).other k 0)) (nop draft b) 0
+                  (subst (λ (l : ℕ). HasDest (extra_dest l) (nop draft b) 0) (ap (steered_by draft) (sym f) ∙ sym (other_steer draft y.before k e.0 e.1 e.2 y.block o.inside e.3 refl)) (steered_number b h t))))
+            ],
+          ),
+        ))
   ]
     where
       y : EnteredBySteer draft b
@@ -213,10 +220,15 @@ module _ (draft : Image) (ok : OpenToNotes draft) where
   from_giver b h a g = elim (giver_cases draft b h) [
     | inl n ↦ absurd (g n.zero_is)
     | inr o ↦ (let k : ℕ = giver draft b in
-        let e : get_or (tables_in draft.blocks).now k 0 ≡ nop draft b = now_giver draft b k h o.inside refl (steer_steers draft b k h (instr_positive draft b k h o.inside) (no_steer (instr_at draft k).op o.is_one)) ∙ ap (λ (v : Bool). cond v (nop draft b) 0) a in
-        (k + shift draft b, (0, inl (subst (λ (ds : List Dest). HasDest ds (nop draft b) 0) (sym (dests_grown draft b k h o.inside))
-        (has_append_right (by_number (new draft) (instr_at draft k).dests) (extra_dest (get_or (tables_in draft.blocks).now k 0)) (nop draft b) 0
-        (some_dest (get_or (tables_in draft.blocks).now k 0) (nop draft b) (omega (arith, e, nop_positive draft b)) e))))))
+        let e : get_or (tables_in draft.blocks).now k 0 ≡ nop draft b = now_giver draft b k h o.inside refl (steer_steers draft b k h (instr_positive draft b k h o.inside) (no_steer (instr_at draft k).op o.is_one)) ∙ ap (λ (v : Bool). cond v (nop draft b) 0) a in (
+          k + shift draft b,
+          (
+            0,
+            inl (subst (λ (ds : List Dest). HasDest ds (nop draft b) 0) (sym (dests_grown draft b k h o.inside))
+                (has_append_right (by_number (new draft) (instr_at draft k).dests) (extra_dest (get_or (tables_in draft.blocks).now k 0)) (nop draft b) 0
+                (some_dest (get_or (tables_in draft.blocks).now k 0) (nop draft b) (omega (arith, e, nop_positive draft b)) e))),
+          ),
+        ))
   ]
 
   named : (b : ℕ) → IsBlock draft b → adds draft b ≡ true → (m : ℕ) × Names (annotated draft) m (nop draft b)
