@@ -28,8 +28,8 @@ pub fn images_keep_slots()
     ensures { (draft : Image) → OpenToNotes draft → SlotRules (annotated draft) }
 {}
 
-/// What the image refers to is there, and its lists suit. It is within the limits if the draft leaves
-/// room.
+/// What the image refers to is there, and its lists suit. It is within the limits if the draft
+/// leaves room.
 pub fn images_are_formed()
     ensures suited { (draft : Image) → OpenToNotes draft → Suited (annotated draft) }
     ensures formed { (draft : Image) → OpenToNotes draft → LeavesRoom draft →
