@@ -1,5 +1,5 @@
 -- The image of a draft that is open to notes is the draft with no-ops added.
-use Rattle.std.proofs.Common.{ℕ, zero, suc, ◌+◌, ◌≡◌, ◌<◌, ◌≤◌, ◌⊎◌, Bool, true, false, cond, eqb, List, [], ◌∷◌, ◌++◌, Some, None, refl, sym, ap, ap₂, ◌∙◌, inl, inr, subst, arith}
+use Rattle.std.proofs.Common.{ℕ, zero, suc, ◌+◌, ◌-◌, ◌≡◌, ◌<◌, ◌≤◌, ◌⊎◌, Bool, true, false, cond, eqb, List, [], ◌∷◌, ◌++◌, Some, None, refl, sym, ap, ap₂, ◌∙◌, inl, inr, subst, arith}
 use Rattle.std.proofs.lemmas.Bool.{cases_Bool, cases_eq}
 use Rattle.ws_words.specs.Outside.{World}
 use Rattle.ws_isa.specs.declared.instr.Op.{Op}
@@ -90,6 +90,9 @@ end_of draft b l = omega arith
 size_grown : (draft : Image) (b : ℕ) → IsBlock draft b → first_number draft b ≤ first_number draft (suc b) → size_of (annotated draft) b ≡ one_if (adds draft b) + size_of draft b
 unfolding size_of
 size_grown draft b h l = omega (arith, first_is draft b h, ends_are draft b h)
+
+pub sizes : (draft : Image) (b : ℕ) → IsBlock draft b → size_of (annotated draft) b - size_of draft b ≡ one_if (adds draft b)
+sizes draft b h = omega (arith, size_grown draft b h (first_le draft b (suc b) (omega arith)))
 
 nop_at_end : (draft : Image) (b : ℕ) → first_number draft b ≤ first_number draft (suc b) → (first_number draft b + shift draft b) + size_of draft b ≡ nop draft b
 unfolding size_of nop

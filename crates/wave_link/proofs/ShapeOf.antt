@@ -121,7 +121,7 @@ pad_back t [] p h = absurd h
 pad_back t (x ∷ ps) p (inl e) = (x, inl refl, e)
 pad_back t (x ∷ ps) p (inr h) = let r = pad_back t ps p h in (r.0, inr r.1, r.2)
 
-renamed_back : (new : ℕ → ℕ) (ds : List Dest) (j q : ℕ) → HasDest (renamed new ds) j q → (k : ℕ) × HasDest ds k q × (new k ≡ j)
+pub renamed_back : (new : ℕ → ℕ) (ds : List Dest) (j q : ℕ) → HasDest (renamed new ds) j q → (k : ℕ) × HasDest ds k q × (new k ≡ j)
 renamed_back new [] j q h = absurd h
 renamed_back new (d ∷ ds) j q (inl h) = (d.instr, inl (refl, h.1), h.0)
 renamed_back new (d ∷ ds) j q (inr h) = let r = renamed_back new ds j q h in (r.0, inr r.1, r.2)
@@ -161,10 +161,10 @@ giving_kept : (draft : Image) (b k : ℕ) → IsBlock draft b → IsIn draft b k
 unfolding is_giving
 giving_kept draft b k h i = ap (λ (j : ℕ). is_giving_op (instr_at (annotated draft) j).op) (new_is draft b k h i) ∙ ap is_giving_op (op_kept draft b k h i)
 
-dests_grown : (draft : Image) (b k : ℕ) → IsBlock draft b → IsIn draft b k → (instr_at (annotated draft) (k + shift draft b)).dests ≡ renamed (new draft) (instr_at draft k).dests ++ extra_dest (get_or (tables_in draft.blocks).now k 0)
+pub dests_grown : (draft : Image) (b k : ℕ) → IsBlock draft b → IsIn draft b k → (instr_at (annotated draft) (k + shift draft b)).dests ≡ renamed (new draft) (instr_at draft k).dests ++ extra_dest (get_or (tables_in draft.blocks).now k 0)
 dests_grown draft b k h i = ap (λ (x : Instr). x.dests) (instr_is_grown draft b k h i) ∙ ap (λ (ds : List Dest). ds ++ extra_dest (get_or (tables_in draft.blocks).now k 0)) (same_renamed draft (instr_at draft k).dests)
 
-others_grown : (draft : Image) (b k : ℕ) → IsBlock draft b → IsIn draft b k → (instr_at (annotated draft) (k + shift draft b)).others ≡ renamed (new draft) (instr_at draft k).others ++ extra_dest (get_or (tables_in draft.blocks).other k 0)
+pub others_grown : (draft : Image) (b k : ℕ) → IsBlock draft b → IsIn draft b k → (instr_at (annotated draft) (k + shift draft b)).others ≡ renamed (new draft) (instr_at draft k).others ++ extra_dest (get_or (tables_in draft.blocks).other k 0)
 others_grown draft b k h i = ap (λ (x : Instr). x.others) (instr_is_grown draft b k h i) ∙ ap (λ (ds : List Dest). ds ++ extra_dest (get_or (tables_in draft.blocks).other k 0)) (same_renamed draft (instr_at draft k).others)
 
 one_extra : (n j q : ℕ) → HasDest (extra_dest n) j q → (n ≡ j)
@@ -234,20 +234,20 @@ module _ (draft : Image) (ok : OpenToNotes draft) where
       go Before f (inr z) = absurd z
       go Before f (inl z) = subst (IsAhead (annotated draft) b (k + shift draft b)) z.0 (behind_ahead b k c r h i s e (added_if draft c (ap extra f)) (before_first draft ok c hc f))
 
-  not_stop : (b s x y : ℕ) → (block_at draft b).exit ≡ Branch s x y → stops draft b ≡ false
+  pub not_stop : (b s x y : ℕ) → (block_at draft b).exit ≡ Branch s x y → stops draft b ≡ false
   unfolding stops
   not_stop b s x y e = rw e refl
 
-  first_edge : (b s x y : ℕ) → (block_at draft b).exit ≡ Branch s x y → x ≡ target draft b 1
+  pub first_edge : (b s x y : ℕ) → (block_at draft b).exit ≡ Branch s x y → x ≡ target draft b 1
   unfolding target
   first_edge b s x y e = rw e refl
 
-  second_edge : (b s x y : ℕ) → (block_at draft b).exit ≡ Branch s x y → y ≡ target draft b 0
+  pub second_edge : (b s x y : ℕ) → (block_at draft b).exit ≡ Branch s x y → y ≡ target draft b 0
   unfolding target
   second_edge b s x y e = rw e refl
 
   -- the steer of a block, with the exit
-  the_steer : (b k : ℕ) → IsBlock draft b → IsIn draft b k → steer_in draft b ≡ k → (instr_at draft k).op ≡ Steer
+  pub the_steer : (b k : ℕ) → IsBlock draft b → IsIn draft b k → steer_in draft b ≡ k → (instr_at draft k).op ≡ Steer
   the_steer b k h i f = elim (steer_cases draft b h) [
     | inl n ↦ absurd (omega (arith, n.zero_is, f, instr_positive draft b k h i))
     | inr o ↦ ap (λ (n : ℕ). (instr_at draft n).op) (sym f) ∙ steer_is (instr_at draft (steer_in draft b)).op o.is_one

@@ -427,7 +427,7 @@ module _ (draft image : Image) (g : Grown draft image) where
         sums : (a b c d : ℕ) → (a + b) + (c + d) ≡ (a + c) + (b + d)
         sums a b c d = omega arith
 
-    opens_alike : (world : World) → StandsFor draft image g (opening draft world) (opening image world)
+    pub opens_alike : (world : World) → StandsFor draft image g (opening draft world) (opening image world)
     unfolding opening start_tokens is_first
     opens_alike world = record {
       here = g.first_block; low = omega arith; high = step_number draft 1; over = refl; block = refl; wave = refl; next = g.first 1 g.first_block;
