@@ -226,6 +226,27 @@ module _ (draft : Image) (shape : ShapeRules draft) (more : MoreShape draft) (ar
   pub way_out : (b : ℕ) → IsBlock draft b → (stops draft b ≡ true) ⊎ ((stops draft b ≡ false) × ((r : ℕ) × (is_first draft (target draft b r) ≡ true))) → (outline_at draft b).way ≡ Out
   way_out b h s = way_is draft b h ∙ out_by b (block_at draft b).exit h refl s
 
+  -- and where nothing leads on, a wave ends
+  ends_by : (b : ℕ) (e : Exit) → IsBlock draft b → (block_at draft b).exit ≡ e → way_of e firsts ≡ Out → (stops draft b ≡ true) ⊎ ((stops draft b ≡ false) × ((r : ℕ) × (is_first draft (target draft b r) ≡ true)))
+  unfolding target stops
+  ends_by b (Goto t) h e w = go (get_or firsts t true) refl w
+    where
+      at : target draft b 0 ≡ t
+      at = ap (λ (x : Exit). leave_to x 0) e
+      s : stops draft b ≡ false
+      s = ap is_stop e
+      block : IsBlock draft t
+      block = subst (IsBlock draft) at (shape.edges b 0 h s)
+      go : (v : Bool) → get_or firsts t true ≡ v → cond v Out (On t) ≡ Out → (stops draft b ≡ true) ⊎ ((stops draft b ≡ false) × ((r : ℕ) × (is_first draft (target draft b r) ≡ true)))
+      go true f w = inr (s, (0, ap (is_first draft) at ∙ (sym (told t block) ∙ f)))
+      go false f w = absurd (cc)
+  ends_by b (Branch i p q) h e w = absurd (cc)
+  ends_by b (Landings i ls) h e w = inr (ap is_stop e, (0, more.landing_first b i 0 ls h e))
+  ends_by b Stop h e w = inl (ap is_stop e)
+
+  pub out_ends : (b : ℕ) → IsBlock draft b → (outline_at draft b).way ≡ Out → (stops draft b ≡ true) ⊎ ((stops draft b ≡ false) × ((r : ℕ) × (is_first draft (target draft b r) ≡ true)))
+  out_ends b h w = ends_by b (block_at draft b).exit h refl (sym (way_is draft b h) ∙ w)
+
   -- the edges that lead to a block
   edge_of : (e : Exit) (c : ℕ) → Leads (way_of e firsts) c → (i : ℕ) × (nth (edges_of e) i ≡ Some c)
   edge_of (Goto t) c k = go (get_or firsts t true) k

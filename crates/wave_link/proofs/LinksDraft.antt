@@ -68,7 +68,7 @@ same_all x zero i = refl
 same_all x (suc n) zero = refl
 same_all x (suc n) (suc i) = same_all x n i
 
-ways_end : (draft : Image) (n : ℕ) → n ≡ length draft.blocks → ways_at draft (suc n) ≡ ways_in draft
+pub ways_end : (draft : Image) (n : ℕ) → n ≡ length draft.blocks → ways_at draft (suc n) ≡ ways_in draft
 ways_end draft n e = ap (λ (k : ℕ). stepped ways_step (bare_of draft) 1 k (replicate (length (bare_of draft) + 1) Zero)) (e ∙ sym (bare_length draft)) ∙ sym (ways_are (bare_of draft) 1 (replicate (length (bare_of draft) + 1) Zero))
 
 -- a block of the draft needs its no-op

@@ -134,7 +134,7 @@ module _ (draft : Image) where
     pub noted : Noted (place_of draft b) ((place_of draft b).low + 1) (place_of draft b).writer (block_at image b).instrs
 
   -- a block with a no-op has no other operation
-  adds_empty : (b : ℕ) → IsBlock draft b → adds draft b ≡ true → ops_from (block_at draft b).instrs 0 ≡ 0
+  pub adds_empty : (b : ℕ) → IsBlock draft b → adds draft b ≡ true → ops_from (block_at draft b).instrs 0 ≡ 0
   adds_empty zero h a = absurd (omega (arith, h.0))
   adds_empty (suc n) h a =
       let minus : suc n - 1 ≡ n = omega arith in

@@ -82,11 +82,11 @@ module _ (image : Image) (n : ℕ) (x : ℕ → Outline) (low : ℕ → ℕ) (he
 
   -- numbers in a block
 
-  sq_step : (b k : ℕ) → IsBlock image b → IsIn image b k → is_memory image k ≡ true → sq b (suc k) ≡ sq b k + 1
+  pub sq_step : (b k : ℕ) → IsBlock image b → IsIn image b k → is_memory image k ≡ true → sq b (suc k) ≡ sq b k + 1
   unfolding is_memory
   sq_step b k h i m = marked.sq_next b k h i ∙ rw m refl
 
-  sq_stay : (b k : ℕ) → IsBlock image b → IsIn image b k → is_memory image k ≡ false → sq b (suc k) ≡ sq b k
+  pub sq_stay : (b k : ℕ) → IsBlock image b → IsIn image b k → is_memory image k ≡ false → sq b (suc k) ≡ sq b k
   unfolding is_memory
   sq_stay b k h i m = marked.sq_next b k h i ∙ rw m refl
 
@@ -220,21 +220,23 @@ module _ (image : Image) (n : ℕ) (x : ℕ → Outline) (low : ℕ → ℕ) (he
           let r : sq b k ≤ sq b (suc k) = sq_one b k s.block i in
           omega (arith, s.under)
 
+  -- who is last behind one more instruction
+  pub last_next : (b a k : ℕ) (done : List ℕ) → IsBlock image b → IsIn image b k → LastIs b a k (last_op image done) → LastIs b a (suc k) (last_op image (k ∷ done))
+  last_next b a k done h i l = go (cases_Bool (is_memory image k))
+    where
+      go : (is_memory image k ≡ true) ⊎ (is_memory image k ≡ false) → LastIs b a (suc k) (last_op image (k ∷ done))
+      go (inl m) = within k (record { block = h; inside = i; memory = m; number = refl }) (sq_step b k h i m) (last_memory k done m)
+      go (inr m) = moved b a k (suc k) (last_op image done) (last_op image (k ∷ done)) (sq_stay b k h i m) (last_other k done m) l
+
   stands_on : (b k : ℕ) (done : List ℕ) → Stands b k done → k < first_number image (suc b) → Stands b (suc k) (k ∷ done)
   stands_on b k done s l = record {
     block = s.block; low_end = omega (arith, s.low_end); high_end = l; a = s.a; path = s.path;
-    last = go (cases_Bool (is_memory image k));
+    last = last_next b s.a k done s.block (s.low_end, l) s.last;
     below = below_next b k done s l; under = under_next b k done s l;
   }
-    where
-      i : IsIn image b k
-      i = (s.low_end, l)
-      go : (is_memory image k ≡ true) ⊎ (is_memory image k ≡ false) → LastIs b s.a (suc k) (last_op image (k ∷ done))
-      go (inl m) = within k (record { block = s.block; inside = i; memory = m; number = refl }) (sq_step b k s.block i m) (last_memory k done m)
-      go (inr m) = moved b s.a k (suc k) (last_op image done) (last_op image (k ∷ done)) (sq_stay b k s.block i m) (last_other k done m) s.last
 
   -- who is last where an edge leads on
-  last_out : (b a k c : ℕ) (last : Option ℕ) → IsBlock image b → k ≡ first_number image (suc b) → IsBlock image c → LastIs b a k last → LastIs c (after b a) (first_number image c) last
+  pub last_out : (b a k c : ℕ) (last : Option ℕ) → IsBlock image b → k ≡ first_number image (suc b) → IsBlock image c → LastIs b a k last → LastIs c (after b a) (first_number image c) last
   last_out b a k c last h e hc l = go (cases_eq (x b).ops 0) l
     where
       s : sq b k ≡ low b + (x b).ops + 1
@@ -410,7 +412,7 @@ module _ (image : Image) (n : ℕ) (x : ℕ → Outline) (low : ℕ → ℕ) (he
           record { op = j; last_is = sym f.last_is ∙ g; none = succ_last f.block j (record { block = p.block; inside = p.inside; memory = p.memory; number = num }) ∙ ap (λ (v : Way). out_link v heads) out }
 
   -- numbers differ
-  apart_in : (b j k : ℕ) → IsBlock image b → IsIn image b j → IsIn image b k → is_memory image j ≡ true → is_memory image k ≡ true → sq b j ≡ sq b k → j ≡ k
+  pub apart_in : (b j k : ℕ) → IsBlock image b → IsIn image b j → IsIn image b k → is_memory image j ≡ true → is_memory image k ≡ true → sq b j ≡ sq b k → j ≡ k
   apart_in b j k h i l m o e = elim (cases_eq j k) [
     | inl s ↦ s
     | inr d ↦ absurd (elim (cases_lt j k) [
@@ -499,7 +501,7 @@ module _ (image : Image) (n : ℕ) (x : ℕ → Outline) (low : ℕ → ℕ) (he
   passed b k done (turn {b = c} {k = i} {done = d} p q) j l w = elim (cases_eq j i) [ | inl e ↦ inl e | inr n ↦ inr (passed c i d p j l (omega arith)) ]
   passed b k done (edge p e s r f) j l w = absurd (omega arith)
 
-  crossed : (b c : ℕ) (done : List ℕ) → IsBlock image b → InWave image b (first_number image (suc b)) done → Leads (x b).way c → InWave image c (first_number image c) done
+  pub crossed : (b c : ℕ) (done : List ℕ) → IsBlock image b → InWave image b (first_number image (suc b)) done → Leads (x b).way c → InWave image c (first_number image c) done
   crossed b c done h p k =
       let e : (stops image b ≡ false) × ((r : ℕ) × (target image b r ≡ c)) × (is_first image c ≡ false) = marked.edge_back b c h k in
       subst (λ (i : ℕ). InWave image i (first_number image i) done) e.1.1 (edge p refl e.0 e.1.0 (ap (is_first image) e.1.1 ∙ e.2))

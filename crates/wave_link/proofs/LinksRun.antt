@@ -64,7 +64,7 @@ under_new z v = record {
   writer = larger_right z.writer v.writer;
 }
 
-on_or_fork : (w : Way) (c : ℕ) → Leads w c → (w ≡ On c) ⊎ ((p : ℕ) × (q : ℕ) × (w ≡ Fork p q))
+pub on_or_fork : (w : Way) (c : ℕ) → Leads w c → (w ≡ On c) ⊎ ((p : ℕ) × (q : ℕ) × (w ≡ Fork p q))
 on_or_fork Out c h = absurd h
 on_or_fork (On b) c h = inl (ap On (sym h))
 on_or_fork (Fork p q) c h = inr (p, q, refl)
@@ -190,12 +190,20 @@ module _ (n : ℕ) (x : ℕ → Outline) (low : ℕ → ℕ) (heads : List Link)
     pub here_is : here a ≡ Some y
     pub under : Under (out a y) z
 
+  -- two edges lead to block c
+  pub record TwoCame (c m : ℕ) : Type 0 where
+    pub one : ℕ
+    pub other : ℕ
+    pub one_came : Came one c m
+    pub other_came : Came other c m
+    pub differ : one ≡ other → ⊥
+
   pub data Inv (m c : ℕ) : Type 0 where
     zero_in : seen m c ≡ Zero → get_or (behind m) c None ≡ None → ((a : ℕ) → Came a c m → ⊥) → Inv m c
     one_in : (a : ℕ) (y : Behind) → seen m c ≡ One → Came a c m → here a ≡ Some y → get_or (states m) c Shared ≡ handed (x a).way (full a) (state a) →
         get_or (behind m) c None ≡ Some (out a y) → ((d : ℕ) → Came d c m → d ≡ a) → Inv m c
     many_in : (a : ℕ) (y z : Behind) → seen m c ≡ Several → Came a c m → here a ≡ Some y → z.writer ≡ (out a y).writer → get_or (behind m) c None ≡ Some z →
-        ((d : ℕ) → Came d c m → Brings d c z) → Inv m c
+        ((d : ℕ) → Came d c m → Brings d c z) → TwoCame c m → Inv m c
 
   has_here : (b : ℕ) → reach b ≡ true → Inv b b → (y : Behind) × (here b ≡ Some y)
   has_here b r i = go (cases_Bool (x b).first) i
@@ -206,7 +214,7 @@ module _ (n : ℕ) (x : ℕ → Outline) (low : ℕ → ℕ) (heads : List Link)
       go (inl f) i = (begin, rw f refl)
       go (inr f) (zero_in e g u) = absurd (cc (sym (or_right (x b).first (has_way (seen b b)) r f) ∙ ap has_way e))
       go (inr f) (one_in a y e k h s g u) = (out a y, later None (out a y) f g)
-      go (inr f) (many_in a y z e k h w g u) = (z, later None z f g)
+      go (inr f) (many_in a y z e k h w g u v) = (z, later None z f g)
 
   not_here : (b : ℕ) → reach b ≡ false → Inv b b → here b ≡ None
   not_here b r i = go (or_none (x b).first (has_way (seen b b)) r).0 (or_none (x b).first (has_way (seen b b)) r).1 i
@@ -214,10 +222,13 @@ module _ (n : ℕ) (x : ℕ → Outline) (low : ℕ → ℕ) (heads : List Link)
       go : (x b).first ≡ false → has_way (seen b b) ≡ false → Inv b b → here b ≡ None
       go f w (zero_in e g u) = rw f g
       go f w (one_in a y e k h s g u) = absurd (cc (sym w ∙ ap has_way e))
-      go f w (many_in a y z e k h t g u) = absurd (cc (sym w ∙ ap has_way e))
+      go f w (many_in a y z e k h t g u v) = absurd (cc (sym w ∙ ap has_way e))
 
   keep_came : (a c m : ℕ) → Came a c m → Came a c (suc m)
   keep_came a c m k = record { one = k.one; before = (let l : a < m = k.before in omega arith); most = k.most; reaches = k.reaches; edge = k.edge }
+
+  keep_two : (c m : ℕ) → TwoCame c m → TwoCame c (suc m)
+  keep_two c m v = record { one = v.one; other = v.other; one_came = keep_came v.one c m v.one_came; other_came = keep_came v.other c m v.other_came; differ = v.differ }
 
   was_came : (a c m : ℕ) → Came a c (suc m) → (a ≡ m) ⊎ Came a c m
   was_came a c m k = elim (cases_eq a m) [
@@ -245,7 +256,7 @@ module _ (n : ℕ) (x : ℕ → Outline) (low : ℕ → ℕ) (heads : List Link)
       go : Inv m c → Inv (suc m) c
       go (zero_in e g u) = zero_in (sw ∙ e) (sb ∙ g) (λ a k. u a (old a k))
       go (one_in a y e k f s g u) = one_in a y (sw ∙ e) (keep_came a c m k) f (ss ∙ s) (sb ∙ g) (λ d p. u d (old d p))
-      go (many_in a y z e k f w g u) = many_in a y z (sw ∙ e) (keep_came a c m k) f w (sb ∙ g) (λ d p. u d (old d p))
+      go (many_in a y z e k f w g u v) = many_in a y z (sw ∙ e) (keep_came a c m k) f w (sb ∙ g) (λ d p. u d (old d p)) (keep_two c m v)
 
   -- one does
   met : (m c : ℕ) → 1 ≤ m → m ≤ n → c ≤ n → reach m ≡ true → Leads (x m).way c → Inv m m → Inv m c → Inv (suc m) c
@@ -277,19 +288,22 @@ module _ (n : ℕ) (x : ℕ → Outline) (low : ℕ → ℕ) (heads : List Link)
         | inl s ↦ subst (λ (j : ℕ). Brings j c (joined (Some z) v)) (sym s) (brings a p z)
         | inr o ↦ still d z (u d o)
       ]
-      several : (a : ℕ) (y z : Behind) → seen (suc m) c ≡ Several → Came a c m → here a ≡ Some y → z.writer ≡ (out a y).writer → get_or (behind m) c None ≡ Some z →
-          ((d : ℕ) → Came d c m → Brings d c z) → Inv (suc m) c
-      several a y z w p f t g u =
+      several_by : (a : ℕ) (y z : Behind) → seen (suc m) c ≡ Several → Came a c m → here a ≡ Some y → z.writer ≡ (out a y).writer → get_or (behind m) c None ≡ Some z →
+          ((d : ℕ) → Came d c m → Brings d c z) → TwoCame c (suc m) → Inv (suc m) c
+      several_by a y z w p f t g u two =
           let b : get_or (behind (suc m)) c None ≡ Some (joined (Some z) v) = sb ∙ ap (λ (o : Option Behind). Some (joined o v)) g in
           elim (larger_is z.writer v.writer) [
-          | inl s ↦ many_in a y (joined (Some z) v) w (keep_came a c m p) f (s ∙ t) b (all a z p u)
-          | inr s ↦ many_in m mine.0 (joined (Some z) v) w now mine.1 s b (all a z p u)
+          | inl s ↦ many_in a y (joined (Some z) v) w (keep_came a c m p) f (s ∙ t) b (all a z p u) two
+          | inr s ↦ many_in m mine.0 (joined (Some z) v) w now mine.1 s b (all a z p u) two
         ]
+      several : (a : ℕ) (y z : Behind) → seen (suc m) c ≡ Several → Came a c m → here a ≡ Some y → z.writer ≡ (out a y).writer → get_or (behind m) c None ≡ Some z →
+          ((d : ℕ) → Came d c m → Brings d c z) → Inv (suc m) c
+      several a y z w p f t g u = several_by a y z w p f t g u (record { one = a; other = m; one_came = keep_came a c m p; other_came = now; differ = λ e. (let b : a < m = p.before in omega (arith, e)) })
       go : Inv m c → Inv (suc m) c
       go (zero_in w g u) = one_in m mine.0 (sw ∙ ap more w) now mine.1 (states_hit m c l h k r e) (sb ∙ ap (λ (o : Option Behind). Some (joined o v)) g)
           (λ d p. elim (was_came d c m p) [ | inl s ↦ s | inr q ↦ absurd (u d q) ])
       go (one_in a y w p f s g u) = several a y (out a y) (sw ∙ ap more w) p f refl g (λ d q. subst (λ (j : ℕ). Brings j c (out a y)) (sym (u d q)) (first_brings a y p f))
-      go (many_in a y z w p f t g u) = several a y z (sw ∙ ap more w) p f t g u
+      go (many_in a y z w p f t g u v) = several a y z (sw ∙ ap more w) p f t g u
 
   pub inv : (m c : ℕ) → 1 ≤ m → m ≤ suc n → c ≤ n → Inv m c
   inv zero c l h k = absurd (omega arith)
@@ -318,15 +332,20 @@ module _ (n : ℕ) (x : ℕ → Outline) (low : ℕ → ℕ) (heads : List Link)
     pub some : 1 ≤ a
     pub head : out_link (x a).way heads ≡ head_at heads b
 
+  -- it is the only one, or one of several
+  abbrev pub Kind : ℕ → ℕ → Behind → Behind → Type 0
+  Kind b c y z = ((state c ≡ handed (x b).way (full b) (state b)) × (z ≡ out b y) × ((d : ℕ) → Came d c c → d ≡ b))
+      ⊎ ((state c ≡ Many) × ((x b).way ≡ On c) × (is_several (get_or (ways (suc n)) c Zero) ≡ true))
+
   -- what an edge to a block brings there
   pub record Into (b c : ℕ) (y : Behind) : Type 0 where
     pub reaches : reach c ≡ true
     pub z : Behind
     pub z_is : here c ≡ Some z
     pub under : Under (out b y) z
-    pub kind : ((state c ≡ handed (x b).way (full b) (state b)) × (z ≡ out b y)) ⊎ ((state c ≡ Many) × ((x b).way ≡ On c) × (is_several (get_or (ways (suc n)) c Zero) ≡ true))
+    pub kind : Kind b c y z
 
-  into : (b c : ℕ) (y : Behind) → 1 ≤ b → b ≤ n → reach b ≡ true → here b ≡ Some y → Leads (x b).way c → Into b c y
+  pub into : (b c : ℕ) (y : Behind) → 1 ≤ b → b ≤ n → reach b ≡ true → here b ≡ Some y → Leads (x b).way c → Into b c y
   into b c y l h r f e = go (inv c c (omega (arith, lt)) (omega (arith, most)) most)
     where
       lt : b < c
@@ -359,9 +378,9 @@ module _ (n : ℕ) (x : ℕ → Outline) (low : ℕ → ℕ) (heads : List Link)
           record {
             reaches = reached_by (ap has_way w); z = out a v; z_is = here_by (out a v) g;
             under = subst (Under (out b y)) (sym o) (under_self (out b y));
-            kind = inl (one_state (handed (x b).way (full b) (state b)) w (s ∙ st), o);
+            kind = inl (one_state (handed (x b).way (full b) (state b)) w (s ∙ st), o, λ d k. u d k ∙ sym eq);
           }
-      go (many_in a v z w p q t g u) =
+      go (many_in a v z w p q t g u two) =
           let k : Brings b c z = u b came in
           record {
             reaches = reached_by (ap has_way w); z = z; z_is = here_by z g;
@@ -416,10 +435,10 @@ module _ (n : ℕ) (x : ℕ → Outline) (low : ℕ → ℕ) (heads : List Link)
   number_some a l = rw (ne_eqb a 0 (λ d. absurd (omega arith))) refl
 
   -- behind an empty block, and behind one with operations
-  last_empty : (b a : ℕ) → (x b).ops ≡ 0 → last_of b a ≡ a
+  pub last_empty : (b a : ℕ) → (x b).ops ≡ 0 → last_of b a ≡ a
   last_empty b a e = rw (eq-eqb (x b).ops 0 e) refl
 
-  last_full : (b a : ℕ) → 1 ≤ (x b).ops → last_of b a ≡ b
+  pub last_full : (b a : ℕ) → 1 ≤ (x b).ops → last_of b a ≡ b
   last_full b a e = rw (ne_eqb (x b).ops 0 (λ d. absurd (omega arith))) refl
 
   out_empty : (b : ℕ) (y : Behind) → (x b).ops ≡ 0 → (out b y).pred ≡ y.pred
@@ -457,7 +476,7 @@ module _ (n : ℕ) (x : ℕ → Outline) (low : ℕ → ℕ) (heads : List Link)
       hand_fork p q w = ap (λ (v : Way). handed v (full b) (state b)) w
       owned : (x b).way ≡ On c → Owned b a → Owned c a
       owned w o = record { some = o.some; head = o.head ∙ (head_empty b f.low_block f.high_block e ∙ head_on (x b).way c w) }
-      knows : ((state c ≡ handed (x b).way (full b) (state b)) × (i.z ≡ out b f.y)) ⊎ ((state c ≡ Many) × ((x b).way ≡ On c) × (is_several (get_or (ways (suc n)) c Zero) ≡ true)) →
+      knows : Kind b c f.y i.z →
           (state b ≡ Many) ⊎ (f.y.pred ≡ exact (last_number a)) → (state c ≡ Many) ⊎ (i.z.pred ≡ exact (last_number a))
       knows (inr s) g = inl s.0
       knows (inl s) (inr g) = inr (ap (λ (v : Behind). v.pred) s.1 ∙ (out_empty b f.y e ∙ g))
@@ -467,7 +486,7 @@ module _ (n : ℕ) (x : ℕ → Outline) (low : ℕ → ℕ) (heads : List Link)
       ]
       not_shared : is_several (get_or (ways (suc n)) c Zero) ≡ true → (x b).way ≡ On c → state b ≡ Shared → ⊥
       not_shared v w s = cc (sym vain ∙ (ap (λ (u : Way). is_vain u (ways (suc n)) (state b)) w ∙ (ap (λ (u : State). not (is_shared u && is_several (get_or (ways (suc n)) c Zero))) s ∙ ap not v)))
-      owns : ((state c ≡ handed (x b).way (full b) (state b)) × (i.z ≡ out b f.y)) ⊎ ((state c ≡ Many) × ((x b).way ≡ On c) × (is_several (get_or (ways (suc n)) c Zero) ≡ true)) →
+      owns : Kind b c f.y i.z →
           (state b ≡ Shared) ⊎ Owned b a → (state c ≡ Shared) ⊎ Owned c a
       owns (inr s) (inr o) = inr (owned s.1 o)
       owns (inr s) (inl g) = absurd (not_shared s.2 s.1 g)
@@ -501,7 +520,7 @@ module _ (n : ℕ) (x : ℕ → Outline) (low : ℕ → ℕ) (heads : List Link)
       rise = low_rise b c f.low_block lt most (λ m u v. run.inner b c m f.low_block f.high_block k u v)
       owned : (x b).way ≡ On c → Owned c b
       owned w = record { some = f.low_block; head = head_on (x b).way c w }
-      owns : ((state c ≡ handed (x b).way (full b) (state b)) × (i.z ≡ out b f.y)) ⊎ ((state c ≡ Many) × ((x b).way ≡ On c) × (is_several (get_or (ways (suc n)) c Zero) ≡ true)) → (state c ≡ Shared) ⊎ Owned c b
+      owns : Kind b c f.y i.z → (state c ≡ Shared) ⊎ Owned c b
       owns (inr s) = inr (owned s.1)
       owns (inl s) = elim (on_or_fork (x b).way c k) [
         | inl w ↦ inr (owned w)
@@ -587,7 +606,7 @@ module _ (n : ℕ) (x : ℕ → Outline) (low : ℕ → ℕ) (heads : List Link)
       go (inl f) i = record { last = 0; path = starts l h f; y = begin; y_is = rw f refl; writer = inl refl }
       go (inr f) (zero_in e g u) = absurd (cc (sym (or_right (x b).first (has_way (seen b b)) r f) ∙ ap has_way e))
       go (inr f) (one_in a y e p k s g u) = attained_from a b y (out a y) k p.edge (before a p) (rw f g) refl
-      go (inr f) (many_in a y z e p k w g u) = attained_from a b y z k p.edge (before a p) (rw f g) w
+      go (inr f) (many_in a y z e p k w g u v) = attained_from a b y z k p.edge (before a p) (rw f g) w
 
   attained_here : (m b : ℕ) → b < m → 1 ≤ b → b ≤ n → reach b ≡ true → Attained b
   attained_here zero b q l h r = absurd (omega arith)

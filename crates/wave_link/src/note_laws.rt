@@ -4,6 +4,7 @@ ghost use Rattle.image_walk.specs.Open.{OpenToNotes};
 ghost use Rattle.image_walk.specs.Sound.{LinkRules, RippleRules};
 ghost use Rattle.wave_link.specs.Grown.{annotated};
 ghost use Rattle.wave_link.specs.Ripples.{ExactRipples};
+ghost use Rattle.wave_link.specs.Vain.{NoneInVain};
 ghost use Rattle.ws_isa.specs.Image.{Image};
 
 /// A law: the image of a draft that is open to notes keeps the rules on links and ripples.
@@ -16,4 +17,10 @@ pub fn links_and_ripples_are_sound()
 /// the writing operations that may precede it in its wave, or 0.
 pub fn ripples_are_exact()
     ensures { (draft : Image) → OpenToNotes draft → ExactRipples (annotated draft) }
+{}
+
+/// A law: no no-op is in vain. Without it and its trigger, no notes would keep the rules on links in
+/// its wave.
+pub fn nops_are_needed()
+    ensures { (draft : Image) → OpenToNotes draft → NoneInVain draft }
 {}
