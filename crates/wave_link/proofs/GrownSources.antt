@@ -64,7 +64,7 @@ only_edge draft b place c h = record {
 }
 
 -- the instruction that is added is the block's no-op
-added_is : (draft : Image) (b n : ℕ) → IsBlock draft b → IsAdded draft (annotated draft) b n → (adds draft b ≡ true) × (n ≡ nop draft b)
+pub added_is : (draft : Image) (b n : ℕ) → IsBlock draft b → IsAdded draft (annotated draft) b n → (adds draft b ≡ true) × (n ≡ nop draft b)
 unfolding nop
 added_is draft b n h a = go (cases_Bool (adds draft b))
   where

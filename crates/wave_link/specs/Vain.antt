@@ -1,13 +1,13 @@
 -- When an added no-op is needed: without it, no notes would keep the rules on links.
-use Rattle.std.specs.Prelude.{ℕ, suc, ◌+◌, ◌-◌, ◌≡◌, ◌⊎◌, true, cond, List, [], ◌∷◌, length, map, Option, Some, None, eqb, ltb}
+use Rattle.std.specs.Prelude.{ℕ, suc, ◌+◌, ◌-◌, ◌≡◌, cond, List, [], ◌∷◌, length, map, Option, Some, None, eqb, ltb}
 use Rattle.ws_isa.specs.declared.instr.Op.TheVariants.{Nop}
 use Rattle.ws_isa.specs.declared.instr.Dest.{Dest}
-use Rattle.ws_isa.specs.Image.{Instr, Exit, Goto, Branch, Landings, Stop, Pad, Block, Image, instr_at, block_at, first_number, IsBlock}
+use Rattle.ws_isa.specs.Image.{Instr, Exit, Goto, Branch, Landings, Stop, Pad, Block, Image, instr_at, block_at, IsBlock}
 use Rattle.image_walk.specs.Sound.{Follows, Ends, wave_at}
-use Rattle.wave_link.specs.Grown.{annotated}
-use Rattle.wave_link.specs.Passed.{adds}
+use Rattle.wave_link.specs.Triggers.{IsAdded}
 
--- The image without instruction x and without the destinations that name it. Those behind x move up.
+-- The image without instruction x and without the destinations that name it. Those behind x move
+-- up.
 
 abbrev pub moved : ℕ → ℕ → ℕ
 moved x k = cond (ltb x k) (k - 1) k
@@ -18,12 +18,18 @@ dests_but x (d ∷ ds) = cond (eqb d.instr x) (dests_but x ds)
     (record { instr = moved x d.instr; port = d.port } ∷ dests_but x ds)
 
 abbrev pub instr_but : ℕ → Instr → Instr
-instr_but x i = record { op = i.op; note = i.note; dests = dests_but x i.dests; others = dests_but x i.others }
+instr_but x i = record {
+  op = i.op;
+  note = i.note;
+  dests = dests_but x i.dests;
+  others = dests_but x i.others;
+}
 
 -- these are the instructions from number k on
 abbrev pub instrs_but : ℕ → ℕ → List Instr → List Instr
 instrs_but x k [] = []
-instrs_but x k (i ∷ is) = cond (eqb k x) (instrs_but x (suc k) is) (instr_but x i ∷ instrs_but x (suc k) is)
+instrs_but x k (i ∷ is) =
+    cond (eqb k x) (instrs_but x (suc k) is) (instr_but x i ∷ instrs_but x (suc k) is)
 
 abbrev pub exit_but : ℕ → Exit → Exit
 exit_but x (Goto b) = Goto b
@@ -75,22 +81,22 @@ pub data Unlinkable (image : Image) (w : ℕ) : Type 0 where
   -- some path has no operation
   no_operation : EndsIn image w None → Unlinkable image w
   -- some operation is first on one path and not first on another
-  first_and_not : (j k : ℕ) → FollowsIn image w None k → FollowsIn image w (Some j) k → Unlinkable image w
+  first_and_not : (j k : ℕ) → FollowsIn image w None k → FollowsIn image w (Some j) k → Unlinkable
+      image w
   -- some operation is last on one path and not last on another
-  last_and_not : (j k : ℕ) → EndsIn image w (Some j) → FollowsIn image w (Some j) k → Unlinkable image w
+  last_and_not : (j k : ℕ) → EndsIn image w (Some j) → FollowsIn image w (Some j) k → Unlinkable
+      image w
   -- two neighbours each have others on other paths
-  neighbours : (j k : ℕ) → FollowsIn image w (Some j) k → OtherNext image w j k → OtherBefore image w j k →
+  neighbours : (j k : ℕ) → FollowsIn image w (Some j) k → OtherNext image w j k → OtherBefore image
+      w j k →
       Unlinkable image w
 
--- the last instruction of block b of the image
-abbrev pub last_in : Image → ℕ → ℕ
-last_in draft b = first_number (annotated draft) (suc b) - 1
+-- instruction n, which block b of the draft gets, is a no-op, and its wave needs it
+pub record NeededNop (draft image : Image) (b n : ℕ) : Type 0 where
+  pub is_nop : (instr_at image n).op ≡ Nop
+  pub needed : Unlinkable (without image n) (block_at draft b).wave
 
--- the no-op of block b is the block's last instruction, and is needed in its wave
-pub record NeededNop (draft : Image) (b : ℕ) : Type 0 where
-  pub is_nop : (instr_at (annotated draft) (last_in draft b)).op ≡ Nop
-  pub needed : Unlinkable (without (annotated draft) (last_in draft b)) (block_at draft b).wave
-
--- each no-op that is added is needed
-abbrev pub NoneInVain : Image → Type 0
-NoneInVain draft = (b : ℕ) → IsBlock draft b → adds draft b ≡ true → NeededNop draft b
+-- each instruction that is added is needed
+abbrev pub NoneInVain : Image → Image → Type 0
+NoneInVain draft image = (b n : ℕ) → IsBlock draft b → IsAdded draft image b n →
+    NeededNop draft image b n

@@ -1,10 +1,11 @@
 //! Laws of the notes that an image gets.
 
+ghost use Rattle.std.specs.Prelude.{ℕ};
 ghost use Rattle.image_walk.specs.Open.{OpenToNotes};
-ghost use Rattle.image_walk.specs.Sound.{LinkRules, RippleRules};
+ghost use Rattle.image_walk.specs.Sound.{LinkRules, RippleRules, Sound};
 ghost use Rattle.wave_link.specs.Grown.{annotated};
 ghost use Rattle.wave_link.specs.Ripples.{ExactRipples};
-ghost use Rattle.wave_link.specs.Vain.{NoneInVain};
+ghost use Rattle.wave_link.specs.Vain.{NoneInVain, Unlinkable};
 ghost use Rattle.ws_isa.specs.Image.{Image};
 
 /// A law: the image of a draft that is open to notes keeps the rules on links and ripples.
@@ -19,8 +20,13 @@ pub fn ripples_are_exact()
     ensures { (draft : Image) → OpenToNotes draft → ExactRipples (annotated draft) }
 {}
 
-/// A law: no no-op is in vain. Without it and its trigger, no notes would keep the rules on links in
-/// its wave.
+/// A law: an image with paths that can't be linked isn't sound, whatever its notes are.
+pub fn unlinkable_is_unsound()
+    ensures { (image : Image) (wave : ℕ) → Unlinkable image wave → Sound image → ⊥ }
+{}
+
+/// A law: no added no-op is in vain. Without it and its trigger, the paths of its wave can't be
+/// linked.
 pub fn nops_are_needed()
-    ensures { (draft : Image) → OpenToNotes draft → NoneInVain draft }
+    ensures { (draft : Image) → OpenToNotes draft → NoneInVain draft (annotated draft) }
 {}
