@@ -1,6 +1,6 @@
 -- Each no-op that is added to a draft is needed.
 use Rattle.std.proofs.Common.{ℕ, zero, suc, ◌+◌, ◌-◌, ◌≡◌, ◌<◌, ◌≤◌, ◌⊎◌, ◌&&◌, Bool, true, false, cond, not, List, refl, sym, ap, ◌∙◌, inl, inr, subst, arith, eqb, length}
-use Rattle.std.proofs.lemmas.Bool.{cases_eq}
+use Rattle.std.proofs.lemmas.Bool.{cases_eq, cases_Bool}
 use Rattle.ws_isa.specs.declared.instr.Op.{Op}
 use Rattle.ws_isa.specs.declared.instr.Op.TheVariants.{Nop}
 use Rattle.ws_isa.specs.Image.{Instr, Image, instr_at, block_at, first_number, is_memory, is_memory_op, stops, target, is_first, IsIn, IsBlock}
@@ -13,9 +13,11 @@ use Rattle.wave_link.specs.Outlines.{firsts_of, outline_of, with_nop, ops_from}
 use Rattle.wave_link.specs.States.{reached, state_in, is_vain, needs_nop}
 use Rattle.wave_link.specs.Grown.{nop_instr, annotated}
 use Rattle.wave_link.specs.Passed.{adds}
-use Rattle.wave_link.specs.Vain.{last_in, without, Unlinkable, NeededNop, NoneInVain}
+use Rattle.wave_link.specs.Vain.{last_in, HasMore, NoneInVain}
 use Rattle.wave_link.proofs.Edges.{count_kept, wave_kept, target_kept, stops_kept, first_kept}
-use Rattle.wave_link.proofs.Numbers.{place_of, one_if, shift, nop, nop_positive, nop_is_there, ends_are}
+use Rattle.wave_link.proofs.Numbers.{one_if, shift, nop, nop_positive, nop_is_there, ends_are}
+use Rattle.wave_link.proofs.Numbers.{first_is as number_is}
+use Rattle.wave_link.proofs.GrownRows.{block_size}
 use Rattle.wave_link.proofs.LinksTables.{outline_in, Leads}
 use Rattle.wave_link.proofs.LinksRun.{reach_same}
 use Rattle.wave_link.proofs.LinksBlocks.{bare_of, grown_is, outline_at, outline_is, On_in, on_in, out_ends}
@@ -82,20 +84,20 @@ module _ (draft : Image) (open_to : OpenToNotes draft) where
       sum : (n : ℕ) → n ≡ 0 → n + 1 ≡ 1
       sum n e = omega arith
 
-  last_is : (b : ℕ) → IsBlock draft b → adds draft b ≡ true → (last_in draft b ≡ nop draft b) × (first_number image (suc b) ≡ suc (nop draft b))
+  pub last_is : (b : ℕ) → IsBlock draft b → adds draft b ≡ true → (last_in image b ≡ nop draft b) × (first_number image (suc b) ≡ suc (nop draft b))
   unfolding nop
   last_is b h a =
       let e : first_number image (suc b) ≡ 1 + (first_number draft (suc b) + shift draft b) = ends_are draft b h ∙ ap (λ (v : Bool). one_if v + (first_number draft (suc b) + shift draft b)) a in
       (omega (arith, e), omega (arith, e))
 
-  nop_op : (b : ℕ) → IsBlock draft b → adds draft b ≡ true → (instr_at image (last_in draft b)).op ≡ Nop
+  nop_op : (b : ℕ) → IsBlock draft b → adds draft b ≡ true → (instr_at image (last_in image b)).op ≡ Nop
   nop_op b h a = ap (λ (k : ℕ). (instr_at image k).op) (last_is b h a).0 ∙ ap (λ (i : Instr). i.op) (nop_is_there draft b h a)
 
-  nop_memory : (b : ℕ) → IsBlock draft b → adds draft b ≡ true → is_memory image (last_in draft b) ≡ true
+  nop_memory : (b : ℕ) → IsBlock draft b → adds draft b ≡ true → is_memory image (last_in image b) ≡ true
   unfolding is_memory
   nop_memory b h a = ap is_memory_op (nop_op b h a)
 
-  nop_inside : (b : ℕ) → IsBlock draft b → adds draft b ≡ true → IsIn image b (last_in draft b)
+  nop_inside : (b : ℕ) → IsBlock draft b → adds draft b ≡ true → IsIn image b (last_in image b)
   nop_inside b h a = go (cases_eq (first_number image b) (first_number image (suc b)))
     where
       e : first_number image (suc b) ≡ suc (nop draft b)
@@ -106,14 +108,24 @@ module _ (draft : Image) (open_to : OpenToNotes draft) where
       s = (marked draft open_to).sq_first b (in_image b h)
       t : sq draft b (first_number image (suc b)) ≡ low_of draft b + (outline_at draft b).ops + 1
       t = (marked draft open_to).sq_end b (in_image b h)
-      go : (first_number image b ≡ first_number image (suc b)) ⊎ (first_number image b ≡ first_number image (suc b) → ⊥) → IsIn image b (last_in draft b)
+      go : (first_number image b ≡ first_number image (suc b)) ⊎ (first_number image b ≡ first_number image (suc b) → ⊥) → IsIn image b (last_in image b)
       go (inl f) = absurd (omega (arith, one_op b h a, ap (sq draft b) f, s, t))
       go (inr d) = (omega (arith, e, g, d), omega (arith, e))
 
-  pub none_in_vain : NoneInVain draft
-  none_in_vain b h a = record {
-    is_nop = nop_op b h a;
-    needed = subst (Unlinkable (without image (last_in draft b))) (wave_kept draft b)
-        (unlinkable image count (outline_at draft) (low_of draft) (heads_in draft) (ways_at draft) (states_at draft) (behind_at draft) (sq draft) (wr draft) (run draft open_to) (marked draft open_to)
-          wave_on ends_on b (last_in draft b) (in_image b h) (nop_inside b h a) (let p : 1 ≤ nop draft b = nop_positive draft b in omega (arith, (last_is b h a).0)) (one_op b h a) (nop_memory b h a) (need b h a (one_op b h a)));
-  }
+  -- a block that has grown got a no-op
+  pub grown_adds : (b : ℕ) → IsBlock draft b → HasMore draft image b → adds draft b ≡ true
+  grown_adds b h m = elim (cases_Bool (adds draft b)) [
+    | inl a ↦ a
+    | inr a ↦ absurd (
+      let s : first_number draft (suc b) ≡ first_number draft b + length (block_at draft b).instrs = block_size draft b h in
+      let t : first_number image (suc b) ≡ first_number image b + length (block_at image b).instrs = block_size image b (in_image b h) in
+      let f : first_number image b ≡ first_number draft b + shift draft b = number_is draft b h in
+      let e : first_number image (suc b) ≡ 0 + (first_number draft (suc b) + shift draft b) = ends_are draft b h ∙ ap (λ (v : Bool). one_if v + (first_number draft (suc b) + shift draft b)) a in
+      omega (arith, m))
+  ]
+
+  pub none_in_vain : NoneInVain draft image
+  none_in_vain b h more =
+      let a : adds draft b ≡ true = grown_adds b h more in
+      unlinkable image count (outline_at draft) (low_of draft) (heads_in draft) (ways_at draft) (states_at draft) (behind_at draft) (sq draft) (wr draft) (run draft open_to) (marked draft open_to)
+          wave_on ends_on b (last_in image b) (in_image b h) (nop_inside b h a) (let p : 1 ≤ nop draft b = nop_positive draft b in omega (arith, (last_is b h a).0)) (one_op b h a) (nop_memory b h a) (need b h a (one_op b h a))

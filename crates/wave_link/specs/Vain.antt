@@ -1,11 +1,8 @@
--- When an added no-op is needed: without it, no notes would keep the rules on links.
-use Rattle.std.specs.Prelude.{ℕ, suc, ◌+◌, ◌-◌, ◌≡◌, ◌⊎◌, true, cond, List, [], ◌∷◌, length, map, Option, Some, None, eqb, ltb}
-use Rattle.ws_isa.specs.declared.instr.Op.TheVariants.{Nop}
+-- When an added no-op is needed: without it some paths break what the rules on links ask of all notes.
+use Rattle.std.specs.Prelude.{ℕ, suc, ◌+◌, ◌-◌, ◌≡◌, ◌<◌, cond, List, [], ◌∷◌, length, map, Option, Some, None, eqb, ltb}
 use Rattle.ws_isa.specs.declared.instr.Dest.{Dest}
-use Rattle.ws_isa.specs.Image.{Instr, Exit, Goto, Branch, Landings, Stop, Pad, Block, Image, instr_at, block_at, first_number, IsBlock}
+use Rattle.ws_isa.specs.Image.{Instr, Exit, Goto, Branch, Landings, Stop, Pad, Block, Image, block_at, first_number, IsBlock}
 use Rattle.image_walk.specs.Sound.{Follows, Ends, wave_at}
-use Rattle.wave_link.specs.Grown.{annotated}
-use Rattle.wave_link.specs.Passed.{adds}
 
 -- The image without instruction x and without the destinations that name it. Those behind x move up.
 
@@ -82,15 +79,15 @@ pub data Unlinkable (image : Image) (w : ℕ) : Type 0 where
   neighbours : (j k : ℕ) → FollowsIn image w (Some j) k → OtherNext image w j k → OtherBefore image w j k →
       Unlinkable image w
 
--- the last instruction of block b of the image
+-- the last instruction of block b
 abbrev pub last_in : Image → ℕ → ℕ
-last_in draft b = first_number (annotated draft) (suc b) - 1
+last_in image b = first_number image (suc b) - 1
 
--- the no-op of block b is the block's last instruction, and is needed in its wave
-pub record NeededNop (draft : Image) (b : ℕ) : Type 0 where
-  pub is_nop : (instr_at (annotated draft) (last_in draft b)).op ≡ Nop
-  pub needed : Unlinkable (without (annotated draft) (last_in draft b)) (block_at draft b).wave
+-- block b of the image has an instruction more than the draft's
+abbrev pub HasMore : Image → Image → ℕ → Type 0
+HasMore draft image b = length (block_at draft b).instrs < length (block_at image b).instrs
 
--- each no-op that is added is needed
-abbrev pub NoneInVain : Image → Type 0
-NoneInVain draft = (b : ℕ) → IsBlock draft b → adds draft b ≡ true → NeededNop draft b
+-- each instruction that is added, the last of its block, is needed in its wave
+abbrev pub NoneInVain : Image → Image → Type 0
+NoneInVain draft image = (b : ℕ) → IsBlock draft b → HasMore draft image b →
+    Unlinkable (without image (last_in image b)) (block_at image b).wave
