@@ -1,8 +1,9 @@
 -- When an added no-op is needed: without it some paths break what the rules on links ask of all notes.
 use Rattle.std.specs.Prelude.{ℕ, suc, ◌+◌, ◌-◌, ◌≡◌, ◌<◌, cond, List, [], ◌∷◌, length, map, Option, Some, None, eqb, ltb}
 use Rattle.ws_isa.specs.declared.instr.Dest.{Dest}
+use Rattle.ws_isa.specs.declared.instr.Note.{Note}
 use Rattle.ws_isa.specs.Image.{Instr, Exit, Goto, Branch, Landings, Stop, Pad, Block, Image, block_at, first_number, IsBlock}
-use Rattle.image_walk.specs.Sound.{Follows, Ends, wave_at}
+use Rattle.image_walk.specs.Sound.{Follows, Ends, wave_at, LinkRules}
 
 -- The image without instruction x and without the destinations that name it. Those behind x move up.
 
@@ -79,6 +80,22 @@ pub data Unlinkable (image : Image) (w : ℕ) : Type 0 where
   neighbours : (j k : ℕ) → FollowsIn image w (Some j) k → OtherNext image w j k → OtherBefore image w j k →
       Unlinkable image w
 
+-- The same image with other notes: instruction k has note `notes k`.
+
+abbrev pub renoted_instrs : (ℕ → Option Note) → ℕ → List Instr → List Instr
+renoted_instrs notes k [] = []
+renoted_instrs notes k (i ∷ is) =
+    record { op = i.op; note = notes k; dests = i.dests; others = i.others } ∷ renoted_instrs notes (suc k) is
+
+abbrev pub renoted_blocks : (ℕ → Option Note) → ℕ → List Block → List Block
+renoted_blocks notes k [] = []
+renoted_blocks notes k (b ∷ bs) =
+    record { wave = b.wave; pads = b.pads; instrs = renoted_instrs notes k b.instrs; exit = b.exit }
+    ∷ renoted_blocks notes (k + length b.instrs) bs
+
+unfoldable pub renoted : Image → (ℕ → Option Note) → Image
+renoted image notes = record { arrays = image.arrays; blocks = renoted_blocks notes 1 image.blocks }
+
 -- the last instruction of block b
 abbrev pub last_in : Image → ℕ → ℕ
 last_in image b = first_number image (suc b) - 1
@@ -91,3 +108,8 @@ HasMore draft image b = length (block_at draft b).instrs < length (block_at imag
 abbrev pub NoneInVain : Image → Image → Type 0
 NoneInVain draft image = (b : ℕ) → IsBlock draft b → HasMore draft image b →
     Unlinkable (without image (last_in image b)) (block_at image b).wave
+
+-- so with whatever notes, the image without it breaks the rules on links
+abbrev pub NeverLinked : Image → Image → Type 0
+NeverLinked draft image = (b : ℕ) (notes : ℕ → Option Note) → IsBlock draft b → HasMore draft image b →
+    LinkRules (renoted (without image (last_in image b)) notes) → ⊥

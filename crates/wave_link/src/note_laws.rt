@@ -5,7 +5,7 @@ ghost use Rattle.image_walk.specs.Sound.{LinkRules, RippleRules};
 ghost use Rattle.wave_link.specs.Grown.{annotated};
 ghost use Rattle.wave_link.specs.Ripples.{ExactRipples};
 ghost use Rattle.wave_link.specs.Trigger.{NopsTriggered};
-ghost use Rattle.wave_link.specs.Vain.{NoneInVain};
+ghost use Rattle.wave_link.specs.Vain.{NeverLinked, NoneInVain};
 ghost use Rattle.ws_isa.specs.Image.{Image};
 
 /// The image of a draft that is open to notes keeps the rules on links and ripples.
@@ -27,7 +27,9 @@ pub fn nops_are_triggered()
 {}
 
 /// No no-op is in vain: without it and its trigger some paths of its wave break what the rules on
-/// links ask of all notes.
+/// links ask of all notes, so that no notes would make the image sound.
 pub fn nops_are_needed()
-    ensures { (draft : Image) → OpenToNotes draft → NoneInVain draft (annotated draft) }
+    ensures needed { (draft : Image) → OpenToNotes draft → NoneInVain draft (annotated draft) }
+    ensures never_linked { (draft : Image) → OpenToNotes draft →
+        NeverLinked draft (annotated draft) }
 {}
