@@ -300,9 +300,10 @@ module _ (draft : Image) (ok : OpenToNotes draft) where
       let r = renamed_back (new draft) ds j q x in
       let y = h r.0 q r.1 in
       let l : Located draft r.0 = located draft r.0 y.0 in
-      subst (λ (n : ℕ). IsInstr (annotated draft) n × (q < ports (annotated draft) n)) r.2
-      (in_image l.block (new draft r.0) l.there (new_inside draft l.block r.0 l.there l.inside),
-      omega (arith, y.1, ap (ports (annotated draft)) (new_is draft l.block r.0 l.there l.inside), ports_kept draft l.block r.0 l.there l.inside))
+      subst (λ (n : ℕ). IsInstr (annotated draft) n × (q < ports (annotated draft) n)) r.2 (
+        in_image l.block (new draft r.0) l.there (new_inside draft l.block r.0 l.there l.inside),
+        omega (arith, y.1, ap (ports (annotated draft)) (new_is draft l.block r.0 l.there l.inside), ports_kept draft l.block r.0 l.there l.inside),
+      )
 
   -- so is a no-op
   abbrev pub IsNop : ℕ → Type 0
@@ -389,6 +390,7 @@ module _ (draft : Image) (ok : OpenToNotes draft) where
           (all_each (λ p. DestsIn draft p.dests) (λ p. DestsIn (annotated draft) (renamed (tables_in draft.blocks) p.dests)) (block_at draft b).pads
           (λ p d. subst (DestsIn (annotated draft)) (sym (same_renamed draft p.dests)) (dests_in (annotated draft) (by_number (new draft) p.dests) (renamed_there p.dests (there draft p.dests d))))
           (block_of_all (λ b. AllByRecursion (λ p. DestsIn draft p.dests) b.pads) draft b refs.pads h))
+
       exit_in : (b : ℕ) → IsBlock draft b → (x : Exit) → (block_at draft b).exit ≡ x → ExitIn draft x → ExitIn (annotated draft) (grown_exit (tables_in draft.blocks) x)
       exit_in b h (Goto c) e i = block_on draft c i
       exit_in b h (Branch s c d) e i = (new_number s (in_image b (new draft s) h (new_inside draft b s h (shape.source b s c d h e))), block_on draft c i.1, block_on draft d i.2)
@@ -406,13 +408,14 @@ module _ (draft : Image) (ok : OpenToNotes draft) where
           (dests_suit (instr_at draft k).op (instr_at draft k).dests (renamed (tables_in draft.blocks) (instr_at draft k).dests ++ extra_dest (get_or (tables_in draft.blocks).now k 0))
           (instr_of_all (λ i. DestsSuit i.op i.dests) draft k ok.walkable.suited.lists.dests (is_instr draft b k h i))
           (λ g s e. empty_grown (tables_in draft.blocks) (instr_at draft k).dests (get_or (tables_in draft.blocks).now k 0)
-            (now_none draft b k h i (giver_gives draft b k h (is_instr draft b k h i).0 g) (steer_steers draft b k h (is_instr draft b k h i).0 s)) e))
+          (now_none draft b k h i (giver_gives draft b k h (is_instr draft b k h i).0 g) (steer_steers draft b k h (is_instr draft b k h i).0 s)) e))
+
       others_at : (b k : ℕ) → IsBlock draft b → IsIn draft b k → OthersSuit (instr_at (annotated draft) (k + shift draft b)).op (instr_at (annotated draft) (k + shift draft b)).others
       others_at b k h i = subst (λ (x : Instr). OthersSuit x.op x.others) (sym (instr_is_grown draft b k h i))
           (others_suit (instr_at draft k).op (instr_at draft k).others (renamed (tables_in draft.blocks) (instr_at draft k).others ++ extra_dest (get_or (tables_in draft.blocks).other k 0))
           (instr_of_all (λ i. OthersSuit i.op i.others) draft k ok.walkable.suited.lists.others (is_instr draft b k h i))
           (λ s e. empty_grown (tables_in draft.blocks) (instr_at draft k).others (get_or (tables_in draft.blocks).other k 0)
-            (other_none draft b k h i (steer_steers draft b k h (is_instr draft b k h i).0 s)) e))
+          (other_none draft b k h i (steer_steers draft b k h (is_instr draft b k h i).0 s)) e))
 
   -- the image's references are there, and its lists suit
   pub suited : Suited (annotated draft)
@@ -469,8 +472,10 @@ module _ (draft : Image) (ok : OpenToNotes draft) where
       pads = subst (AllByRecursion (λ p. (p.number < most_pads) × (length p.dests ≤ most_dests))) (sym (pads_kept draft b))
           (all_map (λ p. (p.number < most_pads) × (length p.dests ≤ most_dests)) (grown_pad (tables_in draft.blocks)) (block_at draft b).pads
           (all_members (λ p. (p.number < most_pads) × (length (renamed (tables_in draft.blocks) p.dests) ≤ most_dests)) (block_at draft b).pads
-          (λ p i. (member_of (λ p. p.number < most_pads) (block_at draft b).pads p (block_of_all (λ b. AllByRecursion (λ p. p.number < most_pads) b.pads) draft b room.numbers h) i,
-            omega (arith, room.pads b p h i, renamed_length (tables_in draft.blocks) p.dests)))));
+          (λ p i. (
+            member_of (λ p. p.number < most_pads) (block_at draft b).pads p (block_of_all (λ b. AllByRecursion (λ p. p.number < most_pads) b.pads) draft b room.numbers h) i,
+            omega (arith, room.pads b p h i, renamed_length (tables_in draft.blocks) p.dests),
+          ))));
       exit = subst ExitWithin (sym (exit_kept draft b)) (exit_within (tables_in draft.blocks) (block_at draft b).exit (λ s ls e. room.landings b s ls h e));
     }
 

@@ -32,9 +32,10 @@ shut_before ds o j q h = not_true (o j q) (λ e. clash (all_opened ds o j q) (al
 -- a slot that a fresh list leaves shut may be opened first
 fresh_opened : (bs : List Dest) (d : Dest) (o : Slots) → Fresh bs o → all_opened bs o d.instr d.port ≡ false → Fresh bs (opened d o)
 fresh_opened [] d o f h = tt
-fresh_opened (b ∷ bs) d o f h =
-    (not_true (opened d o b.instr b.port) (λ e. there e (cases_Bool (eqb d.instr b.instr && eqb d.port b.port))),
-    subst (Fresh bs) (swap d b o) (fresh_opened bs d (opened b o) f.1 h))
+fresh_opened (b ∷ bs) d o f h = (
+  not_true (opened d o b.instr b.port) (λ e. there e (cases_Bool (eqb d.instr b.instr && eqb d.port b.port))),
+  subst (Fresh bs) (swap d b o) (fresh_opened bs d (opened b o) f.1 h),
+)
   where
     there : opened d o b.instr b.port ≡ true → ((eqb d.instr b.instr && eqb d.port b.port) ≡ true) ⊎ ((eqb d.instr b.instr && eqb d.port b.port) ≡ false) → ⊥
     there e (inr n) = clash (o b.instr b.port) (ap (λ (v : Bool). cond v true (o b.instr b.port)) (sym n) ∙ e) f.0
@@ -52,9 +53,10 @@ fresh_swap : (bs cs : List Dest) (o : Slots) → Fresh (bs ++ cs) o → Fresh (c
 fresh_swap bs [] o f = fresh_left bs [] o f
 fresh_swap bs (c ∷ cs) o f =
     let l : Fresh bs o = fresh_left bs (c ∷ cs) o f in
-    let r : Fresh (c ∷ cs) (all_opened bs o) = fresh_right bs (c ∷ cs) o f in
-    (shut_before bs o c.instr c.port r.0,
-    fresh_swap bs cs (opened c o) (fresh_append bs cs (opened c o) (fresh_opened bs c o l r.0) (subst (Fresh cs) (sym (all_swap bs c o)) r.1)))
+    let r : Fresh (c ∷ cs) (all_opened bs o) = fresh_right bs (c ∷ cs) o f in (
+      shut_before bs o c.instr c.port r.0,
+      fresh_swap bs cs (opened c o) (fresh_append bs cs (opened c o) (fresh_opened bs c o l r.0) (subst (Fresh cs) (sym (all_swap bs c o)) r.1)),
+    )
 
 -- the lists of n instructions from k on, one after the other
 abbrev pub gather : (ℕ → List Dest) → ℕ → ℕ → List Dest

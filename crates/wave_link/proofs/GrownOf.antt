@@ -105,6 +105,7 @@ opens_same draft b r h = ap₂ (λ (k n : ℕ). edge_all (annotated draft) b r k
   where
     l : first_number draft b ≤ first_number draft (suc b)
     l = first_le draft b (suc b) (omega arith)
+
     go : (adds draft b ≡ true) ⊎ (adds draft b ≡ false) → edge_all (annotated draft) b r (first_number draft b + shift draft b) (one_if (adds draft b) + size_of draft b) ≡ edge_all (annotated draft) b r (first_number draft b + shift draft b) (size_of draft b)
     go (inl a) = ap (λ (n : ℕ). edge_all (annotated draft) b r (first_number draft b + shift draft b) n) (ap (λ (v : Bool). one_if v + size_of draft b) a ∙ plus (size_of draft b))
         ∙ edge_all_more (annotated draft) b r (first_number draft b + shift draft b) (size_of draft b) (ap (edge_dests (annotated draft) b r) (nop_at_end draft b l) ∙ nop_edge draft b r h a)
@@ -138,7 +139,7 @@ module _ (draft : Image) (ok : OpenToNotes draft) where
   real j h = origin_new draft j h
 
   -- a block without a giving instruction is entered from a steer
-  entered : (b : ℕ) → IsBlock draft b → giver draft b ≡ 0 → EnteredBySteer draft b
+  pub entered : (b : ℕ) → IsBlock draft b → giver draft b ≡ 0 → EnteredBySteer draft b
   unfolding is_giving
   entered b h g = elim (ok.givers b h) [
     | inr e ↦ e
@@ -148,7 +149,7 @@ module _ (draft : Image) (ok : OpenToNotes draft) where
     ]
   ]
 
-  case_before : (b : ℕ) → trigger draft b ≡ Before → giver draft b ≡ 0
+  pub case_before : (b : ℕ) → trigger draft b ≡ Before → giver draft b ≡ 0
   case_before b t = elim (trigger_case draft b) [
     | whole a e ↦ absurd (cc)
     | before a g e ↦ g
@@ -198,6 +199,7 @@ module _ (draft : Image) (ok : OpenToNotes draft) where
     where
       l : first_number draft b ≤ first_number draft (suc b)
       l = first_le draft b (suc b) (omega arith)
+
       none_one : NoneIn is_steer_op draft b (steer_in draft b) → OneIn is_steer_op draft b (steer_in draft b) → ⊥
       none_one n o = omega (arith, n.zero_is, instr_positive draft b (steer_in draft b) h o.inside)
 
@@ -210,7 +212,7 @@ module _ (draft : Image) (ok : OpenToNotes draft) where
   edge_opens b r o h s =
       ap (λ (ds : List Dest). all_opened ds o) (opens_same draft b r h)
       ∙ (all_alike draft (annotated draft) (new draft) b r (shift draft b) (first_number draft b) (first_number draft (suc b)) (extras_at draft r) (each_edge b r h) (first_number draft b) (size_of draft b) o (omega arith)
-          (omega (arith, end_of draft b (first_le draft b (suc b) (omega arith))))
+      (omega (arith, end_of draft b (first_le draft b (suc b) (omega arith))))
       ∙ ap₂ (λ (u v : List Dest). all_opened (renamed (new draft) u ++ v) o) (sym (opens_draft draft b r)) (gathered b r h s))
 
   edge_fresh : (b r : ℕ) (o : Slots) → IsBlock draft b → stops draft b ≡ false →
@@ -218,7 +220,7 @@ module _ (draft : Image) (ok : OpenToNotes draft) where
   edge_fresh b r o h s f =
       subst (λ (ds : List Dest). Fresh ds o) (sym (opens_same draft b r h))
       (fresh_alike draft (annotated draft) (new draft) b r (shift draft b) (first_number draft b) (first_number draft (suc b)) (extras_at draft r) (each_edge b r h) (first_number draft b) (size_of draft b) o (omega arith)
-          (omega (arith, end_of draft b (first_le draft b (suc b) (omega arith))))
+      (omega (arith, end_of draft b (first_le draft b (suc b) (omega arith))))
       (subst (λ (ds : List Dest). Fresh ds o) (ap₂ (λ (u v : List Dest). renamed (new draft) u ++ v) (opens_draft draft b r) (sym (gathered b r h s))) f))
 
   ends_grown : (b : ℕ) → IsBlock draft b → first_number (annotated draft) (suc b) ≡ extra (trigger draft b) + (first_number draft (suc b) + shift draft b)
@@ -320,6 +322,7 @@ module _ (draft : Image) (ok : OpenToNotes draft) where
       none_here (Own n) c hc e z = absurd z
       none_here Before c hc e (inl z) = ap (origin draft) (sym z.0) ∙ origin_none draft c hc (added_if draft c (ap extra e))
       none_here Before c hc e (inr z) = absurd z
+
       go : (steer_in draft b ≡ k) ⊎ (steer_in draft b ≡ k → ⊥) → origin draft j ≡ None
       go (inr n) = absurd (subst (λ (ds : List Dest). HasDest ds j q) (extras_else draft b r k h i n) x)
       go (inl f) = elim (steer_cases draft b h) [

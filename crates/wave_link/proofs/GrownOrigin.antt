@@ -61,7 +61,7 @@ new_high draft b k h i = omega (arith, ends_are draft b h, new_is draft b k h i,
 order : (b c : ℕ) → (b < c) ⊎ ((b ≡ c) ⊎ (c < b))
 order b c = elim (cases_lt b c) [
   | inl l ↦ inl l
-  | inr l ↦ elim (cases_eq b c) [ | inl e ↦ inr (inl e) | inr n ↦ inr (inr (omega arith)) ]
+  | inr l ↦ elim (cases_eq b c) [ inl e ↦ inr (inl e) | inr n ↦ inr (inr (omega arith)) ]
 ]
 
 pub new_apart : (draft : Image) (j k : ℕ) → IsInstr draft j → IsInstr draft k → new draft j ≡ new draft k → j ≡ k
@@ -69,8 +69,10 @@ new_apart draft j k h i e = go (order x.block y.block)
   where
     x : Located draft j
     x = located draft j h
+
     y : Located draft k
     y = located draft k i
+
     go : (x.block < y.block) ⊎ ((x.block ≡ y.block) ⊎ (y.block < x.block)) → j ≡ k
     go (inl l) = absurd (omega (arith, e, before_later draft x.block y.block (new draft j) (new draft k) x.there y.there l (new_high draft x.block j x.there x.inside) (new_low draft y.block k y.there y.inside)))
     go (inr (inr l)) = absurd (omega (arith, e, before_later draft y.block x.block (new draft k) (new draft j) y.there x.there l (new_high draft y.block k y.there y.inside) (new_low draft x.block j x.there x.inside)))
@@ -109,8 +111,10 @@ origin_none draft b h a = go (origin draft (nop draft b)) refl
       where
         x : (nop draft b ≡ new draft k) × IsInstr draft k
         x = origin_is draft (nop draft b) k e
+
         y : Located draft k
         y = located draft k x.1
+
         at : (y.block < b) ⊎ ((y.block ≡ b) ⊎ (b < y.block)) → ⊥
         at (inl l) = omega (arith, x.0, before_later draft y.block b (new draft k) (nop draft b) y.there h l (new_high draft y.block k y.there y.inside) (nop_low draft b h))
         at (inr (inr l)) = omega (arith, x.0, before_later draft b y.block (nop draft b) (new draft k) h y.there l (nop_high draft b h a) (new_low draft y.block k y.there y.inside))

@@ -91,7 +91,7 @@ middle true false c e = absurd (cc)
 middle false b c e = absurd (cc)
 
 is_zero : (n : ℕ) → eqb n 0 ≡ true → n ≡ 0
-is_zero n e = elim (cases_eq n 0) [ | inl f ↦ f | inr f ↦ absurd (cc (ne_eqb n 0 f, e)) ]
+is_zero n e = elim (cases_eq n 0) [ inl f ↦ f | inr f ↦ absurd (cc (ne_eqb n 0 f, e)) ]
 
 states_idle : (os : List Outline) (b : ℕ) (ways : List Ways) (states : List State) (n : ℕ) (o : Outline) → get_or (states_from os b ways states) n false ≡ true → nth os n ≡ Some o → o.ops ≡ 0
 states_idle [] b ways states n o e f = absurd (cc)
@@ -135,6 +135,7 @@ no_memory draft b k h a i = go (cases_Bool (is_memory_op (instr_at draft k).op))
   where
     x : InBlock draft b k
     x = in_block draft b k h i
+
     go : (is_memory_op (instr_at draft k).op ≡ true) ⊎ (is_memory_op (instr_at draft k).op ≡ false) → is_memory_op (instr_at draft k).op ≡ false
     go (inr e) = e
     go (inl e) = absurd (omega (arith, idle_ops draft b h a, ops_some (block_at draft b).instrs x.place 0 x.within (ap (λ (y : Instr). is_memory_op y.op) (sym x.is) ∙ e)))

@@ -211,17 +211,22 @@ now_grown draft b k h i = ap (λ (x : Instr). now_of x.op x.dests) (instr_is_gro
   where
     l : 1 ≤ k
     l = instr_positive draft b k h i
+
     op : Op
     op = (instr_at draft k).op
+
     ds : List Dest
     ds = (instr_at draft k).dests
+
     n : ℕ
     n = get_or (tables_in draft.blocks).now k 0
+
     extra_own : is_steer_op op ≡ false → extra_dest n ≡ own_slot (trigger draft b) (nop draft b) k
     extra_own e = elim (cases_eq (giver draft b) k) [
       | inl g ↦ ap extra_dest (now_giver draft b k h i g (steer_steers draft b k h l e)) ∙ sym (own_is draft b k l g)
       | inr g ↦ no_dest n (now_none draft b k h i g (steer_steers draft b k h l e)) ∙ sym (own_else draft b k g)
     ]
+
     go : OpCase op → now_of op (table_renamed (tables_in draft.blocks) ds ++ extra_dest n) ≡ renamed (new draft) (now_of op ds) ++ own_slot (trigger draft b) (nop draft b) k
     go (steers e) = ap (λ (o : Op). now_of o (table_renamed (tables_in draft.blocks) ds ++ extra_dest n)) e
         ∙ sym (ap₂ (λ (o : Op) (u : List Dest). renamed (new draft) (now_of o ds) ++ u) e (own_else draft b k (giver_gives draft b k h l (ap is_giving_op e))))
@@ -272,18 +277,24 @@ edge_grown draft b r k h i = ap (λ (x : Instr). edge_of (annotated draft) b r x
   where
     x : Instr
     x = instr_at draft k
+
     t : Tables
     t = tables_in draft.blocks
+
     o : ℕ
     o = get_or t.other k 0
+
     n : ℕ
     n = get_or t.now k 0
+
     both : (v : Bool) → cond v (table_renamed t x.others ++ extra_dest o) (table_renamed t x.dests ++ extra_dest n) ≡ renamed (new draft) (cond v x.others x.dests) ++ cond v (extra_dest o) (extra_dest n)
     both true = ap (λ (u : List Dest). u ++ extra_dest o) (same_renamed draft x.others)
     both false = ap (λ (u : List Dest). u ++ extra_dest n) (same_renamed draft x.dests)
+
     nil : (xs : List Dest) → xs ≡ xs ++ []
     nil [] = refl
     nil (y ∷ ys) = ap (λ (l : List Dest). y ∷ l) (nil ys)
+
     go : OpCase x.op → edge_of (annotated draft) b r (grown_at draft b k) x.op ≡ renamed (new draft) (edge_of draft b r x x.op) ++ cond (is_steer_op x.op) (cond (eqb r 0) (extra_dest o) (extra_dest n)) []
     go (steers e) = ap (edge_of (annotated draft) b r (grown_at draft b k)) e
         ∙ (both (eqb r 0) ∙ sym (ap (λ (p : Op). renamed (new draft) (edge_of draft b r x p) ++ cond (is_steer_op p) (cond (eqb r 0) (extra_dest o) (extra_dest n)) []) e))
@@ -316,9 +327,11 @@ extras_else draft b r k h i f = go (op_case (instr_at draft k).op)
   where
     l : 1 ≤ k
     l = instr_positive draft b k h i
+
     pick : (v : Bool) → cond v (extra_dest 0) (extra_dest 0) ≡ []
     pick true = refl
     pick false = refl
+
     go : OpCase (instr_at draft k).op → cond (is_steer_op (instr_at draft k).op) (cond (eqb r 0) (extra_dest (get_or (tables_in draft.blocks).other k 0)) (extra_dest (get_or (tables_in draft.blocks).now k 0))) [] ≡ []
     go (steers e) = ap (λ (p : Op). cond (is_steer_op p) (cond (eqb r 0) (extra_dest (get_or (tables_in draft.blocks).other k 0)) (extra_dest (get_or (tables_in draft.blocks).now k 0))) []) e
         ∙ (ap₂ (λ (n m : ℕ). cond (eqb r 0) (extra_dest n) (extra_dest m)) (other_none draft b k h i f) (now_none draft b k h i (giver_gives draft b k h l (ap is_giving_op e)) f)

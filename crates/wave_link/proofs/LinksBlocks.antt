@@ -1,14 +1,14 @@
 -- What the outlines of a draft say of its blocks and edges.
-use Rattle.std.proofs.Common.{ℕ, zero, suc, ◌+◌, ◌-◌, ◌≡◌, ◌<◌, ◌≤◌, ◌⊎◌, ◌||◌, ◌&&◌, Bool, true, false, cond, not, List, [], ◌∷◌, ◌++◌, length, get_or, Option, Some, None, refl, sym, ap, ◌∙◌, inl, inr, subst, arith, eqb, eq-eqb, ne_eqb}
-use Rattle.std.proofs.lemmas.Bool.{cases_eq, cases_Bool, cases_lt}
-use Rattle.ws_isa.specs.Image.{Instr, Exit, Goto, Branch, Landings, Stop, Block, Image, nth, or_else, no_block, block_at, leave_to, is_stop, stops, target, is_first, edges_of, is_memory_op, is_writing_op, IsBlock}
+use Rattle.std.proofs.Common.{ℕ, zero, suc, ◌+◌, ◌-◌, ◌≡◌, ◌<◌, ◌≤◌, ◌⊎◌, Bool, true, false, cond, not, List, [], ◌∷◌, length, get_or, Some, refl, sym, ap, ◌∙◌, inl, inr, subst, arith, eqb, eq-eqb}
+use Rattle.std.proofs.lemmas.Bool.{cases_eq}
+use Rattle.ws_isa.specs.Image.{Exit, Goto, Branch, Landings, Stop, Block, Image, nth, or_else, no_block, block_at, leave_to, is_stop, stops, target, is_first, edges_of, IsBlock}
 use Rattle.ws_isa.specs.Formed.{WavesFrom, WavesInOrder}
 use Rattle.image_walk.specs.Sound.{ShapeRules, MoreShape}
-use Rattle.image_walk.specs.Open.{OpenToNotes, IsArm, OnlyEdge}
+use Rattle.image_walk.specs.Open.{IsArm}
 use Rattle.wave_link.specs.declared.outline.Way.{Way}
 use Rattle.wave_link.specs.declared.outline.Way.TheVariants.{Out, On, Fork}
 use Rattle.wave_link.specs.declared.outline.Outline.{Outline}
-use Rattle.wave_link.specs.Outlines.{firsts_from, firsts_of, one_more_op, ops_from, writer_from, way_of, outline_of, outlines_from, outlines_of, with_nop, with_nops_from, with_nops}
+use Rattle.wave_link.specs.Outlines.{firsts_from, firsts_of, way_of, outline_of, outlines_from, outlines_of, with_nop, with_nops_from, with_nops}
 use Rattle.wave_link.specs.Grown.{added_in}
 use Rattle.wave_link.specs.Passed.{adds}
 use Rattle.wave_link.proofs.LinksTables.{no_outline, outline_in, Leads, Parts}
@@ -103,13 +103,13 @@ first_is draft b w h = ap (λ (o : Outline). o.first) (outline_is draft b h) ∙
 wave_next : (xs : List Block) (w n : ℕ) → WavesFrom w xs → suc n < length xs → (or_else (nth xs n) no_block).wave ≤ (or_else (nth xs (suc n)) no_block).wave
 wave_next [] w n h l = absurd (omega arith)
 wave_next (x ∷ []) w n h l = absurd (omega arith)
-wave_next (x ∷ y ∷ xs) w zero h l = elim h.1.0 [ | inl e ↦ omega arith | inr e ↦ omega arith ]
+wave_next (x ∷ y ∷ xs) w zero h l = elim h.1.0 [ inl e ↦ omega arith | inr e ↦ omega arith ]
 wave_next (x ∷ y ∷ xs) w (suc n) h l = wave_next (y ∷ xs) x.wave n h.1 (omega arith)
 
 waves_next : (xs : List Block) (n : ℕ) → WavesInOrder xs → suc n < length xs → (or_else (nth xs n) no_block).wave ≤ (or_else (nth xs (suc n)) no_block).wave
 waves_next [] n h l = absurd (omega arith)
 waves_next (x ∷ []) n h l = absurd (omega arith)
-waves_next (x ∷ y ∷ xs) zero h l = let e : x.wave ≡ 1 = h.0 in elim h.1.0 [ | inl f ↦ omega arith | inr f ↦ omega arith ]
+waves_next (x ∷ y ∷ xs) zero h l = let e : x.wave ≡ 1 = h.0 in elim h.1.0 [ inl f ↦ omega arith | inr f ↦ omega arith ]
 waves_next (x ∷ y ∷ xs) (suc n) h l = wave_next (y ∷ xs) 1 n h.1 (omega arith)
 
 wave_step : (draft : Image) (b : ℕ) → WavesInOrder draft.blocks → 1 ≤ b → b < length draft.blocks → (block_at draft b).wave ≤ (block_at draft (suc b)).wave
@@ -176,10 +176,13 @@ module _ (draft : Image) (shape : ShapeRules draft) (more : MoreShape draft) (ar
     where
       s : stops draft b ≡ false
       s = ap is_stop e
+
       at : (r : ℕ) → target draft b r ≡ t
       at r = ap (λ (x : Exit). leave_to x r) e
+
       block : IsBlock draft t
       block = subst (IsBlock draft) (at 0) (shape.edges b 0 h s)
+
       go : (v : Bool) → get_or firsts t true ≡ v → Leads (cond v Out (On t)) c → Back b c
       go true f k = absurd k
       go false f k = record { goes = s; r = 0; target_is = at 0 ∙ sym k; inside = ap (is_first draft) k ∙ (sym (told t block) ∙ f) }
@@ -233,10 +236,13 @@ module _ (draft : Image) (shape : ShapeRules draft) (more : MoreShape draft) (ar
     where
       at : target draft b 0 ≡ t
       at = ap (λ (x : Exit). leave_to x 0) e
+
       s : stops draft b ≡ false
       s = ap is_stop e
+
       block : IsBlock draft t
       block = subst (IsBlock draft) at (shape.edges b 0 h s)
+
       go : (v : Bool) → get_or firsts t true ≡ v → cond v Out (On t) ≡ Out → (stops draft b ≡ true) ⊎ ((stops draft b ≡ false) × ((r : ℕ) × (is_first draft (target draft b r) ≡ true)))
       go true f w = inr (s, (0, ap (is_first draft) at ∙ (sym (told t block) ∙ f)))
       go false f w = absurd (cc)
@@ -297,6 +303,7 @@ module _ (draft : Image) (shape : ShapeRules draft) (more : MoreShape draft) (ar
     where
       arm : IsArm draft b 0 p × IsArm draft b 1 q
       arm = forks b p q h f
+
       go : (c ≡ p) ⊎ (c ≡ q) → (i : ℕ) × (nth (edges_of (block_at draft a).exit) i ≡ Some c) → a ≡ b
       go (inl e) n = (arm.0.only.only a n.0 g (n.1 ∙ ap Some e)).0
       go (inr e) n = (arm.1.only.only a n.0 g (n.1 ∙ ap Some e)).0

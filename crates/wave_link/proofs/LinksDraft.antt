@@ -1,39 +1,28 @@
 -- The tables of a draft that is open to notes, and the image that is made of them.
-use Rattle.std.proofs.Common.{ℕ, zero, suc, ◌+◌, ◌-◌, ◌≡◌, ◌<◌, ◌≤◌, ◌⊎◌, ◌||◌, ◌&&◌, Bool, true, false, cond, not, List, [], ◌∷◌, ◌++◌, length, get_or, replicate, Option, Some, None, refl, sym, ap, ◌∙◌, inl, inr, subst, arith, eqb, eq-eqb, ne_eqb}
-use Rattle.std.proofs.lemmas.Bool.{cases_eq, cases_Bool, cases_lt}
+use Rattle.std.proofs.Common.{ℕ, zero, suc, ◌+◌, ◌-◌, ◌≡◌, ◌<◌, ◌≤◌, ◌||◌, ◌&&◌, Bool, true, false, cond, not, List, [], ◌∷◌, length, get_or, replicate, Option, None, refl, sym, ap, ◌∙◌, inl, inr, subst, arith, eqb, eq-eqb, ne_eqb}
+use Rattle.std.proofs.lemmas.Bool.{cases_eq}
 use Rattle.std.proofs.lemmas.List.{length-replicate}
 use Rattle.ws_isa.specs.declared.instr.Op.{Op}
-use Rattle.ws_isa.specs.declared.instr.Op.TheVariants.{Nop}
 use Rattle.ws_isa.specs.declared.instr.Link.{Link}
 use Rattle.ws_isa.specs.declared.instr.Link.TheVariants.{Unknown}
-use Rattle.ws_isa.specs.declared.instr.Note.{Note}
-use Rattle.ws_isa.specs.Image.{Instr, Block, Image, nth, or_else, no_block, no_instr, no_note, instr_at, block_at, first_number, note_of, is_memory, is_writing, stops, target, is_first, is_memory_op, is_writing_op, IsIn, IsBlock}
-use Rattle.image_walk.specs.Sound.{ShapeRules, MoreShape, LinkRules, RippleRules}
+use Rattle.ws_isa.specs.Image.{Instr, Image, block_at, is_memory_op, is_writing_op, IsBlock}
+use Rattle.image_walk.specs.Sound.{ShapeRules, MoreShape}
 use Rattle.image_walk.specs.Open.{OpenToNotes}
-use Rattle.image_walk.proofs.Blocks.{block_is, instr_is, number_next}
-use Rattle.wave_link.specs.declared.outline.Way.{Way}
-use Rattle.wave_link.specs.declared.outline.Way.TheVariants.{Out, On, Fork}
 use Rattle.wave_link.specs.declared.outline.Outline.{Outline}
 use Rattle.wave_link.specs.declared.links.Behind.{Behind}
-use Rattle.wave_link.specs.declared.links.Place.{Place}
 use Rattle.wave_link.specs.declared.states.Ways.{Ways}
 use Rattle.wave_link.specs.declared.states.Ways.TheVariants.{Zero}
 use Rattle.wave_link.specs.declared.states.State.{State}
 use Rattle.wave_link.specs.declared.states.State.TheVariants.{Shared}
-use Rattle.wave_link.specs.Outlines.{firsts_of, one_more_op, ops_from, writer_from, outline_of, with_nop}
-use Rattle.wave_link.specs.States.{reached, ways_step, ways_of, state_in, is_vain, needs_nop, spread_state, states_step, nops_of}
-use Rattle.wave_link.specs.Notes.{head_at, head_link, heads_of, lows_of, place_at, places_of, note_at, writer_next}
-use Rattle.wave_link.specs.Layout.{Tables}
-use Rattle.wave_link.specs.Grown.{note_for, seq_next, grown_instr, grown_instrs, nop_instr, nop_at, no_place, added_in, annotated}
+use Rattle.wave_link.specs.Outlines.{one_more_op, ops_from, writer_from, with_nop}
+use Rattle.wave_link.specs.States.{reached, ways_step, ways_of, state_in, is_vain, needs_nop, spread_state, states_step}
+use Rattle.wave_link.specs.Notes.{head_at, head_link, heads_of, lows_of, place_at}
 use Rattle.wave_link.specs.Passed.{adds}
-use Rattle.wave_link.specs.Ripples.{ExactRipples}
-use Rattle.wave_link.proofs.Parts.{tables_in, places_in}
-use Rattle.wave_link.proofs.Edges.{count_kept, wave_kept, target_kept, stops_kept, first_kept}
-use Rattle.wave_link.proofs.Numbers.{seq_in, writer_in, place_of, block_is_grown, nops_are, nop_positive, nop}
+use Rattle.wave_link.proofs.Numbers.{place_of}
 use Rattle.wave_link.proofs.LinksTables.{outline_in, stepped, stepped_next, ways_are, nop_at_place, behind_step, place_there, low_next, head_there, Leads}
 use Rattle.wave_link.proofs.LinksRun.{Run}
 use Rattle.wave_link.proofs.LinksPaths.{Marked}
-use Rattle.wave_link.proofs.LinksBlocks.{bare_of, grown_of, bare_length, grown_length, bare_is, grown_is, outline_at, outline_is, first_is, in_wave, edge_leads, Back, back, On_in, on_in, way_out, parts, alone}
+use Rattle.wave_link.proofs.LinksBlocks.{bare_of, grown_of, bare_length, grown_length, grown_is, outline_at, outline_is, in_wave, On_in, on_in, parts, alone}
 
 -- The tables before each block.
 
@@ -123,7 +112,7 @@ none_of true o e = absurd (omega (arith, e))
 none_of false o e = (refl, e)
 
 pub eqb_zero : (o : ℕ) → eqb o 0 ≡ true → o ≡ 0
-eqb_zero o e = elim (cases_eq o 0) [ | inl f ↦ f | inr d ↦ absurd (cc (sym e ∙ ne_eqb o 0 d)) ]
+eqb_zero o e = elim (cases_eq o 0) [ inl f ↦ f | inr d ↦ absurd (cc (sym e ∙ ne_eqb o 0 d)) ]
 
 module _ (draft : Image) (open_to : OpenToNotes draft) where
   abbrev count : ℕ
@@ -149,10 +138,13 @@ module _ (draft : Image) (open_to : OpenToNotes draft) where
     where
       form : List Ways → Outline → List State → ℕ → List State
       form w o s n = cond (reached o (suc n) w) (spread_state o.way (not (eqb o.ops 0)) (state_in o (suc n) w s) s) s
+
       minus : (n : ℕ) → suc n - 1 ≡ n
       minus n = omega arith
+
       added : (n : ℕ) → n < length draft.blocks → adds draft (suc n) ≡ needs_nop (outline_in (bare_of draft) n) (suc n) (ways_in draft) (states_at draft (suc n))
       added n l = adds_is draft (suc n) (omega arith, l) ∙ ap (λ (k : ℕ). needs_nop (outline_in (bare_of draft) k) (suc n) (ways_in draft) (states_at draft (suc n))) (minus n)
+
       same : (y : Outline) (s : List State) → adds draft (suc n) ≡ needs_nop y (suc n) (ways_in draft) s → states_step y (suc n) (ways_in draft) s ≡ form (ways_in draft) (with_nop y (adds draft (suc n))) s n
       same y s a = ap (λ (v : Bool). cond (reached y (suc n) (ways_in draft)) (spread_state y.way v (state_in y (suc n) (ways_in draft) s) s) s)
           (ap (λ (v : Bool). not (eqb y.ops 0) || v) (sym a) ∙ sym (full_is (adds draft (suc n)) y.ops))
@@ -171,8 +163,8 @@ module _ (draft : Image) (open_to : OpenToNotes draft) where
       let a : adds draft (suc n) ≡ needs_nop y (suc n) (ways_in draft) s = adds_is draft (suc n) (omega arith, l) ∙ ap (λ (k : ℕ). needs_nop (outline_in (bare_of draft) k) (suc n) (ways_in draft) s) (minus n) in
       let o : (adds draft (suc n) ≡ false) × (y.ops ≡ 0) = none_of (adds draft (suc n)) y.ops (ap (λ (v : Outline). v.ops) (sym e) ∙ z) in
       let g : is_vain y.way (ways_in draft) (state_in y (suc n) (ways_in draft) s) ≡ true =
-          needless (reached y (suc n) (ways_in draft)) (eqb y.ops 0) (is_vain y.way (ways_in draft) (state_in y (suc n) (ways_in draft) s)) (sym a ∙ o.0)
-          (ap (λ (v : List Ways). reached (with_nop y (adds draft (suc n))) (suc n) v) (sym w) ∙ (ap (λ (v : Outline). reached v (suc n) (ways_at draft (suc count))) (sym e) ∙ r)) (eq-eqb y.ops 0 o.1) in
+      needless (reached y (suc n) (ways_in draft)) (eqb y.ops 0) (is_vain y.way (ways_in draft) (state_in y (suc n) (ways_in draft) s)) (sym a ∙ o.0)
+      (ap (λ (v : List Ways). reached (with_nop y (adds draft (suc n))) (suc n) v) (sym w) ∙ (ap (λ (v : Outline). reached v (suc n) (ways_at draft (suc count))) (sym e) ∙ r)) (eq-eqb y.ops 0 o.1) in
       ap (λ (v : Outline). is_vain v.way (ways_at draft (suc count)) (state_in v (suc n) (ways_at draft (suc count)) s)) e
       ∙ (ap (λ (v : List Ways). is_vain y.way v (state_in y (suc n) v s)) w ∙ g)
     where
@@ -216,15 +208,19 @@ module _ (draft : Image) (open_to : OpenToNotes draft) where
     where
       size : (n : ℕ) → n ≡ count → n + 1 ≡ suc count
       size n e = omega arith
+
       over : (v : Bool) (o w : ℕ) → w ≤ o → w ≤ cond v (o + 1) o
       over true o w l = omega arith
       over false o w l = l
+
       writers : (b : ℕ) → IsBlock draft b → (outline_at draft b).writer ≤ (outline_at draft b).ops
       writers b h = subst (λ (o : Outline). o.writer ≤ o.ops) (sym (outline_is draft b h))
           (over (adds draft b) (ops_from (block_at draft b).instrs 0) (writer_from (block_at draft b).instrs 0 0) (writer_below (block_at draft b).instrs 0 0 (omega arith)))
+
       lows : (b : ℕ) → 1 ≤ b → b < count → low_of draft (suc b) ≡ cond (outline_at draft (suc b)).first 0 (low_of draft b + (outline_at draft b).ops)
       lows zero l h = absurd (omega arith)
       lows (suc n) l h = low_next (grown_of draft) n 0 (omega (arith, h, grown_length draft))
+
       heads : (n : ℕ) → n < length draft.blocks → head_at (heads_in draft) (suc n) ≡ head_link (outline_at draft (suc n)) (low_of draft (suc n)) (heads_in draft)
       heads n l = head_there (grown_of draft) (lows_of (grown_of draft)) 1 n (suc n) (replicate (length (grown_of draft) + 1) Unknown) (omega (arith, l, grown_length draft)) (omega arith)
           (omega (arith, length-replicate (length (grown_of draft) + 1) Unknown))

@@ -1,10 +1,10 @@
 -- The notes of an annotated image are made of its tables.
-use Rattle.std.proofs.Common.{ℕ, zero, suc, ◌+◌, ◌-◌, ◌≡◌, ◌<◌, ◌≤◌, ◌⊎◌, Bool, true, false, cond, not, List, [], ◌∷◌, ◌++◌, length, get_or, Option, Some, None, refl, sym, ap, ap₂, ◌∙◌, inl, inr, subst, arith, eqb, eq-eqb, ne_eqb}
-use Rattle.std.proofs.lemmas.Bool.{cases_eq, cases_Bool, cases_lt}
+use Rattle.std.proofs.Common.{ℕ, zero, suc, ◌+◌, ◌-◌, ◌≡◌, ◌<◌, ◌≤◌, ◌⊎◌, Bool, true, false, cond, not, List, [], ◌∷◌, ◌++◌, length, Option, Some, None, refl, sym, ap, ap₂, ◌∙◌, inl, inr, subst, arith, eqb, ne_eqb}
+use Rattle.std.proofs.lemmas.Bool.{cases_Bool}
 use Rattle.ws_isa.specs.declared.instr.Op.{Op}
 use Rattle.ws_isa.specs.declared.instr.Op.TheVariants.{Nop}
 use Rattle.ws_isa.specs.declared.instr.Note.{Note}
-use Rattle.ws_isa.specs.Image.{Instr, Block, Image, nth, or_else, no_block, no_instr, no_note, instr_at, block_at, first_number, note_of, is_memory, is_writing, stops, target, is_first, is_memory_op, is_writing_op, IsIn, IsBlock}
+use Rattle.ws_isa.specs.Image.{Instr, Block, Image, nth, or_else, no_instr, no_note, instr_at, block_at, first_number, note_of, is_memory, is_writing, stops, target, is_first, is_memory_op, is_writing_op, IsIn, IsBlock}
 use Rattle.image_walk.specs.Sound.{LinkRules, RippleRules}
 use Rattle.image_walk.specs.Open.{OpenToNotes}
 use Rattle.image_walk.proofs.Blocks.{block_is, instr_is, number_next}
@@ -15,7 +15,7 @@ use Rattle.wave_link.specs.Outlines.{firsts_of, one_more_op, ops_from, writer_fr
 use Rattle.wave_link.specs.States.{reached, state_in, is_vain, needs_nop}
 use Rattle.wave_link.specs.Notes.{place_at, note_at, writer_next}
 use Rattle.wave_link.specs.Layout.{Tables}
-use Rattle.wave_link.specs.Grown.{note_for, seq_next, grown_instr, grown_instrs, nop_instr, nop_at, grown_block, annotated}
+use Rattle.wave_link.specs.Grown.{seq_next, grown_instrs, nop_instr, nop_at, grown_block, annotated}
 use Rattle.wave_link.specs.Passed.{adds}
 use Rattle.wave_link.specs.Ripples.{ExactRipples}
 use Rattle.wave_link.proofs.Parts.{tables_in}
@@ -153,26 +153,28 @@ module _ (draft : Image) where
       let o : ops_from x.instrs 0 ≡ 0 = z refl in
       let w0 : writer_from x.instrs 0 0 ≡ 0 = (let u : writer_from x.instrs 0 0 ≤ ops_from x.instrs 0 = writer_below x.instrs 0 0 (omega arith) in omega arith) in
       let s : seq_in x.instrs (length x.instrs) (p.low + 1) ≡ p.low + 1 = seq_end x.instrs p.low 0 (p.low + 1) low0 ∙ (ap (λ (k : ℕ). p.low + k + 1) o ∙ sym low0) in
-      let w : writer_in x.instrs (length x.instrs) (p.low + 1) p.writer ≡ p.writer = writer_end x.instrs p.low p.writer 0 0 (p.low + 1) p.writer low0 refl ∙ ap (writer_by p.low p.writer) w0 in
-      (ap (λ (is : List Instr). ops_from is 0) e ∙ ops_grown t p (first_number draft b) (p.low + 1) p.writer x.instrs rest 0,
-       ap (λ (is : List Instr). writer_from is 0 0) e ∙ writer_grown t p (first_number draft b) (p.low + 1) p.writer x.instrs rest 0 0,
-       subst (Noted p (p.low + 1) p.writer) (sym e) (noted_grown t p (first_number draft b) (p.low + 1) p.writer x.instrs rest
-         ((λ q. ap₂ (λ (i j : ℕ). Some (note_at p Nop i j)) (sym s) (sym w)), tt)))
+      let w : writer_in x.instrs (length x.instrs) (p.low + 1) p.writer ≡ p.writer = writer_end x.instrs p.low p.writer 0 0 (p.low + 1) p.writer low0 refl ∙ ap (writer_by p.low p.writer) w0 in (
+        ap (λ (is : List Instr). ops_from is 0) e ∙ ops_grown t p (first_number draft b) (p.low + 1) p.writer x.instrs rest 0,
+        ap (λ (is : List Instr). writer_from is 0 0) e ∙ writer_grown t p (first_number draft b) (p.low + 1) p.writer x.instrs rest 0 0,
+        subst (Noted p (p.low + 1) p.writer) (sym e) (noted_grown t p (first_number draft b) (p.low + 1) p.writer x.instrs rest
+            ((λ q. ap₂ (λ (i j : ℕ). Some (note_at p Nop i j)) (sym s) (sym w)), tt)),
+      )
   laid_by b x p false m g l e z =
-      let t : Tables = tables_in draft.blocks in
-      (ap (λ (is : List Instr). ops_from is 0) e ∙ ops_grown t p (first_number draft b) (p.low + 1) p.writer x.instrs [] 0,
-       ap (λ (is : List Instr). writer_from is 0 0) e ∙ writer_grown t p (first_number draft b) (p.low + 1) p.writer x.instrs [] 0 0,
-       subst (Noted p (p.low + 1) p.writer) (sym e) (noted_grown t p (first_number draft b) (p.low + 1) p.writer x.instrs [] tt))
+      let t : Tables = tables_in draft.blocks in (
+        ap (λ (is : List Instr). ops_from is 0) e ∙ ops_grown t p (first_number draft b) (p.low + 1) p.writer x.instrs [] 0,
+        ap (λ (is : List Instr). writer_from is 0 0) e ∙ writer_grown t p (first_number draft b) (p.low + 1) p.writer x.instrs [] 0 0,
+        subst (Noted p (p.low + 1) p.writer) (sym e) (noted_grown t p (first_number draft b) (p.low + 1) p.writer x.instrs [] tt),
+      )
 
   pub laid : (b : ℕ) → IsBlock draft b → Laid b
   laid b h =
       let p : Place = place_of draft b in
       let g : block_at image b ≡ grown_block (tables_in draft.blocks) p b (first_number draft b) (block_at draft b) = block_is_grown draft b h in
       let e : (block_at image b).instrs ≡ grown_instrs (tables_in draft.blocks) p (first_number draft b) (p.low + 1) p.writer (block_at draft b).instrs ++ cond (adds draft b) (nop_instr p ∷ []) [] =
-          ap (λ (x : Block). x.instrs) g ∙ ap (λ (is : List Instr). grown_instrs (tables_in draft.blocks) p (first_number draft b) (p.low + 1) p.writer (block_at draft b).instrs ++ is)
-          (ap (nop_at p) (nops_are draft b h) ∙ with_or_without p (adds draft b) (nop draft b) (nop_positive draft b)) in
+      ap (λ (x : Block). x.instrs) g ∙ ap (λ (is : List Instr). grown_instrs (tables_in draft.blocks) p (first_number draft b) (p.low + 1) p.writer (block_at draft b).instrs ++ is)
+      (ap (nop_at p) (nops_are draft b h) ∙ with_or_without p (adds draft b) (nop draft b) (nop_positive draft b)) in
       let r : (ops_from (block_at image b).instrs 0 ≡ cond (adds draft b) (ops_from (block_at draft b).instrs 0 + 1) (ops_from (block_at draft b).instrs 0)) × (writer_from (block_at image b).instrs 0 0 ≡ writer_from (block_at draft b).instrs 0 0) × Noted p (p.low + 1) p.writer (block_at image b).instrs =
-          laid_by b (block_at draft b) p (adds draft b) (nop draft b) (block_at image b) (nop_positive draft b) e (adds_empty b h) in
+      laid_by b (block_at draft b) p (adds draft b) (nop draft b) (block_at image b) (nop_positive draft b) e (adds_empty b h) in
       let o : outline_at draft b ≡ with_nop (outline_of (block_at draft b) b (firsts_of draft.blocks)) (adds draft b) = outline_is draft b h in
       record { ops = r.0 ∙ ap (λ (x : Outline). x.ops) (sym o); writer = r.1 ∙ ap (λ (x : Outline). x.writer) (sym o); noted = r.2 }
 
@@ -264,24 +266,29 @@ module _ (draft : Image) where
       where
         w : writer_from (block_at image b).instrs 0 0 ≡ (outline_at draft b).writer
         w = (laid b (in_draft b h)).writer
+
         back_on : (f i : ℕ) → f + i - f ≡ i
         back_on f i = omega arith
+
         go : (writer_from (block_at image b).instrs 0 0 ≡ 0) ⊎ Writer (block_at image b).instrs (low b) 0 (low b + 1) 0 →
             (k : ℕ) × IsIn image b k × (is_writing_op (instr_at image k).op ≡ true) × (sq b k ≡ low b + (outline_at draft b).writer)
         go (inl z) = absurd (omega (arith, w, z))
         go (inr t) =
             let k : ℕ = first_number image b + t.at in
             let q : t.at < length (block_at image b).instrs = t.inside in
-            let e : instr_at image k ≡ or_else (nth (block_at image b).instrs t.at) no_instr = found b k t.at h q refl in
-            (k, (omega arith, omega (arith, ends_at b h)), ap (λ (y : Instr). is_writing_op y.op) e ∙ t.writes,
-             ap (λ (j : ℕ). seq_in (block_at image b).instrs j (low b + 1)) (back_on (first_number image b) t.at) ∙ (t.number ∙ ap (λ (j : ℕ). low b + j) w))
+            let e : instr_at image k ≡ or_else (nth (block_at image b).instrs t.at) no_instr = found b k t.at h q refl in (
+              k,
+              (omega arith, omega (arith, ends_at b h)),
+              ap (λ (y : Instr). is_writing_op y.op) e ∙ t.writes,
+              ap (λ (j : ℕ). seq_in (block_at image b).instrs j (low b + 1)) (back_on (first_number image b) t.at) ∙ (t.number ∙ ap (λ (j : ℕ). low b + j) w),
+            )
 
     edge_on : (b r : ℕ) → IsBlock image b → stops image b ≡ false → is_first image (target image b r) ≡ false → Leads (outline_at draft b).way (target image b r)
     edge_on b r h s f =
         let t : target image b r ≡ target draft b r = target_kept draft b r in
         subst (λ (c : ℕ). Leads (outline_at draft b).way c) (sym t)
         (edge_leads draft open_to.walkable.shape open_to.walkable.more_shape open_to.arms b r (in_draft b h) (sym (stops_kept draft b) ∙ s)
-          (ap (is_first draft) (sym t) ∙ (sym (first_kept draft (target image b r)) ∙ f)))
+        (ap (is_first draft) (sym t) ∙ (sym (first_kept draft (target image b r)) ∙ f)))
 
     edge_from : (b c : ℕ) → IsBlock image b → Leads (outline_at draft b).way c → (stops image b ≡ false) × ((r : ℕ) × (target image b r ≡ c)) × (is_first image c ≡ false)
     edge_from b c h k =

@@ -1,5 +1,5 @@
 -- The paths of an image whose notes are made of its tables keep the rules on links and ripples.
-use Rattle.std.proofs.Common.{ℕ, zero, suc, ◌+◌, ◌-◌, ◌≡◌, ◌<◌, ◌≤◌, ◌⊎◌, Bool, true, false, cond, List, [], ◌∷◌, length, get_or, Option, Some, None, refl, sym, ap, ◌∙◌, inl, inr, subst, arith, eqb, eq-eqb, ne_eqb}
+use Rattle.std.proofs.Common.{ℕ, zero, suc, ◌+◌, ◌-◌, ◌≡◌, ◌<◌, ◌≤◌, ◌⊎◌, true, false, cond, List, [], ◌∷◌, length, Option, Some, None, refl, sym, ap, ◌∙◌, inl, inr, subst, arith, eqb, eq-eqb, ne_eqb}
 use Rattle.std.proofs.lemmas.Bool.{cases_eq, cases_Bool, cases_lt}
 use Rattle.ws_isa.specs.declared.instr.Op.{Op}
 use Rattle.ws_isa.specs.declared.instr.Op.TheVariants.{Const, Alu, Merge, Advance, Steer, Phi, Send, Load, Store, Input, Output, Give, Take, Nop, Halt}
@@ -7,17 +7,17 @@ use Rattle.ws_isa.specs.declared.instr.Link.{Link}
 use Rattle.ws_isa.specs.declared.instr.Link.TheVariants.{Unknown, Nothing, Is}
 use Rattle.ws_isa.specs.declared.instr.Note.{Note}
 use Rattle.ws_isa.specs.Image.{Image, or_else, instr_at, block_at, first_number, is_memory_op, is_writing_op, is_memory, is_writing, note_of, stops, target, is_first, IsIn, IsBlock}
-use Rattle.image_walk.specs.Sound.{InWave, first, turn, edge, last_op, Follows, Ends, seq, wave_at, IsAmong, LinkRules, RippleRules}
+use Rattle.image_walk.specs.Sound.{InWave, first, turn, edge, last_op, Follows, Ends, seq, IsAmong, LinkRules, RippleRules}
 use Rattle.wave_link.specs.declared.outline.Way.{Way}
-use Rattle.wave_link.specs.declared.outline.Way.TheVariants.{Out, On, Fork}
+use Rattle.wave_link.specs.declared.outline.Way.TheVariants.{Out}
 use Rattle.wave_link.specs.declared.outline.Outline.{Outline}
 use Rattle.wave_link.specs.declared.links.Behind.{Behind}
 use Rattle.wave_link.specs.declared.links.Place.{Place}
 use Rattle.wave_link.specs.declared.states.Ways.{Ways}
 use Rattle.wave_link.specs.declared.states.State.{State}
-use Rattle.wave_link.specs.Notes.{head_at, out_link, behind_in, behind_out, unreached, place_at, note_at, writer_next}
+use Rattle.wave_link.specs.Notes.{head_at, out_link, unreached, place_at, note_at, writer_next}
 use Rattle.wave_link.specs.Grown.{seq_next}
-use Rattle.wave_link.specs.Ripples.{MayPrecede, ExactRipple, ExactRipples}
+use Rattle.wave_link.specs.Ripples.{MayPrecede, ExactRipples}
 use Rattle.wave_link.proofs.LinksTables.{Leads, exact}
 use Rattle.wave_link.proofs.LinksRun.{Run, Before, starts, goes, last_of, last_number, Facts, facts, first_linked, first_alone, end_said, Wrote, wrote, further, Attained, attained, wrote_low, writer_on, writer_low, low_rise, head_full, here}
 
@@ -190,6 +190,7 @@ module _ (image : Image) (n : ℕ) (x : ℕ → Outline) (low : ℕ → ℕ) (he
     where
       i : IsIn image b k
       i = (s.low_end, l)
+
       go : (is_writing image k ≡ true) ⊎ (is_writing image k ≡ false) → (j ≡ k) ⊎ IsAmong j done → seq image j ≤ wr b (suc k)
       go (inl v) (inl e) =
           let q : wr b (suc k) ≡ sq b k = wr_step b k s.block i v in
@@ -210,6 +211,7 @@ module _ (image : Image) (n : ℕ) (x : ℕ → Outline) (low : ℕ → ℕ) (he
     where
       i : IsIn image b k
       i = (s.low_end, l)
+
       go : (is_writing image k ≡ true) ⊎ (is_writing image k ≡ false) → wr b (suc k) < sq b (suc k)
       go (inl v) =
           let q : wr b (suc k) ≡ sq b k = wr_step b k s.block i v in
@@ -230,9 +232,14 @@ module _ (image : Image) (n : ℕ) (x : ℕ → Outline) (low : ℕ → ℕ) (he
 
   stands_on : (b k : ℕ) (done : List ℕ) → Stands b k done → k < first_number image (suc b) → Stands b (suc k) (k ∷ done)
   stands_on b k done s l = record {
-    block = s.block; low_end = omega (arith, s.low_end); high_end = l; a = s.a; path = s.path;
+    block = s.block;
+    low_end = omega (arith, s.low_end);
+    high_end = l;
+    a = s.a;
+    path = s.path;
     last = last_next b s.a k done s.block (s.low_end, l) s.last;
-    below = below_next b k done s l; under = under_next b k done s l;
+    below = below_next b k done s l;
+    under = under_next b k done s l;
   }
 
   -- who is last where an edge leads on
@@ -241,14 +248,19 @@ module _ (image : Image) (n : ℕ) (x : ℕ → Outline) (low : ℕ → ℕ) (he
     where
       s : sq b k ≡ low b + (x b).ops + 1
       s = ap (sq b) e ∙ marked.sq_end b h
+
       t : sq c (first_number image c) ≡ low c + 1
       t = marked.sq_first c hc
+
       empty : (x b).ops ≡ 0 → after b a ≡ a
       empty z = rw (eq-eqb (x b).ops 0 z) refl
+
       some : ((x b).ops ≡ 0 → ⊥) → after b a ≡ b
       some d = rw (ne_eqb (x b).ops 0 d) refl
+
       over : (j : ℕ) → OpAt b j (sq b j) → low b + 1 ≤ sq b j
       over j p = sq_low b j p.block p.inside.0 (let u : j < first_number image (suc b) = p.inside.1 in omega arith)
+
       go : ((x b).ops ≡ 0) ⊎ ((x b).ops ≡ 0 → ⊥) → LastIs b a k last → LastIs c (after b a) (first_number image c) last
       go (inl z) (entry_none q u g) = entry_none t (empty z ∙ u) g
       go (inl z) (entry_some j q u p g) = subst (λ (v : ℕ). LastIs c v (first_number image c) last) (sym (empty z)) (entry_some j t u p g)
@@ -261,19 +273,28 @@ module _ (image : Image) (n : ℕ) (x : ℕ → Outline) (low : ℕ → ℕ) (he
 
   stands_out : (b k r : ℕ) (done : List ℕ) → Stands b k done → k ≡ first_number image (suc b) → stops image b ≡ false → is_first image (target image b r) ≡ false → Stands (target image b r) (first_number image (target image b r)) done
   stands_out b k r done s e u f = record {
-    block = hc; low_end = omega arith; high_end = marked.grows c hc; a = after b s.a; path = p;
+    block = hc;
+    low_end = omega arith;
+    high_end = marked.grows c hc;
+    a = after b s.a;
+    path = p;
     last = last_out b s.a k c (last_op image done) s.block e hc s.last;
-    below = λ j a w. (let q : seq image j ≤ wr b k = s.below j a w in omega (arith, q, handed)); under = under_entry c (after b s.a) hc (known_at p);
+    below = λ j a w. (let q : seq image j ≤ wr b k = s.below j a w in omega (arith, q, handed));
+    under = under_entry c (after b s.a) hc (known_at p);
   }
     where
       c : ℕ
       c = target image b r
+
       hc : IsBlock image (target image b r)
       hc = marked.targets b r s.block u
+
       leads : Leads (x b).way (target image b r)
       leads = marked.edge b r s.block u f
+
       p : Path (target image b r) (after b s.a)
       p = goes s.path leads
+
       handed : wr b k ≤ wr (target image b r) (first_number image (target image b r))
       handed =
           let v : Known b s.a = known_at s.path in
@@ -286,8 +307,14 @@ module _ (image : Image) (n : ℕ) (x : ℕ → Outline) (low : ℕ → ℕ) (he
 
   pub stands : (b k : ℕ) (done : List ℕ) → InWave image b k done → Stands b k done
   stands b k done (first h f) = record {
-    block = h; low_end = omega arith; high_end = marked.grows b h; a = 0; path = starts (ready b h).0 (ready b h).1 (marked.first_is b h ∙ f);
-    last = entry_none (marked.sq_first b h) refl refl; below = λ j a w. absurd a; under = under_entry b 0 h (known_at (starts (ready b h).0 (ready b h).1 (marked.first_is b h ∙ f)));
+    block = h;
+    low_end = omega arith;
+    high_end = marked.grows b h;
+    a = 0;
+    path = starts (ready b h).0 (ready b h).1 (marked.first_is b h ∙ f);
+    last = entry_none (marked.sq_first b h) refl refl;
+    below = λ j a w. absurd a;
+    under = under_entry b 0 h (known_at (starts (ready b h).0 (ready b h).1 (marked.first_is b h ∙ f)));
   }
   stands b k done (turn {b = c} {k = l} {done = d} p w) = stands_on c l d (stands c l d p) w
   stands b k done (edge {b = c} {k = l} {done = d} p e s r f) = stands_out c l r d (stands c l d p) e s f
@@ -349,9 +376,9 @@ module _ (image : Image) (n : ℕ) (x : ℕ → Outline) (low : ℕ → ℕ) (he
       let ls : last_seq a ≡ low a + (x a).ops = rw (ne_eqb a 0 (λ d. absurd (omega arith))) refl in
       record {
         rises = omega (arith, f.below);
-        succ = elim (f.next o) [ | inl u ↦ inl (su ∙ u) | inr u ↦ inr (su ∙ (u ∙ hd)) ];
-        pred = elim f.agrees [ | inl u ↦ inl (pr ∙ u) | inr u ↦ inr (pr ∙ (u ∙ ex)) ];
-        linked = elim (first_linked n x low heads ways states behind run b a f (omega arith)) [ | inl u ↦ inr (pr ∙ (u ∙ ex)) | inr u ↦ inl (su ∙ (u.1 ∙ ap Is (sym sk))) ];
+        succ = elim (f.next o) [ inl u ↦ inl (su ∙ u) | inr u ↦ inr (su ∙ (u ∙ hd)) ];
+        pred = elim f.agrees [ inl u ↦ inl (pr ∙ u) | inr u ↦ inr (pr ∙ (u ∙ ex)) ];
+        linked = elim (first_linked n x low heads ways states behind run b a f (omega arith)) [ inl u ↦ inr (pr ∙ (u ∙ ex)) | inr u ↦ inl (su ∙ (u.1 ∙ ap Is (sym sk))) ];
       }
 
   some_same : (i j : ℕ) → Some i ≡ Some j → i ≡ j
@@ -362,8 +389,10 @@ module _ (image : Image) (n : ℕ) (x : ℕ → Outline) (low : ℕ → ℕ) (he
     where
       s : Stands f.block k f.done
       s = standing k (Some j) f
+
       i : IsIn image f.block k
       i = is_in k (Some j) f
+
       go : LastIs f.block s.a k (last_op image f.done) → Pair j k
       go (entry_none q u g) = absurd (cc (sym f.last_is ∙ g))
       go (entry_some m q u p g) = subst (λ (v : ℕ). Pair v k) (some_same m j (sym g ∙ f.last_is)) (pair_entry f.block s.a k m s.block i f.memory (known_at s.path) q u p)
@@ -374,8 +403,10 @@ module _ (image : Image) (n : ℕ) (x : ℕ → Outline) (low : ℕ → ℕ) (he
     where
       s : Stands f.block k f.done
       s = standing k None f
+
       i : IsIn image f.block k
       i = is_in k None f
+
       go : LastIs f.block s.a k (last_op image f.done) → (note_of image k).pred ≡ Nothing
       go (entry_none q u g) = pred_first f.block k s.block i f.memory q ∙ (place_pred f.block s.a (known_at s.path) ∙ first_alone n x low heads ways states behind run f.block s.a (known_at s.path) u)
       go (entry_some m q u p g) = absurd (cc (sym f.last_is ∙ g))
@@ -392,12 +423,16 @@ module _ (image : Image) (n : ℕ) (x : ℕ → Outline) (low : ℕ → ℕ) (he
     where
       s : Stands f.block f.next f.done
       s = stands f.block f.next f.done f.path
+
       out : (x f.block).way ≡ Out
       out = marked.ends f.block s.block f.out
+
       q : sq f.block f.next ≡ low f.block + (x f.block).ops + 1
       q = ap (sq f.block) f.at_end ∙ marked.sq_end f.block s.block
+
       said : (x f.block).ops ≡ 0 → (1 ≤ s.a) × (out_link (x s.a).way heads ≡ Nothing)
       said z = end_said n x low heads ways states behind run f.block s.a (known_at s.path) z out
+
       go : ((x f.block).ops ≡ 0) ⊎ ((x f.block).ops ≡ 0 → ⊥) → LastIs f.block s.a f.next (last_op image f.done) → Ended last
       go (inl z) (entry_none t u g) = absurd (omega (arith, (said z).0, u))
       go (inl z) (entry_some j t u p g) = record { op = j; last_is = sym f.last_is ∙ g; none = succ_last s.a j p ∙ (said z).1 }
@@ -454,12 +489,12 @@ module _ (image : Image) (n : ℕ) (x : ℕ → Outline) (low : ℕ → ℕ) (he
     first_pred = begins;
     last_succ = λ k e. (let f : Ended (Some k) = finish (Some k) e in ap (λ (v : ℕ). (note_of image v).succ) (some_same k f.op f.last_is) ∙ f.none);
     linked = λ j k f. (pair j k f).linked;
-    succ_is = λ j k n e f. elim (pair j k f).succ [ | inl u ↦ absurd (cc (sym e ∙ u)) | inr u ↦ is_same (seq image k) n (sym u ∙ e) ];
+    succ_is = λ j k n e f. elim (pair j k f).succ [ inl u ↦ absurd (cc (sym e ∙ u)) | inr u ↦ is_same (seq image k) n (sym u ∙ e) ];
     succ_goes_on = λ j n e g. (let f : Ended (Some j) = finish (Some j) g in cc (sym e ∙ (ap (λ (v : ℕ). (note_of image v).succ) (some_same j f.op f.last_is) ∙ f.none)));
-    succ_ends = λ j k e f. elim (pair j k f).succ [ | inl u ↦ cc (sym e ∙ u) | inr u ↦ cc (sym e ∙ u) ];
-    pred_is = λ j k n e f. elim (pair j k f).pred [ | inl u ↦ absurd (cc (sym e ∙ u)) | inr u ↦ is_same (seq image j) n (sym u ∙ e) ];
+    succ_ends = λ j k e f. elim (pair j k f).succ [ inl u ↦ cc (sym e ∙ u) | inr u ↦ cc (sym e ∙ u) ];
+    pred_is = λ j k n e f. elim (pair j k f).pred [ inl u ↦ absurd (cc (sym e ∙ u)) | inr u ↦ is_same (seq image j) n (sym u ∙ e) ];
     pred_is_some = λ k n e f. cc (sym e ∙ begins k f);
-    pred_none = λ j k e f. elim (pair j k f).pred [ | inl u ↦ cc (sym e ∙ u) | inr u ↦ cc (sym e ∙ u) ];
+    pred_none = λ j k e f. elim (pair j k f).pred [ inl u ↦ cc (sym e ∙ u) | inr u ↦ cc (sym e ∙ u) ];
   }
 
   -- Ripples.
@@ -498,7 +533,7 @@ module _ (image : Image) (n : ℕ) (x : ℕ → Outline) (low : ℕ → ℕ) (he
   -- a path in a block has come by its instructions
   passed : (b k : ℕ) (done : List ℕ) → InWave image b k done → (j : ℕ) → first_number image b ≤ j → j < k → IsAmong j done
   passed b k done (first h f) j l w = absurd (omega arith)
-  passed b k done (turn {b = c} {k = i} {done = d} p q) j l w = elim (cases_eq j i) [ | inl e ↦ inl e | inr n ↦ inr (passed c i d p j l (omega arith)) ]
+  passed b k done (turn {b = c} {k = i} {done = d} p q) j l w = elim (cases_eq j i) [ inl e ↦ inl e | inr n ↦ inr (passed c i d p j l (omega arith)) ]
   passed b k done (edge p e s r f) j l w = absurd (omega arith)
 
   pub crossed : (b c : ℕ) (done : List ℕ) → IsBlock image b → InWave image b (first_number image (suc b)) done → Leads (x b).way c → InWave image c (first_number image c) done
@@ -538,8 +573,14 @@ module _ (image : Image) (n : ℕ) (x : ℕ → Outline) (low : ℕ → ℕ) (he
       let g : Comes b = comes p in
       let m : Goes b (first_number image (suc b)) g.done = go_on b (first_number image b) (first_number image (suc b)) g.done g.path (marked.grows b h) (omega arith) in
       let j : (i : ℕ) × IsIn image b i × (is_writing image i ≡ true) × (sq b i ≡ low b + (x b).writer) = marked.has_writer b h l in
-      record { done = m.more; path = crossed b c m.more h m.path k; op = j.0; among = passed b (first_number image (suc b)) m.more m.path j.0 j.1.0 j.1.1; writes = j.2;
-        number = seq_is b j.0 h j.1 (writing_memory j.0 j.2) ∙ j.3 }
+      record {
+        done = m.more;
+        path = crossed b c m.more h m.path k;
+        op = j.0;
+        among = passed b (first_number image (suc b)) m.more m.path j.0 j.1.0 j.1.1;
+        writes = j.2;
+        number = seq_is b j.0 h j.1 (writing_memory j.0 j.2) ∙ j.3;
+      }
   comes_by (further {b = b} {c = c} {w = w} p k) =
       let f : (1 ≤ b) × (b ≤ n) × (w ≤ low b) = wrote_low n x low heads ways states behind run p in
       let h : IsBlock image b = is_block b f.0 f.1 in
@@ -565,6 +606,7 @@ module _ (image : Image) (n : ℕ) (x : ℕ → Outline) (low : ℕ → ℕ) (he
         where
           i : IsIn image b k
           i = (omega arith, w)
+
           here : (is_writing image k ≡ true) ⊎ (is_writing image k ≡ false) → (wr b k ≡ (place b).writer) ⊎ WroteHere b k → (wr b (suc k) ≡ (place b).writer) ⊎ WroteHere b (suc k)
           here (inl v) o = inr (record { op = k; low_op = i.0; before = omega arith; writes = v; number = sym (wr_step b k h i v) })
           here (inr v) (inl e) = inl (wr_stay b k h i v ∙ e)
@@ -575,17 +617,22 @@ module _ (image : Image) (n : ℕ) (x : ℕ → Outline) (low : ℕ → ℕ) (he
     where
       s : Stands b k done
       s = stands b k done p
+
       f : Known b s.a
       f = known_at s.path
+
       t : Attained n x low heads ways states behind run b
       t = attained n x low heads ways states behind run b f.low_block f.high_block f.reaches
+
       same : t.y ≡ f.y
       same = eq t.y f.y t.y_is f.y_is
         where
           eq : (v u : Behind) → here n x low heads ways states behind run b ≡ Some v → here n x low heads ways states behind run b ≡ Some u → v ≡ u
           eq v u p q = cc
+
       entry : wr b k ≡ (place b).writer → wr b k ≡ t.y.writer
       entry e = e ∙ (place_writer b s.a f ∙ ap (λ (v : Behind). v.writer) (sym same))
+
       go : (wr b k ≡ (place b).writer) ⊎ WroteHere b k → (wr b k ≡ 0) ⊎ ((j : ℕ) × MayPrecede image j k × (seq image j ≡ wr b k))
       go (inr g) =
           let i : IsIn image b g.op = (g.low_op, (let q : g.op < k = g.before in omega arith)) in
@@ -593,8 +640,8 @@ module _ (image : Image) (n : ℕ) (x : ℕ → Outline) (low : ℕ → ℕ) (he
       go (inl e) = elim t.writer [
         | inl z ↦ inl (entry e ∙ z)
         | inr q ↦ (let c : ComesBy b t.y.writer = comes_by q in
-          let m : Goes b k c.done = go_on b (first_number image b) k c.done c.path s.low_end s.high_end in
-          inr (c.op, record { block = b; done = m.more; path = m.path; within = w; among = m.keeps c.op c.among; writes = c.writes }, c.number ∙ sym (entry e)))
+            let m : Goes b k c.done = go_on b (first_number image b) k c.done c.path s.low_end s.high_end in
+            inr (c.op, record { block = b; done = m.more; path = m.path; within = w; among = m.keeps c.op c.among; writes = c.writes }, c.number ∙ sym (entry e)))
       ]
 
   pub exact_ripples : ExactRipples image
@@ -602,10 +649,13 @@ module _ (image : Image) (n : ℕ) (x : ℕ → Outline) (low : ℕ → ℕ) (he
     where
       s : Stands f.block k f.done
       s = standing k last f
+
       e : (note_of image k).ripple ≡ wr f.block k
       e = ripple_other f.block k s.block (is_in k last f) f.memory w
+
       met : (wr f.block k ≡ 0) ⊎ ((j : ℕ) × MayPrecede image j k × (seq image j ≡ wr f.block k)) → ((note_of image k).ripple ≡ 0) ⊎ ((j : ℕ) × MayPrecede image j k × (seq image j ≡ (note_of image k).ripple))
       met (inl z) = inl (e ∙ z)
       met (inr q) = inr (q.0, q.1, q.2 ∙ sym e)
+
       above : (j : ℕ) → MayPrecede image j k → seq image j ≤ (note_of image k).ripple
       above j m = ripple_rules.above m.block k j m.done m.path m.within f.memory w m.among m.writes

@@ -1,5 +1,5 @@
 -- What the tables say of the paths inside a wave: who was last before each block, and who comes next.
-use Rattle.std.proofs.Common.{ℕ, zero, suc, ◌+◌, ◌≡◌, ◌<◌, ◌≤◌, ◌⊎◌, ◌||◌, ◌&&◌, Bool, true, false, cond, not, List, [], ◌∷◌, length, get_or, Option, Some, None, refl, sym, ap, ◌∙◌, inl, inr, subst, arith, eqb, ltb, eq-eqb, ne_eqb}
+use Rattle.std.proofs.Common.{ℕ, zero, suc, ◌+◌, ◌≡◌, ◌<◌, ◌≤◌, ◌⊎◌, ◌||◌, ◌&&◌, Bool, true, false, cond, not, List, length, get_or, Option, Some, None, refl, sym, ap, ◌∙◌, inl, inr, subst, arith, eqb, eq-eqb, ne_eqb}
 use Rattle.std.proofs.lemmas.Bool.{cases_eq, cases_Bool, cases_lt, lt-ltb, le-ltb}
 use Rattle.ws_isa.specs.declared.instr.Link.{Link}
 use Rattle.ws_isa.specs.declared.instr.Link.TheVariants.{Unknown, Nothing, Is}
@@ -12,7 +12,7 @@ use Rattle.wave_link.specs.declared.states.Ways.TheVariants.{Zero, One, Several}
 use Rattle.wave_link.specs.declared.states.State.{State}
 use Rattle.wave_link.specs.declared.states.State.TheVariants.{Shared, Sole, Many}
 use Rattle.wave_link.specs.States.{more, has_way, is_several, reached, enter_way, ways_step, is_shared, is_many, state_in, is_vain, spread_state}
-use Rattle.wave_link.specs.Notes.{both, low_at, head_at, out_link, head_link, larger, joined, begin, behind_in, behind_out, hand_way, hand_all}
+use Rattle.wave_link.specs.Notes.{low_at, head_at, out_link, head_link, larger, joined, begin, behind_in, behind_out, hand_all}
 use Rattle.wave_link.proofs.LinksTables.{Leads, leads, Parts, handed, hit_ways, miss_ways, ways_length, hit_states, miss_states, states_length, hit_behind, miss_behind, behind_length, exact, both_says}
 
 -- the tables before each of n blocks, and after the last one
@@ -41,26 +41,26 @@ pub record Under (y z : Behind) : Type 0 where
   pub writer : y.writer ≤ z.writer
 
 larger_left : (n m : ℕ) → n ≤ larger n m
-larger_left n m = elim (cases_lt n m) [ | inl l ↦ rw (lt-ltb n m l) (omega (arith, l)) | inr l ↦ rw (le-ltb n m l) (omega arith) ]
+larger_left n m = elim (cases_lt n m) [ inl l ↦ rw (lt-ltb n m l) (omega (arith, l)) | inr l ↦ rw (le-ltb n m l) (omega arith) ]
 
 larger_right : (n m : ℕ) → m ≤ larger n m
-larger_right n m = elim (cases_lt n m) [ | inl l ↦ rw (lt-ltb n m l) (omega arith) | inr l ↦ rw (le-ltb n m l) l ]
+larger_right n m = elim (cases_lt n m) [ inl l ↦ rw (lt-ltb n m l) (omega arith) | inr l ↦ rw (le-ltb n m l) l ]
 
 larger_is : (n m : ℕ) → (larger n m ≡ n) ⊎ (larger n m ≡ m)
-larger_is n m = elim (cases_lt n m) [ | inl l ↦ inr (rw (lt-ltb n m l) refl) | inr l ↦ inl (rw (le-ltb n m l) refl) ]
+larger_is n m = elim (cases_lt n m) [ inl l ↦ inr (rw (lt-ltb n m l) refl) | inr l ↦ inl (rw (le-ltb n m l) refl) ]
 
 under_self : (y : Behind) → Under y y
 under_self y = record { pred = inr refl; writer = omega arith }
 
 under_on : (u z v : Behind) → Under u z → Under u (joined (Some z) v)
 under_on u z v h = record {
-  pred = elim (both_says z.pred v.pred) [ | inl e ↦ inl e | inr e ↦ elim h.pred [ | inl f ↦ inl (e.0 ∙ f) | inr f ↦ inr (e.0 ∙ f) ] ];
+  pred = elim (both_says z.pred v.pred) [ inl e ↦ inl e | inr e ↦ elim h.pred [ inl f ↦ inl (e.0 ∙ f) | inr f ↦ inr (e.0 ∙ f) ] ];
   writer = (let l : z.writer ≤ larger z.writer v.writer = larger_left z.writer v.writer in omega (arith, h.writer, l));
 }
 
 under_new : (z v : Behind) → Under v (joined (Some z) v)
 under_new z v = record {
-  pred = elim (both_says z.pred v.pred) [ | inl e ↦ inl e | inr e ↦ inr (e.0 ∙ e.1) ];
+  pred = elim (both_says z.pred v.pred) [ inl e ↦ inl e | inr e ↦ inr (e.0 ∙ e.1) ];
   writer = larger_right z.writer v.writer;
 }
 
@@ -210,6 +210,7 @@ module _ (n : ℕ) (x : ℕ → Outline) (low : ℕ → ℕ) (heads : List Link)
     where
       later : (o : Option Behind) (y : Behind) → (x b).first ≡ false → get_or (behind b) b None ≡ Some y → here b ≡ Some y
       later o y f e = rw f e
+
       go : ((x b).first ≡ true) ⊎ ((x b).first ≡ false) → Inv b b → (y : Behind) × (here b ≡ Some y)
       go (inl f) i = (begin, rw f refl)
       go (inr f) (zero_in e g u) = absurd (cc (sym (or_right (x b).first (has_way (seen b b)) r f) ∙ ap has_way e))
@@ -243,16 +244,21 @@ module _ (n : ℕ) (x : ℕ → Outline) (low : ℕ → ℕ) (heads : List Link)
       old : (a : ℕ) → Came a c (suc m) → Came a c m
       old a k = elim (was_came a c m k) [
         | inr p ↦ p
-        | inl e ↦ absurd (elim q [ | inl r ↦ cc (sym (subst (λ (j : ℕ). reach j ≡ true) e k.reaches) ∙ r) | inr w ↦ w (subst (λ (j : ℕ). Leads (x j).way c) e k.edge) ])
+        | inl e ↦ absurd (elim q [ inl r ↦ cc (sym (subst (λ (j : ℕ). reach j ≡ true) e k.reaches) ∙ r) | inr w ↦ w (subst (λ (j : ℕ). Leads (x j).way c) e k.edge) ])
       ]
+
       away : (here m ≡ None) ⊎ (Leads (x m).way c → ⊥)
-      away = elim q [ | inl r ↦ inl (not_here m r own) | inr w ↦ inr w ]
+      away = elim q [ inl r ↦ inl (not_here m r own) | inr w ↦ inr w ]
+
       sw : seen (suc m) c ≡ seen m c
       sw = ways_miss m c l h q
+
       ss : get_or (states (suc m)) c Shared ≡ get_or (states m) c Shared
       ss = states_miss m c l h q
+
       sb : get_or (behind (suc m)) c None ≡ get_or (behind m) c None
       sb = behind_miss m c l h away
+
       go : Inv m c → Inv (suc m) c
       go (zero_in e g u) = zero_in (sw ∙ e) (sb ∙ g) (λ a k. u a (old a k))
       go (one_in a y e k f s g u) = one_in a y (sw ∙ e) (keep_came a c m k) f (ss ∙ s) (sb ∙ g) (λ d p. u d (old d p))
@@ -264,44 +270,57 @@ module _ (n : ℕ) (x : ℕ → Outline) (low : ℕ → ℕ) (heads : List Link)
     where
       mine : (y : Behind) × (here m ≡ Some y)
       mine = has_here m r own
+
       v : Behind
       v = out m mine.0
+
       now : Came m c (suc m)
       now = record { one = l; before = omega arith; most = h; reaches = r; edge = e }
+
       sw : seen (suc m) c ≡ more (seen m c)
       sw = ways_hit m c l h k r e
+
       sb : get_or (behind (suc m)) c None ≡ Some (joined (get_or (behind m) c None) v)
       sb = behind_hit m c mine.0 l h k mine.1 e
+
       -- beside another, an edge is no arm
       straight : (a : ℕ) → Came a c m → (x m).way ≡ On c
-      straight a p = elim (on_or_fork (x m).way c e) [ | inl f ↦ f | inr f ↦ absurd (let s : a ≡ m = run.alone m f.0 f.1 a c l h f.2 e p.one p.most p.edge in let b : a < m = p.before in omega arith) ]
+      straight a p = elim (on_or_fork (x m).way c e) [ inl f ↦ f | inr f ↦ absurd (let s : a ≡ m = run.alone m f.0 f.1 a c l h f.2 e p.one p.most p.edge in let b : a < m = p.before in omega arith) ]
+
       straight_too : (a : ℕ) → Came a c m → (x a).way ≡ On c
-      straight_too a p = elim (on_or_fork (x a).way c p.edge) [ | inl f ↦ f | inr f ↦ absurd (let s : m ≡ a = run.alone a f.0 f.1 m c p.one p.most f.2 p.edge l h e in let b : a < m = p.before in omega arith) ]
+      straight_too a p = elim (on_or_fork (x a).way c p.edge) [ inl f ↦ f | inr f ↦ absurd (let s : m ≡ a = run.alone a f.0 f.1 m c p.one p.most f.2 p.edge l h e in let b : a < m = p.before in omega arith) ]
+
       brings : (a : ℕ) → Came a c m → (z : Behind) → Brings m c (joined (Some z) v)
       brings a p z = record { way = straight a p; y = mine.0; here_is = mine.1; under = under_new z v }
+
       still : (d : ℕ) (z : Behind) → Brings d c z → Brings d c (joined (Some z) v)
       still d z b = record { way = b.way; y = b.y; here_is = b.here_is; under = under_on (out d b.y) z v b.under }
+
       first_brings : (a : ℕ) (y : Behind) → Came a c m → here a ≡ Some y → Brings a c (out a y)
       first_brings a y p f = record { way = straight_too a p; y = y; here_is = f; under = under_self (out a y) }
+
       all : (a : ℕ) (z : Behind) → Came a c m → ((d : ℕ) → Came d c m → Brings d c z) → (d : ℕ) → Came d c (suc m) → Brings d c (joined (Some z) v)
       all a z p u d q = elim (was_came d c m q) [
         | inl s ↦ subst (λ (j : ℕ). Brings j c (joined (Some z) v)) (sym s) (brings a p z)
         | inr o ↦ still d z (u d o)
       ]
+
       several_by : (a : ℕ) (y z : Behind) → seen (suc m) c ≡ Several → Came a c m → here a ≡ Some y → z.writer ≡ (out a y).writer → get_or (behind m) c None ≡ Some z →
           ((d : ℕ) → Came d c m → Brings d c z) → TwoCame c (suc m) → Inv (suc m) c
       several_by a y z w p f t g u two =
           let b : get_or (behind (suc m)) c None ≡ Some (joined (Some z) v) = sb ∙ ap (λ (o : Option Behind). Some (joined o v)) g in
           elim (larger_is z.writer v.writer) [
-          | inl s ↦ many_in a y (joined (Some z) v) w (keep_came a c m p) f (s ∙ t) b (all a z p u) two
-          | inr s ↦ many_in m mine.0 (joined (Some z) v) w now mine.1 s b (all a z p u) two
-        ]
+            | inl s ↦ many_in a y (joined (Some z) v) w (keep_came a c m p) f (s ∙ t) b (all a z p u) two
+            | inr s ↦ many_in m mine.0 (joined (Some z) v) w now mine.1 s b (all a z p u) two
+          ]
+
       several : (a : ℕ) (y z : Behind) → seen (suc m) c ≡ Several → Came a c m → here a ≡ Some y → z.writer ≡ (out a y).writer → get_or (behind m) c None ≡ Some z →
           ((d : ℕ) → Came d c m → Brings d c z) → Inv (suc m) c
       several a y z w p f t g u = several_by a y z w p f t g u (record { one = a; other = m; one_came = keep_came a c m p; other_came = now; differ = λ e. (let b : a < m = p.before in omega (arith, e)) })
+
       go : Inv m c → Inv (suc m) c
       go (zero_in w g u) = one_in m mine.0 (sw ∙ ap more w) now mine.1 (states_hit m c l h k r e) (sb ∙ ap (λ (o : Option Behind). Some (joined o v)) g)
-          (λ d p. elim (was_came d c m p) [ | inl s ↦ s | inr q ↦ absurd (u d q) ])
+          (λ d p. elim (was_came d c m p) [ inl s ↦ s | inr q ↦ absurd (u d q) ])
       go (one_in a y w p f s g u) = several a y (out a y) (sw ∙ ap more w) p f refl g (λ d q. subst (λ (j : ℕ). Brings j c (out a y)) (sym (u d q)) (first_brings a y p f))
       go (many_in a y z w p f t g u v) = several a y z (sw ∙ ap more w) p f t g u
 
@@ -350,24 +369,34 @@ module _ (n : ℕ) (x : ℕ → Outline) (low : ℕ → ℕ) (heads : List Link)
     where
       lt : b < c
       lt = (run.later b c l h e).0
+
       most : c ≤ n
       most = (run.later b c l h e).1
+
       inside : (x c).first ≡ false
       inside = run.inner b c c l h e lt (omega arith)
+
       came : Came b c c
       came = record { one = l; before = lt; most = h; reaches = r; edge = e }
+
       end : seen (suc n) c ≡ seen c c
       end = settle c (suc n) (omega (arith, lt)) most (omega (arith, most)) (omega arith)
+
       reached_by : has_way (seen c c) ≡ true → reach c ≡ true
       reached_by w = rw inside w
+
       here_by : (z : Behind) → get_or (behind c) c None ≡ Some z → here c ≡ Some z
       here_by z g = rw inside g
+
       one_state : (s : State) → seen c c ≡ One → get_or (states c) c Shared ≡ s → state c ≡ s
       one_state s w g = rw inside (ap (λ (v : Bool). cond v Many (get_or (states c) c Shared)) (ap is_several (end ∙ w)) ∙ g)
+
       many_state : seen c c ≡ Several → state c ≡ Many
       many_state w = rw inside (ap (λ (v : Bool). cond v Many (get_or (states c) c Shared)) (ap is_several (end ∙ w)))
+
       same : (y v : Behind) → here b ≡ Some y → here b ≡ Some v → v ≡ y
       same y v p q = cc
+
       go : Inv c c → Into b c y
       go (zero_in w g u) = absurd (u b came)
       go (one_in a v w p q s g u) =
@@ -376,14 +405,18 @@ module _ (n : ℕ) (x : ℕ → Outline) (low : ℕ → ℕ) (heads : List Link)
           let o : out a v ≡ out b y = ap (λ (k : ℕ). out k v) (sym eq) ∙ ap (out b) vy in
           let st : handed (x a).way (full a) (state a) ≡ handed (x b).way (full b) (state b) = ap (λ (k : ℕ). handed (x k).way (full k) (state k)) (sym eq) in
           record {
-            reaches = reached_by (ap has_way w); z = out a v; z_is = here_by (out a v) g;
+            reaches = reached_by (ap has_way w);
+            z = out a v;
+            z_is = here_by (out a v) g;
             under = subst (Under (out b y)) (sym o) (under_self (out b y));
             kind = inl (one_state (handed (x b).way (full b) (state b)) w (s ∙ st), o, λ d k. u d k ∙ sym eq);
           }
       go (many_in a v z w p q t g u two) =
           let k : Brings b c z = u b came in
           record {
-            reaches = reached_by (ap has_way w); z = z; z_is = here_by z g;
+            reaches = reached_by (ap has_way w);
+            z = z;
+            z_is = here_by z g;
             under = subst (λ (i : Behind). Under (out b i) z) (same y k.y f k.here_is) k.under;
             kind = inr (many_state w, k.way, ap is_several (end ∙ w));
           }
@@ -407,6 +440,7 @@ module _ (n : ℕ) (x : ℕ → Outline) (low : ℕ → ℕ) (heads : List Link)
     where
       next : 1 ≤ c → low (suc c) ≡ low c + (x c).ops
       next o = run.low_next c o (omega arith) ∙ ap (λ (v : Bool). cond v 0 (low c + (x c).ops)) (f (suc c) h (omega arith))
+
       go : (b ≡ c) ⊎ (b ≡ c → ⊥) → (b < c → low b + (x b).ops ≤ low c) → low b + (x b).ops ≤ low (suc c)
       go (inl e) rec = let s : low b + (x b).ops ≡ low c + (x c).ops = ap (λ (i : ℕ). low i + (x i).ops) e in omega (arith, s, next (omega arith))
       go (inr d) rec = omega (arith, rec (omega arith), next (omega arith))
@@ -425,7 +459,7 @@ module _ (n : ℕ) (x : ℕ → Outline) (low : ℕ → ℕ) (heads : List Link)
   next_head (On b) c h = inr (ap (head_at heads) (sym h))
   next_head (Fork p q) c h = elim (both_says (head_at heads p) (head_at heads q)) [
     | inl e ↦ inl e
-    | inr e ↦ inr (elim h [ | inl k ↦ e.0 ∙ ap (head_at heads) (sym k) | inr k ↦ e.0 ∙ (e.1 ∙ ap (head_at heads) (sym k)) ])
+    | inr e ↦ inr (elim h [ inl k ↦ e.0 ∙ ap (head_at heads) (sym k) | inr k ↦ e.0 ∙ (e.1 ∙ ap (head_at heads) (sym k)) ])
   ]
 
   exact_some : (k : ℕ) → 1 ≤ k → exact k ≡ Is k
@@ -450,8 +484,12 @@ module _ (n : ℕ) (x : ℕ → Outline) (low : ℕ → ℕ) (heads : List Link)
   -- who is last on a path that comes through block b without an operation of it
   through : (b a c : ℕ) (f : Facts b a) → (x b).ops ≡ 0 → Leads (x b).way c → Into b c f.y → Facts c a
   through b a c f e k i = record {
-    low_block = omega (arith, lt); high_block = most; reaches = i.reaches; y = i.z; y_is = i.z_is;
-    agrees = elim i.under.pred [ | inl u ↦ inl u | inr u ↦ elim f.agrees [ | inl v ↦ inl (u ∙ (out_empty b f.y e ∙ v)) | inr v ↦ inr (u ∙ (out_empty b f.y e ∙ v)) ] ];
+    low_block = omega (arith, lt);
+    high_block = most;
+    reaches = i.reaches;
+    y = i.z;
+    y_is = i.z_is;
+    agrees = elim i.under.pred [ inl u ↦ inl u | inr u ↦ elim f.agrees [ inl v ↦ inl (u ∙ (out_empty b f.y e ∙ v)) | inr v ↦ inr (u ∙ (out_empty b f.y e ∙ v)) ] ];
     known = knows i.kind f.known;
     owner = owns i.kind f.owner;
     next = λ o. after o (f.next o);
@@ -460,22 +498,31 @@ module _ (n : ℕ) (x : ℕ → Outline) (low : ℕ → ℕ) (heads : List Link)
     where
       lt : b < c
       lt = (run.later b c f.low_block f.high_block k).0
+
       most : c ≤ n
       most = (run.later b c f.low_block f.high_block k).1
+
       rise : low b + (x b).ops ≤ low c
       rise = low_rise b c f.low_block lt most (λ m u v. run.inner b c m f.low_block f.high_block k u v)
+
       vain : is_vain (x b).way (ways (suc n)) (state b) ≡ true
       vain = run.none_vain b f.low_block f.high_block (reach_same b f.low_block f.high_block ∙ f.reaches) e
+
       empty : full b ≡ false
       empty = rw (eq-eqb (x b).ops 0 e) refl
+
       no_fork : (p q : ℕ) → (x b).way ≡ Fork p q → state b ≡ Many → ⊥
       no_fork p q w s = cc (sym vain ∙ (ap (λ (v : Way). is_vain v (ways (suc n)) (state b)) w ∙ ap (λ (v : State). not (is_many v)) s))
+
       hand : (d : ℕ) → (x b).way ≡ On d → handed (x b).way (full b) (state b) ≡ state b
       hand d w = ap (λ (v : Way). handed v (full b) (state b)) w ∙ ap (λ (v : Bool). cond v Sole (state b)) empty
+
       hand_fork : (p q : ℕ) → (x b).way ≡ Fork p q → handed (x b).way (full b) (state b) ≡ Shared
       hand_fork p q w = ap (λ (v : Way). handed v (full b) (state b)) w
+
       owned : (x b).way ≡ On c → Owned b a → Owned c a
       owned w o = record { some = o.some; head = o.head ∙ (head_empty b f.low_block f.high_block e ∙ head_on (x b).way c w) }
+
       knows : Kind b c f.y i.z →
           (state b ≡ Many) ⊎ (f.y.pred ≡ exact (last_number a)) → (state c ≡ Many) ⊎ (i.z.pred ≡ exact (last_number a))
       knows (inr s) g = inl s.0
@@ -484,16 +531,19 @@ module _ (n : ℕ) (x : ℕ → Outline) (low : ℕ → ℕ) (heads : List Link)
         | inl w ↦ inl (s.0 ∙ (hand c w ∙ g))
         | inr w ↦ absurd (no_fork w.0 w.1 w.2 g)
       ]
+
       not_shared : is_several (get_or (ways (suc n)) c Zero) ≡ true → (x b).way ≡ On c → state b ≡ Shared → ⊥
       not_shared v w s = cc (sym vain ∙ (ap (λ (u : Way). is_vain u (ways (suc n)) (state b)) w ∙ (ap (λ (u : State). not (is_shared u && is_several (get_or (ways (suc n)) c Zero))) s ∙ ap not v)))
+
       owns : Kind b c f.y i.z →
           (state b ≡ Shared) ⊎ Owned b a → (state c ≡ Shared) ⊎ Owned c a
       owns (inr s) (inr o) = inr (owned s.1 o)
       owns (inr s) (inl g) = absurd (not_shared s.2 s.1 g)
       owns (inl s) g = elim (on_or_fork (x b).way c k) [
         | inr w ↦ inl (s.0 ∙ hand_fork w.0 w.1 w.2)
-        | inl w ↦ elim g [ | inl u ↦ inl (s.0 ∙ (hand c w ∙ u)) | inr o ↦ inr (owned w o) ]
+        | inl w ↦ elim g [ inl u ↦ inl (s.0 ∙ (hand c w ∙ u)) | inr o ↦ inr (owned w o) ]
       ]
+
       after : 1 ≤ a → (out_link (x a).way heads ≡ Unknown) ⊎ (out_link (x a).way heads ≡ head_at heads b) → (out_link (x a).way heads ≡ Unknown) ⊎ (out_link (x a).way heads ≡ head_at heads c)
       after o (inl u) = inl u
       after o (inr u) = elim (next_head (x b).way c k) [
@@ -504,9 +554,13 @@ module _ (n : ℕ) (x : ℕ → Outline) (low : ℕ → ℕ) (heads : List Link)
   -- and through one with operations
   beyond : (b a c : ℕ) (f : Facts b a) → 1 ≤ (x b).ops → Leads (x b).way c → Into b c f.y → Facts c b
   beyond b a c f e k i = record {
-    low_block = omega (arith, lt); high_block = most; reaches = i.reaches; y = i.z; y_is = i.z_is;
-    agrees = elim i.under.pred [ | inl u ↦ inl u | inr u ↦ inr (u ∙ out_full b a f.y f.low_block e) ];
-    known = elim i.kind [ | inr s ↦ inl s.0 | inl s ↦ inr (ap (λ (v : Behind). v.pred) s.1 ∙ out_full b a f.y f.low_block e) ];
+    low_block = omega (arith, lt);
+    high_block = most;
+    reaches = i.reaches;
+    y = i.z;
+    y_is = i.z_is;
+    agrees = elim i.under.pred [ inl u ↦ inl u | inr u ↦ inr (u ∙ out_full b a f.y f.low_block e) ];
+    known = elim i.kind [ inr s ↦ inl s.0 | inl s ↦ inr (ap (λ (v : Behind). v.pred) s.1 ∙ out_full b a f.y f.low_block e) ];
     owner = owns i.kind;
     next = λ o. next_head (x b).way c k;
     below = omega (arith, number_some b f.low_block, rise);
@@ -514,12 +568,16 @@ module _ (n : ℕ) (x : ℕ → Outline) (low : ℕ → ℕ) (heads : List Link)
     where
       lt : b < c
       lt = (run.later b c f.low_block f.high_block k).0
+
       most : c ≤ n
       most = (run.later b c f.low_block f.high_block k).1
+
       rise : low b + (x b).ops ≤ low c
       rise = low_rise b c f.low_block lt most (λ m u v. run.inner b c m f.low_block f.high_block k u v)
+
       owned : (x b).way ≡ On c → Owned c b
       owned w = record { some = f.low_block; head = head_on (x b).way c w }
+
       owns : Kind b c f.y i.z → (state c ≡ Shared) ⊎ Owned c b
       owns (inr s) = inr (owned s.1)
       owns (inl s) = elim (on_or_fork (x b).way c k) [
@@ -529,8 +587,16 @@ module _ (n : ℕ) (x : ℕ → Outline) (low : ℕ → ℕ) (heads : List Link)
 
   pub facts : {b a : ℕ} → Before b a → Facts b a
   facts {b} {a} (starts l h f) = record {
-    low_block = l; high_block = h; reaches = rw f refl; y = begin; y_is = rw f refl;
-    agrees = inr refl; known = inr refl; owner = inl (rw f refl); next = λ o. absurd (omega (arith, o)); below = omega arith;
+    low_block = l;
+    high_block = h;
+    reaches = rw f refl;
+    y = begin;
+    y_is = rw f refl;
+    agrees = inr refl;
+    known = inr refl;
+    owner = inl (rw f refl);
+    next = λ o. absurd (omega (arith, o));
+    below = omega arith;
   }
   facts (goes {b = b} {a = a} {c = c} p k) =
       let f : Facts b a = facts p in
@@ -564,6 +630,7 @@ module _ (n : ℕ) (x : ℕ → Outline) (low : ℕ → ℕ) (heads : List Link)
     where
       vain : is_vain (x b).way (ways (suc n)) (state b) ≡ true
       vain = run.none_vain b f.low_block f.high_block (reach_same b f.low_block f.high_block ∙ f.reaches) e
+
       go : (state b ≡ Shared) ⊎ Owned b a → (1 ≤ a) × (out_link (x a).way heads ≡ Nothing)
       go (inl s) = absurd (cc (sym vain ∙ (ap (λ (u : Way). is_vain u (ways (suc n)) (state b)) w ∙ ap (λ (u : State). not (is_shared u)) s)))
       go (inr o) = (o.some, o.head ∙ (head_empty b f.low_block f.high_block e ∙ ap (λ (v : Way). out_link v heads) w))
@@ -591,13 +658,14 @@ module _ (n : ℕ) (x : ℕ → Outline) (low : ℕ → ℕ) (heads : List Link)
         where
           eq : (v u : Behind) → here a ≡ Some v → here a ≡ Some u → v ≡ u
           eq v u p q = cc
+
       go : ((x a).writer ≡ 0) ⊎ ((x a).writer ≡ 0 → ⊥) → (t.y.writer ≡ 0) ⊎ Wrote a t.y.writer → (z.writer ≡ 0) ⊎ Wrote c z.writer
       go (inr d) o =
           let e : z.writer ≡ low a + (x a).writer = w ∙ rw (ne_eqb (x a).writer 0 d) refl in
           inr (subst (Wrote c) (sym e) (wrote t.path (omega (arith, d)) k))
       go (inl d) o =
           let e : z.writer ≡ t.y.writer = w ∙ (ap (λ (i : ℕ). cond (eqb i 0) y.writer (low a + i)) d ∙ ap (λ (v : Behind). v.writer) (sym same)) in
-          elim o [ | inl q ↦ inl (e ∙ q) | inr q ↦ inr (subst (Wrote c) (sym e) (further q k)) ]
+          elim o [ inl q ↦ inl (e ∙ q) | inr q ↦ inr (subst (Wrote c) (sym e) (further q k)) ]
 
   attained_next : (b : ℕ) → 1 ≤ b → b ≤ n → reach b ≡ true → ((a : ℕ) → Came a b b → Attained a) → Attained b
   attained_next b l h r before = go (cases_Bool (x b).first) (inv b b l (omega arith) h)
@@ -644,11 +712,13 @@ module _ (n : ℕ) (x : ℕ → Outline) (low : ℕ → ℕ) (heads : List Link)
     where
       t : Attained b
       t = attained b f.low_block f.high_block f.reaches
+
       same : t.y ≡ f.y
       same = eq t.y f.y t.y_is f.y_is
         where
           eq : (v u : Behind) → here b ≡ Some v → here b ≡ Some u → v ≡ u
           eq v u p q = cc
+
       go : (t.y.writer ≡ 0) ⊎ Wrote b t.y.writer → f.y.writer ≤ low b
       go (inl e) = omega (arith, e, ap (λ (v : Behind). v.writer) same)
       go (inr p) = omega (arith, (wrote_low p).2, ap (λ (v : Behind). v.writer) same)

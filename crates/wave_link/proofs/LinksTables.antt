@@ -1,5 +1,5 @@
 -- Tables that are filled block by block, and what a place of one holds.
-use Rattle.std.proofs.Common.{ℕ, zero, suc, ◌+◌, ◌≡◌, ◌<◌, ◌≤◌, ◌⊎◌, Bool, true, false, cond, not, List, [], ◌∷◌, length, get_or, Option, Some, None, refl, sym, ap, ◌∙◌, inl, inr, subst, arith, eqb, eq-eqb, ne_eqb}
+use Rattle.std.proofs.Common.{ℕ, zero, suc, ◌+◌, ◌≡◌, ◌<◌, ◌≤◌, ◌⊎◌, Bool, false, cond, List, [], ◌∷◌, length, get_or, Option, Some, None, refl, sym, ap, ◌∙◌, inl, inr, subst, arith, eqb, eq-eqb, ne_eqb}
 use Rattle.std.specs.Prelude.{set}
 use Rattle.std.proofs.lemmas.Bool.{cases_eq}
 use Rattle.std.proofs.lemmas.List.{length-set, get_or-set_same, get_or-set_other}
@@ -10,13 +10,12 @@ use Rattle.wave_link.specs.declared.outline.Way.{Way}
 use Rattle.wave_link.specs.declared.outline.Way.TheVariants.{Out, On, Fork}
 use Rattle.wave_link.specs.declared.outline.Outline.{Outline}
 use Rattle.wave_link.specs.declared.links.Behind.{Behind}
-use Rattle.wave_link.specs.declared.links.Place.{Place}
 use Rattle.wave_link.specs.declared.states.Ways.{Ways}
 use Rattle.wave_link.specs.declared.states.Ways.TheVariants.{Zero}
 use Rattle.wave_link.specs.declared.states.State.{State}
 use Rattle.wave_link.specs.declared.states.State.TheVariants.{Shared, Sole}
 use Rattle.wave_link.specs.States.{more, enter, enter_way, ways_step, ways_from, needs_nop, spread_state, states_step, states_from}
-use Rattle.wave_link.specs.Notes.{both, low_at, lows_from, head_at, out_link, head_link, heads_from, joined, behind_in, behind_out, hand_on, hand_way, hand_all, place_at, places_from}
+use Rattle.wave_link.specs.Notes.{both, low_at, lows_from, head_at, out_link, head_link, heads_from, joined, behind_in, hand_on, hand_way, hand_all, place_at, places_from}
 use Rattle.wave_link.specs.Grown.{no_place}
 
 abbrev pub no_outline : Outline
@@ -77,7 +76,7 @@ leads (Fork a b) c = go (cases_eq c a) (cases_eq c b)
     go : (c ≡ a) ⊎ (c ≡ a → ⊥) → (c ≡ b) ⊎ (c ≡ b → ⊥) → ((c ≡ a) ⊎ (c ≡ b)) ⊎ ((c ≡ a) ⊎ (c ≡ b) → ⊥)
     go (inl e) g = inl (inl e)
     go (inr n) (inl e) = inl (inr e)
-    go (inr n) (inr m) = inr (λ h. elim h [ | inl e ↦ n e | inr e ↦ m e ])
+    go (inr n) (inr m) = inr (λ h. elim h [ inl e ↦ n e | inr e ↦ m e ])
 
 -- the two places of a fork differ
 abbrev pub Parts : Way → Type 0
@@ -183,14 +182,14 @@ head_there (x ∷ xs) lows b zero m h l e w later =
     let len : length r ≡ length h = heads_length xs lows (suc b) h in
     rw g (get_or-set_same r b (head_link x (get_or lows b 0) r) Unknown (omega arith)
     ∙ same_head x (get_or lows b 0) r (set r b (head_link x (get_or lows b 0) r)) (λ c k.
-        (let lt : b + 0 < c = later 0 c (omega arith) k in sym (get_or-set_other r b c (head_link x (get_or lows b 0) r) Unknown (λ e. absurd (omega (arith, lt, e)))))))
+    (let lt : b + 0 < c = later 0 c (omega arith) k in sym (get_or-set_other r b c (head_link x (get_or lows b 0) r) Unknown (λ e. absurd (omega (arith, lt, e)))))))
 head_there (x ∷ xs) lows b (suc n) m h l e w later =
     let r : List Link = heads_from xs lows (suc b) h in
     let f : List Link = set r b (head_link x (get_or lows b 0) r) in
     let rec : head_at r m ≡ head_link (outline_in xs n) (get_or lows m 0) r = head_there xs lows (suc b) n m h (omega arith) (omega arith) (omega arith) (λ i c q k. (let lt : b + suc i < c = later (suc i) c (omega (arith, q)) k in omega (arith, lt))) in
     get_or-set_other r b m (head_link x (get_or lows b 0) r) Unknown (λ d. absurd (omega (arith, d)))
     ∙ (rec ∙ same_head (outline_in xs n) (get_or lows m 0) r f (λ c k.
-        (let lt : b + suc n < c = later (suc n) c (omega arith) k in sym (get_or-set_other r b c (head_link x (get_or lows b 0) r) Unknown (λ d. absurd (omega (arith, lt, d)))))))
+    (let lt : b + suc n < c = later (suc n) c (omega arith) k in sym (get_or-set_other r b c (head_link x (get_or lows b 0) r) Unknown (λ d. absurd (omega (arith, lt, d)))))))
 
 -- Links.
 

@@ -36,7 +36,7 @@ count_next added b zero =
 count_next added b (suc n) =
     let e : b + 1 + n ≡ b + suc n = omega arith in
     let h : count_from added (b + 1) (suc n) ≡ count_from added (b + 1) n + one_if (get_or added (b + suc n) false) =
-        count_next added (b + 1) n ∙ ap (λ (k : ℕ). count_from added (b + 1) n + one_if (get_or added k false)) e in
+    count_next added (b + 1) n ∙ ap (λ (k : ℕ). count_from added (b + 1) n + one_if (get_or added k false)) e in
     ap (λ (k : ℕ). one_if (get_or added b false) + k) h ∙ sum (one_if (get_or added b false)) (count_from added (b + 1) n) (one_if (get_or added (b + suc n) false))
   where
     sum : (a b c : ℕ) → a + (b + c) ≡ (a + b) + c
@@ -92,7 +92,7 @@ number_there (x ∷ xs) b n (suc i) j p added l h e =
     let g : length x.instrs ≤ p = omega arith in
     let w = with_nop_is (get_or added b false) (n + length x.instrs) in
     let s : get_or (numbers_from xs (b + 1) (with_nop (get_or added b false) (n + length x.instrs)) added) (p - length x.instrs) 0 ≡ with_nop (get_or added b false) (n + length x.instrs) + (p - length x.instrs) + count_from added (b + 1) i =
-        number_there xs (b + 1) (with_nop (get_or added b false) (n + length x.instrs)) i j (p - length x.instrs) added (omega arith) h (omega arith) in
+    number_there xs (b + 1) (with_nop (get_or added b false) (n + length x.instrs)) i j (p - length x.instrs) added (omega arith) h (omega arith) in
     get_or-append_right (count_up n (length x.instrs)) (numbers_from xs (b + 1) (with_nop (get_or added b false) (n + length x.instrs)) added) (length x.instrs) p 0 (count_up_length n (length x.instrs)) g
     ∙ (s ∙ sums n p (length x.instrs) (one_if (get_or added b false)) (count_from added (b + 1) i) (with_nop (get_or added b false) (n + length x.instrs)) g w)
   where
@@ -100,6 +100,7 @@ number_there (x ∷ xs) b n (suc i) j p added l h e =
     positive bs zero = let z : first_of bs zero ≡ 1 = first_one bs in omega arith
     positive [] (suc n) = omega arith
     positive (b ∷ bs) (suc n) = let h : 1 ≤ first_of bs n = positive bs n in omega arith
+
     sums : (n p a o c w : ℕ) → a ≤ p → w ≡ o + (n + a) → w + (p - a) + c ≡ n + p + (o + c)
     sums n p a o c w l e = omega arith
 
@@ -145,7 +146,7 @@ first_there t ps added b k c (x ∷ xs) (suc n) l h =
     let a = block_length t (get_or ps b no_place) b k x in
     let e : extra_of (get_or t.nops b 0) ≡ one_if (get_or added c false) = h 0 b c (omega arith) (omega arith) (omega arith) in
     let r : first_of (grown_from t ps (b + 1) (k + length x.instrs) xs) n ≡ first_of xs n + count_from added (c + 1) n =
-        first_there t ps added (b + 1) (k + length x.instrs) (c + 1) xs n (omega arith) (λ i j m q u v. h (suc i) j m (omega arith) (omega arith) (omega arith)) in
+    first_there t ps added (b + 1) (k + length x.instrs) (c + 1) xs n (omega arith) (λ i j m q u v. h (suc i) j m (omega arith) (omega arith) (omega arith)) in
     ap₂ (λ (p q : ℕ). p + q) (a ∙ ap (λ (q : ℕ). length x.instrs + q) e) r
     ∙ sums (length x.instrs) (one_if (get_or added c false)) (first_of xs n) (count_from added (c + 1) n)
   where
@@ -225,9 +226,9 @@ ends_are draft zero h = absurd (omega (arith, h.0))
 ends_are draft (suc n) h =
     let e : 0 + n ≡ n = omega arith in
     let c : count_from (added_in draft.blocks) 0 (suc n) ≡ count_from (added_in draft.blocks) 0 n + one_if (get_or (added_in draft.blocks) n false) =
-        count_next (added_in draft.blocks) 0 n ∙ ap (λ (m : ℕ). count_from (added_in draft.blocks) 0 n + one_if (get_or (added_in draft.blocks) m false)) e in
+    count_next (added_in draft.blocks) 0 n ∙ ap (λ (m : ℕ). count_from (added_in draft.blocks) 0 n + one_if (get_or (added_in draft.blocks) m false)) e in
     let f : first_of (grown_from (tables_in draft.blocks) (places_in draft.blocks) 1 1 draft.blocks) (suc n) ≡ first_of draft.blocks (suc n) + count_from (added_in draft.blocks) 0 (suc n) =
-        first_there (tables_in draft.blocks) (places_in draft.blocks) (added_in draft.blocks) 1 1 0 draft.blocks (suc n) (omega (arith, h.1)) (extras_say draft) in
+    first_there (tables_in draft.blocks) (places_in draft.blocks) (added_in draft.blocks) 1 1 0 draft.blocks (suc n) (omega (arith, h.1)) (extras_say draft) in
     f ∙ (ap (λ (k : ℕ). first_of draft.blocks (suc n) + k) c ∙ sums (first_of draft.blocks (suc n)) (count_from (added_in draft.blocks) 0 n) (one_if (get_or (added_in draft.blocks) n false)))
   where
     sums : (a b c : ℕ) → a + (b + c) ≡ c + (a + b)
@@ -247,11 +248,12 @@ new_is draft (suc n) (suc p) h i =
     let a : first_of draft.blocks n ≤ suc p = i.0 in
     let b : suc p < first_of draft.blocks (suc n) = i.1 in
     let e : get_or (numbers_from draft.blocks 0 1 (added_in draft.blocks)) p 0 ≡ 1 + p + count_from (added_in draft.blocks) 0 n =
-        number_there draft.blocks 0 1 n (suc p - first_of draft.blocks n) p (added_in draft.blocks) l (omega arith) (omega arith) in
+    number_there draft.blocks 0 1 n (suc p - first_of draft.blocks n) p (added_in draft.blocks) l (omega arith) (omega arith) in
     e ∙ ap (λ (q : ℕ). q + count_from (added_in draft.blocks) 0 n) (sum p)
   where
     sum : (p : ℕ) → 1 + p ≡ suc p
     sum p = omega arith
+
     next : (bs : List Block) (n : ℕ) → n < length bs → first_of bs (suc n) ≡ first_of bs n + length (or_else (nth bs n) no_block).instrs
     next [] n l = absurd (omega arith)
     next (b ∷ bs) zero l = let z : first_of bs zero ≡ 1 = first_one bs in omega arith
@@ -317,10 +319,10 @@ instr_is_grown draft (suc n) k h i =
     let d : instr_at draft k ≡ or_else (nth x.instrs j) no_instr = instr_is draft n j k l (subst (λ (y : Block). j < length y.instrs) xe m) (omega arith) ∙ ap (λ (y : Block). or_else (nth y.instrs j) no_instr) (sym xe) in
     let at : k + shift draft (suc n) ≡ first_number (annotated draft) (suc n) + j = omega (arith, first_is draft (suc n) h) in
     let here : instr_at (annotated draft) (k + shift draft (suc n)) ≡ or_else (nth g.instrs j) no_instr =
-        instr_is (annotated draft) n j (k + shift draft (suc n)) (image_count draft n h) (subst (λ (y : Block). j < length y.instrs) (sym e) (omega arith)) at ∙ ap (λ (y : Block). or_else (nth y.instrs j) no_instr) e in
+    instr_is (annotated draft) n j (k + shift draft (suc n)) (image_count draft n h) (subst (λ (y : Block). j < length y.instrs) (sym e) (omega arith)) at ∙ ap (λ (y : Block). or_else (nth y.instrs j) no_instr) e in
     let left : nth g.instrs j ≡ nth gi j = nth_append_left gi (nop_at p (get_or (tables_in draft.blocks).nops (suc n) 0)) j (omega arith) in
     let it : nth gi j ≡ Some (grown_instr (tables_in draft.blocks) k (note_for p (or_else (nth x.instrs j) no_instr).op (seq_in x.instrs j (p.low + 1)) (writer_in x.instrs j (p.low + 1) p.writer)) (or_else (nth x.instrs j) no_instr)) =
-        instr_there (tables_in draft.blocks) p f (p.low + 1) p.writer x.instrs j k m (omega arith) in
+    instr_there (tables_in draft.blocks) p f (p.low + 1) p.writer x.instrs j k m (omega arith) in
     here ∙ (ap (λ (o : Option Instr). or_else o no_instr) (left ∙ it)
     ∙ ap (λ (y : Instr). grown_instr (tables_in draft.blocks) k (note_for p y.op (seq_in x.instrs j (p.low + 1)) (writer_in x.instrs j (p.low + 1) p.writer)) y) (sym d))
 
@@ -344,8 +346,8 @@ nop_is_there draft (suc n) h a =
     let lb : length g.instrs ≡ length gi + 1 = length-append gi (nop_at p nn) ∙ ap (λ (z : List Instr). length gi + length z) ne in
     let at : first_number draft (suc (suc n)) + shift draft (suc n) ≡ first_number (annotated draft) (suc n) + length x.instrs = omega (arith, first_is draft (suc n) h) in
     let here : instr_at (annotated draft) (first_number draft (suc (suc n)) + shift draft (suc n)) ≡ or_else (nth g.instrs (length x.instrs)) no_instr =
-        instr_is (annotated draft) n (length x.instrs) (first_number draft (suc (suc n)) + shift draft (suc n)) (image_count draft n h) (subst (λ (y : Block). length x.instrs < length y.instrs) (sym e) (omega arith)) at
-        ∙ ap (λ (y : Block). or_else (nth y.instrs (length x.instrs)) no_instr) e in
+    instr_is (annotated draft) n (length x.instrs) (first_number draft (suc (suc n)) + shift draft (suc n)) (image_count draft n h) (subst (λ (y : Block). length x.instrs < length y.instrs) (sym e) (omega arith)) at
+    ∙ ap (λ (y : Block). or_else (nth y.instrs (length x.instrs)) no_instr) e in
     let pl : length x.instrs ≡ length gi + 0 = omega arith in
     here ∙ (ap (λ (q : ℕ). or_else (nth (gi ++ nop_at p nn) q) no_instr) pl ∙ (ap (λ (o : Option Instr). or_else o no_instr) (nth_append_right gi (nop_at p nn) 0) ∙ ap (λ (z : List Instr). or_else (nth z 0) no_instr) ne))
   where

@@ -36,8 +36,10 @@ image_case draft b m h i = go (cases_lt (m - shift draft b) (first_number draft 
   where
     low : first_number draft b + shift draft b ≤ m
     low = omega (arith, i.0, first_is draft b h)
+
     high : m < one_if (adds draft b) + (first_number draft (suc b) + shift draft b)
     high = omega (arith, i.1, ends_are draft b h)
+
     go : (m - shift draft b < first_number draft (suc b)) ⊎ (first_number draft (suc b) ≤ m - shift draft b) → (adds draft b ≡ true) ⊎ (adds draft b ≡ false) → ImageCase draft b m
     go (inl l) a = old (m - shift draft b) (omega (arith, low), l) (omega (arith, low))
     go (inr l) (inl a) = no_op a (omega (arith, low, high, ap one_if a))
@@ -167,7 +169,7 @@ dests_grown draft b k h i = ap (λ (x : Instr). x.dests) (instr_is_grown draft b
 pub others_grown : (draft : Image) (b k : ℕ) → IsBlock draft b → IsIn draft b k → (instr_at (annotated draft) (k + shift draft b)).others ≡ renamed (new draft) (instr_at draft k).others ++ extra_dest (get_or (tables_in draft.blocks).other k 0)
 others_grown draft b k h i = ap (λ (x : Instr). x.others) (instr_is_grown draft b k h i) ∙ ap (λ (ds : List Dest). ds ++ extra_dest (get_or (tables_in draft.blocks).other k 0)) (same_renamed draft (instr_at draft k).others)
 
-one_extra : (n j q : ℕ) → HasDest (extra_dest n) j q → (n ≡ j)
+pub one_extra : (n j q : ℕ) → HasDest (extra_dest n) j q → (n ≡ j)
 one_extra n j q = go (eqb n 0)
   where
     go : (v : Bool) → HasDest (cond v [] (record { instr = n; port = 0 } ∷ [])) j q → n ≡ j
@@ -175,7 +177,7 @@ one_extra n j q = go (eqb n 0)
     go false (inl x) = x.0
     go false (inr x) = absurd x
 
-no_extra : (n j q : ℕ) → n ≡ 0 → HasDest (extra_dest n) j q → ⊥
+pub no_extra : (n j q : ℕ) → n ≡ 0 → HasDest (extra_dest n) j q → ⊥
 no_extra n j q e x = subst (λ (m : ℕ). HasDest (extra_dest m) j q) e x
 
 module _ (draft : Image) (ok : OpenToNotes draft) where
@@ -201,8 +203,10 @@ module _ (draft : Image) (ok : OpenToNotes draft) where
     where
       go : Located draft j → IsAhead draft b k j → IsAhead (annotated draft) b (k + shift draft b) (new draft j)
       go x (inl e) = inl (ap (is_advance (annotated draft)) (new_is draft x.block j x.there x.inside) ∙ (advance_kept draft x.block j x.there x.inside ∙ e))
-      go x (inr l) = inr (later (cases_lt b x.block) (cases_eq b x.block),
-          wave_of_block x.block (new draft j) x.there (new_inside draft x.block j x.there x.inside) ∙ (ap (λ (n : ℕ). (block_at draft n).wave) (sym (block_of_is draft x.block j x.there x.inside)) ∙ (l.1 ∙ sym (wave_kept draft b))))
+      go x (inr l) = inr (
+        later (cases_lt b x.block) (cases_eq b x.block),
+        wave_of_block x.block (new draft j) x.there (new_inside draft x.block j x.there x.inside) ∙ (ap (λ (n : ℕ). (block_at draft n).wave) (sym (block_of_is draft x.block j x.there x.inside)) ∙ (l.1 ∙ sym (wave_kept draft b))),
+      )
         where
           later : (b < x.block) ⊎ (x.block ≤ b) → (b ≡ x.block) ⊎ (b ≡ x.block → ⊥) → k + shift draft b < new draft j
           later (inl m) e = before_later draft b x.block (k + shift draft b) (new draft j) h x.there m (old_inside draft b k h i).1 (new_inside draft x.block j x.there x.inside).0
@@ -219,8 +223,10 @@ module _ (draft : Image) (ok : OpenToNotes draft) where
   behind_ahead b k c r h i s e a f =
       let hc : IsBlock draft c = subst (IsBlock draft) (sym e) (shape.edges b r h s) in
       let l = shape.later b r h s (ap (is_first draft) (sym e) ∙ f) in
-      inr (before_later draft b c (k + shift draft b) (nop draft c) h hc (omega (arith, l.0, e)) (old_inside draft b k h i).1 (nop_low draft c hc),
-      wave_of_block c (nop draft c) hc (nop_inside draft c hc a) ∙ (ap (λ (n : ℕ). (block_at draft n).wave) e ∙ (l.1 ∙ sym (wave_kept draft b))))
+      inr (
+        before_later draft b c (k + shift draft b) (nop draft c) h hc (omega (arith, l.0, e)) (old_inside draft b k h i).1 (nop_low draft c hc),
+        wave_of_block c (nop draft c) hc (nop_inside draft c hc a) ∙ (ap (λ (n : ℕ). (block_at draft n).wave) e ∙ (l.1 ∙ sym (wave_kept draft b))),
+      )
 
   -- what a steer opens for a block behind it
   steered_ahead : (b k c r j q : ℕ) → IsBlock draft b → IsIn draft b k → stops draft b ≡ false → c ≡ target draft b r → HasDest (extra_dest (steered_by draft c)) j q → IsAhead (annotated draft) b (k + shift draft b) j
@@ -228,6 +234,7 @@ module _ (draft : Image) (ok : OpenToNotes draft) where
     where
       hc : IsBlock draft c
       hc = subst (IsBlock draft) (sym e) (shape.edges b r h s)
+
       go : (t : Trigger) → trigger draft c ≡ t → HasDest (before_slot t (nop draft c)) j q → IsAhead (annotated draft) b (k + shift draft b) j
       go Whole f z = absurd z
       go (Own n) f z = absurd z
@@ -259,6 +266,7 @@ module _ (draft : Image) (ok : OpenToNotes draft) where
       own_case : get_or (tables_in draft.blocks).now k 0 ≡ cond (adds draft b) (nop draft b) 0 → (adds draft b ≡ true) ⊎ (adds draft b ≡ false) → IsAhead (annotated draft) b (k + shift draft b) j
       own_case e (inl a) = subst (IsAhead (annotated draft) b (k + shift draft b)) (sym (e ∙ ap (λ (v : Bool). cond v (nop draft b) 0) a) ∙ one_extra (get_or (tables_in draft.blocks).now k 0) j q x) (own_ahead b k h i a)
       own_case e (inr a) = absurd (no_extra (get_or (tables_in draft.blocks).now k 0) j q (e ∙ ap (λ (v : Bool). cond v (nop draft b) 0) a) x)
+
       go : (steer_in draft b ≡ k) ⊎ (steer_in draft b ≡ k → ⊥) → (giver draft b ≡ k) ⊎ (giver draft b ≡ k → ⊥) → (adds draft b ≡ true) ⊎ (adds draft b ≡ false) → IsAhead (annotated draft) b (k + shift draft b) j
       go (inl s) g a =
           let e = shape.steers b k h i (the_steer b k h i s) in
@@ -316,16 +324,23 @@ module _ (draft : Image) (ok : OpenToNotes draft) where
   steers_in_image : (b m : ℕ) → IsBlock draft b → ImageCase draft b m → (instr_at (annotated draft) m).op ≡ Steer → (s x y : ℕ) × ((block_at (annotated draft) b).exit ≡ Branch s x y) × Carries (annotated draft) b s m 1
   steers_in_image b m h (no_op a n) e = let f : Nop ≡ Steer = nop_other draft b m Steer h a n e in absurd (cc)
   steers_in_image b m h (old k i n) e =
-      let r = shape.steers b k h i (old_op draft b k m Steer h i n e) in
-      (new draft r.0, r.1, r.2, branch_on draft b r.0 r.1 r.2 r.3,
-      subst (λ (l : ℕ). Carries (annotated draft) b (new draft r.0) l 1) (new_is draft b k h i ∙ sym n) (carried draft b r.0 k 1 h (shape.source b r.0 r.1 r.2 h r.3) r.4))
+      let r = shape.steers b k h i (old_op draft b k m Steer h i n e) in (
+        new draft r.0,
+        r.1,
+        r.2,
+        branch_on draft b r.0 r.1 r.2 r.3,
+        subst (λ (l : ℕ). Carries (annotated draft) b (new draft r.0) l 1) (new_is draft b k h i ∙ sym n) (carried draft b r.0 k 1 h (shape.source b r.0 r.1 r.2 h r.3) r.4),
+      )
 
   sends_in_image : (b m p : ℕ) → IsBlock draft b → ImageCase draft b m → (instr_at (annotated draft) m).op ≡ Send p → (s : ℕ) × (ls : List ℕ) × ((block_at (annotated draft) b).exit ≡ Landings s ls) × Carries (annotated draft) b s m 0
   sends_in_image b m p h (no_op a n) e = let f : Nop ≡ Send p = nop_other draft b m (Send p) h a n e in absurd (cc)
   sends_in_image b m p h (old k i n) e =
-      let r = shape.sends b k p h i (old_op draft b k m (Send p) h i n e) in
-      (new draft r.0, r.1, landings_on draft b r.0 r.1 r.2,
-      subst (λ (l : ℕ). Carries (annotated draft) b (new draft r.0) l 0) (new_is draft b k h i ∙ sym n) (carried draft b r.0 k 0 h (shape.address b r.0 r.1 h r.2) r.3))
+      let r = shape.sends b k p h i (old_op draft b k m (Send p) h i n e) in (
+        new draft r.0,
+        r.1,
+        landings_on draft b r.0 r.1 r.2,
+        subst (λ (l : ℕ). Carries (annotated draft) b (new draft r.0) l 0) (new_is draft b k h i ∙ sym n) (carried draft b r.0 k 0 h (shape.address b r.0 r.1 h r.2) r.3),
+      )
 
   pub shape_rules : ShapeRules (annotated draft)
   shape_rules = record {
@@ -365,9 +380,10 @@ module _ (draft : Image) (ok : OpenToNotes draft) where
   pads_in_image b j q p h i x =
       let r = pad_back (tables_in draft.blocks) (block_at draft b).pads p (subst (In p) (pads_kept draft b) i) in
       let y = renamed_back (new draft) r.0.dests j q (subst (λ (ds : List Dest). HasDest ds j q) (ap (λ (z : Pad). z.dests) r.2 ∙ same_renamed draft r.0.dests) x) in
-      let a = more.pads_to_advances b r.0 y.0 q h r.1 y.1 in
-      (subst (IsIn (annotated draft) b) y.2 (new_inside draft b y.0 h a.0),
-      ap (is_advance (annotated draft)) (sym y.2 ∙ new_is draft b y.0 h a.0) ∙ (advance_kept draft b y.0 h a.0 ∙ a.1))
+      let a = more.pads_to_advances b r.0 y.0 q h r.1 y.1 in (
+        subst (IsIn (annotated draft) b) y.2 (new_inside draft b y.0 h a.0),
+        ap (is_advance (annotated draft)) (sym y.2 ∙ new_is draft b y.0 h a.0) ∙ (advance_kept draft b y.0 h a.0 ∙ a.1),
+      )
 
   pub more_shape : MoreShape (annotated draft)
   more_shape = record {

@@ -124,8 +124,10 @@ module _ (draft image : Image) (g : Grown draft image) where
 
   up_fresh : (ds : List Dest) (o : Slots) → ((j q : ℕ) → HasDest ds j q → g.origin (g.new j) ≡ Some j) → Fresh ds o → Fresh (renamed g.new ds) (up o)
   up_fresh [] o r f = tt
-  up_fresh (d ∷ ds) o r f = (up_at o (g.new d.instr) d.port d.instr (r d.instr d.port (inl (refl, refl))) ∙ f.0,
-      subst (λ (t : Slots). Fresh (renamed g.new ds) t) (sym (up_opened d o (r d.instr d.port (inl (refl, refl))))) (up_fresh ds (opened d o) (λ j q h. r j q (inr h)) f.1))
+  up_fresh (d ∷ ds) o r f = (
+    up_at o (g.new d.instr) d.port d.instr (r d.instr d.port (inl (refl, refl))) ∙ f.0,
+    subst (λ (t : Slots). Fresh (renamed g.new ds) t) (sym (up_opened d o (r d.instr d.port (inl (refl, refl))))) (up_fresh ds (opened d o) (λ j q h. r j q (inr h)) f.1),
+  )
 
   up_closed : (k n : ℕ) (o : Slots) → g.origin n ≡ Some k → closed n (up o) ≡ up (closed k o)
   up_closed k n o r = fun_ext (λ m. fun_ext (λ q. point m q (cases_eq n m) (origin_cases m)))
@@ -236,7 +238,7 @@ module _ (draft image : Image) (g : Grown draft image) where
       let at : g.origin m ≡ Some k = ap g.origin (sym (g.new_is b k h i)) ∙ g.origin_real b k h i in
       let a : closed m (held p n (up o)) ≡ held p n (up (closed k o)) = closed_held p n m (up o) (not_nop b k h i.1) ∙ ap (held p n) (up_closed k m o at) in
       let c : all_opened (renamed g.new ds) (held p n (up (closed k o))) ≡ held p n (up (all_opened ds (closed k o))) =
-          all_held (renamed g.new ds) p n (up (closed k o)) ∙ ap (held p n) (up_all ds (closed k o) (λ j q z. g.now_real b k j q h i z)) in
+      all_held (renamed g.new ds) p n (up (closed k o)) ∙ ap (held p n) (up_all ds (closed k o) (λ j q z. g.now_real b k j q h i z)) in
       ap (λ (xs : List Dest). all_opened xs (closed m (held p n (up o)))) (g.now b k h i)
       ∙ (ap (all_opened (renamed g.new ds ++ own_slot (g.trigger b) n k)) a
       ∙ (all_append (renamed g.new ds) (own_slot (g.trigger b) n k) (held p n (up (closed k o)))
@@ -304,6 +306,7 @@ module _ (draft image : Image) (g : Grown draft image) where
         number = omega (arith, x.number);
         are = ap₂ (λ (n : ℕ) (s : Slots). all_opened (now_dests image n) (closed n s)) x.number x.are ∙ real_turn b x.next x.slots x.here (x.low, a);
       }
+
       after_nop : (b l : ℕ) (p : Slots) → (x : Real b l p) → x.next ≡ first_number draft (suc b) → extra (g.trigger b) ≡ 1 → x.next + g.shift b ≡ g.nop b → Passed b (suc l) (all_opened (now_dests image l) (closed l p))
       after_nop b l p x e y f =
           let at : l ≡ g.nop b = x.number ∙ f in
@@ -344,8 +347,10 @@ module _ (draft image : Image) (g : Grown draft image) where
   fresh_held : (ds : List Dest) (p : Bool) (n : ℕ) (o : Slots) → (p ≡ true → (j q : ℕ) → HasDest ds j q → n ≡ j → ⊥) → Fresh ds o → Fresh ds (held p n o)
   fresh_held ds false n o a f = f
   fresh_held [] true n o a f = tt
-  fresh_held (d ∷ ds) true n o a f = (held_there true n o d.instr d.port (a refl d.instr d.port (inl (refl, refl))) ∙ f.0,
-      subst (Fresh ds) (swap (record { instr = n; port = 0 }) d o) (fresh_held ds true n (opened d o) (λ e j q h. a e j q (inr h)) f.1))
+  fresh_held (d ∷ ds) true n o a f = (
+    held_there true n o d.instr d.port (a refl d.instr d.port (inl (refl, refl))) ∙ f.0,
+    subst (Fresh ds) (swap (record { instr = n; port = 0 }) d o) (fresh_held ds true n (opened d o) (λ e j q h. a e j q (inr h)) f.1),
+  )
 
   own_fresh : (t : Trigger) (n k : ℕ) (o : Slots) → (extra t ≡ 1 → o n 0 ≡ false) → Fresh (own_slot t n k) (held (is_pending t k) n o)
   own_fresh Whole n k o e = tt
@@ -385,10 +390,10 @@ module _ (draft image : Image) (g : Grown draft image) where
       let at : g.origin m ≡ Some k = ap g.origin (sym (g.new_is b k h i)) ∙ g.origin_real b k h i in
       let a : closed m (held p n (up o)) ≡ held p n (up (closed k o)) = closed_held p n m (up o) (not_nop b k h i.1) ∙ ap (held p n) (up_closed k m o at) in
       let c : all_opened (renamed g.new ds) (held p n (up (closed k o))) ≡ held p n (up (all_opened ds (closed k o))) =
-          all_held (renamed g.new ds) p n (up (closed k o)) ∙ ap (held p n) (up_all ds (closed k o) real) in
+      all_held (renamed g.new ds) p n (up (closed k o)) ∙ ap (held p n) (up_all ds (closed k o) real) in
       let one : Fresh (renamed g.new ds) (held p n (up (closed k o))) = fresh_held (renamed g.new ds) p n (up (closed k o)) (λ e. not_renamed b k ds h real e) (up_fresh ds (closed k o) real f) in
       let two : Fresh (own_slot (g.trigger b) n k) (all_opened (renamed g.new ds) (held p n (up (closed k o)))) =
-          subst (Fresh (own_slot (g.trigger b) n k)) (sym c) (own_fresh (g.trigger b) n k (up (all_opened ds (closed k o))) (nop_shut b (all_opened ds (closed k o)) h)) in
+      subst (Fresh (own_slot (g.trigger b) n k)) (sym c) (own_fresh (g.trigger b) n k (up (all_opened ds (closed k o))) (nop_shut b (all_opened ds (closed k o)) h)) in
       subst (λ (xs : List Dest). Fresh xs (closed m (held p n (up o)))) (sym (g.now b k h i))
       (subst (Fresh (renamed g.new ds ++ own_slot (g.trigger b) n k)) (sym a) (fresh_append (renamed g.new ds) (own_slot (g.trigger b) n k) (held p n (up (closed k o))) one two))
 
@@ -408,11 +413,13 @@ module _ (draft image : Image) (g : Grown draft image) where
           let x = (a k q).0 (sym (up_at o j q k f) ∙ e) in
           let n : j ≡ k + g.shift b = g.origin_only j k f ∙ g.new_is b k h x.0 in
           ((omega (arith, n, g.first b h, x.0.0), omega (arith, n, g.ends b h, x.0.1)), ap (is_advance image) n ∙ (g.advance_are b k h x.0 ∙ x.1), x.2)
+
       back_again : IsIn image b j × (is_advance image j ≡ true) × (q ≡ 0) → up o j q ≡ true
       back_again x = go (turn_cases b (j - g.shift b) h (omega (arith, x.0.1, g.ends b h, extra_cases b)) (omega (arith, x.0.0, x.0.1, g.first b h)))
         where
           low : g.shift b ≤ j
           low = omega (arith, x.0.0, g.first b h)
+
           go : (j - g.shift b < first_number draft (suc b)) ⊎ ((j - g.shift b ≡ first_number draft (suc b)) × (extra (g.trigger b) ≡ 1) × (j - g.shift b + g.shift b ≡ g.nop b)) → up o j q ≡ true
           go (inr y) = absurd (cc (g.nop_advance b h y.1, ap (is_advance image) (the_nop y.2), x.1))
             where
@@ -480,7 +487,7 @@ module _ (draft image : Image) (g : Grown draft image) where
         let t : target draft b r ≡ target draft c s = sym (g.targets_are b r) ∙ (same ∙ g.targets_are c s) in
         let f' : is_first draft (target draft b r) ≡ false = ap (is_first draft) (sym (g.targets_are b r)) ∙ (sym (g.firsts_are (target image b r)) ∙ f) in
         let eq : all_opened (opens_at draft b r) h.1.0 ≡ all_opened (opens_at draft c s) i.1.0 =
-            fun_ext (λ j. fun_ext (λ q. rules.pending b (first_number draft (suc b)) c (first_number draft (suc c)) r s h.1.0 i.1.0 h.1.1 i.1.1 refl refl tb tc t f' j q)) in
+        fun_ext (λ j. fun_ext (λ q. rules.pending b (first_number draft (suc b)) c (first_number draft (suc c)) r s h.1.0 i.1.0 h.1.1 i.1.1 refl refl tb tc t f' j q)) in
         (ap (all_opened (opens_at image b r)) h.1.2 ∙ edge_turn b r h.1.0 h.0 tb)
         ∙ (ap₂ (λ (n : ℕ) (x : Slots). all_opened (before_slot (g.trigger n) (g.nop n)) (up x)) t eq
         ∙ sym (ap (all_opened (opens_at image c s)) i.1.2 ∙ edge_turn c s i.1.0 i.0 tc))
@@ -504,5 +511,6 @@ module _ (draft image : Image) (g : Grown draft image) where
           | inl x ↦ up_at p j q x.0 x.1 ∙ a x.0 q
           | inr e ↦ up_none p j q e
         ]
+
         up_shut : up none_open ≡ none_open
         up_shut = fun_ext (λ j. fun_ext (λ q. shut none_open (λ i q. refl) j q))

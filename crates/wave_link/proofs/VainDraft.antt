@@ -1,7 +1,6 @@
 -- Each no-op that is added to a draft is needed.
 use Rattle.std.proofs.Common.{ℕ, zero, suc, ◌+◌, ◌-◌, ◌≡◌, ◌<◌, ◌≤◌, ◌⊎◌, ◌&&◌, Bool, true, false, cond, not, List, refl, sym, ap, ◌∙◌, inl, inr, subst, arith, eqb, length}
-use Rattle.std.proofs.lemmas.Bool.{cases_eq, cases_Bool}
-use Rattle.ws_isa.specs.declared.instr.Op.{Op}
+use Rattle.std.proofs.lemmas.Bool.{cases_eq}
 use Rattle.ws_isa.specs.declared.instr.Op.TheVariants.{Nop}
 use Rattle.ws_isa.specs.Image.{Instr, Image, instr_at, block_at, first_number, is_memory, is_memory_op, stops, target, is_first, IsIn, IsBlock}
 use Rattle.image_walk.specs.Open.{OpenToNotes}
@@ -9,15 +8,14 @@ use Rattle.wave_link.specs.declared.outline.Way.TheVariants.{Out}
 use Rattle.wave_link.specs.declared.outline.Outline.{Outline}
 use Rattle.wave_link.specs.declared.states.Ways.{Ways}
 use Rattle.wave_link.specs.declared.states.State.{State}
-use Rattle.wave_link.specs.Outlines.{firsts_of, outline_of, with_nop, ops_from}
+use Rattle.wave_link.specs.Outlines.{with_nop, ops_from}
 use Rattle.wave_link.specs.States.{reached, state_in, is_vain, needs_nop}
-use Rattle.wave_link.specs.Grown.{nop_instr, annotated}
+use Rattle.wave_link.specs.Grown.{annotated}
 use Rattle.wave_link.specs.Passed.{adds}
-use Rattle.wave_link.specs.Vain.{last_in, HasMore, NoneInVain}
+use Rattle.wave_link.specs.Vain.{without, Unlinkable, NeededNop, NoneInVain}
+use Rattle.wave_link.proofs.GrownSources.{added_is}
 use Rattle.wave_link.proofs.Edges.{count_kept, wave_kept, target_kept, stops_kept, first_kept}
 use Rattle.wave_link.proofs.Numbers.{one_if, shift, nop, nop_positive, nop_is_there, ends_are}
-use Rattle.wave_link.proofs.Numbers.{first_is as number_is}
-use Rattle.wave_link.proofs.GrownRows.{block_size}
 use Rattle.wave_link.proofs.LinksTables.{outline_in, Leads}
 use Rattle.wave_link.proofs.LinksRun.{reach_same}
 use Rattle.wave_link.proofs.LinksBlocks.{bare_of, grown_is, outline_at, outline_is, On_in, on_in, out_ends}
@@ -31,6 +29,10 @@ split true true true e = absurd (cc)
 split true true false e = (refl, refl)
 split true false v e = absurd (cc)
 split false z v e = absurd (cc)
+
+-- the last instruction of block b of the image
+abbrev last_in : Image → ℕ → ℕ
+last_in draft b = first_number (annotated draft) (suc b) - 1
 
 module _ (draft : Image) (open_to : OpenToNotes draft) where
   abbrev image : Image
@@ -68,13 +70,13 @@ module _ (draft : Image) (open_to : OpenToNotes draft) where
       let w : ways_at draft (suc count) ≡ ways_in draft = ways_end draft count refl in
       let n : needs_nop y (suc m) (ways_in draft) s ≡ true = ap (λ (k : ℕ). needs_nop (outline_in (bare_of draft) k) (suc m) (ways_in draft) s) (sym minus) ∙ (sym (adds_is draft (suc m) h) ∙ a) in
       let q : (reached y (suc m) (ways_in draft) ≡ true) × (is_vain y.way (ways_in draft) (state_in y (suc m) (ways_in draft) s) ≡ false) =
-          split (reached y (suc m) (ways_in draft)) (eqb y.ops 0) (is_vain y.way (ways_in draft) (state_in y (suc m) (ways_in draft) s)) n in
+      split (reached y (suc m) (ways_in draft)) (eqb y.ops 0) (is_vain y.way (ways_in draft) (state_in y (suc m) (ways_in draft) s)) n in
       let r : reached (outline_at draft (suc m)) (suc m) (ways_at draft (suc count)) ≡ true =
-          ap (λ (v : Outline). reached v (suc m) (ways_at draft (suc count))) e ∙ (ap (λ (v : List Ways). reached y (suc m) v) w ∙ q.0) in
+      ap (λ (v : Outline). reached v (suc m) (ways_at draft (suc count))) e ∙ (ap (λ (v : List Ways). reached y (suc m) v) w ∙ q.0) in
       let g : is_vain (outline_at draft (suc m)).way (ways_at draft (suc count)) (state_in (outline_at draft (suc m)) (suc m) (ways_at draft (suc count)) s) ≡ false =
-          ap (λ (v : Outline). is_vain v.way (ways_at draft (suc count)) (state_in v (suc m) (ways_at draft (suc count)) s)) e ∙ (ap (λ (v : List Ways). is_vain y.way v (state_in y (suc m) v s)) w ∙ q.1) in
+      ap (λ (v : Outline). is_vain v.way (ways_at draft (suc count)) (state_in v (suc m) (ways_at draft (suc count)) s)) e ∙ (ap (λ (v : List Ways). is_vain y.way v (state_in y (suc m) v s)) w ∙ q.1) in
       needed count (outline_at draft) (low_of draft) (heads_in draft) (ways_at draft) (states_at draft) (behind_at draft) (run draft open_to) (suc m) h.0 h.1
-          (sym (reach_same count (outline_at draft) (low_of draft) (heads_in draft) (ways_at draft) (states_at draft) (behind_at draft) (run draft open_to) (suc m) h.0 h.1) ∙ r) (omega (arith, o)) g
+      (sym (reach_same count (outline_at draft) (low_of draft) (heads_in draft) (ways_at draft) (states_at draft) (behind_at draft) (run draft open_to) (suc m) h.0 h.1) ∙ r) (omega (arith, o)) g
 
   one_op : (b : ℕ) → IsBlock draft b → adds draft b ≡ true → (outline_at draft b).ops ≡ 1
   one_op b h a =
@@ -84,48 +86,47 @@ module _ (draft : Image) (open_to : OpenToNotes draft) where
       sum : (n : ℕ) → n ≡ 0 → n + 1 ≡ 1
       sum n e = omega arith
 
-  pub last_is : (b : ℕ) → IsBlock draft b → adds draft b ≡ true → (last_in image b ≡ nop draft b) × (first_number image (suc b) ≡ suc (nop draft b))
+  last_is : (b : ℕ) → IsBlock draft b → adds draft b ≡ true → (last_in draft b ≡ nop draft b) × (first_number image (suc b) ≡ suc (nop draft b))
   unfolding nop
   last_is b h a =
       let e : first_number image (suc b) ≡ 1 + (first_number draft (suc b) + shift draft b) = ends_are draft b h ∙ ap (λ (v : Bool). one_if v + (first_number draft (suc b) + shift draft b)) a in
       (omega (arith, e), omega (arith, e))
 
-  nop_op : (b : ℕ) → IsBlock draft b → adds draft b ≡ true → (instr_at image (last_in image b)).op ≡ Nop
+  nop_op : (b : ℕ) → IsBlock draft b → adds draft b ≡ true → (instr_at image (last_in draft b)).op ≡ Nop
   nop_op b h a = ap (λ (k : ℕ). (instr_at image k).op) (last_is b h a).0 ∙ ap (λ (i : Instr). i.op) (nop_is_there draft b h a)
 
-  nop_memory : (b : ℕ) → IsBlock draft b → adds draft b ≡ true → is_memory image (last_in image b) ≡ true
+  nop_memory : (b : ℕ) → IsBlock draft b → adds draft b ≡ true → is_memory image (last_in draft b) ≡ true
   unfolding is_memory
   nop_memory b h a = ap is_memory_op (nop_op b h a)
 
-  nop_inside : (b : ℕ) → IsBlock draft b → adds draft b ≡ true → IsIn image b (last_in image b)
+  nop_inside : (b : ℕ) → IsBlock draft b → adds draft b ≡ true → IsIn image b (last_in draft b)
   nop_inside b h a = go (cases_eq (first_number image b) (first_number image (suc b)))
     where
       e : first_number image (suc b) ≡ suc (nop draft b)
       e = (last_is b h a).1
+
       g : first_number image b ≤ first_number image (suc b)
       g = (marked draft open_to).grows b (in_image b h)
+
       s : sq draft b (first_number image b) ≡ low_of draft b + 1
       s = (marked draft open_to).sq_first b (in_image b h)
+
       t : sq draft b (first_number image (suc b)) ≡ low_of draft b + (outline_at draft b).ops + 1
       t = (marked draft open_to).sq_end b (in_image b h)
-      go : (first_number image b ≡ first_number image (suc b)) ⊎ (first_number image b ≡ first_number image (suc b) → ⊥) → IsIn image b (last_in image b)
+
+      go : (first_number image b ≡ first_number image (suc b)) ⊎ (first_number image b ≡ first_number image (suc b) → ⊥) → IsIn image b (last_in draft b)
       go (inl f) = absurd (omega (arith, one_op b h a, ap (sq draft b) f, s, t))
       go (inr d) = (omega (arith, e, g, d), omega (arith, e))
 
-  -- a block that has grown got a no-op
-  pub grown_adds : (b : ℕ) → IsBlock draft b → HasMore draft image b → adds draft b ≡ true
-  grown_adds b h m = elim (cases_Bool (adds draft b)) [
-    | inl a ↦ a
-    | inr a ↦ absurd (
-      let s : first_number draft (suc b) ≡ first_number draft b + length (block_at draft b).instrs = block_size draft b h in
-      let t : first_number image (suc b) ≡ first_number image b + length (block_at image b).instrs = block_size image b (in_image b h) in
-      let f : first_number image b ≡ first_number draft b + shift draft b = number_is draft b h in
-      let e : first_number image (suc b) ≡ 0 + (first_number draft (suc b) + shift draft b) = ends_are draft b h ∙ ap (λ (v : Bool). one_if v + (first_number draft (suc b) + shift draft b)) a in
-      omega (arith, m))
-  ]
+  needed_nop : (b : ℕ) → IsBlock draft b → adds draft b ≡ true → NeededNop draft image b (last_in draft b)
+  needed_nop b h a = record {
+    is_nop = nop_op b h a;
+    needed = subst (Unlinkable (without image (last_in draft b))) (wave_kept draft b)
+        (unlinkable image count (outline_at draft) (low_of draft) (heads_in draft) (ways_at draft) (states_at draft) (behind_at draft) (sq draft) (wr draft) (run draft open_to) (marked draft open_to)
+        wave_on ends_on b (last_in draft b) (in_image b h) (nop_inside b h a) (let p : 1 ≤ nop draft b = nop_positive draft b in omega (arith, (last_is b h a).0)) (one_op b h a) (nop_memory b h a) (need b h a (one_op b h a)));
+  }
 
-  pub none_in_vain : NoneInVain draft image
-  none_in_vain b h more =
-      let a : adds draft b ≡ true = grown_adds b h more in
-      unlinkable image count (outline_at draft) (low_of draft) (heads_in draft) (ways_at draft) (states_at draft) (behind_at draft) (sq draft) (wr draft) (run draft open_to) (marked draft open_to)
-          wave_on ends_on b (last_in image b) (in_image b h) (nop_inside b h a) (let p : 1 ≤ nop draft b = nop_positive draft b in omega (arith, (last_is b h a).0)) (one_op b h a) (nop_memory b h a) (need b h a (one_op b h a))
+  pub none_in_vain : NoneInVain draft (annotated draft)
+  none_in_vain b n h d =
+      let x = added_is draft b n h d in
+      subst (NeededNop draft image b) ((last_is b h x.0).0 ∙ sym x.1) (needed_nop b h x.0)

@@ -11,7 +11,8 @@ use Rattle.wave_link.specs.Grown.{annotated}
 use Rattle.wave_link.proofs.Edges.{count_kept as draft_count, target_kept as draft_target, stops_kept as draft_stops, first_kept as draft_first, wave_kept as draft_wave}
 use Rattle.wave_link.proofs.VainWithout.{count_kept, target_kept, stops_kept, first_kept, wave_kept}
 use Rattle.wave_link.proofs.VainDraft.{none_in_vain}
-use Rattle.wave_link.specs.Vain.{without, last_in, NeverLinked, FollowsIn, EndsIn, OtherNext, OtherBefore, other, none, Unlinkable, no_operation, first_and_not, last_and_not, neighbours, renoted_instrs, renoted_blocks, renoted}
+use Rattle.wave_link.specs.Vain.{without, FollowsIn, EndsIn, OtherNext, OtherBefore, other, none, Unlinkable, no_operation, first_and_not, last_and_not, neighbours}
+use Rattle.wave_link.specs.Renoted.{renoted_instrs, renoted_blocks, renoted, NeverLinked}
 
 -- images with the same paths
 pub record SamePaths (image new : Image) : Type 0 where
@@ -240,4 +241,4 @@ module _ (draft : Image) (open_to : OpenToNotes draft) (x : ℕ) where
   no_notes w notes u rules = no_links image (renoted image notes) (same_paths image notes) targets stays rules w u
 
 pub never_linked : (draft : Image) → OpenToNotes draft → NeverLinked draft (annotated draft)
-never_linked draft open_to b notes h m rules = no_notes draft open_to (last_in (annotated draft) b) (block_at (annotated draft) b).wave notes (none_in_vain draft open_to b h m) rules
+never_linked draft open_to b n notes h d rules = no_notes draft open_to n (block_at draft b).wave notes (none_in_vain draft open_to b n h d).needed rules

@@ -1,20 +1,19 @@
 -- The paths of an image without one no-op that is needed.
-use Rattle.std.proofs.Common.{ℕ, zero, suc, ◌+◌, ◌-◌, ◌≡◌, ◌<◌, ◌≤◌, ◌⊎◌, Bool, true, false, cond, List, [], ◌∷◌, length, get_or, Option, Some, None, refl, sym, ap, ◌∙◌, inl, inr, subst, arith, eqb, eq-eqb, ne_eqb}
+use Rattle.std.proofs.Common.{ℕ, zero, suc, ◌+◌, ◌≡◌, ◌<◌, ◌≤◌, ◌⊎◌, Bool, true, false, cond, List, [], ◌∷◌, Option, Some, None, refl, sym, ap, ◌∙◌, inl, inr, subst, arith, eq-eqb, ne_eqb}
 use Rattle.std.proofs.lemmas.Bool.{cases_eq, cases_Bool, cases_lt}
 use Rattle.ws_isa.specs.declared.instr.Link.{Link}
 use Rattle.ws_isa.specs.Image.{Image, block_at, first_number, is_memory, stops, target, is_first, IsIn, IsBlock}
-use Rattle.image_walk.specs.Sound.{InWave, first, turn, edge, last_op}
-use Rattle.wave_link.specs.declared.outline.Way.{Way}
+use Rattle.image_walk.specs.Sound.{InWave, first, turn, last_op}
 use Rattle.wave_link.specs.declared.outline.Way.TheVariants.{Out}
 use Rattle.wave_link.specs.declared.outline.Outline.{Outline}
 use Rattle.wave_link.specs.declared.links.Behind.{Behind}
 use Rattle.wave_link.specs.declared.states.Ways.{Ways}
 use Rattle.wave_link.specs.declared.states.State.{State}
-use Rattle.wave_link.specs.Vain.{moved, without, FollowsIn, EndsIn, OtherNext, OtherBefore, other, none, Unlinkable, no_operation, first_and_not, last_and_not, neighbours}
+use Rattle.wave_link.specs.Vain.{moved, without, FollowsIn, EndsIn, other, Unlinkable, no_operation, first_and_not, last_and_not, neighbours}
 use Rattle.wave_link.proofs.LinksTables.{Leads}
 use Rattle.wave_link.proofs.LinksRun.{Run, Before, starts, goes, last_of, last_empty, last_full, Facts, facts}
 use Rattle.wave_link.proofs.LinksPaths.{Marked, OpAt, LastIs, entry_none, entry_some, within, last_next, last_out, sq_stay, sq_low, sq_high, sq_rise, apart_in, crossed}
-use Rattle.wave_link.proofs.VainRun.{Skip, stay, over, Past, Last, Stays, Need, no_op, first_and_not as needs_first, last_and_not as needs_last, two_and_two}
+use Rattle.wave_link.proofs.VainRun.{Skip, stay, over, Past, Last, Need, no_op, first_and_not as needs_first, last_and_not as needs_last, two_and_two}
 use Rattle.wave_link.proofs.VainWithout.{last_but, moved_op, moved_one, Comes, Stops, follows, ends}
 
 module _ (image : Image) (n : ℕ) (x : ℕ → Outline) (low : ℕ → ℕ) (heads : List Link) (ways : ℕ → List Ways) (states : ℕ → List State) (behind : ℕ → List (Option Behind)) (sq wr : ℕ → ℕ → ℕ)
@@ -108,14 +107,17 @@ module _ (image : Image) (n : ℕ) (x : ℕ → Outline) (low : ℕ → ℕ) (he
 
   walk : {b a : ℕ} → Path b a → Walk b (first_number image b) a
   walk (starts {b = b} l h f) = record {
-    done = []; path = first (is_block b l h) (sym (marked.first_is b (is_block b l h)) ∙ f); last = entry_none (marked.sq_first b (is_block b l h)) refl refl;
+    done = [];
+    path = first (is_block b l h) (sym (marked.first_is b (is_block b l h)) ∙ f);
+    last = entry_none (marked.sq_first b (is_block b l h)) refl refl;
   }
   walk (goes {b = b} {a = a} {c = c} p k) =
       let h : IsBlock image b = path_block p in
       let e : ℕ = first_number image (suc b) in
       let w : Walk b e a = walk_to b a e h (walk p) (marked.grows b h) (omega arith) in
       record {
-        done = w.done; path = crossed image n x low heads ways states behind sq wr run marked b c w.done h w.path k;
+        done = w.done;
+        path = crossed image n x low heads ways states behind sq wr run marked b c w.done h w.path k;
         last = last_out image n x low heads ways states behind sq wr run marked b a e c (last_op image w.done) h refl (edge_block b c h k) w.last;
       }
 
@@ -227,6 +229,7 @@ module _ (image : Image) (n : ℕ) (x : ℕ → Outline) (low : ℕ → ℕ) (he
         where
           i : IsIn image s m
           i = (omega arith, k)
+
           next : (is_memory image m ≡ true) ⊎ (is_memory image m ≡ false) → (sq s m ≡ low s + 1) ⊎ FirstOp s → (sq s (suc m) ≡ low s + 1) ⊎ FirstOp s
           next w (inr f) = inr f
           next (inl w) (inl e) = inr (record { op = m; is_in = i; is_op = w; number = e })
@@ -255,14 +258,17 @@ module _ (image : Image) (n : ℕ) (x : ℕ → Outline) (low : ℕ → ℕ) (he
 
   arrives : (s a : ℕ) → (s ≡ v → ⊥) → Passes s a → (f : FirstOp s) → Arrives s a f
   arrives s a d p f = record {
-    last = last_but image nop e.done; last_is = e.last;
+    last = last_but image nop e.done;
+    last_is = e.last;
     comes = record { block = s; done = t.more; path = t.path; within = f.is_in.1; memory = f.is_op; other = λ q. d (one_block s v f.op h block f.is_in (subst (IsIn image v) (sym q) inside)); last_is = t.same; wave_is = refl };
   }
     where
       h : IsBlock image s
       h = past_block s a p
+
       e : Entry s a
       e = past_entry s a p
+
       none_before : (k : ℕ) → IsIn image s k → k < f.op → is_memory image k ≡ true → k ≡ nop
       none_before k i l m =
           let fe : f.op < first_number image (suc s) = f.is_in.1 in
@@ -270,6 +276,7 @@ module _ (image : Image) (n : ℕ) (x : ℕ → Outline) (low : ℕ → ℕ) (he
           let r : sq s k < sq s f.op = sq_rise image n x low heads ways states behind sq wr run marked s k f.op h i m l (omega arith) in
           let u : low s + 1 ≤ sq s k = sq_low image n x low heads ways states behind sq wr run marked s k h i.0 (omega arith) in
           absurd (omega (arith, f.number))
+
       t : Through s f.op e.done
       t = quiet s f.op e.done e.path f.is_in.0 (let fe : f.op < first_number image (suc s) = f.is_in.1 in omega arith) none_before
 
@@ -394,7 +401,7 @@ module _ (image : Image) (n : ℕ) (x : ℕ → Outline) (low : ℕ → ℕ) (he
       let w : wave s ≡ wave v = skip_wave block k in
       let u : wave t ≡ wave v = past_wave t a pt la ∙ (sym (past_wave s a ps la) ∙ w) in
       neighbours (moved nop j.0) (moved nop f.op) (seen_after (wave v) s a j.0 f ss.1 w la j.1 ps)
-          (other (moved nop g.op) (seen_after (wave v) t a j.0 g st.1 u la j.1 pt)
-            (λ e. ts (one_block t s g.op ht hs g.is_in (subst (IsIn image s) (sym (moved_one nop g.op f.op (not_the_nop t ht st.1 g) (not_the_nop s hs ss.1 f) e)) f.is_in))))
-          (other (moved nop i.0) (seen_after (wave v) s c i.0 f ss.1 w lc i.1 pc)
-            (λ e. last_far a c j.0 i.0 j.1 i.1 d (moved_one nop i.0 j.0 (op_far c s pc lc i.0 i.1) (op_far a s ps la j.0 j.1) e)))
+      (other (moved nop g.op) (seen_after (wave v) t a j.0 g st.1 u la j.1 pt)
+      (λ e. ts (one_block t s g.op ht hs g.is_in (subst (IsIn image s) (sym (moved_one nop g.op f.op (not_the_nop t ht st.1 g) (not_the_nop s hs ss.1 f) e)) f.is_in))))
+      (other (moved nop i.0) (seen_after (wave v) s c i.0 f ss.1 w lc i.1 pc)
+      (λ e. last_far a c j.0 i.0 j.1 i.1 d (moved_one nop i.0 j.0 (op_far c s pc lc i.0 i.1) (op_far a s ps la j.0 j.1) e)))

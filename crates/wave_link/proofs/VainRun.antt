@@ -1,6 +1,6 @@
 -- Why each no-op is needed, on the blocks of a wave: with it left out, some path, or some paths together, would break a rule on links.
-use Rattle.std.proofs.Common.{ℕ, zero, suc, ◌+◌, ◌≡◌, ◌<◌, ◌≤◌, ◌⊎◌, ◌&&◌, Bool, true, false, cond, not, List, [], ◌∷◌, length, get_or, Option, Some, None, refl, sym, ap, ◌∙◌, inl, inr, subst, arith, eqb, eq-eqb, ne_eqb}
-use Rattle.std.proofs.lemmas.Bool.{cases_eq, cases_Bool, cases_lt}
+use Rattle.std.proofs.Common.{ℕ, zero, suc, ◌+◌, ◌≡◌, ◌<◌, ◌≤◌, ◌⊎◌, ◌&&◌, Bool, true, false, cond, not, List, get_or, Option, refl, sym, ap, ◌∙◌, inl, inr, subst, arith, eq-eqb, ne_eqb}
+use Rattle.std.proofs.lemmas.Bool.{cases_eq, cases_lt}
 use Rattle.ws_isa.specs.declared.instr.Link.{Link}
 use Rattle.wave_link.specs.declared.outline.Way.{Way}
 use Rattle.wave_link.specs.declared.outline.Way.TheVariants.{Out, On, Fork}
@@ -10,7 +10,7 @@ use Rattle.wave_link.specs.declared.states.Ways.{Ways}
 use Rattle.wave_link.specs.declared.states.Ways.TheVariants.{Zero}
 use Rattle.wave_link.specs.declared.states.State.{State}
 use Rattle.wave_link.specs.declared.states.State.TheVariants.{Shared, Sole, Many}
-use Rattle.wave_link.specs.States.{reached, is_several, is_shared, is_many, is_vain}
+use Rattle.wave_link.specs.States.{is_several, is_shared, is_many, is_vain}
 use Rattle.wave_link.proofs.LinksTables.{Leads, Parts, handed}
 use Rattle.wave_link.proofs.LinksRun.{Run, Before, starts, goes, last_of, last_empty, last_full, Facts, facts, Into, into, Came, TwoCame, Inv, zero_in, one_in, many_in, inv, Kind, reach, state, full, attained, on_or_fork, reach_same, settle}
 
@@ -109,7 +109,7 @@ module _ (n : ℕ) (x : ℕ → Outline) (low : ℕ → ℕ) (heads : List Link)
   path_to b l h r = let t = attained n x low heads ways states behind run b l h r in record { last = t.last; path = t.path }
 
   ops_or : (b : ℕ) → ((x b).ops ≡ 0) ⊎ (1 ≤ (x b).ops)
-  ops_or b = elim (cases_eq (x b).ops 0) [ | inl e ↦ inl e | inr d ↦ inr (omega (arith, d)) ]
+  ops_or b = elim (cases_eq (x b).ops 0) [ inl e ↦ inl e | inr d ↦ inr (omega (arith, d)) ]
 
   on_leads : (b c : ℕ) → (x b).way ≡ On c → Leads (x b).way c
   on_leads b c w = subst (λ (v : Way). Leads v c) (sym w) refl
@@ -194,6 +194,7 @@ module _ (n : ℕ) (x : ℕ → Outline) (low : ℕ → ℕ) (heads : List Link)
       way_of Out = inl refl
       way_of (On c) = inr (inl (c, refl))
       way_of (Fork p q) = inr (inr (p, q, refl))
+
       go : ((x p).ops ≡ 0) ⊎ (1 ≤ (x p).ops) → ((r : ℕ) → Leads (x p).way r → (x p).ops ≡ 0 → st r ≡ Shared → ((d : ℕ) → Edge d r r → d ≡ p) → Ahead q a) → Ahead q a
       go (inr e) rec = record { block = p; chain = c; path = h; some = e; shares = s }
       go (inl e) rec = elim (way_of (x p).way) [
@@ -220,10 +221,13 @@ module _ (n : ℕ) (x : ℕ → Outline) (low : ℕ → ℕ) (heads : List Link)
     where
       one : (st e ≡ hand b) × ((d : ℕ) → Edge d e e → d ≡ b)
       one = single b a e (known_at p) k m
+
       same : b2 ≡ b
       same = one.1 b2 (came b2 a2 e (known_at p2) k2)
+
       not_many : (x b).ops ≡ 0 → st b ≡ Many → ⊥
-      not_many z s = elim (on_or_fork (x b).way e k) [ | inl w ↦ m (one.0 ∙ (hand_empty b e w z ∙ s)) | inr w ↦ no_fork b a w.0 w.1 (known_at p) z w.2 s ]
+      not_many z s = elim (on_or_fork (x b).way e k) [ inl w ↦ m (one.0 ∙ (hand_empty b e w z ∙ s)) | inr w ↦ no_fork b a w.0 w.1 (known_at p) z w.2 s ]
+
       go : ((x b).ops ≡ 0) ⊎ (1 ≤ (x b).ops) → after b a ≡ after b2 a2
       go (inr z) = full_after b a z ∙ (sym same ∙ sym (full_after b2 a2 (subst (λ (i : ℕ). 1 ≤ (x i).ops) (sym same) z)))
       go (inl z) = empty_after b a z ∙ (rec b a a2 (later b a e (known_at p) k) p (subst (λ (i : ℕ). Path i a2) same p2) (not_many z) ∙ sym (empty_after b2 a2 (ap (λ (i : ℕ). (x i).ops) same ∙ z)))
@@ -232,10 +236,10 @@ module _ (n : ℕ) (x : ℕ → Outline) (low : ℕ → ℕ) (heads : List Link)
   unique_at (starts l1 h1 f1) (starts l2 h2 f2) e rec m = refl
   unique_at (starts l1 h1 f1) (goes {b = b} {a = a} {c = c} p k) e rec m =
       absurd (let i : (x c).first ≡ false = run.inner b c c (known_at p).low_block (known_at p).high_block k (later b a c (known_at p) k) (omega arith) in
-        cc (sym f1 ∙ (ap (λ (v : ℕ). (x v).first) e ∙ i)))
+      cc (sym f1 ∙ (ap (λ (v : ℕ). (x v).first) e ∙ i)))
   unique_at (goes {b = b} {a = a} {c = c} p k) (starts l2 h2 f2) e rec m =
       absurd (let i : (x c).first ≡ false = run.inner b c c (known_at p).low_block (known_at p).high_block k (later b a c (known_at p) k) (omega arith) in
-        cc (sym f2 ∙ (ap (λ (v : ℕ). (x v).first) (sym e) ∙ i)))
+      cc (sym f2 ∙ (ap (λ (v : ℕ). (x v).first) (sym e) ∙ i)))
   unique_at (goes {b = b} {a = a} {c = c} p k) (goes {b = b2} {a = a2} {c = c2} p2 k2) e rec m =
       unique_on c b a b2 a2 rec p k p2 (subst (λ (i : ℕ). Leads (x b2).way i) (sym e) k2) m
 
@@ -271,18 +275,35 @@ module _ (n : ℕ) (x : ℕ → Outline) (low : ℕ → ℕ) (heads : List Link)
     where
       f : Known b a
       f = known_at h
+
       kp : Leads (x b).way p
       kp = one_leads b p q w
+
       kq : Leads (x b).way q
       kq = other_leads b p q w
+
       go : (c ≡ p) ⊎ (c ≡ q) → Origin c (after b a)
       go (inl e) = record {
-        fork = b; arm = p; other = q; to_arm = came b a p f kp; to_other = came b a q f kq; parted = parts_of b p q a f w;
-        chain = subst (Chain p) (sym e) at; path = goes h kq; shares = (arm_in b a q p q f w kq).0;
+        fork = b;
+        arm = p;
+        other = q;
+        to_arm = came b a p f kp;
+        to_other = came b a q f kq;
+        parted = parts_of b p q a f w;
+        chain = subst (Chain p) (sym e) at;
+        path = goes h kq;
+        shares = (arm_in b a q p q f w kq).0;
       }
       go (inr e) = record {
-        fork = b; arm = q; other = p; to_arm = came b a q f kq; to_other = came b a p f kp; parted = λ d. parts_of b p q a f w (sym d);
-        chain = subst (Chain q) (sym e) at; path = goes h kp; shares = (arm_in b a p p q f w kp).0;
+        fork = b;
+        arm = q;
+        other = p;
+        to_arm = came b a q f kq;
+        to_other = came b a p f kp;
+        parted = λ d. parts_of b p q a f w (sym d);
+        chain = subst (Chain q) (sym e) at;
+        path = goes h kp;
+        shares = (arm_in b a p p q f w kp).0;
       }
 
   origin : {e a : ℕ} → Path e a → 1 ≤ a → st e ≡ Shared → Origin e a
@@ -291,8 +312,10 @@ module _ (n : ℕ) (x : ℕ → Outline) (low : ℕ → ℕ) (heads : List Link)
     where
       one : (st c ≡ hand b) × ((d : ℕ) → Edge d c c → d ≡ b)
       one = single b a c (known_at p) k (shared_not_many c s)
+
       clash : st c ≡ Sole → ⊥
       clash e = cc
+
       go : ((x b).way ≡ On c) ⊎ ((p : ℕ) × (q : ℕ) × ((x b).way ≡ Fork p q)) → ((x b).ops ≡ 0) ⊎ (1 ≤ (x b).ops) → (1 ≤ a → st b ≡ Shared → Origin b a) → Origin c (after b a)
       go (inr w) z rec = origin_fork b a c w.0 w.1 p w.2 k
       go (inl w) (inr z) rec = absurd (clash (one.0 ∙ hand_full b c w z))
@@ -300,8 +323,15 @@ module _ (n : ℕ) (x : ℕ → Outline) (low : ℕ → ℕ) (heads : List Link)
           let e : after b a ≡ a = empty_after b a z in
           let r : Origin b a = rec (omega (arith, e, o)) (sym (hand_empty b c w z) ∙ (sym one.0 ∙ s)) in
           record {
-            fork = r.fork; arm = r.arm; other = r.other; to_arm = r.to_arm; to_other = r.to_other; parted = r.parted;
-            chain = next r.chain z (came b a c (known_at p) k) one.1; path = subst (Path r.other) (sym e) r.path; shares = r.shares;
+            fork = r.fork;
+            arm = r.arm;
+            other = r.other;
+            to_arm = r.to_arm;
+            to_other = r.to_other;
+            parted = r.parted;
+            chain = next r.chain z (came b a c (known_at p) k) one.1;
+            path = subst (Path r.other) (sym e) r.path;
+            shares = r.shares;
           }
 
   -- From a block with operations along single edges, through blocks without; the last edge is from d to c.
@@ -361,10 +391,13 @@ module _ (n : ℕ) (x : ℕ → Outline) (low : ℕ → ℕ) (heads : List Link)
     where
       lt : b < c
       lt = later b a c (known_at p) k
+
       through : (x b).ops ≡ 0 → (x b).way ≡ On c → (d : ℕ) × Straight a d b → (d : ℕ) × Straight (after b a) d c
       through z w r = (b, subst (λ (i : ℕ). Straight i b c) (sym (empty_after b a z)) (more r.1 z w lt))
+
       begun : 1 ≤ (x b).ops → (x b).way ≡ On c → (d : ℕ) × Straight (after b a) d c
       begun z w = (b, subst (λ (i : ℕ). Straight i b c) (sym (full_after b a z)) (from (known_at p).low_block z w lt))
+
       go : ((x b).ops ≡ 0) ⊎ (1 ≤ (x b).ops) → Kind n x low heads ways states behind run b c (known_at p).y (entry b a c (known_at p) k).z → ((st b ≡ Shared → ⊥) → (d : ℕ) × Straight a d b) → (d : ℕ) × Straight (after b a) d c
       go (inr z) (inr s) rec = begun z s.1
       go (inl z) (inr s) rec = through z s.1 (rec (λ q. no_meet b a c (known_at p) z s.1 s.2 q))
@@ -397,6 +430,7 @@ module _ (n : ℕ) (x : ℕ → Outline) (low : ℕ → ℕ) (heads : List Link)
     where
       lt : b < c
       lt = later b a c (known_at p) q
+
       go : ((x b).ops ≡ 0) ⊎ (1 ≤ (x b).ops) → (1 ≤ a → Straight a d e → b < e → (i : ℕ) × Straight a i b) → (i : ℕ) × Straight (after b a) i c
       go (inr z) rec =
           let f : after b a ≡ b = full_after b a z in
@@ -450,6 +484,7 @@ module _ (n : ℕ) (x : ℕ → Outline) (low : ℕ → ℕ) (heads : List Link)
     where
       r : Reached d
       r = path_to d e.one e.most e.reaches
+
       go : ((x d).ops ≡ 0) ⊎ (1 ≤ (x d).ops) → Straightly d c
       go (inr z) = record { last = d; path = go_full d r.last c r.path z e.edge; some = e.one; straight = from e.one z w e.before }
       go (inl z) =
@@ -470,6 +505,7 @@ module _ (n : ℕ) (x : ℕ → Outline) (low : ℕ → ℕ) (heads : List Link)
     where
       w : is_several (get_or (ways c) c Zero) ≡ true
       w = ap is_several (sym (settle n x low heads ways states behind run c (suc n) l h (omega arith) (omega arith))) ∙ v
+
       go : Inv n x low heads ways states behind run c c → Meeting c
       go (zero_in e g u) = absurd (cc (sym w ∙ ap is_several e))
       go (one_in a y e k p s g u) = absurd (cc (sym w ∙ ap is_several e))
@@ -481,13 +517,24 @@ module _ (n : ℕ) (x : ℕ → Outline) (low : ℕ → ℕ) (heads : List Link)
       let s : Straightly m.two.one c = straightly m.two.one c m.two.one_came m.one_way v in
       let t : Straightly m.two.other c = straightly m.two.other c m.two.other_came m.other_way v in
       record {
-        one = s.last; other = t.last; one_path = s.path; other_path = t.path; one_some = s.some; other_some = t.some;
+        one = s.last;
+        other = t.last;
+        one_path = s.path;
+        other_path = t.path;
+        one_some = s.some;
+        other_some = t.some;
         differ = λ e. m.two.differ (one_end s.straight (subst (λ (i : ℕ). Straight i m.two.other c) (sym e) t.straight) refl);
       }
 
   two_on : (b c : ℕ) → TwoLasts b → (x b).ops ≡ 0 → Leads (x b).way c → TwoLasts c
   two_on b c t z k = record {
-    one = t.one; other = t.other; one_path = go_empty b t.one c t.one_path z k; other_path = go_empty b t.other c t.other_path z k; one_some = t.one_some; other_some = t.other_some; differ = t.differ;
+    one = t.one;
+    other = t.other;
+    one_path = go_empty b t.one c t.one_path z k;
+    other_path = go_empty b t.other c t.other_path z k;
+    one_some = t.one_some;
+    other_some = t.other_some;
+    differ = t.differ;
   }
 
   two_lasts : {b a : ℕ} → Path b a → st b ≡ Many → TwoLasts b
@@ -499,6 +546,7 @@ module _ (n : ℕ) (x : ℕ → Outline) (low : ℕ → ℕ) (heads : List Link)
     where
       up : b < c
       up = later b a c (known_at p) k
+
       go : Kind n x low heads ways states behind run b c (known_at p).y (entry b a c (known_at p) k).z → (st b ≡ Many → TwoLasts b) → TwoLasts c
       go (inr s) rec = two_meet c (omega (arith, up)) (most b a c (known_at p) k) s.2
       go (inl s) rec = elim (on_or_fork (x b).way c k) [
@@ -511,6 +559,7 @@ module _ (n : ℕ) (x : ℕ → Outline) (low : ℕ → ℕ) (heads : List Link)
         where
           clash : st c ≡ Shared → ⊥
           clash e = cc (sym m ∙ e)
+
           clash_sole : st c ≡ Sole → ⊥
           clash_sole e = cc (sym m ∙ e)
 
@@ -558,9 +607,10 @@ module _ (n : ℕ) (x : ℕ → Outline) (low : ℕ → ℕ) (heads : List Link)
       way_of Out = inl refl
       way_of (On c) = inr (c, refl)
       way_of (Fork p q) = inr (p, inl refl)
+
       go : ((x g).ops ≡ 0) ⊎ (1 ≤ (x g).ops) → ((h : ℕ) → (x g).ops ≡ 0 → Leads (x g).way h → Onward v e r) → Onward v e r
       go (inr z) rec = meets g k u z p
-      go (inl z) rec = elim (way_of (x g).way) [ | inl w ↦ ends g k z w | inr w ↦ rec w.0 z w.1 ]
+      go (inl z) rec = elim (way_of (x g).way) [ inl w ↦ ends g k z w | inr w ↦ rec w.0 z w.1 ]
 
   past_here : (v b a : ℕ) → Path b a → (a ≡ v → ⊥) → Past v b a
   past_here v b a p d = record { at = b; path = p; other = d; skip = stay }
@@ -590,6 +640,7 @@ module _ (n : ℕ) (x : ℕ → Outline) (low : ℕ → ℕ) (heads : List Link)
     where
       d : a ≡ v → ⊥
       d = below_self v a p (known_at p).low_block
+
       go : (a ≡ 0) ⊎ (a ≡ 0 → ⊥) → Need v
       go (inl z) = no_op v stay (subst (Past v v) z (past_here v v a p d)) (inr refl, w)
       go (inr z) = let o : Other v a = other_arm v a p (omega (arith, z)) s in last_and_not a v o.block stay (omega (arith, z)) (past_here v v a p d) (inr refl, w) o.stays (past_here v o.block a o.path d)
@@ -607,11 +658,11 @@ module _ (n : ℕ) (x : ℕ → Outline) (low : ℕ → ℕ) (heads : List Link)
       let d1 : t.one ≡ v → ⊥ = below_self v t.one t.one_path f.low_block in
       let d2 : t.other ≡ v → ⊥ = below_self v t.other t.other_path f.low_block in
       two_and_two t.one t.other s1.block s2.block (chain_skip (over stay (inr refl) kp) s1.chain) t.one_some t.other_some (λ e. t.differ (sym e))
-          (s1.some, λ e. absurd (omega (arith, chain_up s1.chain, u1, e))) (s2.some, λ e. absurd (omega (arith, chain_up s2.chain, u2, e)))
-          (λ e. arms_apart v p q (came v a p f kp) (came v a q f kq) (parts_of v p q a f w) s1.chain s2.chain (sym e))
-          (record { at = v; path = t.one_path; other = d1; skip = chain_skip (over stay (inr refl) kp) s1.chain })
-          (record { at = v; path = t.one_path; other = d1; skip = chain_skip (over stay (inr refl) kq) s2.chain })
-          (record { at = v; path = t.other_path; other = d2; skip = chain_skip (over stay (inr refl) kp) s1.chain })
+      (s1.some, λ e. absurd (omega (arith, chain_up s1.chain, u1, e))) (s2.some, λ e. absurd (omega (arith, chain_up s2.chain, u2, e)))
+      (λ e. arms_apart v p q (came v a p f kp) (came v a q f kq) (parts_of v p q a f w) s1.chain s2.chain (sym e))
+      (record { at = v; path = t.one_path; other = d1; skip = chain_skip (over stay (inr refl) kp) s1.chain })
+      (record { at = v; path = t.one_path; other = d1; skip = chain_skip (over stay (inr refl) kq) s2.chain })
+      (record { at = v; path = t.other_path; other = d2; skip = chain_skip (over stay (inr refl) kp) s1.chain })
 
   -- another way into the block where v leads
   pub record Beside (v c : ℕ) : Type 0 where
@@ -624,6 +675,7 @@ module _ (n : ℕ) (x : ℕ → Outline) (low : ℕ → ℕ) (heads : List Link)
     where
       g : Meeting c
       g = meeting c l h m
+
       go : (g.two.one ≡ v) ⊎ (g.two.one ≡ v → ⊥) → Beside v c
       go (inr d) = record { edge = g.two.one; way = straightly g.two.one c g.two.one_came g.one_way m; differ = d }
       go (inl e) = record { edge = g.two.other; way = straightly g.two.other c g.two.other_came g.other_way m; differ = λ f. g.two.differ (e ∙ sym f) }
@@ -637,27 +689,38 @@ module _ (n : ℕ) (x : ℕ → Outline) (low : ℕ → ℕ) (heads : List Link)
     where
       f : Known v a
       f = known_at p
+
       k : Leads (x v).way c
       k = on_leads v c w
+
       up : v < c
       up = later v a c f k
+
       d : a ≡ v → ⊥
       d = below_self v a p f.low_block
+
       b : Beside v c
       b = beside v c (omega (arith, up)) (most v a c f k) m
+
       i : ℕ
       i = b.way.last
+
       -- that way doesn't begin at v
       apart : b.way.last ≡ v → ⊥
       apart e = b.differ (one_end (subst (λ (j : ℕ). Straight j b.edge c) e b.way.straight) (from f.low_block z w up) refl)
+
       from_self : {g : ℕ} → Skip v c g → Skip v v g
       from_self q = skip_on (over stay (inr refl) k) q
+
       by_self : {g : ℕ} → Skip v c g → Past v g a
       by_self q = record { at = v; path = p; other = d; skip = from_self q }
+
       by_other : {g : ℕ} → Skip v c g → Past v g b.way.last
       by_other q = record { at = c; path = b.way.path; other = apart; skip = q }
+
       stays : (g : ℕ) → c ≤ g → 1 ≤ (x g).ops → Stays v g
       stays g l o = (o, λ e. absurd (omega (arith, up, l, e)))
+
       go : (a ≡ 0) ⊎ (a ≡ 0 → ⊥) → Onward v c v → Need v
       go (inl e) (ends g q o u) = no_op g (from_self q) (subst (Past v g) e (by_self q)) (inl o, u)
       go (inl e) (meets g q l o r) = first_and_not g b.way.last (from_self q) (stays g l o) (subst (Past v g) e (by_self q)) b.way.some (by_other q)
@@ -667,10 +730,10 @@ module _ (n : ℕ) (x : ℕ → Outline) (low : ℕ → ℕ) (heads : List Link)
       go (inr e) (meets g q l o r) =
           let t : Other v a = other_arm v a p (omega (arith, e)) s in
           two_and_two a b.way.last g t.block (from_self q) (omega (arith, e)) b.way.some
-              (λ y. not_straight v a b.edge c p (omega (arith, e)) (subst (λ (j : ℕ). Straight j b.edge c) y b.way.straight) up s)
-              (stays g l o) t.stays
-              (λ y. d (unique t.block a v t.path (subst (λ (j : ℕ). Path j v) (sym y) r) (shared_not_many t.block t.shares)))
-              (by_self q) (past_here v t.block a t.path d) (by_other q)
+          (λ y. not_straight v a b.edge c p (omega (arith, e)) (subst (λ (j : ℕ). Straight j b.edge c) y b.way.straight) up s)
+          (stays g l o) t.stays
+          (λ y. d (unique t.block a v t.path (subst (λ (j : ℕ). Path j v) (sym y) r) (shared_not_many t.block t.shares)))
+          (by_self q) (past_here v t.block a t.path d) (by_other q)
 
   not_vain : (w : Way) (t : State) → is_vain w (ways (suc n)) t ≡ false → ((w ≡ Out) × (t ≡ Shared)) ⊎ ((c : ℕ) × (w ≡ On c) × (t ≡ Shared) × (many_ways c ≡ true)) ⊎ ((p : ℕ) × (q : ℕ) × (w ≡ Fork p q) × (t ≡ Many))
   not_vain Out Shared e = inl (refl, refl)
@@ -693,6 +756,7 @@ module _ (n : ℕ) (x : ℕ → Outline) (low : ℕ → ℕ) (heads : List Link)
     where
       p : Reached v
       p = path_to v l h r
+
       go : (((x v).way ≡ Out) × (st v ≡ Shared)) ⊎ ((c : ℕ) × ((x v).way ≡ On c) × (st v ≡ Shared) × (many_ways c ≡ true)) ⊎ ((p : ℕ) × (q : ℕ) × ((x v).way ≡ Fork p q) × (st v ≡ Many)) → Need v
       go (inl w) = need_out v p.last p.path w.0 w.1
       go (inr (inl w)) = need_on v p.last w.0 p.path z w.1 w.3 w.2

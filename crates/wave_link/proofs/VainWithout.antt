@@ -1,10 +1,10 @@
 -- An image without one of its instructions: its blocks, numbers and paths.
-use Rattle.std.proofs.Common.{ℕ, zero, suc, ◌+◌, ◌-◌, ◌≡◌, ◌<◌, ◌≤◌, ◌⊎◌, ◌&&◌, Bool, true, false, cond, not, List, [], ◌∷◌, ◌++◌, length, Option, Some, None, refl, sym, ap, ap₂, ◌∙◌, inl, inr, subst, arith, eqb, ltb, eq-eqb, ne_eqb}
-use Rattle.std.proofs.lemmas.Bool.{cases_eq, cases_Bool, cases_lt, lt-ltb, le-ltb}
-use Rattle.ws_isa.specs.Image.{Instr, Exit, Goto, Branch, Landings, Stop, Block, Image, nth, or_else, no_instr, no_block, flat, first_of, instr_at, block_at, first_number, is_memory, is_memory_op, leave_to, is_stop, stops, target, is_first, IsIn, IsBlock}
-use Rattle.image_walk.specs.Sound.{InWave, first, turn, edge, last_op, Follows, Ends}
+use Rattle.std.proofs.Common.{ℕ, zero, suc, ◌+◌, ◌-◌, ◌≡◌, ◌<◌, ◌≤◌, ◌⊎◌, Bool, true, false, cond, not, List, [], ◌∷◌, ◌++◌, length, Option, Some, None, refl, sym, ap, ap₂, ◌∙◌, inl, inr, subst, arith, eqb, eq-eqb, ne_eqb}
+use Rattle.std.proofs.lemmas.Bool.{cases_eq, cases_lt, lt-ltb, le-ltb}
+use Rattle.ws_isa.specs.Image.{Instr, Exit, Goto, Branch, Landings, Stop, Block, Image, nth, or_else, no_block, flat, first_of, instr_at, block_at, first_number, is_memory, is_memory_op, leave_to, is_stop, stops, target, is_first, IsIn, IsBlock}
+use Rattle.image_walk.specs.Sound.{InWave, first, turn, edge, last_op}
 use Rattle.image_walk.proofs.Blocks.{number_next, number_within}
-use Rattle.wave_link.specs.Vain.{moved, instr_but, instrs_but, exit_but, block_but, blocks_but, without, FollowsIn, EndsIn}
+use Rattle.wave_link.specs.Vain.{moved, instr_but, instrs_but, exit_but, blocks_but, without, FollowsIn, EndsIn}
 
 -- Blocks and edges.
 
@@ -78,8 +78,10 @@ hit_sum x k zero m = ap₂ (hit x) (zero_right k) (zero_left m) ∙ plus_zero (h
   where
     plus_zero : (a : ℕ) → a ≡ 0 + a
     plus_zero a = omega arith
+
     zero_right : (k : ℕ) → k ≡ k + 0
     zero_right k = omega arith
+
     zero_left : (m : ℕ) → 0 + m ≡ m
     zero_left m = omega arith
 hit_sum x k (suc n) m =
@@ -155,10 +157,13 @@ number_kept image x (suc b) l = go (cases_lt x (first_of image.blocks b))
         positive bs zero = let z : first_of bs zero ≡ 1 = first_one bs in omega arith
         positive [] (suc n) = omega arith
         positive (b ∷ bs) (suc n) = let h : 1 ≤ first_of bs n = positive bs n in omega arith
+
     m : ℕ
     m = first_of image.blocks b - 1
+
     r : first_of (blocks_but x 1 image.blocks) b + hit x 1 (first_of image.blocks b - 1) ≡ first_of image.blocks b
     r = first_but x 1 image.blocks b (first_of image.blocks b - 1) (omega (arith, p))
+
     go : (x < first_of image.blocks b) ⊎ (first_of image.blocks b ≤ x) → first_of (blocks_but x 1 image.blocks) b ≡ moved x (first_of image.blocks b)
     go (inl h) = let o : hit x 1 (first_of image.blocks b - 1) ≡ 1 = hit_once x 1 (first_of image.blocks b - 1) l (omega (arith, h, p)) in
         let q : first_of (blocks_but x 1 image.blocks) b ≡ first_of image.blocks b - 1 = omega (arith, r, o) in q ∙ sym (moved_above x (first_of image.blocks b) h)
@@ -176,6 +181,7 @@ but_append x k (i ∷ xs) ys = go (eqb k x) (but_append x (suc k) xs ys ∙ ap (
   where
     f : (k n : ℕ) → suc k + n ≡ k + suc n
     f k n = omega arith
+
     go : (v : Bool) → instrs_but x (suc k) (xs ++ ys) ≡ instrs_but x (suc k) xs ++ instrs_but x (k + suc (length xs)) ys →
         cond v (instrs_but x (suc k) (xs ++ ys)) (instr_but x i ∷ instrs_but x (suc k) (xs ++ ys)) ≡ cond v (instrs_but x (suc k) xs) (instr_but x i ∷ instrs_but x (suc k) xs) ++ instrs_but x (k + suc (length xs)) ys
     go true r = r
@@ -221,6 +227,7 @@ instr_moved image x j i l e d = go (cases_lt x (suc j))
   where
     put : (m : ℕ) → moved x (suc j) ≡ suc m → m + hit x 1 j ≡ j → instr_at (without image x) (moved x (suc j)) ≡ instr_but x i
     put m f h = flat_at (without image x) (moved x (suc j)) m (instr_but x i) f (ap (λ (is : List Instr). nth is m) (flat_but x 1 image.blocks) ∙ nth_but x 1 (flat image.blocks) j m i e (λ q. d (omega (arith, q))) h)
+
     go : (x < suc j) ⊎ (suc j ≤ x) → instr_at (without image x) (moved x (suc j)) ≡ instr_but x i
     go (inl h) = let o : hit x 1 j ≡ 1 = hit_once x 1 j l (omega (arith, h)) in put (j - 1) (moved_above x (suc j) h ∙ omega (arith, h, l)) (omega (arith, o, h, l))
     go (inr h) = let o : hit x 1 j ≡ 0 = hit_ahead x 1 j (omega (arith, h)) in put j (moved_below x (suc j) h) (omega (arith, o))
@@ -267,8 +274,8 @@ moved_one x j k d f e = go (cases_lt x j) (cases_lt x k)
   where
     go : (x < j) ⊎ (j ≤ x) → (x < k) ⊎ (k ≤ x) → j ≡ k
     go (inl a) (inl b) = omega (arith, moved_above x j a, moved_above x k b, a, b, e)
-    go (inl a) (inr b) = elim (cases_eq k x) [ | inl q ↦ absurd (f q) | inr q ↦ absurd (omega (arith, moved_above x j a, moved_below x k b, a, b, e, q)) ]
-    go (inr a) (inl b) = elim (cases_eq j x) [ | inl q ↦ absurd (d q) | inr q ↦ absurd (omega (arith, moved_below x j a, moved_above x k b, a, b, e, q)) ]
+    go (inl a) (inr b) = elim (cases_eq k x) [ inl q ↦ absurd (f q) | inr q ↦ absurd (omega (arith, moved_above x j a, moved_below x k b, a, b, e, q)) ]
+    go (inr a) (inl b) = elim (cases_eq j x) [ inl q ↦ absurd (d q) | inr q ↦ absurd (omega (arith, moved_below x j a, moved_above x k b, a, b, e, q)) ]
     go (inr a) (inr b) = omega (arith, moved_below x j a, moved_below x k b, e)
 
 moved_less : (x k f : ℕ) → (k ≡ x → ⊥) → k < f → moved x k < moved x f
@@ -278,14 +285,14 @@ moved_less x k f d l = go (cases_lt x k) (cases_lt x f)
     go (inl a) (inl b) = omega (arith, moved_above x k a, moved_above x f b, a, b, l)
     go (inl a) (inr b) = absurd (omega (arith, a, b, l))
     go (inr a) (inr b) = omega (arith, moved_below x k a, moved_below x f b, l)
-    go (inr a) (inl b) = elim (cases_eq k x) [ | inl q ↦ absurd (d q) | inr q ↦ omega (arith, moved_below x k a, moved_above x f b, a, b, l, q) ]
+    go (inr a) (inl b) = elim (cases_eq k x) [ inl q ↦ absurd (d q) | inr q ↦ omega (arith, moved_below x k a, moved_above x f b, a, b, l, q) ]
 
 moved_suc : (x k : ℕ) → (k ≡ x → ⊥) → suc (moved x k) ≡ moved x (suc k)
 moved_suc x k d = go (cases_lt x k)
   where
     go : (x < k) ⊎ (k ≤ x) → suc (moved x k) ≡ moved x (suc k)
     go (inl a) = omega (arith, moved_above x k a, moved_above x (suc k) (omega (arith, a)), a)
-    go (inr a) = elim (cases_eq k x) [ | inl q ↦ absurd (d q) | inr q ↦ omega (arith, moved_below x k a, moved_below x (suc k) (omega (arith, a, q))) ]
+    go (inr a) = elim (cases_eq k x) [ inl q ↦ absurd (d q) | inr q ↦ omega (arith, moved_below x k a, moved_below x (suc k) (omega (arith, a, q))) ]
 
 moved_self : (x : ℕ) → moved x x ≡ moved x (suc x)
 moved_self x = omega (arith, moved_below x x (omega arith), moved_above x (suc x) (omega arith))
@@ -335,8 +342,8 @@ module _ (image : Image) (x : ℕ) (positive : 1 ≤ x) (edges : (b r : ℕ) →
           let lt : moved x k < first_number image' (suc b) = subst (λ (j : ℕ). moved x k < j) (sym (number_kept image x (suc b) positive)) (moved_less x k (first_number image (suc b)) d i.1) in
           let t : InWave image' b (suc (moved x k)) (moved x k ∷ map_but x done) = turn p.path lt in
           kept_by b (suc k) (k ∷ done) (moved x k ∷ map_but x done) (cond (is_memory image k) (Some k) (last_but image x done)) (rw (ne_eqb k x d) refl) (rw (ne_eqb k x d) refl)
-            (subst (λ (j : ℕ). InWave image' b j (moved x k ∷ map_but x done)) (moved_suc x k d) t)
-            (ap (λ (v : Bool). cond v (Some (moved x k)) (last_op image' (map_but x done))) (memory_kept image x b k positive h i d) ∙ pick (is_memory image k))
+          (subst (λ (j : ℕ). InWave image' b j (moved x k ∷ map_but x done)) (moved_suc x k d) t)
+          (ap (λ (v : Bool). cond v (Some (moved x k)) (last_op image' (map_but x done))) (memory_kept image x b k positive h i d) ∙ pick (is_memory image k))
         where
           pick : (v : Bool) → cond v (Some (moved x k)) (last_op image' (map_but x done)) ≡ moved_op x (cond v (Some k) (last_but image x done))
           pick true = refl
@@ -352,7 +359,7 @@ module _ (image : Image) (x : ℕ) (positive : 1 ≤ x) (edges : (b r : ℕ) →
       let q : Kept c i d = kept c i d p in
       let t : target image' c r ≡ target image c r = target_kept image x c r in
       let g : InWave image' (target image' c r) (first_number image' (target image' c r)) (map_but x d) =
-          edge q.path (ap (moved x) e ∙ sym (number_kept image x (suc c) positive)) (stops_kept image x c ∙ s) r (first_kept image x (target image' c r) ∙ (ap (is_first image) t ∙ f)) in
+      edge q.path (ap (moved x) e ∙ sym (number_kept image x (suc c) positive)) (stops_kept image x c ∙ s) r (first_kept image x (target image' c r) ∙ (ap (is_first image) t ∙ f)) in
       record {
         path = subst (λ (j : ℕ). InWave image' (target image c r) j (map_but x d)) (number_kept image x (target image c r) positive) (subst (λ (j : ℕ). InWave image' j (first_number image' j) (map_but x d)) t g);
         last = q.last;
@@ -375,7 +382,9 @@ module _ (image : Image) (x : ℕ) (positive : 1 ≤ x) (edges : (b r : ℕ) →
       let o : IsBlock image c.block × (first_number image c.block ≤ k) = on_path c.block k c.done c.path in
       record {
         follows = record {
-          block = c.block; done = map_but x c.done; path = p.path;
+          block = c.block;
+          done = map_but x c.done;
+          path = p.path;
           within = subst (λ (j : ℕ). moved x k < j) (sym (number_kept image x (suc c.block) positive)) (moved_less x k (first_number image (suc c.block)) c.other c.within);
           memory = memory_kept image x c.block k positive o.0 (o.1, c.within) c.other ∙ c.memory;
           last_is = p.last ∙ ap (moved_op x) c.last_is;
@@ -398,9 +407,15 @@ module _ (image : Image) (x : ℕ) (positive : 1 ≤ x) (edges : (b r : ℕ) →
       let p : Kept c.block f c.done = kept c.block f c.done c.path in
       record {
         ends = record {
-          block = c.block; next = moved x f; done = map_but x c.done; path = p.path; at_end = sym (number_kept image x (suc c.block) positive);
-          out = elim c.out [ | inl s ↦ inl (stops_kept image x c.block ∙ s)
-            | inr s ↦ inr (stops_kept image x c.block ∙ s.0, (s.1.0, first_kept image x (target image' c.block s.1.0) ∙ (ap (is_first image) (target_kept image x c.block s.1.0) ∙ s.1.1))) ];
+          block = c.block;
+          next = moved x f;
+          done = map_but x c.done;
+          path = p.path;
+          at_end = sym (number_kept image x (suc c.block) positive);
+          out = elim c.out [
+            | inl s ↦ inl (stops_kept image x c.block ∙ s)
+            | inr s ↦ inr (stops_kept image x c.block ∙ s.0, (s.1.0, first_kept image x (target image' c.block s.1.0) ∙ (ap (is_first image) (target_kept image x c.block s.1.0) ∙ s.1.1)))
+          ];
           last_is = p.last ∙ ap (moved_op x) c.last_is;
         };
         wave_is = wave_kept image x c.block ∙ c.wave_is;

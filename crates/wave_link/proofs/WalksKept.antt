@@ -76,6 +76,7 @@ fired_sum image zero n p = ap (λ (k : ℕ). fired_in image k p) (the n) ∙ mor
   where
     the : (n : ℕ) → 0 + n ≡ n
     the n = omega arith
+
     more : (n : ℕ) → n ≡ n + 0
     more n = omega arith
 fired_sum image (suc m) n p =
@@ -85,6 +86,7 @@ fired_sum image (suc m) n p =
   where
     same : (m n : ℕ) → suc m + n ≡ suc (m + n)
     same m n = omega arith
+
     sum : (a b c : ℕ) → (a + b) + c ≡ a + (b + c)
     sum a b c = omega arith
 
@@ -129,7 +131,7 @@ module _ (draft image : Image) (g : Grown draft image) where
       go (Own t) e x = one (cases_Bool (eqb t k)) x
         where
           one : (eqb t k ≡ true) ⊎ (eqb t k ≡ false) → HasDest (cond (eqb t k) (nop_slot (g.nop b)) []) j q → g.origin j ≡ None
-          one (inl f) x = elim (rw f at x) [ | inl y ↦ ap g.origin (sym y.0) ∙ g.origin_nop b h (ap extra e) | inr y ↦ absurd y ]
+          one (inl f) x = elim (rw f at x) [ inl y ↦ ap g.origin (sym y.0) ∙ g.origin_nop b h (ap extra e) | inr y ↦ absurd y ]
           one (inr f) x = let y : ⊥ = rw f at x in absurd y
 
   result_by_op : (i : Image) (p : Pos) → result_at i p ≡ cond (is_memory_op (op_at i p.next)) (answer_op (op_at i p.next) (operands_at i p) p.memory) (result_of_op (op_at i p.next) (operands_at i p))
@@ -188,11 +190,13 @@ module _ (draft image : Image) (g : Grown draft image) where
         where
           dests : now_dests image new.next ≡ renamed g.new (now_dests draft old.next) ++ own_slot (g.trigger old.block) (g.nop old.block) old.next
           dests = ap (now_dests image) s.next ∙ g.now old.block old.next s.here (s.low, l)
+
           sent_alike : SentLike g.origin (with_dests new.wave (result_at image new) (now_dests image new.next) new.sent) (with_dests old.wave (result_at draft old) (now_dests draft old.next) old.sent)
           sent_alike = subst (λ (a : Ports). SentLike g.origin a (with_dests old.wave (result_at draft old) (now_dests draft old.next) old.sent))
               (sym (ap₂ (λ (w v : ℕ). with_dests w v (now_dests image new.next) new.sent) s.wave (result_alike l) ∙ ap (λ (ds : List Dest). with_dests old.wave (result_at draft old) ds new.sent) dests))
               (like_both old.wave (result_at draft old) (now_dests draft old.next) (own_slot (g.trigger old.block) (g.nop old.block) old.next) new.sent old.sent
               (λ j q x. g.now_real old.block old.next j q s.here (s.low, l) x) (λ j q x. own_none old.block old.next s.here j q x) s.sent)
+
           result_of_one : (m k : ℕ) → g.origin m ≡ Some k → (k ≡ old.next) ⊎ (k ≡ old.next → ⊥) → cond (eqb m new.next) (result_at image new) (new.results m) ≡ cond (eqb k old.next) (result_at draft old) (old.results k)
           result_of_one m k e (inl f) =
               let at : m ≡ new.next = g.origin_only m k e ∙ (ap g.new f ∙ (g.new_is old.block old.next s.here (s.low, l) ∙ sym s.next)) in
@@ -210,14 +214,14 @@ module _ (draft image : Image) (g : Grown draft image) where
           let a' : Ports = with_dests old.wave (new.results (k + g.shift old.block)) (edge_dests image old.block r (k + g.shift old.block)) a in
           let b' : Ports = with_dests old.wave (old.results k) (edge_dests draft old.block r k) b in
           let one : SentLike g.origin a' b' =
-              subst (λ (x : Ports). SentLike g.origin x b') (sym (ap₂ (λ (x : ℕ) (ds : List Dest). with_dests old.wave x ds a) v (like.each old.block r k s.here i)))
-              (like_both old.wave (old.results k) (edge_dests draft old.block r k) (like.extras old.block r k) a b
-              (λ j q x. like.each_real old.block r k j q s.here i x) (λ j q x. like.extras_none old.block r k j q s.here i x) like_ab) in
+          subst (λ (x : Ports). SentLike g.origin x b') (sym (ap₂ (λ (x : ℕ) (ds : List Dest). with_dests old.wave x ds a) v (like.each old.block r k s.here i)))
+          (like_both old.wave (old.results k) (edge_dests draft old.block r k) (like.extras old.block r k) a b
+          (λ j q x. like.each_real old.block r k j q s.here i x) (λ j q x. like.extras_none old.block r k j q s.here i x) like_ab) in
           let e : suc (k + g.shift old.block) ≡ suc k + g.shift old.block = omega arith in
           let rest : SentLike g.origin (edge_sent image old.block r old.wave new.results (suc k + g.shift old.block) n a') (edge_sent draft old.block r old.wave old.results (suc k) n b') =
-              edge_alike r (suc k) n a' b' (omega arith) (omega arith) one in
+          edge_alike r (suc k) n a' b' (omega arith) (omega arith) one in
           let left : edge_sent image old.block r old.wave new.results (k + g.shift old.block) (suc n) a ≡ edge_sent image old.block r old.wave new.results (suc k + g.shift old.block) n a' =
-              edge_next image old.block r old.wave new.results (k + g.shift old.block) n a ∙ ap (λ (x : ℕ). edge_sent image old.block r old.wave new.results x n a') e in
+          edge_next image old.block r old.wave new.results (k + g.shift old.block) n a ∙ ap (λ (x : ℕ). edge_sent image old.block r old.wave new.results x n a') e in
           subst (λ (x : Ports). SentLike g.origin x (edge_sent draft old.block r old.wave old.results k (suc n) b)) (sym left)
           (subst (SentLike g.origin (edge_sent image old.block r old.wave new.results (suc k + g.shift old.block) n a')) (sym (edge_next draft old.block r old.wave old.results k n b)) rest)
 
@@ -248,9 +252,11 @@ module _ (draft image : Image) (g : Grown draft image) where
       where
         same : edge_sent image b r w results (first_number image b) (size_of draft b) a ≡ edge_sent image b r w results (first_number draft b + g.shift b) (size_of draft b) a
         same = ap (λ (k : ℕ). edge_sent image b r w results k (size_of draft b) a) (g.first b h)
+
         with_nop : extra (g.trigger b) ≡ 1 → size_of image b ≡ suc (size_of draft b) → edge_sent image b r w results (first_number image b) (size_of image b) a ≡ edge_sent image b r w results (first_number draft b + g.shift b) (size_of draft b) a
         with_nop x e = ap (λ (n : ℕ). edge_sent image b r w results (first_number image b) n a) e
             ∙ (edge_more b r w (first_number image b) (size_of draft b) results a (ap (edge_dests image b r) (end_number b h) ∙ like.nop_edge b r h x) ∙ same)
+
         go : (t : Trigger) → g.trigger b ≡ t → size_of image b ≡ extra (g.trigger b) + size_of draft b → edge_sent image b r w results (first_number image b) (size_of image b) a ≡ edge_sent image b r w results (first_number draft b + g.shift b) (size_of draft b) a
         go Whole f e = let n : size_of image b ≡ size_of draft b = omega (arith, e, ap extra f) in ap (λ (n : ℕ). edge_sent image b r w results (first_number image b) n a) n ∙ same
         go Before f e = with_nop (ap extra f) (omega (arith, e, ap extra f))
@@ -359,8 +365,10 @@ module _ (draft image : Image) (g : Grown draft image) where
       where
         last : first_number draft (suc old.block) ≤ old.next → old.next ≡ first_number draft (suc old.block)
         last l = omega (arith, s.high)
+
         end_of_block : first_number image (suc new.block) ≡ first_number image (suc old.block)
         end_of_block = ap (λ (b : ℕ). first_number image (suc b)) s.block
+
         go : (old.over ≡ true) ⊎ (old.over ≡ false) → (old.next < first_number draft (suc old.block)) ⊎ (first_number draft (suc old.block) ≤ old.next) → (extra (g.trigger old.block) ≡ 0) ⊎ (extra (g.trigger old.block) ≡ 1) → (stops draft old.block ≡ true) ⊎ (stops draft old.block ≡ false) → Stepped old new
         go (inl o) x y z = record {
           more = 0;
@@ -430,7 +438,13 @@ module _ (draft image : Image) (g : Grown draft image) where
     pub opens_alike : (world : World) → StandsFor draft image g (opening draft world) (opening image world)
     unfolding opening start_tokens is_first
     opens_alike world = record {
-      here = g.first_block; low = omega arith; high = step_number draft 1; over = refl; block = refl; wave = refl; next = g.first 1 g.first_block;
+      here = g.first_block;
+      low = omega arith;
+      high = step_number draft 1;
+      over = refl;
+      block = refl;
+      wave = refl;
+      next = g.first 1 g.first_block;
       sent = subst (λ (ds : List Dest). SentLike g.origin (with_dests 0 0 ds no_ports) (with_dests 0 0 (start_dests draft) no_ports)) (sym g.start) (like_list 0 0 (start_dests draft) no_ports no_ports (λ j q x. g.start_real j q x) (λ u n p k e. refl));
       results = λ n k e. refl;
       same_memory = like.memory world;

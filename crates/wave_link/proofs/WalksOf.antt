@@ -8,7 +8,6 @@ use Rattle.image_walk.specs.Sound.{SlotRules}
 use Rattle.image_walk.proofs.Ending.{walk_up}
 use Rattle.wave_link.specs.Grown.{annotated}
 use Rattle.wave_link.specs.Passed.{where_left, blocks_left, added_left, FollowsFor, WalksFor}
-use Rattle.wave_link.proofs.Numbers.{one_if}
 use Rattle.wave_link.proofs.GrownOf.{sizes}
 use Rattle.wave_link.proofs.GrownForm.{extra}
 use Rattle.wave_link.proofs.SlotsKept.{slot_rules, extra_cases}
@@ -57,8 +56,12 @@ one_at_most draft ok p = go p.over (is_within draft p) (extra_cases draft (annot
 few_passed : (draft : Image) (ok : OpenToNotes draft) (world : World) (t : ℕ) → passes_in draft (annotated draft) (grown draft ok) (alike draft ok) t (opening draft world) ≤ blocks_left draft world t
 unfolding passes_in blocks_left
 few_passed draft ok world zero = omega arith
-few_passed draft ok world (suc t) = omega (arith, few_passed draft ok world t, one_at_most draft ok (ahead draft t (opening draft world)),
-    ap (λ (p : Pos). where_left draft p 1) (pos_is draft (annotated draft) (grown draft ok) (alike draft ok) draft world t))
+few_passed draft ok world (suc t) = omega (
+  arith,
+  few_passed draft ok world t,
+  one_at_most draft ok (ahead draft t (opening draft world)),
+  ap (λ (p : Pos). where_left draft p 1) (pos_is draft (annotated draft) (grown draft ok) (alike draft ok) draft world t),
+)
 
 pub few_added : (draft : Image) (world : World) → OpenToNotes draft → (t : ℕ) → added_left draft (annotated draft) world t ≤ blocks_left draft world t
 few_added draft world ok t = omega (arith, few_passed draft ok world t, passed_all draft ok world t)

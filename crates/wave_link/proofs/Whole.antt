@@ -1,5 +1,4 @@
 -- The image of a draft that is open to notes is sound.
-use Rattle.std.proofs.Common.{◌≡◌}
 use Rattle.ws_isa.specs.Image.{Image}
 use Rattle.image_walk.specs.Sound.{Sound}
 use Rattle.image_walk.specs.Open.{OpenToNotes}

@@ -1,11 +1,13 @@
--- When an added no-op is needed: without it some paths break what the rules on links ask of all notes.
-use Rattle.std.specs.Prelude.{ℕ, suc, ◌+◌, ◌-◌, ◌≡◌, ◌<◌, cond, List, [], ◌∷◌, length, map, Option, Some, None, eqb, ltb}
+-- When an added no-op is needed: without it, no notes would keep the rules on links.
+use Rattle.std.specs.Prelude.{ℕ, suc, ◌+◌, ◌-◌, ◌≡◌, cond, List, [], ◌∷◌, length, map, Option, Some, None, eqb, ltb}
+use Rattle.ws_isa.specs.declared.instr.Op.TheVariants.{Nop}
 use Rattle.ws_isa.specs.declared.instr.Dest.{Dest}
-use Rattle.ws_isa.specs.declared.instr.Note.{Note}
-use Rattle.ws_isa.specs.Image.{Instr, Exit, Goto, Branch, Landings, Stop, Pad, Block, Image, block_at, first_number, IsBlock}
-use Rattle.image_walk.specs.Sound.{Follows, Ends, wave_at, LinkRules}
+use Rattle.ws_isa.specs.Image.{Instr, Exit, Goto, Branch, Landings, Stop, Pad, Block, Image, instr_at, block_at, IsBlock}
+use Rattle.image_walk.specs.Sound.{Follows, Ends, wave_at}
+use Rattle.wave_link.specs.Triggers.{IsAdded}
 
--- The image without instruction x and without the destinations that name it. Those behind x move up.
+-- The image without instruction x and without the destinations that name it. Those behind x move
+-- up.
 
 abbrev pub moved : ℕ → ℕ → ℕ
 moved x k = cond (ltb x k) (k - 1) k
@@ -16,12 +18,18 @@ dests_but x (d ∷ ds) = cond (eqb d.instr x) (dests_but x ds)
     (record { instr = moved x d.instr; port = d.port } ∷ dests_but x ds)
 
 abbrev pub instr_but : ℕ → Instr → Instr
-instr_but x i = record { op = i.op; note = i.note; dests = dests_but x i.dests; others = dests_but x i.others }
+instr_but x i = record {
+  op = i.op;
+  note = i.note;
+  dests = dests_but x i.dests;
+  others = dests_but x i.others;
+}
 
 -- these are the instructions from number k on
 abbrev pub instrs_but : ℕ → ℕ → List Instr → List Instr
 instrs_but x k [] = []
-instrs_but x k (i ∷ is) = cond (eqb k x) (instrs_but x (suc k) is) (instr_but x i ∷ instrs_but x (suc k) is)
+instrs_but x k (i ∷ is) =
+    cond (eqb k x) (instrs_but x (suc k) is) (instr_but x i ∷ instrs_but x (suc k) is)
 
 abbrev pub exit_but : ℕ → Exit → Exit
 exit_but x (Goto b) = Goto b
@@ -73,43 +81,22 @@ pub data Unlinkable (image : Image) (w : ℕ) : Type 0 where
   -- some path has no operation
   no_operation : EndsIn image w None → Unlinkable image w
   -- some operation is first on one path and not first on another
-  first_and_not : (j k : ℕ) → FollowsIn image w None k → FollowsIn image w (Some j) k → Unlinkable image w
+  first_and_not : (j k : ℕ) → FollowsIn image w None k → FollowsIn image w (Some j) k → Unlinkable
+      image w
   -- some operation is last on one path and not last on another
-  last_and_not : (j k : ℕ) → EndsIn image w (Some j) → FollowsIn image w (Some j) k → Unlinkable image w
+  last_and_not : (j k : ℕ) → EndsIn image w (Some j) → FollowsIn image w (Some j) k → Unlinkable
+      image w
   -- two neighbours each have others on other paths
-  neighbours : (j k : ℕ) → FollowsIn image w (Some j) k → OtherNext image w j k → OtherBefore image w j k →
+  neighbours : (j k : ℕ) → FollowsIn image w (Some j) k → OtherNext image w j k → OtherBefore image
+      w j k →
       Unlinkable image w
 
--- The same image with other notes: instruction k has note `notes k`.
+-- instruction n, which block b of the draft gets, is a no-op, and its wave needs it
+pub record NeededNop (draft image : Image) (b n : ℕ) : Type 0 where
+  pub is_nop : (instr_at image n).op ≡ Nop
+  pub needed : Unlinkable (without image n) (block_at draft b).wave
 
-abbrev pub renoted_instrs : (ℕ → Option Note) → ℕ → List Instr → List Instr
-renoted_instrs notes k [] = []
-renoted_instrs notes k (i ∷ is) =
-    record { op = i.op; note = notes k; dests = i.dests; others = i.others } ∷ renoted_instrs notes (suc k) is
-
-abbrev pub renoted_blocks : (ℕ → Option Note) → ℕ → List Block → List Block
-renoted_blocks notes k [] = []
-renoted_blocks notes k (b ∷ bs) =
-    record { wave = b.wave; pads = b.pads; instrs = renoted_instrs notes k b.instrs; exit = b.exit }
-    ∷ renoted_blocks notes (k + length b.instrs) bs
-
-unfoldable pub renoted : Image → (ℕ → Option Note) → Image
-renoted image notes = record { arrays = image.arrays; blocks = renoted_blocks notes 1 image.blocks }
-
--- the last instruction of block b
-abbrev pub last_in : Image → ℕ → ℕ
-last_in image b = first_number image (suc b) - 1
-
--- block b of the image has an instruction more than the draft's
-abbrev pub HasMore : Image → Image → ℕ → Type 0
-HasMore draft image b = length (block_at draft b).instrs < length (block_at image b).instrs
-
--- each instruction that is added, the last of its block, is needed in its wave
+-- each instruction that is added is needed
 abbrev pub NoneInVain : Image → Image → Type 0
-NoneInVain draft image = (b : ℕ) → IsBlock draft b → HasMore draft image b →
-    Unlinkable (without image (last_in image b)) (block_at image b).wave
-
--- so with whatever notes, the image without it breaks the rules on links
-abbrev pub NeverLinked : Image → Image → Type 0
-NeverLinked draft image = (b : ℕ) (notes : ℕ → Option Note) → IsBlock draft b → HasMore draft image b →
-    LinkRules (renoted (without image (last_in image b)) notes) → ⊥
+NoneInVain draft image = (b n : ℕ) → IsBlock draft b → IsAdded draft image b n →
+    NeededNop draft image b n

@@ -9,6 +9,7 @@ ghost use Rattle.wave_link.specs.Grown.{annotated};
 ghost use Rattle.wave_link.specs.Kept.{KeepsBlocks};
 ghost use Rattle.wave_link.specs.Passed.{WalksFor};
 ghost use Rattle.wave_link.specs.Room.{LeavesRoom};
+ghost use Rattle.wave_link.specs.Triggers.{TriggeredNear};
 
 /// The image of any draft has its arrays, blocks and edges, and its instructions but for what is
 /// added.
@@ -27,8 +28,8 @@ pub fn images_keep_slots()
     ensures { (draft : Image) → OpenToNotes draft → SlotRules (annotated draft) }
 {}
 
-/// What the image refers to is there, and its lists suit. It is within the limits if the draft leaves
-/// room.
+/// What the image refers to is there, and its lists suit. It is within the limits if the draft
+/// leaves room.
 pub fn images_are_formed()
     ensures suited { (draft : Image) → OpenToNotes draft → Suited (annotated draft) }
     ensures formed { (draft : Image) → OpenToNotes draft → LeavesRoom draft →
@@ -39,4 +40,9 @@ pub fn images_are_formed()
 pub fn images_walk_alike()
     ensures { (draft : Image) (world : World) → OpenToNotes draft →
         WalksFor draft (annotated draft) world }
+{}
+
+/// The token of an added no-op comes from its block, or from a steer of the one block before.
+pub fn nops_are_triggered_near()
+    ensures { (draft : Image) → OpenToNotes draft → TriggeredNear draft (annotated draft) }
 {}
