@@ -59,6 +59,10 @@ first_kept image x zero = refl
 first_kept image x (suc zero) = refl
 first_kept image x (suc (suc b)) = ap₂ (λ (n m : ℕ). not (eqb n m)) (wave_kept image x (suc (suc b))) (wave_kept image x (suc b))
 
+pub count_kept : (image : Image) (x : ℕ) → length (without image x).blocks ≡ length image.blocks
+unfolding without
+count_kept image x = count_but x 1 image.blocks
+
 pub block_kept : (image : Image) (x b : ℕ) → IsBlock image b → IsBlock (without image x) b
 unfolding without
 block_kept image x b h = (h.0, omega (arith, h.1, count_but x 1 image.blocks))

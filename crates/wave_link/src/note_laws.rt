@@ -4,6 +4,7 @@ ghost use Rattle.std.specs.Prelude.{ℕ};
 ghost use Rattle.image_walk.specs.Open.{OpenToNotes};
 ghost use Rattle.image_walk.specs.Sound.{LinkRules, RippleRules, Sound};
 ghost use Rattle.wave_link.specs.Grown.{annotated};
+ghost use Rattle.wave_link.specs.Renoted.{NeverLinked};
 ghost use Rattle.wave_link.specs.Ripples.{ExactRipples};
 ghost use Rattle.wave_link.specs.Vain.{NoneInVain, Unlinkable};
 ghost use Rattle.ws_isa.specs.Image.{Image};
@@ -26,7 +27,9 @@ pub fn unlinkable_is_unsound()
 {}
 
 /// A law: no added no-op is in vain. Without it and its trigger, the paths of its wave can't be
-/// linked.
+/// linked, whatever the notes are.
 pub fn nops_are_needed()
-    ensures { (draft : Image) → OpenToNotes draft → NoneInVain draft (annotated draft) }
+    ensures needed { (draft : Image) → OpenToNotes draft → NoneInVain draft (annotated draft) }
+    ensures never_linked { (draft : Image) → OpenToNotes draft →
+        NeverLinked draft (annotated draft) }
 {}
