@@ -1,11 +1,11 @@
 -- No notes keep the rules on links where paths break what these ask of all notes.
-use Rattle.std.proofs.Common.{ℕ, zero, suc, ◌+◌, ◌≡◌, ◌<◌, ◌≤◌, ◌⊎◌, Bool, true, false, cond, not, List, [], ◌∷◌, ◌++◌, length, Option, Some, None, refl, sym, ap, ap₂, ◌∙◌, inl, inr, subst, arith, eqb}
+use Rattle.std.proofs.Common.{ℕ, zero, suc, ◌+◌, ◌≡◌, ◌<◌, ◌⊎◌, Bool, true, false, cond, not, List, [], ◌∷◌, ◌++◌, length, Option, Some, None, refl, sym, ap, ap₂, ◌∙◌, inl, inr, subst, arith, eqb}
 use Rattle.std.proofs.lemmas.Bool.{cases_Bool}
 use Rattle.ws_isa.specs.declared.instr.Op.{Op}
-use Rattle.ws_isa.specs.declared.instr.Link.TheVariants.{Nothing, Is}
+use Rattle.ws_isa.specs.declared.instr.Link.TheVariants.{Is}
 use Rattle.ws_isa.specs.declared.instr.Note.{Note}
 use Rattle.ws_isa.specs.Image.{Instr, Exit, Block, Image, nth, or_else, no_instr, no_block, flat, first_of, instr_at, block_at, first_number, is_memory, is_memory_op, note_of, leave_to, is_stop, stops, target, is_first, IsBlock}
-use Rattle.image_walk.specs.Sound.{InWave, first, turn, edge, last_op, Follows, Ends, seq, LinkRules}
+use Rattle.image_walk.specs.Sound.{InWave, first, turn, edge, last_op, seq, LinkRules}
 use Rattle.image_walk.specs.Open.{OpenToNotes}
 use Rattle.wave_link.specs.Grown.{annotated}
 use Rattle.wave_link.proofs.Edges.{count_kept as draft_count, target_kept as draft_target, stops_kept as draft_stops, first_kept as draft_first, wave_kept as draft_wave}
@@ -31,7 +31,7 @@ module _ (image new : Image) (same : SamePaths image new) where
   path b k done (edge {b = c} {k = i} {done = d} p e s r f) =
       let t : target new c r ≡ target image c r = same.targets c r in
       let g : InWave new (target new c r) (first_number new (target new c r)) d =
-          edge (path c i d p) (e ∙ sym (same.numbers (suc c))) (same.stops_are c ∙ s) r (same.firsts (target new c r) ∙ (ap (is_first image) t ∙ f)) in
+      edge (path c i d p) (e ∙ sym (same.numbers (suc c))) (same.stops_are c ∙ s) r (same.firsts (target new c r) ∙ (ap (is_first image) t ∙ f)) in
       subst (λ (i : ℕ). InWave new (target image c r) i d) (same.numbers (target image c r)) (subst (λ (j : ℕ). InWave new j (first_number new j) d) t g)
 
   same_last : (done : List ℕ) → last_op new done ≡ last_op image done
@@ -41,9 +41,12 @@ module _ (image new : Image) (same : SamePaths image new) where
   follows : (w : ℕ) (last : Option ℕ) (k : ℕ) → FollowsIn image w last k → FollowsIn new w last k
   follows w last k f = record {
     follows = record {
-      block = f.follows.block; done = f.follows.done; path = path f.follows.block k f.follows.done f.follows.path;
+      block = f.follows.block;
+      done = f.follows.done;
+      path = path f.follows.block k f.follows.done f.follows.path;
       within = subst (λ (j : ℕ). k < j) (sym (same.numbers (suc f.follows.block))) f.follows.within;
-      memory = same.memory k ∙ f.follows.memory; last_is = same_last f.follows.done ∙ f.follows.last_is;
+      memory = same.memory k ∙ f.follows.memory;
+      last_is = same_last f.follows.done ∙ f.follows.last_is;
     };
     wave_is = same.waves f.follows.block ∙ f.wave_is;
   }
@@ -51,10 +54,15 @@ module _ (image new : Image) (same : SamePaths image new) where
   ends : (w : ℕ) (last : Option ℕ) → EndsIn image w last → EndsIn new w last
   ends w last e = record {
     ends = record {
-      block = e.ends.block; next = e.ends.next; done = e.ends.done; path = path e.ends.block e.ends.next e.ends.done e.ends.path;
+      block = e.ends.block;
+      next = e.ends.next;
+      done = e.ends.done;
+      path = path e.ends.block e.ends.next e.ends.done e.ends.path;
       at_end = e.ends.at_end ∙ sym (same.numbers (suc e.ends.block));
-      out = elim e.ends.out [ | inl s ↦ inl (same.stops_are e.ends.block ∙ s)
-        | inr s ↦ inr (same.stops_are e.ends.block ∙ s.0, (s.1.0, same.firsts (target new e.ends.block s.1.0) ∙ (ap (is_first image) (same.targets e.ends.block s.1.0) ∙ s.1.1))) ];
+      out = elim e.ends.out [
+        | inl s ↦ inl (same.stops_are e.ends.block ∙ s)
+        | inr s ↦ inr (same.stops_are e.ends.block ∙ s.0, (s.1.0, same.firsts (target new e.ends.block s.1.0) ∙ (ap (is_first image) (same.targets e.ends.block s.1.0) ∙ s.1.1)))
+      ];
       last_is = same_last e.ends.done ∙ e.ends.last_is;
     };
     wave_is = same.waves e.ends.block ∙ e.wave_is;
@@ -112,7 +120,7 @@ module _ (image new : Image) (same : SamePaths image new) where
       no_links w (no_operation e) = rules.some_op (ends w None e).ends
       no_links w (first_and_not j k f g) = rules.pred_none j k (rules.first_pred k (follows w None k f).follows) (follows w (Some j) k g).follows
       no_links w (last_and_not j k e g) = rules.succ_ends j k (rules.last_succ j (ends w (Some j) e).ends) (follows w (Some j) k g).follows
-      no_links w (neighbours j k f p q) = elim (rules.linked j k (follows w (Some j) k f).follows) [ | inl e ↦ no_next w j k f e p | inr e ↦ no_before w j k f e q ]
+      no_links w (neighbours j k f p q) = elim (rules.linked j k (follows w (Some j) k f).follows) [ inl e ↦ no_next w j k f e p | inr e ↦ no_before w j k f e q ]
 
 -- the same image with other notes
 
