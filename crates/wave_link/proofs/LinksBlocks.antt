@@ -117,7 +117,7 @@ unfolding block_at
 wave_step draft zero w l h = absurd (omega arith)
 wave_step draft (suc n) w l h = waves_next draft.blocks n w h
 
-waves_rise : (draft : Image) (b c : ℕ) → WavesInOrder draft.blocks → 1 ≤ b → b ≤ c → c ≤ length draft.blocks → (block_at draft b).wave ≤ (block_at draft c).wave
+pub waves_rise : (draft : Image) (b c : ℕ) → WavesInOrder draft.blocks → 1 ≤ b → b ≤ c → c ≤ length draft.blocks → (block_at draft b).wave ≤ (block_at draft c).wave
 waves_rise draft b zero w l h k = absurd (omega arith)
 waves_rise draft b (suc c) w l h k = go (cases_eq b (suc c)) (λ q. waves_rise draft b c w l q (omega arith))
   where

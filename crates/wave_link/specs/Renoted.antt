@@ -10,7 +10,8 @@ use Rattle.wave_link.specs.Vain.{without}
 
 abbrev pub renoted_instrs : (ℕ → Option Note) → ℕ → List Instr → List Instr
 renoted_instrs notes k [] = []
-renoted_instrs notes k (i ∷ is) = record { op = i.op; note = notes k; dests = i.dests; others = i.others }
+renoted_instrs notes k (i ∷ is) =
+    record { op = i.op; note = notes k; dests = i.dests; others = i.others }
     ∷ renoted_instrs notes (suc k) is
 
 abbrev pub renoted_block : (ℕ → Option Note) → ℕ → Block → Block
@@ -23,7 +24,8 @@ renoted_block notes k b = record {
 
 abbrev pub renoted_blocks : (ℕ → Option Note) → ℕ → List Block → List Block
 renoted_blocks notes k [] = []
-renoted_blocks notes k (b ∷ bs) = renoted_block notes k b ∷ renoted_blocks notes (k + length b.instrs) bs
+renoted_blocks notes k (b ∷ bs) =
+    renoted_block notes k b ∷ renoted_blocks notes (k + length b.instrs) bs
 
 unfoldable pub renoted : Image → (ℕ → Option Note) → Image
 renoted image notes = record { arrays = image.arrays; blocks = renoted_blocks notes 1 image.blocks }
