@@ -1,0 +1,27 @@
+-- When a draft leaves room for what is added to it.
+use Rattle.std.specs.Prelude.{ℕ, ◌+◌, ◌≡◌, ◌<◌, ◌≤◌, List, length}
+use Rattle.std.specs.List.{AllByRecursion}
+use Rattle.ws_isa.specs.declared.instr.Op.TheVariants.{Send}
+use Rattle.ws_isa.specs.Image.{Landings, Pad, Image, In, flat, instr_at, block_at, IsIn, IsBlock}
+use Rattle.ws_isa.specs.Formed.{most_instrs, most_blocks, most_waves, most_dests, most_pads, most_landings, ArraysFormed, ConstWithin, PadsRise}
+
+-- It is within the limits, with room for one more instruction in each block and for one more
+-- destination in each list of an instruction.
+pub record LeavesRoom (draft : Image) : Type 0 where
+  pub arrays : ArraysFormed draft.arrays
+  pub instrs : length (flat draft.blocks) + length draft.blocks ≤ most_instrs
+  pub blocks : length draft.blocks ≤ most_blocks
+  pub waves : (b : ℕ) → IsBlock draft b → (block_at draft b).wave ≤ most_waves
+  pub dests : (b k : ℕ) → IsBlock draft b → IsIn draft b k →
+      length (instr_at draft k).dests < most_dests
+  pub others : (b k : ℕ) → IsBlock draft b → IsIn draft b k →
+      length (instr_at draft k).others < most_dests
+  pub consts : AllByRecursion (λ i. ConstWithin i.op) (flat draft.blocks)
+  pub sends : (b k p : ℕ) → IsBlock draft b → IsIn draft b k →
+      (instr_at draft k).op ≡ Send p → p < most_pads
+  pub numbers : AllByRecursion (λ b. AllByRecursion (λ p. p.number < most_pads) b.pads) draft.blocks
+  pub pads : (b : ℕ) (p : Pad) → IsBlock draft b → In p (block_at draft b).pads →
+      length p.dests ≤ most_dests
+  pub rise : AllByRecursion (λ b. PadsRise b.pads) draft.blocks
+  pub landings : (b s : ℕ) (ls : List ℕ) → IsBlock draft b →
+      (block_at draft b).exit ≡ Landings s ls → length ls ≤ most_landings
