@@ -10,3 +10,4 @@ pub mod Fitting
 pub mod Words
 pub mod Limits
 pub mod Cost
+pub mod View

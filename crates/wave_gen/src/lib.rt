@@ -5,5 +5,6 @@
 #![tactic(auto)]
 
 mod laws;
+mod plan;
 
 pub use laws::graph_drafts_keep;
