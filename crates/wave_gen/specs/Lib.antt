@@ -11,3 +11,4 @@ pub mod Words
 pub mod Limits
 pub mod Cost
 pub mod View
+pub mod Placed

@@ -4,7 +4,12 @@
 //! is wanted, and a branch steers a name exactly where its two arms want it in different places.
 #![tactic(auto)]
 
+mod body;
+mod exits;
 mod laws;
+mod operations;
+mod order;
 mod plan;
+mod values;
 
 pub use laws::graph_drafts_keep;
