@@ -72,3 +72,5 @@ mod ItemWeights
 mod BlockWeights
 mod EdgeWeights
 mod Costs
+mod Buckets
+mod Marked

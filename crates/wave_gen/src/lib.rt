@@ -7,9 +7,11 @@
 mod body;
 mod exits;
 mod laws;
+mod marks;
 mod operations;
 mod order;
 mod plan;
+mod plans;
 mod values;
 
 pub use laws::graph_drafts_keep;
