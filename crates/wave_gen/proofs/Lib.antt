@@ -74,3 +74,4 @@ mod EdgeWeights
 mod Costs
 mod Buckets
 mod Marked
+mod Outlined
