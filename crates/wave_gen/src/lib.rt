@@ -4,6 +4,7 @@
 //! is wanted, and a branch steers a name exactly where its two arms want it in different places.
 #![tactic(auto)]
 
+mod arrays;
 mod body;
 mod exits;
 mod laws;
