@@ -207,7 +207,7 @@ module _ (g : Graph) (live : ℕ → ℕ → Bool) (cut : Cut) (fit : Fits g liv
   entries_few x false = omega arith
 
   -- past a procedure's variables nobody wants a name
-  nobody : (x a y : ℕ) → x < length (spots g) → a < length (spots g) → (spot_at g a).home ≡ (spot_at g x).home → suc (spot_at g x).vars ≤ y → starts_at (width_of g) (plans_of g live cut) (place_of g cut a) y ≡ []
+  pub nobody : (x a y : ℕ) → x < length (spots g) → a < length (spots g) → (spot_at g a).home ≡ (spot_at g x).home → suc (spot_at g x).vars ≤ y → starts_at (width_of g) (plans_of g live cut) (place_of g cut a) y ≡ []
   nobody x a zero lx la h u = absurd (omega (arith, u))
   nobody x a (suc y) lx la h u = unwanted (arrays_of g) (width_of g) (plans_of g live cut) (λ n z. needed g live cut n z ≡ true) D.plans (place_of g cut a) (suc y) (omega arith, place_there g live cut fit a la)
       (λ i. (let j = to_entry g live cut fit (index_of (listing g cut) a) a (suc y) (at g live cut fit a la) i in
@@ -235,11 +235,11 @@ module _ (g : Graph) (live : ℕ → ℕ → Bool) (cut : Cut) (fit : Fits g liv
       go graph.Stop h = omega arith
 
   -- a number above all names
-  abbrev above_all : ℕ → ℕ
+  abbrev pub above_all : ℕ → ℕ
   above_all zero = 0
   above_all (suc b) = plan_above (width_of g) (starts_at (width_of g) (plans_of g live cut)) (plan_at (plans_of g live cut) (suc b)) + above_all b
 
-  covers : (k b : ℕ) → 1 ≤ b → b ≤ k → plan_above (width_of g) (starts_at (width_of g) (plans_of g live cut)) (plan_at (plans_of g live cut) b) ≤ above_all k
+  pub covers : (k b : ℕ) → 1 ≤ b → b ≤ k → plan_above (width_of g) (starts_at (width_of g) (plans_of g live cut)) (plan_at (plans_of g live cut) b) ≤ above_all k
   covers zero b l u = absurd (omega (arith, l, u))
   covers (suc k) b l u = elim (Rattle.std.proofs.lemmas.Bool.cases_eq b (suc k)) [
     | inl e ↦ (let z : plan_above (width_of g) (starts_at (width_of g) (plans_of g live cut)) (plan_at (plans_of g live cut) b) ≡ plan_above (width_of g) (starts_at (width_of g) (plans_of g live cut)) (plan_at (plans_of g live cut) (suc k)) = ap (λ (r : ℕ). plan_above (width_of g) (starts_at (width_of g) (plans_of g live cut)) (plan_at (plans_of g live cut) r)) e in
@@ -248,7 +248,7 @@ module _ (g : Graph) (live : ℕ → ℕ → Bool) (cut : Cut) (fit : Fits g liv
         let y : above_all (suc k) ≡ plan_above (width_of g) (starts_at (width_of g) (plans_of g live cut)) (plan_at (plans_of g live cut) (suc k)) + above_all k = refl in omega (arith, i, y))
   ]
 
-  block_cost : (n x : ℕ) → x < length (spots g) → plan_above (width_of g) (starts_at (width_of g) (plans_of g live cut)) (plan_at (plans_of g live cut) (place_of g cut x)) ≤ n →
+  pub block_cost : (n x : ℕ) → x < length (spots g) → plan_above (width_of g) (starts_at (width_of g) (plans_of g live cut)) (plan_at (plans_of g live cut) (place_of g cut x)) ≤ n →
       4 * length (made_at (width_of g) (plans_of g live cut) (place_of g cut x)).code + total (starts_at (width_of g) (plans_of g live cut) (place_of g cut x)) n
       ≤ total (end_wants (width_of g) (starts_at (width_of g) (plans_of g live cut)) (plan_at (plans_of g live cut) (place_of g cut x)).exit) n + quarters g x
   block_cost n x l high =

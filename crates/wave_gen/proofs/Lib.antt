@@ -75,3 +75,4 @@ mod Costs
 mod Buckets
 mod Marked
 mod Outlined
+mod Counts
