@@ -22,7 +22,9 @@ use Rattle.wave_gen.specs.Fitting.{Fits}
 use Rattle.wave_gen.specs.Words.{GraphOfWords, WorldOfWords}
 use Rattle.wave_gen.specs.Cost.{values_sent, quarters, CostsAtMost}
 use Rattle.wave_gen.proofs.Weights.{total, weights}
-use Rattle.wave_gen.proofs.ItemWeights.{weights_append, ops_weight, exit_weight}
+use Rattle.wave_gen.specs.Shared.{shared, none_known}
+use Rattle.wave_gen.proofs.Sharing.{heavies, shared_weigh}
+use Rattle.wave_gen.proofs.ItemWeights.{heavies_append, ops_weight, exit_weight}
 use Rattle.wave_gen.proofs.BlockWeights.{plan_above, block_charge}
 use Rattle.wave_gen.proofs.EdgeWeights.{steered_few, steers_count, sends_count, unwanted, ends_on, ends_stop}
 use Rattle.wave_gen.proofs.DrawnPlans.{WalkFine}
@@ -259,14 +261,15 @@ module _ (g : Graph) (live : ℕ → ℕ → Bool) (cut : Cut) (fit : Fits g liv
       let c = block_charge (width_of g) (plans_of g live cut) (λ n z. needed g live cut n z ≡ true) D.plans n b (omega arith, place_there g live cut fit x l) high in
       let ts : length (tails_of (width_of g) (starts_at (width_of g) (plans_of g live cut)) (plan_at (plans_of g live cut) b).exit) ≡ length (tails_of (width_of g) (starts_at (width_of g) (plans_of g live cut)) e.exit) = ap (λ (p : Plan). length (tails_of (width_of g) (starts_at (width_of g) (plans_of g live cut)) p.exit)) q in
       let tf = tails_few x k.next l in
-      let ws : weights (plan_at (plans_of g live cut) b).items ≡ weights (k.items ++ e.items) = ap (λ (p : Plan). weights p.items) q in
-      let wa : weights (k.items ++ e.items) ≡ weights k.items + weights e.items = weights_append k.items e.items in
+      let ws : weights (plan_at (plans_of g live cut) b).items ≡ weights (shared none_known (k.items ++ e.items)) = ap (λ (p : Plan). weights p.items) q in
+      let sh = shared_weigh none_known (k.items ++ e.items) in
+      let wa : heavies (k.items ++ e.items) ≡ heavies k.items + heavies e.items = heavies_append k.items e.items in
       let wo = ops_weight (block_at g x).ops (width_of g) in
       let we = exit_weight (place_of g cut) (block_at g x).exit k.next in
       let es : length (plan_at (plans_of g live cut) b).entries ≡ length (cond (is_first cut x) (entries_of g live x) []) = ap (λ (p : Plan). length p.entries) q in
       let ef = entries_few x (is_first cut x) in
       let z : quarters g x ≡ 9 * (sum_by op_nodes (block_at g x).ops + exit_nodes (block_at g x).exit) + 6 * sum_by acts_of (block_at g x).ops + 12 * values_sent (block_at g x).exit + 18 * suc (spot_at g x).vars + 12 = refl in
-      omega (arith, c, ts, tf, ws, wa, wo, we, es, ef, z)
+      omega (arith, c, ts, tf, ws, sh, wa, wo, we, es, ef, z)
 
   pub costs : GraphOfWords g → (world : World) → WorldOfWords world → (turns : ℕ) → CostsAtMost g (draft_of (arrays_of g) (width_of g) (plans_of g live cut)) world turns
   costs words world w turns m o left e =

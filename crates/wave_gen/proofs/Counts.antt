@@ -9,7 +9,6 @@ use Rattle.cfg_core.specs.Graph as graph
 use Rattle.cfg_core.specs.Graph.{Graph, Spot, no_spot, spots, spot_at, block_at}
 use Rattle.cfg_core.specs.Rules.{ExitIn}
 use Rattle.wave_cut.specs.Cut.{Cut}
-
 use Rattle.wave_gen.specs.Wire.{Wants}
 use Rattle.wave_gen.specs.Plans.{Plan, Leaves, past, steered, end_wants, plan_at, made_at, starts_at, begins, instr_of, blocks_of, draft_of}
 use Rattle.wave_gen.specs.Gen.{gen_ops}
@@ -166,7 +165,7 @@ module _ (g : Graph) (live : ℕ → ℕ → Bool) (cut : Cut) (fit : Fits g liv
   instrs_few =
       let w : ℕ → ℕ = λ b. most_quarters (spot_at g b) in
       let f = flat_few (width_of g) (plans_of g live cut) w (listing g cut) 1 (λ i x e. (let l = listed_there (length (spots g)) _ _ (length cut.heads) (waving g live cut fit) i x e in
-          subst (λ j. 4 * length (made_at (width_of g) (plans_of g live cut) j).code ≤ w x) (place_is g live cut fit i x e ∙ (let z : suc i ≡ 1 + i = omega arith in z)) (code_few x l))) in
+      subst (λ j. 4 * length (made_at (width_of g) (plans_of g live cut) j).code ≤ w x) (place_is g live cut fit i x e ∙ (let z : suc i ≡ 1 + i = omega arith in z)) (code_few x l))) in
       let s = waves_sum w (turned g cut) (length (spots g)) 1 (length cut.heads) in
       let t = spots_sum g (turned g cut) most_quarters in
       let n : length (flat (blocks_of (width_of g) (plans_of g live cut) 1 (length (plans_of g live cut)))) ≡ length (flat (blocks_of (width_of g) (plans_of g live cut) 1 (length (listing g cut)))) = ap (λ j. length (flat (blocks_of (width_of g) (plans_of g live cut) 1 j))) (as_many g live cut fit) in

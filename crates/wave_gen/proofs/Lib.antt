@@ -76,3 +76,6 @@ mod Buckets
 mod Marked
 mod Outlined
 mod Counts
+mod Sharing
+mod Fresh
+mod Sharers

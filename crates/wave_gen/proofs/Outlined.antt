@@ -13,6 +13,7 @@ use Rattle.wave_gen.specs.Wire.{Item}
 use Rattle.wave_gen.specs.Plans as plans
 use Rattle.wave_gen.specs.Plans.{Leaves, pulse}
 use Rattle.wave_gen.specs.Gen.{gen_ops}
+use Rattle.wave_gen.specs.Shared.{shared, none_known}
 use Rattle.wave_gen.specs.Drawn.{exit_next}
 use Rattle.wave_gen.specs.Listing.{gen_exit, live_from, in_some, arms_of, landings_of, start_block, plan_of, turned, place_of, width_of}
 use Rattle.wave_gen.specs.View as shown
@@ -42,7 +43,7 @@ spot_of t h b x l e = spot_in t.spots.items (spots (view.graph t.graph.now)) b x
 
 -- code is that of a block where the names of places and variables are the same
 abbrev ItemsOf : (ℕ → ℕ) → ℕ → Block → List Item
-ItemsOf f width x = let d = gen_ops width x.ops in d.items ++ (gen_exit f d.next x.exit).items
+ItemsOf f width x = let d = gen_ops width x.ops in shared none_known (d.items ++ (gen_exit f d.next x.exit).items)
 
 abbrev ExitOf : (ℕ → ℕ) → ℕ → Block → Leaves
 ExitOf f width x = (gen_exit f (gen_ops width x.ops).next x.exit).exit

@@ -12,3 +12,4 @@ pub mod Limits
 pub mod Cost
 pub mod View
 pub mod Placed
+pub mod Shared

@@ -13,6 +13,7 @@ mod operations;
 mod order;
 mod plan;
 mod plans;
+mod share;
 mod values;
 
 pub use laws::graph_drafts_keep;

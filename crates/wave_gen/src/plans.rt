@@ -8,6 +8,7 @@ ghost use Rattle.wave_cut.specs.Cut.{is_first};
 ghost use Rattle.wave_gen.specs.Plans.{pulse};
 ghost use Rattle.wave_gen.specs.Gen.{gen_ops};
 ghost use Rattle.wave_gen.specs.Drawn.{exit_next};
+ghost use Rattle.wave_gen.specs.Shared.{shared, none_known};
 ghost use Rattle.wave_gen.specs.Listing as listing;
 ghost use Rattle.wave_gen.specs.Listing.{gen_exit, live_from, plan_of, plans_of, place_of, width_of};
 ghost use Rattle.wave_gen.specs.View as plans;
@@ -17,6 +18,7 @@ use crate::body::{Body, names};
 use crate::marks::{arms, landed, width};
 use crate::order::{Order, turned};
 use crate::plan::{Items, Leaves, Names, Plan, Plans};
+use crate::share::share_constants;
 use crate::values::{PULSE, name_of};
 use cfg_core::{Graph, GraphBlock, Table};
 use live_vars::LiveSets;
@@ -167,8 +169,8 @@ struct Code {
 // The code of a block, where names from `width` on are free.
 fn code_of(alloc: Global, order: &Order, width: usize, block: &GraphBlock) -> Result<Code, NoMemory>
     ensures items { let block = view.block block.now in let d = gen_ops width block.ops in
-        IfOk result (λ made. map plans.item made.items.items ≡
-        d.items ++ (gen_exit (place order.now) d.next block.exit).items) }
+        IfOk result (λ made. map plans.item made.items.items ≡ shared none_known
+        (d.items ++ (gen_exit (place order.now) d.next block.exit).items)) }
     ensures exit { let block = view.block block.now in let d = gen_ops width block.ops in
         IfOk result (λ made. plans.leaves made.exit ≡
         (gen_exit (place order.now) d.next block.exit).exit) }
@@ -182,7 +184,7 @@ fn code_of(alloc: Global, order: &Order, width: usize, block: &GraphBlock) -> Re
     body.ops(alloc, &block.ops)?;
     let exit = body.exit(alloc, order, &block.exit)?;
     Ok(Code {
-        items: body.items,
+        items: share_constants(alloc, body.items)?,
         exit,
         next: body.next,
     })
