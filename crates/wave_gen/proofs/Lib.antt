@@ -72,3 +72,4 @@ mod ItemWeights
 mod BlockWeights
 mod EdgeWeights
 mod Costs
+mod Listed

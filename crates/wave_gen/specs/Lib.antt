@@ -1,5 +1,6 @@
 pub mod Waits
 pub mod Wire
+pub mod Tables
 pub mod Plans
 pub mod Gen
 pub mod Drawn

@@ -7,9 +7,9 @@
 mod body;
 mod exits;
 mod laws;
-mod operations;
-mod order;
+mod maker;
 mod plan;
-mod values;
+mod spot;
+mod table;
 
 pub use laws::graph_drafts_keep;
