@@ -73,3 +73,4 @@ mod BlockWeights
 mod EdgeWeights
 mod Costs
 mod Listed
+mod Making

@@ -12,11 +12,11 @@ listed [] x = []
 listed (v ∷ vs) zero = v.items
 listed (v ∷ vs) (suc x) = listed vs x
 
-abbrev pub line : Line → plain.Line
-line l = record { op = l.op; dests = l.dests.items; others = l.others.items }
+abbrev pub line_of : Line → plain.Line
+line_of l = record { op = l.op; dests = l.dests.items; others = l.others.items }
 
 -- what a maker has made of block b is s, without its steps
 pub record Stands (b : ℕ) (m : Maker) (s : Made) : Type 0 where
   pub block : m.block ≡ b
-  pub code : reverse (map line m.code.items) ≡ s.code
+  pub code : reverse (map line_of m.code.items) ≡ s.code
   pub wants : ◌≡◌ {A = Wants} (listed m.wants.lists.items) s.wants

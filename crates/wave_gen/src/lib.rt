@@ -8,8 +8,11 @@ mod body;
 mod exits;
 mod laws;
 mod maker;
+mod operations;
+mod order;
 mod plan;
 mod spot;
 mod table;
+mod values;
 
 pub use laws::graph_drafts_keep;
