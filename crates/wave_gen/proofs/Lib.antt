@@ -74,3 +74,4 @@ mod EdgeWeights
 mod Costs
 mod Listed
 mod Making
+mod Hanging

@@ -6,6 +6,7 @@
 
 mod body;
 mod exits;
+mod frame;
 mod laws;
 mod maker;
 mod operations;
@@ -13,6 +14,7 @@ mod order;
 mod plan;
 mod spot;
 mod table;
+mod tails;
 mod values;
 
 pub use laws::graph_drafts_keep;
