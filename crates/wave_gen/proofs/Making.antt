@@ -3,11 +3,13 @@ use Rattle.std.proofs.Common.{ℕ, ◌+◌, ◌-◌, ◌<◌, ◌≤◌, ◌&&�
 use Rattle.ws_isa.specs.Image.{is_memory_op}
 use Rattle.std.proofs.lemmas.List.{drop_more, length-map, length-reverse, reverse-append, map_push}
 use Rattle.ws_isa.specs.declared.instr.Op.{Op}
+use Rattle.ws_isa.specs.declared.instr.Op.TheVariants.{Merge}
 use Rattle.wave_gen.specs.declared.spot.Line.{Line}
 use Rattle.wave_gen.specs.declared.maker.Maker.{Maker}
 use Rattle.wave_gen.specs.Wire as plain
 use Rattle.wave_gen.specs.Wire.{Spot, Wants, Made, with_wants, with_uses, most, emit, rest, gather, with_room, with_rooms, make, alias, copy, is_nil, Make, wire_item}
-use Rattle.wave_gen.specs.Tables.{listed, line_of, Stands}
+use Rattle.wave_gen.specs.Plans.{Plan, pulse, has_front, renew, advances}
+use Rattle.wave_gen.specs.Tables.{listed, line_of, Stands, begun}
 
 code_push : (ls : List Line) (l : Line) → reverse (map line_of (ls ++ l ∷ [])) ≡ line_of l ∷ reverse (map line_of ls)
 code_push ls l = ap (λ (ks : List plain.Line). reverse ks) (map_push line_of ls l) ∙ reverse-append (map line_of ls) (line_of l ∷ [])
@@ -82,3 +84,29 @@ pub back_one : {X : Type 0} (xs : List X) (k : ℕ) (x : X) → 0 < k → k ≤ 
 back_one xs k x pos le e =
     let up : (k - 1) + 1 ≡ k = omega arith in
     drop_more xs (k - 1) x (omega arith) ∙ ap (λ y. y ∷ drop ((k - 1) + 1) xs) (sym e) ∙ ap (λ n. x ∷ drop n xs) up
+
+front_is : (b x : ℕ) (m : Maker) (s : Made) (l : List Spot) (r : Bool) → l ≡ listed m.wants.lists.items x → r ≡ has_front m.block l → Stands b m s → r ≡ has_front b (s.wants x)
+front_is b x m s l r el er st = er ∙ ap (λ c. has_front c l) st.block ∙ ap (has_front b) (el ∙ ap (λ (w : Wants). w x) st.wants)
+
+pub renewed : (b x : ℕ) (m n : Maker) (s : Made) (l : List Spot) (r : Bool) → l ≡ listed m.wants.lists.items x → r ≡ has_front m.block l → r ≡ true → Stands b m s → Stands b n (gather b x s) → Stands b n (renew b (x ∷ []) s)
+renewed b x m n s l r el er t st end = subst (λ z. Stands b n (cond z (gather b x s) s)) (sym t ∙ front_is b x m s l r el er st) end
+
+pub not_renewed : (b x : ℕ) (m : Maker) (s : Made) (l : List Spot) (r : Bool) → l ≡ listed m.wants.lists.items x → r ≡ has_front m.block l → r ≡ false → Stands b m s → Stands b m (renew b (x ∷ []) s)
+not_renewed b x m s l r el er t st = subst (λ z. Stands b m (cond z (gather b x s) s)) (sym t ∙ front_is b x m s l r el er st) st
+
+pub renew_push : (b : ℕ) (xs : List ℕ) (x : ℕ) (s : Made) → renew b (xs ++ x ∷ []) s ≡ renew b (x ∷ []) (renew b xs s)
+renew_push b [] x s = refl
+renew_push b (y ∷ xs) x s = renew_push b xs x (cond (has_front b (s.wants y)) (gather b y s) s)
+
+pub begun_first : (b : ℕ) (p : Plan) (n : Maker) (s : Made) → p.first ≡ true → Stands b n (advances b p.entries (renew b p.entries s)) → Stands b n (begun b p s)
+begun_first b p n s e st = subst (λ z. Stands b n (cond z (advances b p.entries (renew b p.entries s)) (cond p.joined (emit b pulse Merge (pulse ∷ []) s) s))) (sym e) st
+
+pub begun_other : (b : ℕ) (p : Plan) (n : Maker) (s : Made) (r : Bool) → p.first ≡ false → p.joined ≡ r → Stands b n (cond r (emit b pulse Merge (pulse ∷ []) s) s) → Stands b n (begun b p s)
+begun_other b p n s r e f st =
+    subst (λ z. Stands b n (cond z (advances b p.entries (renew b p.entries s)) (cond p.joined (emit b pulse Merge (pulse ∷ []) s) s))) (sym e)
+      (subst (λ z. Stands b n (cond z (emit b pulse Merge (pulse ∷ []) s) s)) (sym f) st)
+
+pub back_number : (xs : List ℕ) (k : ℕ) → 0 < k → k ≤ length xs → drop (k - 1) xs ≡ get_or xs (k - 1) 0 ∷ drop k xs
+back_number xs k pos le =
+    let up : (k - 1) + 1 ≡ k = omega arith in
+    drop_more xs (k - 1) 0 (omega arith) ∙ ap (λ n. get_or xs (k - 1) 0 ∷ drop n xs) up

@@ -93,11 +93,20 @@ impl Maker {
             Stands b self.new (renew b entries.now s)) }
     {
         for name in entries {
-            if has_front(self.wants.list(*name), self.block) {
-                self.gather(alloc, *name)?;
-            }
+            self.renew_one(alloc, *name)?;
         }
         Ok(())
+    }
+
+    fn renew_one(&mut self, alloc: Global, name: usize) -> Result<(), NoMemory>
+        ensures { OnOk result ((b : ℕ) (s : Made) → Stands b self.old s →
+            Stands b self.new (renew b (name ∷ []) s)) }
+    {
+        if has_front(self.wants.list(name), self.block) {
+            self.gather(alloc, name)
+        } else {
+            Ok(())
+        }
     }
 
     fn advance(&mut self, alloc: Global, entries: &[usize]) -> Result<(), NoMemory>
