@@ -75,3 +75,4 @@ mod Costs
 mod Listed
 mod Making
 mod Hanging
+mod Keepings

@@ -1,6 +1,7 @@
 pub mod Waits
 pub mod Wire
 pub mod Tables
+pub mod Kept
 pub mod Plans
 pub mod Gen
 pub mod Drawn

@@ -6,7 +6,9 @@
 
 mod body;
 mod exits;
+mod fork;
 mod frame;
+mod kept;
 mod laws;
 mod maker;
 mod operations;

@@ -68,7 +68,12 @@ impl Table {
         Ok(())
     }
 
-    fn add(&mut self, alloc: Global, name: usize, spot: Spot) -> Result<(), NoMemory>
+    pub(crate) fn add(
+        &mut self,
+        alloc: Global,
+        name: usize,
+        spot: Spot,
+    ) -> Result<(), NoMemory>
         ensures { OnOk result (◌≡◌ {A = Wants} (listed self.new.lists.items)
             (with_wants (listed self.old.lists.items) name
                 (spot ∷ listed self.old.lists.items name))) }
