@@ -76,3 +76,4 @@ mod Listed
 mod Making
 mod Hanging
 mod Keepings
+mod Framed

@@ -4,6 +4,8 @@
 //! is wanted, and a branch steers a name exactly where its two arms want it in different places.
 #![tactic(auto)]
 
+mod at_start;
+mod block;
 mod body;
 mod exits;
 mod fork;
