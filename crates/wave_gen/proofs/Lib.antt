@@ -77,3 +77,5 @@ mod Making
 mod Hanging
 mod Keepings
 mod Framed
+mod Numberings
+pub mod LeadingAhead

@@ -21,7 +21,8 @@ pub(crate) fn make_blocks(
 ) -> Result<Vec<Kept>, NoMemory>
     requires { (b : ℕ) → LeadsAhead (map view.plan plans.now) b
         (plan_at (map view.plan plans.now) b).exit }
-    ensures { IfOk result (λ kept. AreKept width (map view.plan plans.now) 1
+    ensures count { IfOk result (λ kept. length kept.items ≡ length plans.now) }
+    ensures kept { IfOk result (λ kept. AreKept width (map view.plan plans.now) 1
         (reverse kept.items) (mades width (map view.plan plans.now))) }
 {
     let mut kept = Vec::new(alloc);

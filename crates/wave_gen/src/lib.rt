@@ -7,12 +7,14 @@
 mod at_start;
 mod block;
 mod body;
+mod draft;
 mod exits;
 mod fork;
 mod frame;
 mod kept;
 mod laws;
 mod maker;
+mod numbering;
 mod operations;
 mod order;
 mod plan;
