@@ -79,3 +79,10 @@ mod Counts
 mod Sharing
 mod Fresh
 mod Sharers
+mod Listed
+mod Making
+mod Hanging
+mod Keepings
+mod Framed
+mod Numberings
+pub mod LeadingAhead

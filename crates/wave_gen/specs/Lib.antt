@@ -1,5 +1,8 @@
 pub mod Waits
 pub mod Wire
+pub mod Tables
+pub mod Kept
+pub mod Numbered
 pub mod Plans
 pub mod Gen
 pub mod Drawn

@@ -5,15 +5,26 @@
 #![tactic(auto)]
 
 mod arrays;
+mod at_start;
+mod block;
 mod body;
+mod draft;
 mod exits;
+mod fork;
+mod frame;
+mod kept;
 mod laws;
+mod maker;
 mod marks;
+mod numbering;
 mod operations;
 mod order;
 mod plan;
 mod plans;
 mod share;
+mod spot;
+mod table;
+mod tails;
 mod values;
 
 pub use laws::graph_drafts_keep;
