@@ -1,17 +1,17 @@
 -- Where blocks start, and how they end.
-use Rattle.std.proofs.Common.{ℕ, zero, suc, ◌+◌, ◌-◌, ◌≡◌, ◌<◌, ◌≤◌, Bool, true, false, cond, List, [], ◌∷◌, ◌++◌, length, map, reverse, drop, get_or, refl, sym, ap, ◌∙◌, subst, inl, inr, arith}
-use Rattle.std.proofs.lemmas.Bool.{cases_Bool, cases_lt}
+use Rattle.std.proofs.Common.{ℕ, zero, suc, ◌+◌, ◌-◌, ◌≡◌, ◌<◌, ◌≤◌, true, false, cond, List, [], ◌∷◌, ◌++◌, length, map, reverse, drop, get_or, refl, sym, ap, ◌∙◌, subst, inl, inr, arith}
+use Rattle.std.proofs.lemmas.Bool.{cases_Bool}
 use Rattle.std.proofs.lemmas.List.{drop_more, reverse-append, length-reverse, get_or-reverse}
 use Rattle.ws_isa.specs.Image.{nth, or_else}
 use Rattle.wave_gen.specs.declared.plan.Plan as code
 use Rattle.wave_gen.specs.declared.kept.Kept.{Kept}
 use Rattle.wave_gen.specs.Wire.{Spot, Front, Wants, no_wants, Made, with_wants, wire}
 use Rattle.wave_gen.specs.View as view
-use Rattle.wave_gen.specs.Plans.{Leaves, Onto, Either, Lands, Halts, Plan, Tail, steers, steered, past, selected, tails_of, end_wants, behind_source, exit_made, body_made, block_made, fronts, no_plan, no_made, plan_at, start_of, blocks_from, mades, made_at, starts_at}
+use Rattle.wave_gen.specs.Plans.{Leaves, Onto, Either, Lands, Halts, Plan, steers, steered, past, selected, tails_of, end_wants, behind_source, exit_made, block_made, fronts, no_plan, no_made, plan_at, start_of, blocks_from, mades, made_at, starts_at}
 use Rattle.wave_gen.specs.declared.spot.Line.{Line}
 use Rattle.wave_gen.specs.declared.maker.Maker.{Maker}
 use Rattle.wave_gen.specs.Tables.{listed, line_of, behind_of, Stands, leaves_made, begun}
-use Rattle.wave_gen.specs.Kept.{wanted, behind_at, IsKept, AreKept, KeptBehind, Ahead, LeadsAhead}
+use Rattle.wave_gen.specs.Kept.{wanted, IsKept, AreKept, KeptBehind, Ahead, LeadsAhead}
 
 nth_plan : (ps : List code.Plan) (k : ℕ) (p : code.Plan) → k < length ps → p ≡ get_or ps k p → or_else (nth (map view.plan ps) k) no_plan ≡ view.plan p
 nth_plan [] k p lt e = absurd (omega arith)
@@ -45,9 +45,9 @@ front_more b k xs w v l d pos le ew el ev =
     let also : suc (k - 1) ≡ k = omega arith in
     let y = get_or xs (k - 1) d in
     subst (λ (ys : List ℕ). ◌≡◌ {A = Wants} v (fronts b (k - 1) ys)) (sym (drop_more xs (k - 1) d (omega arith)))
-      (ev ∙ ap (λ (z : List Spot). with_wants w y z) el ∙ ap (λ (z : Wants). with_wants z y (Front b (k - 1) ∷ [])) ew
-        ∙ ap (λ n. with_wants (fronts b n (drop k xs)) y (Front b (k - 1) ∷ [])) (sym also)
-        ∙ ap (λ n. with_wants (fronts b (suc (k - 1)) (drop n xs)) y (Front b (k - 1) ∷ [])) (sym up))
+    (ev ∙ ap (λ (z : List Spot). with_wants w y z) el ∙ ap (λ (z : Wants). with_wants z y (Front b (k - 1) ∷ [])) ew
+    ∙ ap (λ n. with_wants (fronts b n (drop k xs)) y (Front b (k - 1) ∷ [])) (sym also)
+    ∙ ap (λ n. with_wants (fronts b (suc (k - 1)) (drop n xs)) y (Front b (k - 1) ∷ [])) (sym up))
 
 pub start_first : (all : List Plan) (n : ℕ) (later : List Made) (c : ℕ) (xs : List ℕ) → (plan_at all c).first ≡ true → (plan_at all c).entries ≡ xs → ◌≡◌ {A = Wants} (fronts c 0 xs) (start_of all n later c)
 start_first all n later c xs e ex = ap (fronts c 0) (sym ex) ∙ sym (ap (λ z. cond z (fronts c 0 (plan_at all c).entries) (or_else (nth later (c - n)) no_made).wants) e)
@@ -148,8 +148,8 @@ module _ (width : ℕ) (ps : List Plan) where
   block_kept b p k m e a st ec ew eb =
       let starts = start_of ps (suc b) (Behind b) in
       let made : Stands b m (block_made width starts b (plan_at ps b)) =
-        subst (λ (q : Plan). Stands b m (block_made width starts b q)) e
-          (subst (λ (s : Made). Stands b m (begun b p (wire b p.items s))) (left_is width b starts p p.exit) st) in
+      subst (λ (q : Plan). Stands b m (block_made width starts b q)) e
+      (subst (λ (s : Made). Stands b m (begun b p (wire b p.items s))) (left_is width b starts p p.exit) st) in
       record {
         code = ap (λ (ls : List Line). reverse (map line_of ls)) ec ∙ made.code;
         wants = ew ∙ made.wants;
@@ -161,8 +161,8 @@ module _ (width : ℕ) (ps : List Plan) where
       → IsKept width ps b k (block_made width (start_of ps (suc b) (blocks_from width ps (suc b) (drop b ps))) b (plan_at ps b)) → KeptBehind width ps l (ks ++ k ∷ [])
   kept_more l b ks k e le h here =
       subst (λ (xs : List Kept). AreKept width ps (suc l) xs (Behind l)) (sym (reverse-append ks (k ∷ [])))
-        (subst (λ (qs : List Plan). AreKept width ps (suc l) (k ∷ reverse ks) (blocks_from width ps (suc l) qs)) (sym (drop_plan ps l (omega arith)))
-          (subst (λ n. IsKept width ps n k (block_made width (start_of ps (suc n) (blocks_from width ps (suc n) (drop n ps))) n (plan_at ps n)) × AreKept width ps (suc n) (reverse ks) (blocks_from width ps (suc n) (drop n ps))) e (here, h)))
+      (subst (λ (qs : List Plan). AreKept width ps (suc l) (k ∷ reverse ks) (blocks_from width ps (suc l) qs)) (sym (drop_plan ps l (omega arith)))
+      (subst (λ n. IsKept width ps n k (block_made width (start_of ps (suc n) (blocks_from width ps (suc n) (drop n ps))) n (plan_at ps n)) × AreKept width ps (suc n) (reverse ks) (blocks_from width ps (suc n) (drop n ps))) e (here, h)))
 
   pub all_kept : (n : ℕ) (ks : List Kept) → n ≡ 0 → KeptBehind width ps n ks → AreKept width ps 1 (reverse ks) (mades width ps)
   unfolding mades

@@ -1,8 +1,8 @@
 -- The selector's names among the tails, counted from the first one.
-use Rattle.std.proofs.Common.{ℕ, zero, suc, ◌+◌, ◌-◌, ◌*◌, ◌/◌, ◌%◌, ◌≡◌, ◌<◌, ◌≤◌, List, [], ◌∷◌, ◌++◌, length, map, refl, sym, ap, ◌∙◌, subst, arith}
+use Rattle.std.proofs.Common.{ℕ, zero, suc, ◌+◌, ◌-◌, ◌*◌, ◌/◌, ◌≡◌, ◌≤◌, List, [], ◌∷◌, length, refl, sym, ap, ◌∙◌, arith}
 use Rattle.ws_isa.specs.declared.instr.Op.{Op}
 use Rattle.ws_isa.specs.declared.instr.Op.TheVariants.{Merge, Send}
-use Rattle.wave_gen.specs.Wire.{Wants, Made, Item, Make, wire_item, wire}
+use Rattle.wave_gen.specs.Wire.{Wants, Made, Make, wire_item, wire}
 use Rattle.wave_gen.specs.Plans.{Tail, operands_of, hung, hang, more, chain, selected}
 use Rattle.wave_gen.specs.Tables.{bare, hangs}
 

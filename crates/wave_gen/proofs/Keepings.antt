@@ -1,18 +1,16 @@
 -- What is kept of a table is what the table wants, and which names are steered.
 use Rattle.std.proofs.Common.{ℕ, zero, suc, ◌+◌, ◌-◌, ◌≡◌, ◌<◌, ◌≤◌, ◌||◌, ◌&&◌, Bool, true, false, cond, eqb, List, [], ◌∷◌, ◌++◌, length, map, reverse, drop, get_or, refl, sym, ap, ◌∙◌, subst, inl, inr, arith, eq-eqb, ne_eqb}
 use Rattle.std.proofs.lemmas.Bool.{cases_eq, cases_lt}
-use Rattle.std.proofs.lemmas.List.{drop_more, append_assoc, append-nil, map_push, map-append, reverse-append}
-use Rattle.std.specs.Prelude.{Vec}
+use Rattle.std.proofs.lemmas.List.{drop_more, append-nil, map_push, map-append, reverse-append}
 use Rattle.ws_isa.specs.declared.instr.Op.TheVariants.{Steer}
 use Rattle.wave_gen.specs.declared.spot.Line.{Line}
 use Rattle.wave_gen.specs.declared.kept.Want.{Want}
 use Rattle.wave_gen.specs.declared.tails.Tail.{Tail}
 use Rattle.wave_gen.specs.declared.fork.Arms.{Arms}
-use Rattle.wave_gen.specs.Wire as plain
 use Rattle.wave_gen.specs.Wire.{Spot, Wants, with_wants}
 use Rattle.wave_gen.specs.Plans as plans
 use Rattle.wave_gen.specs.Plans.{same_spot, same_spots, differing, is_among, past, steer_of, steers}
-use Rattle.wave_gen.specs.Tables.{listed, line_of, tail_of}
+use Rattle.wave_gen.specs.Tables.{listed, tail_of}
 use Rattle.wave_gen.specs.Kept.{wanted, wants_of, wants_below, Forked}
 use Rattle.wave_gen.proofs.Listed.{Lists, list_past}
 
@@ -89,10 +87,10 @@ forked_more x xs w v f g l free op ed eo es en et was =
     let steer : tail_of t ≡ steer_of w v x = λ i. record { held = x; line = record { op = op i; dests = dests i; others = others i } } in
     record {
       tails = ap (λ (us : List Tail). reverse (map tail_of us)) et
-        ∙ ap (λ (us : List plans.Tail). reverse us) (map_push tail_of ts t)
-        ∙ reverse-append (map tail_of ts) (tail_of t ∷ [])
-        ∙ ap (λ (us : List plans.Tail). tail_of t ∷ us) was.tails
-        ∙ ap (λ (u : plans.Tail). u ∷ steers w v xs) steer;
+          ∙ ap (λ (us : List plans.Tail). reverse us) (map_push tail_of ts t)
+          ∙ reverse-append (map tail_of ts) (tail_of t ∷ [])
+          ∙ ap (λ (us : List plans.Tail). tail_of t ∷ us) was.tails
+          ∙ ap (λ (u : plans.Tail). u ∷ steers w v xs) steer;
       some = past_more x xs w (listed f.some.lists.items) (listed g.some.lists.items) was.some es;
       none = past_more x xs v (listed f.none.lists.items) (listed g.none.lists.items) was.none en;
     }

@@ -23,9 +23,9 @@ rest_stands b m n s l back from eb ec ek ew st = record {
   block = eb ∙ st.block;
   code = ap (λ (ls : List Line). reverse (map line_of ls)) ec ∙ code_push m.code.items l ∙ ap (λ (ls : List plain.Line). line_of l ∷ ls) st.code;
   wants = ew
-    ∙ ap (λ (w : Wants). with_uses m.block back 0 from w) st.wants
-    ∙ ap (λ c. with_uses c back 0 from s.wants) st.block
-    ∙ ap (λ k. with_uses b k 0 from s.wants) (ek ∙ code_length b m s st);
+      ∙ ap (λ (w : Wants). with_uses m.block back 0 from w) st.wants
+      ∙ ap (λ c. with_uses c back 0 from s.wants) st.block
+      ∙ ap (λ k. with_uses b k 0 from s.wants) (ek ∙ code_length b m s st);
 }
 
 -- without what is wanted of x
@@ -43,7 +43,7 @@ emit_stands b x op from m k n s l eb ec ew eo ed eq step st =
     } in
     let end = step (emptied x s) mid in
     let same : line_of l ≡ record { op = op; dests = s.wants x; others = [] } =
-        λ i. record { op = eo i; dests = (ed ∙ ap (λ (w : Wants). w x) st.wants) i; others = eq i } in
+    λ i. record { op = eo i; dests = (ed ∙ ap (λ (w : Wants). w x) st.wants) i; others = eq i } in
     record { block = end.block; code = end.code ∙ ap (λ (z : plain.Line). z ∷ s.code) same; wants = end.wants }
 
 full_is : (b n x : ℕ) (m : Maker) (s : Made) (r : Bool) → r ≡ ltb most (length (listed m.wants.lists.items x) + n) → Stands b m s → r ≡ ltb most (length (s.wants x) + n)
@@ -104,7 +104,7 @@ begun_first b p n s e st = subst (λ z. Stands b n (cond z (advances b p.entries
 pub begun_other : (b : ℕ) (p : Plan) (n : Maker) (s : Made) (r : Bool) → p.first ≡ false → p.joined ≡ r → Stands b n (cond r (emit b pulse Merge (pulse ∷ []) s) s) → Stands b n (begun b p s)
 begun_other b p n s r e f st =
     subst (λ z. Stands b n (cond z (advances b p.entries (renew b p.entries s)) (cond p.joined (emit b pulse Merge (pulse ∷ []) s) s))) (sym e)
-      (subst (λ z. Stands b n (cond z (emit b pulse Merge (pulse ∷ []) s) s)) (sym f) st)
+    (subst (λ z. Stands b n (cond z (emit b pulse Merge (pulse ∷ []) s) s)) (sym f) st)
 
 pub back_number : (xs : List ℕ) (k : ℕ) → 0 < k → k ≤ length xs → drop (k - 1) xs ≡ get_or xs (k - 1) 0 ∷ drop k xs
 back_number xs k pos le =

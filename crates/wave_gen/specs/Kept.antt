@@ -1,12 +1,12 @@
 -- What is kept of blocks that are made.
-use Rattle.std.specs.Prelude.{ℕ, zero, suc, ◌≡◌, ◌<◌, Bool, false, List, [], ◌∷◌, ◌++◌, drop, map, reverse}
+use Rattle.std.specs.Prelude.{ℕ, zero, suc, ◌≡◌, ◌<◌, false, List, [], ◌∷◌, ◌++◌, drop, map, reverse}
 use Rattle.wave_gen.specs.declared.kept.Want.{Want}
 use Rattle.wave_gen.specs.declared.kept.Kept.{Kept}
 use Rattle.wave_gen.specs.declared.fork.Arms.{Arms}
 use Rattle.wave_gen.specs.declared.fork.Ending.{Ending}
-use Rattle.wave_gen.specs.Wire as plain
-use Rattle.wave_gen.specs.Wire.{Spot, Wants, Made, no_wants, with_wants}
-use Rattle.wave_gen.specs.Plans.{Leaves, Onto, Either, Lands, Halts, Plan, plan_at, behind_source, starts_at, start_of, blocks_from, steers, past, tails_of, end_wants}
+use Rattle.wave_gen.specs.Wire.{Spot, Wants, Made, with_wants}
+use Rattle.wave_gen.specs.Plans.{Leaves, Onto, Either, Plan, plan_at, behind_source, starts_at}
+use Rattle.wave_gen.specs.Plans.{blocks_from, steers, past, tails_of, end_wants}
 use Rattle.wave_gen.specs.Tables.{listed, line_of, tail_of, behind_of}
 
 -- the lists of names, entry by entry
@@ -25,7 +25,8 @@ wants_below w (suc n) = wants_below w n ++ wants_of n (w n)
 
 -- how many instructions of block b stand behind the one by which its edge is chosen
 abbrev pub behind_at : ℕ → List Plan → ℕ → ℕ
-behind_at width ps b = behind_of b (plan_at ps b).exit (behind_source width (starts_at width ps) b (plan_at ps b))
+behind_at width ps b =
+    behind_of b (plan_at ps b).exit (behind_source width (starts_at width ps) b (plan_at ps b))
 
 pub record IsKept (width : ℕ) (ps : List Plan) (b : ℕ) (k : Kept) (s : Made) : Type 0 where
   pub code : reverse (map line_of k.code.items) ≡ s.code
@@ -40,7 +41,8 @@ AreKept width ps b _ _ = ⊥
 
 -- the blocks behind b, kept from the last one to the first
 abbrev pub KeptBehind : ℕ → List Plan → ℕ → List Kept → Type 0
-KeptBehind width ps b ks = AreKept width ps (suc b) (reverse ks) (blocks_from width ps (suc b) (drop b ps))
+KeptBehind width ps b ks =
+    AreKept width ps (suc b) (reverse ks) (blocks_from width ps (suc b) (drop b ps))
 
 -- these names are steered, and wanted at neither arm any more
 pub record Forked (w v : Wants) (xs : List ℕ) (f : Arms) : Type 0 where

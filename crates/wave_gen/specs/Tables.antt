@@ -1,4 +1,5 @@
--- What the code keeps while a block is made: its instructions from the last to the first, and what is wanted by name.
+-- What the code keeps while a block is made: its instructions from the last to the first, and what
+-- is wanted by name.
 use Rattle.std.specs.Prelude.{ℕ, zero, suc, ◌+◌, ◌/◌, ◌≡◌, cond, List, [], ◌∷◌, length, map, reverse, Vec}
 use Rattle.std.specs.declared.alloc.Global.{Global}
 use Rattle.wave_gen.specs.declared.spot.Line.{Line}
@@ -8,7 +9,8 @@ use Rattle.wave_gen.specs.Wire.{Spot, Wants, Made, emit, rest, make, with_rooms}
 use Rattle.ws_isa.specs.declared.instr.Op.TheVariants.{Merge, Halt}
 use Rattle.wave_gen.specs.declared.tails.Tail.{Tail}
 use Rattle.wave_gen.specs.Plans as plans
-use Rattle.wave_gen.specs.Plans.{Leaves, Onto, Either, Lands, Halts, Plan, pulse, hung, operands_needed, advances, renew}
+use Rattle.wave_gen.specs.Plans.{Leaves, Onto, Either, Lands, Halts, Plan, pulse, hung}
+use Rattle.wave_gen.specs.Plans.{operands_needed, advances, renew}
 
 -- the lists of the first names; those beyond want nothing
 abbrev pub listed : List (Vec Spot Global) → Wants
@@ -46,8 +48,10 @@ leaves_made b z Halts s = rest b (record { op = Halt; dests = []; others = [] })
 
 -- how many instructions stand behind the one by which an edge is chosen
 abbrev pub behind_of : ℕ → Leaves → Made → ℕ
-behind_of b exit s = length (with_rooms b (length (operands_needed exit)) (operands_needed exit) s).code
+behind_of b exit s =
+    length (with_rooms b (length (operands_needed exit)) (operands_needed exit) s).code
 
 -- the front of a block, before s
 abbrev pub begun : ℕ → Plan → Made → Made
-begun b p s = cond p.first (advances b p.entries (renew b p.entries s)) (cond p.joined (emit b pulse Merge (pulse ∷ []) s) s)
+begun b p s = cond p.first (advances b p.entries (renew b p.entries s))
+    (cond p.joined (emit b pulse Merge (pulse ∷ []) s) s)

@@ -1,6 +1,6 @@
 //! What is wanted at the starts of blocks, and what an exit sends there.
 
-ghost use Rattle.std.specs.Prelude.{◌≡◌, ◌≤◌, ◌<◌, ◌+◌, ◌-◌, ℕ, suc, IfOk, Bool, true, List, length, map, reverse};
+ghost use Rattle.std.specs.Prelude.{◌≡◌, ◌≤◌, ◌<◌, ◌-◌, ℕ, suc, IfOk, true, List, length, map, reverse};
 ghost use Rattle.wave_gen.specs.Wire.{Wants, Made};
 ghost use Rattle.wave_gen.specs.Plans.{plan_at, fronts, start_of};
 ghost use Rattle.wave_gen.specs.View as view;
@@ -28,7 +28,7 @@ pub(crate) fn ending(
     ensures { IfOk result (λ ending. (b : ℕ) (later : List Made) →
         AreKept width (map view.plan plans.now) b (reverse kept.now) later →
         EndingIs width (start_of (map view.plan plans.now) (suc block) later)
-            (view.leaves exit.now) ending) }
+        (view.leaves exit.now) ending) }
 {
     match exit {
         Leaves::Onto(c) => {
@@ -65,7 +65,7 @@ fn start(
     ensures { IfOk result (λ table. (b : ℕ) (later : List Made) →
         AreKept width (map view.plan plans.now) b (reverse kept.now) later →
         ◌≡◌ {A = Wants} (listed table.lists.items)
-            (start_of (map view.plan plans.now) (suc block) later target)) }
+        (start_of (map view.plan plans.now) (suc block) later target)) }
 {
     if is_first(plans, target) {
         return fronts(alloc, target, &plans[target - 1].entries);

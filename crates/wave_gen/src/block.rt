@@ -1,6 +1,6 @@
 //! Blocks, made from the last one to the first.
 
-ghost use Rattle.std.specs.Prelude.{◌≡◌, ◌≤◌, ◌<◌, ◌+◌, ◌-◌, ℕ, suc, IfOk, length, map, reverse, drop};
+ghost use Rattle.std.specs.Prelude.{◌≡◌, ◌≤◌, ◌<◌, ◌-◌, ℕ, suc, IfOk, length, map, reverse, drop};
 ghost use Rattle.wave_gen.specs.Plans.{plan_at, start_of, blocks_from, block_made, mades};
 ghost use Rattle.wave_gen.specs.View as view;
 ghost use Rattle.wave_gen.specs.Kept.{IsKept, AreKept, KeptBehind, LeadsAhead};
@@ -47,12 +47,12 @@ fn make_block(
     requires there { block ≤ length plans.now }
     ensures { IfOk result (λ made. KeptBehind width (map view.plan plans.now) block kept.now →
         LeadsAhead (map view.plan plans.now) block
-            (plan_at (map view.plan plans.now) block).exit →
+        (plan_at (map view.plan plans.now) block).exit →
         IsKept width (map view.plan plans.now) block made
-            (block_made width (start_of (map view.plan plans.now) (suc block)
-            (blocks_from width (map view.plan plans.now) (suc block)
-            (drop block (map view.plan plans.now)))) block
-            (plan_at (map view.plan plans.now) block))) }
+        (block_made width (start_of (map view.plan plans.now) (suc block)
+        (blocks_from width (map view.plan plans.now) (suc block)
+        (drop block (map view.plan plans.now)))) block
+        (plan_at (map view.plan plans.now) block))) }
 {
     let plan = &plans[block - 1];
     let Ending { tails, past } = ending(alloc, width, plans, kept, block, &plan.exit)?;

@@ -1,6 +1,6 @@
 //! From plans of blocks to a draft.
 
-ghost use Rattle.std.specs.Prelude.{◌≡◌, ◌∷◌, ◌+◌, ◌-◌, [], ℕ, suc, IfOk, length, map, reverse};
+ghost use Rattle.std.specs.Prelude.{◌≡◌, ◌+◌, ◌-◌, ℕ, IfOk, length, map, reverse};
 ghost use Rattle.ws_isa.specs.View as isa;
 ghost use Rattle.wave_gen.specs.Plans.{plan_at, pads_of, exit_of, mades, blocks_of, draft_of};
 ghost use Rattle.wave_gen.specs.View as view;
@@ -46,10 +46,10 @@ fn number_blocks(
     requires { length kept.now ≡ length plans.now }
     ensures { IfOk result (λ blocks. (width : ℕ) →
         AreKept width (map view.plan plans.now) 1 (reverse kept.now)
-            (mades width (map view.plan plans.now)) →
+        (mades width (map view.plan plans.now)) →
         numbers.now ≡ numbers_from 1 (reverse kept.now) →
         map isa.block blocks.items ≡
-            blocks_of width (map view.plan plans.now) 1 (length plans.now)) }
+        blocks_of width (map view.plan plans.now) 1 (length plans.now)) }
 {
     let mut blocks = Vec::new(alloc);
     for place in 0..plans.len() {

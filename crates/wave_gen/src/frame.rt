@@ -1,6 +1,6 @@
 //! What stands around the items of a block: the choice of its edge, and its front.
 
-ghost use Rattle.std.specs.Prelude.{◌≡◌, ◌∷◌, ◌+◌, ◌-◌, ◌/◌, [], ℕ, OnOk, IfOk, length, map};
+ghost use Rattle.std.specs.Prelude.{◌≡◌, ◌∷◌, ◌-◌, ◌/◌, [], ℕ, OnOk, IfOk, length};
 ghost use Rattle.wave_gen.specs.Wire.{Made, Spot, make, with_rooms};
 ghost use Rattle.wave_gen.specs.Plans.{has_front, renew, advances};
 ghost use Rattle.wave_gen.specs.View as view;

@@ -2,7 +2,8 @@
 
 ghost use Rattle.std.specs.Prelude.{◌≡◌, ◌+◌, ℕ, OnOk, length, ltb, ◌&&◌, not, map};
 ghost use Rattle.wave_gen.specs.Tables.{Stands, listed, line_of};
-ghost use Rattle.wave_gen.specs.Wire.{Made, most, emit, rest, gather, with_room, with_rooms, make, alias, copy, is_nil, Make, Act, wire_item, wire};
+ghost use Rattle.wave_gen.specs.Wire.{Made, most, emit, rest, gather, with_room, with_rooms};
+ghost use Rattle.wave_gen.specs.Wire.{make, alias, copy, is_nil, Make, Act, wire_item, wire};
 ghost use Rattle.ws_isa.specs.Image.{is_memory_op};
 ghost use Rattle.wave_gen.specs.View as view;
 
@@ -26,12 +27,7 @@ const MOST: usize = 7;
 
 impl Maker {
     /// One more instruction in front.
-    pub(crate) fn rest(
-        &mut self,
-        alloc: Global,
-        line: Line,
-        from: &[usize],
-    ) -> Result<(), NoMemory>
+    pub(crate) fn rest(&mut self, alloc: Global, line: Line, from: &[usize]) -> Result<(), NoMemory>
         ensures { OnOk result ((b : ℕ) (s : Made) → Stands b self.old s →
             Stands b self.new (rest b (line_of line) from.now s)) }
     {
@@ -110,12 +106,7 @@ impl Maker {
     }
 
     /// A name takes the value of another one.
-    pub(crate) fn alias(
-        &mut self,
-        alloc: Global,
-        name: usize,
-        other: usize,
-    ) -> Result<(), NoMemory>
+    pub(crate) fn alias(&mut self, alloc: Global, name: usize, other: usize) -> Result<(), NoMemory>
         ensures { OnOk result ((b : ℕ) (s : Made) → Stands b self.old s →
             Stands b self.new (alias b name other s)) }
     {

@@ -1,6 +1,6 @@
 //! Spots and lines with the numbers of instructions.
 
-ghost use Rattle.std.specs.Prelude.{◌≡◌, ◌∷◌, ◌+◌, ◌-◌, [], suc, IfOk, length, map, reverse};
+ghost use Rattle.std.specs.Prelude.{◌≡◌, ◌-◌, suc, IfOk, map, reverse};
 ghost use Rattle.ws_isa.specs.View as isa;
 ghost use Rattle.wave_gen.specs.Wire.{dest_of, dests_of};
 ghost use Rattle.wave_gen.specs.Plans.{instr_of};
@@ -43,11 +43,7 @@ pub(crate) fn number(numbers: &[usize], block: usize) -> usize
 }
 
 /// The number of the instruction of a block with so many of the block behind it.
-pub(crate) fn number_back(
-    numbers: &[usize],
-    block: usize,
-    back: usize,
-) -> Result<usize, NoMemory>
+pub(crate) fn number_back(numbers: &[usize], block: usize, back: usize) -> Result<usize, NoMemory>
     ensures { IfOk result (λ n. n ≡ number_at numbers.now (suc block) - suc back) }
 {
     match block.checked_add(1) {
@@ -86,11 +82,7 @@ fn dest(numbers: &[usize], spot: Spot) -> Result<Dest, NoMemory>
     }
 }
 
-pub(crate) fn dests(
-    alloc: Global,
-    numbers: &[usize],
-    spots: &[Spot],
-) -> Result<Dests, NoMemory>
+pub(crate) fn dests(alloc: Global, numbers: &[usize], spots: &[Spot]) -> Result<Dests, NoMemory>
     ensures { IfOk result (λ dests. dests.items ≡
         dests_of (number_at numbers.now) spots.now) }
 {
@@ -117,11 +109,7 @@ fn instr(alloc: Global, numbers: &[usize], line: &Line) -> Result<Instr, NoMemor
 }
 
 /// A block's instructions in order.
-pub(crate) fn instrs(
-    alloc: Global,
-    numbers: &[usize],
-    code: &[Line],
-) -> Result<Instrs, NoMemory>
+pub(crate) fn instrs(alloc: Global, numbers: &[usize], code: &[Line]) -> Result<Instrs, NoMemory>
     ensures { IfOk result (λ instrs. map isa.instr instrs.items ≡
         map (instr_of (number_at numbers.now)) (reverse (map line_of code.now))) }
 {

@@ -2,7 +2,7 @@
 
 ghost use Rattle.std.specs.Prelude.{◌≡◌, ◌∷◌, ◌<◌, [], OnOk, length};
 ghost use Rattle.wave_gen.specs.Tables.{listed};
-ghost use Rattle.wave_gen.specs.Wire.{Wants, Back, no_wants, with_wants, with_uses, moved};
+ghost use Rattle.wave_gen.specs.Wire.{Wants, no_wants, with_wants, with_uses, moved};
 
 use crate::spot::{Spot, Spots};
 use std::alloc::Global;
@@ -68,15 +68,10 @@ impl Table {
         Ok(())
     }
 
-    pub(crate) fn add(
-        &mut self,
-        alloc: Global,
-        name: usize,
-        spot: Spot,
-    ) -> Result<(), NoMemory>
+    pub(crate) fn add(&mut self, alloc: Global, name: usize, spot: Spot) -> Result<(), NoMemory>
         ensures { OnOk result (◌≡◌ {A = Wants} (listed self.new.lists.items)
             (with_wants (listed self.old.lists.items) name
-                (spot ∷ listed self.old.lists.items name))) }
+            (spot ∷ listed self.old.lists.items name))) }
     {
         let mut list = self.take(alloc, name);
         list.insert(0, spot)?;
@@ -101,12 +96,7 @@ impl Table {
     }
 
     /// What a name wants, another one wants now.
-    pub(crate) fn give(
-        &mut self,
-        alloc: Global,
-        name: usize,
-        other: usize,
-    ) -> Result<(), NoMemory>
+    pub(crate) fn give(&mut self, alloc: Global, name: usize, other: usize) -> Result<(), NoMemory>
         requires { name ≡ other → ⊥ }
         ensures { OnOk result (◌≡◌ {A = Wants} (listed self.new.lists.items)
             (moved name other (listed self.old.lists.items))) }

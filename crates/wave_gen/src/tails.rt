@@ -1,6 +1,6 @@
 //! What is sent along the edge that is taken.
 
-ghost use Rattle.std.specs.Prelude.{◌≡◌, ◌-◌, ◌/◌, ℕ, OnOk, length, map};
+ghost use Rattle.std.specs.Prelude.{◌-◌, ◌/◌, ℕ, OnOk, map};
 ghost use Rattle.wave_gen.specs.Wire.{Made, Wants, wire};
 ghost use Rattle.wave_gen.specs.Plans.{hung, chain, selected};
 ghost use Rattle.wave_gen.specs.Tables.{Stands, bare, tail_of, hangs};
@@ -38,12 +38,7 @@ impl Maker {
     }
 
     // A name beyond what `usize` counts would need a table that fits in no memory.
-    fn hang_all(
-        &mut self,
-        alloc: Global,
-        mut tails: Vec<Tail>,
-        test: usize,
-    ) -> Result<(), NoMemory>
+    fn hang_all(&mut self, alloc: Global, mut tails: Vec<Tail>, test: usize) -> Result<(), NoMemory>
         ensures { OnOk result ((b : ℕ) (s : Made) → Stands b self.old s →
             Stands b self.new (hangs b test 0 (map tail_of tails.items) s)) }
     {

@@ -1,14 +1,13 @@
-use Rattle.std.proofs.Common.{◌≡◌, ◌-◌, ◌∙◌, ℕ, suc, List, [], map, reverse, drop, get_or, refl, sym, ap, subst, arith}
+use Rattle.std.proofs.Common.{◌≡◌, ◌-◌, suc, List, map, reverse, drop, refl, sym, ap, subst, arith}
 use Rattle.wave_gen.specs.declared.plan.Plan as code
 use Rattle.wave_gen.specs.declared.plan.Item.{Item}
 use Rattle.wave_gen.specs.declared.kept.Kept.{Kept}
 use Rattle.wave_gen.specs.declared.maker.Maker.{Maker}
 use Rattle.wave_gen.specs.declared.spot.Line.{Line}
 use Rattle.wave_gen.specs.View as view
-use Rattle.wave_gen.specs.Wire.{Made, wire}
-use Rattle.wave_gen.specs.Plans.{Plan, Tail, plan_at, start_of, blocks_from, selected, end_wants, behind_source}
-use Rattle.wave_gen.specs.Tables.{Stands, bare, line_of, tail_of, leaves_made, begun}
-use Rattle.wave_gen.specs.Kept.{EndingIs}
+use Rattle.wave_gen.specs.Wire.{wire}
+use Rattle.wave_gen.specs.Plans.{Tail, plan_at, start_of, blocks_from, selected, end_wants, behind_source}
+use Rattle.wave_gen.specs.Tables.{Stands, bare, line_of, leaves_made}
 use Rattle.wave_gen.proofs.Framed.{plan_is, block_kept}
 use Rattle.wave_gen.proofs.block.make_block.Goals as goal
 

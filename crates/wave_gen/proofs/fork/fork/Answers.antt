@@ -1,18 +1,18 @@
-use Rattle.std.proofs.Common.{◌≡◌, ◌-◌, map, reverse, List, ap, sym, ◌∙◌, subst, arith}
+use Rattle.std.proofs.Common.{◌-◌, map, List, ap, ◌∙◌, arith}
 use Rattle.wave_gen.specs.declared.tails.Tail.{Tail}
-use Rattle.wave_gen.specs.declared.fork.Arms.{Arms}
-use Rattle.wave_gen.specs.Plans.{differing, pulse, steered}
+use Rattle.wave_gen.specs.Plans.{differing}
 use Rattle.wave_gen.specs.Tables.{listed, tail_of}
-use Rattle.wave_gen.specs.Kept.{Forked}
 use Rattle.wave_gen.proofs.Keepings.{differing_from, forked_next, last_name, map_reverse}
 use Rattle.wave_gen.proofs.fork.fork.Goals as goal
 
 pub loop-name-preserved : goal.loop-name-preserved
 loop-name-preserved c =
-    let w = listed c.args.some.lists.items in let v = listed c.args.none.lists.items in let k = c.loop-name.name in let n = c.args.width in
-    (omega arith, omega arith,
+    let w = listed c.args.some.lists.items in let v = listed c.args.none.lists.items in let k = c.loop-name.name in let n = c.args.width in (
+      omega arith,
+      omega arith,
       forked_next w v n k (k - 1) c.compare.new.self (omega arith) (omega (arith, c.loop-name.invariant.1))
-        (c.in_ok-compare.ensures w v (differing w v k (n - k)) (differing_from w v (k - 1) k (n - k) (omega arith)) c.loop-name.invariant.2))
+          (c.in_ok-compare.ensures w v (differing w v k (n - k)) (differing_from w v (k - 1) k (n - k) (omega arith)) c.loop-name.invariant.2),
+    )
 
 pub returns-clause-tails : goal.returns-clause-tails
 returns-clause-tails c =

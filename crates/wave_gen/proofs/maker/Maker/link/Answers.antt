@@ -1,4 +1,4 @@
-use Rattle.std.proofs.Common.{◌≡◌, ℕ, ◌+◌, ◌-◌, refl, subst, arith}
+use Rattle.std.proofs.Common.{◌+◌, ◌-◌, refl, subst, arith}
 use Rattle.wave_gen.specs.Wire.{Made, wire}
 use Rattle.wave_gen.specs.Plans.{chain}
 use Rattle.wave_gen.specs.Tables.{Stands}
@@ -9,8 +9,8 @@ pub loop-left-preserved : goal.loop-left-preserved
 loop-left-preserved c = (
   omega arith,
   λ b s st.
-    let k = c.loop-left.left in let n = c.args.links in let z = c.args.test in
-    subst (λ (t : Made). Stands b c.wire_make.new.self t) (chain_more b z n k (k - 1) c.in-Some.name (c.in-Some.name - 1) s (omega arith) c.loop-left.invariant.0 (omega (arith, c.in-Some.ensures)) refl)
+      let k = c.loop-left.left in let n = c.args.links in let z = c.args.test in
+      subst (λ (t : Made). Stands b c.wire_make.new.self t) (chain_more b z n k (k - 1) c.in-Some.name (c.in-Some.name - 1) s (omega arith) c.loop-left.invariant.0 (omega (arith, c.in-Some.ensures)) refl)
       (c.in_ok-wire_make.ensures b (wire b (chain (z + k) (n - k)) s) (c.loop-left.invariant.1 b s st)),
 )
 

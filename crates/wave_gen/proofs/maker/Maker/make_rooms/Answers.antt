@@ -1,5 +1,5 @@
-use Rattle.std.proofs.Common.{◌≡◌, ◌+◌, ℕ, List, length, take, slice_index, sym, subst, arith}
-use Rattle.wave_gen.specs.Wire.{Made, with_rooms}
+use Rattle.std.proofs.Common.{ℕ, List, length, take, slice_index, subst}
+use Rattle.wave_gen.specs.Wire.{with_rooms}
 use Rattle.wave_gen.specs.Tables.{Stands}
 use Rattle.std.proofs.lemmas.List.{take_more, take_all}
 use Rattle.wave_gen.proofs.Making.{rooms_push}

@@ -1,4 +1,4 @@
-use Rattle.std.proofs.Common.{◌≡◌, ℕ, List, map, drop, sym, subst, arith}
+use Rattle.std.proofs.Common.{◌≡◌, List, map, drop, sym, subst, arith}
 use Rattle.wave_gen.specs.declared.plan.Item.{Item}
 use Rattle.wave_gen.specs.View as view
 use Rattle.wave_gen.specs.Wire.{wire}
@@ -10,8 +10,8 @@ pub loop-left-preserved : goal.loop-left-preserved
 loop-left-preserved c = (
   omega arith,
   λ b s st.
-    let items = c.args.items.now in let k = c.loop-left.left in
-    subst (λ (is : List Item). Stands b c.wire_item.new.self (wire b (map view.item is) s)) (sym (back_one items k c.index-items-left.result (omega arith) c.loop-left.invariant.0 c.index-items-left.is))
+      let items = c.args.items.now in let k = c.loop-left.left in
+      subst (λ (is : List Item). Stands b c.wire_item.new.self (wire b (map view.item is) s)) (sym (back_one items k c.index-items-left.result (omega arith) c.loop-left.invariant.0 c.index-items-left.is))
       (c.in_ok-wire_item.ensures b (wire b (map view.item (drop k items)) s) (c.loop-left.invariant.1 b s st)),
 )
 
