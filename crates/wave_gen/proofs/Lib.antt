@@ -86,3 +86,5 @@ mod Keepings
 mod Framed
 mod Numberings
 pub mod LeadingAhead
+mod Generated
+mod Counting
