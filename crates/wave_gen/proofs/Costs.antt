@@ -22,7 +22,9 @@ use Rattle.wave_gen.specs.Fitting.{Fits}
 use Rattle.wave_gen.specs.Words.{GraphOfWords, WorldOfWords}
 use Rattle.wave_gen.specs.Cost.{values_sent, quarters, CostsAtMost}
 use Rattle.wave_gen.proofs.Weights.{total, weights}
-use Rattle.wave_gen.proofs.ItemWeights.{weights_append, ops_weight, exit_weight}
+use Rattle.wave_gen.specs.Shared.{shared, none_known}
+use Rattle.wave_gen.proofs.Sharing.{heavies, shared_weigh}
+use Rattle.wave_gen.proofs.ItemWeights.{heavies_append, ops_weight, exit_weight}
 use Rattle.wave_gen.proofs.BlockWeights.{plan_above, block_charge}
 use Rattle.wave_gen.proofs.EdgeWeights.{steered_few, steers_count, sends_count, unwanted, ends_on, ends_stop}
 use Rattle.wave_gen.proofs.DrawnPlans.{WalkFine}
@@ -207,7 +209,7 @@ module _ (g : Graph) (live : ℕ → ℕ → Bool) (cut : Cut) (fit : Fits g liv
   entries_few x false = omega arith
 
   -- past a procedure's variables nobody wants a name
-  nobody : (x a y : ℕ) → x < length (spots g) → a < length (spots g) → (spot_at g a).home ≡ (spot_at g x).home → suc (spot_at g x).vars ≤ y → starts_at (width_of g) (plans_of g live cut) (place_of g cut a) y ≡ []
+  pub nobody : (x a y : ℕ) → x < length (spots g) → a < length (spots g) → (spot_at g a).home ≡ (spot_at g x).home → suc (spot_at g x).vars ≤ y → starts_at (width_of g) (plans_of g live cut) (place_of g cut a) y ≡ []
   nobody x a zero lx la h u = absurd (omega (arith, u))
   nobody x a (suc y) lx la h u = unwanted (arrays_of g) (width_of g) (plans_of g live cut) (λ n z. needed g live cut n z ≡ true) D.plans (place_of g cut a) (suc y) (omega arith, place_there g live cut fit a la)
       (λ i. (let j = to_entry g live cut fit (index_of (listing g cut) a) a (suc y) (at g live cut fit a la) i in
@@ -235,11 +237,11 @@ module _ (g : Graph) (live : ℕ → ℕ → Bool) (cut : Cut) (fit : Fits g liv
       go graph.Stop h = omega arith
 
   -- a number above all names
-  abbrev above_all : ℕ → ℕ
+  abbrev pub above_all : ℕ → ℕ
   above_all zero = 0
   above_all (suc b) = plan_above (width_of g) (starts_at (width_of g) (plans_of g live cut)) (plan_at (plans_of g live cut) (suc b)) + above_all b
 
-  covers : (k b : ℕ) → 1 ≤ b → b ≤ k → plan_above (width_of g) (starts_at (width_of g) (plans_of g live cut)) (plan_at (plans_of g live cut) b) ≤ above_all k
+  pub covers : (k b : ℕ) → 1 ≤ b → b ≤ k → plan_above (width_of g) (starts_at (width_of g) (plans_of g live cut)) (plan_at (plans_of g live cut) b) ≤ above_all k
   covers zero b l u = absurd (omega (arith, l, u))
   covers (suc k) b l u = elim (Rattle.std.proofs.lemmas.Bool.cases_eq b (suc k)) [
     | inl e ↦ (let z : plan_above (width_of g) (starts_at (width_of g) (plans_of g live cut)) (plan_at (plans_of g live cut) b) ≡ plan_above (width_of g) (starts_at (width_of g) (plans_of g live cut)) (plan_at (plans_of g live cut) (suc k)) = ap (λ (r : ℕ). plan_above (width_of g) (starts_at (width_of g) (plans_of g live cut)) (plan_at (plans_of g live cut) r)) e in
@@ -248,7 +250,7 @@ module _ (g : Graph) (live : ℕ → ℕ → Bool) (cut : Cut) (fit : Fits g liv
         let y : above_all (suc k) ≡ plan_above (width_of g) (starts_at (width_of g) (plans_of g live cut)) (plan_at (plans_of g live cut) (suc k)) + above_all k = refl in omega (arith, i, y))
   ]
 
-  block_cost : (n x : ℕ) → x < length (spots g) → plan_above (width_of g) (starts_at (width_of g) (plans_of g live cut)) (plan_at (plans_of g live cut) (place_of g cut x)) ≤ n →
+  pub block_cost : (n x : ℕ) → x < length (spots g) → plan_above (width_of g) (starts_at (width_of g) (plans_of g live cut)) (plan_at (plans_of g live cut) (place_of g cut x)) ≤ n →
       4 * length (made_at (width_of g) (plans_of g live cut) (place_of g cut x)).code + total (starts_at (width_of g) (plans_of g live cut) (place_of g cut x)) n
       ≤ total (end_wants (width_of g) (starts_at (width_of g) (plans_of g live cut)) (plan_at (plans_of g live cut) (place_of g cut x)).exit) n + quarters g x
   block_cost n x l high =
@@ -259,14 +261,15 @@ module _ (g : Graph) (live : ℕ → ℕ → Bool) (cut : Cut) (fit : Fits g liv
       let c = block_charge (width_of g) (plans_of g live cut) (λ n z. needed g live cut n z ≡ true) D.plans n b (omega arith, place_there g live cut fit x l) high in
       let ts : length (tails_of (width_of g) (starts_at (width_of g) (plans_of g live cut)) (plan_at (plans_of g live cut) b).exit) ≡ length (tails_of (width_of g) (starts_at (width_of g) (plans_of g live cut)) e.exit) = ap (λ (p : Plan). length (tails_of (width_of g) (starts_at (width_of g) (plans_of g live cut)) p.exit)) q in
       let tf = tails_few x k.next l in
-      let ws : weights (plan_at (plans_of g live cut) b).items ≡ weights (k.items ++ e.items) = ap (λ (p : Plan). weights p.items) q in
-      let wa : weights (k.items ++ e.items) ≡ weights k.items + weights e.items = weights_append k.items e.items in
+      let ws : weights (plan_at (plans_of g live cut) b).items ≡ weights (shared none_known (k.items ++ e.items)) = ap (λ (p : Plan). weights p.items) q in
+      let sh = shared_weigh none_known (k.items ++ e.items) in
+      let wa : heavies (k.items ++ e.items) ≡ heavies k.items + heavies e.items = heavies_append k.items e.items in
       let wo = ops_weight (block_at g x).ops (width_of g) in
       let we = exit_weight (place_of g cut) (block_at g x).exit k.next in
       let es : length (plan_at (plans_of g live cut) b).entries ≡ length (cond (is_first cut x) (entries_of g live x) []) = ap (λ (p : Plan). length p.entries) q in
       let ef = entries_few x (is_first cut x) in
       let z : quarters g x ≡ 9 * (sum_by op_nodes (block_at g x).ops + exit_nodes (block_at g x).exit) + 6 * sum_by acts_of (block_at g x).ops + 12 * values_sent (block_at g x).exit + 18 * suc (spot_at g x).vars + 12 = refl in
-      omega (arith, c, ts, tf, ws, wa, wo, we, es, ef, z)
+      omega (arith, c, ts, tf, ws, sh, wa, wo, we, es, ef, z)
 
   pub costs : GraphOfWords g → (world : World) → WorldOfWords world → (turns : ℕ) → CostsAtMost g (draft_of (arrays_of g) (width_of g) (plans_of g live cut)) world turns
   costs words world w turns m o left e =

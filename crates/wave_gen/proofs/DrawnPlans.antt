@@ -11,6 +11,8 @@ use Rattle.wave_gen.specs.Wire.{Item, Same}
 use Rattle.wave_gen.specs.Plans.{Leaves, Onto, Either, Lands, Halts, Plan, plan_at, pulse}
 use Rattle.wave_gen.specs.Gen.{gen_term, gen_ops, FlipsWords, OpFine}
 use Rattle.wave_gen.specs.Drawn.{gen_source, gen_terms, exit_next}
+use Rattle.wave_gen.specs.Waits.{Names}
+use Rattle.wave_gen.proofs.Runs.{run_items}
 
 -- variables that are 0 at the start of a block
 abbrev pub zero_items : List ℕ → List Item
@@ -55,7 +57,8 @@ ExitDrawn g ps place zeroed k graph.Stop first e = (first ≡ []) × (e ≡ Halt
 -- the plan of a block of the graph
 pub record BlockDrawn (g : Graph) (ps : List Plan) (width : ℕ) (place : ℕ → ℕ) (zeroed : ℕ → List ℕ) (b : ℕ) : Type 0 where
   pub first : List Item
-  pub items : (plan_at ps (place b)).items ≡ zero_items (zeroed b) ++ ((gen_ops width (block_at g b).ops).items ++ first)
+  -- its items do what these do
+  pub items : (s : Names) → run_items (plan_at ps (place b)).items s ≡ run_items (zero_items (zeroed b) ++ ((gen_ops width (block_at g b).ops).items ++ first)) s
   pub exit : ExitDrawn g ps place zeroed (gen_ops width (block_at g b).ops).next (block_at g b).exit first (plan_at ps (place b)).exit
   pub wide : (spot_at g b).vars < width
   pub test : exit_next (gen_ops width (block_at g b).ops).next (block_at g b).exit ≤ (plan_at ps (place b)).test

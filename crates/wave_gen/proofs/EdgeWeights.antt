@@ -48,11 +48,11 @@ same_count (p ∷ ps) (q ∷ qs) e = ap suc (same_count ps qs (and_both (same_sp
 same_count [] (q ∷ qs) e = absurd (both_ways false refl e)
 same_count (p ∷ ps) [] e = absurd (both_ways false refl e)
 
-total_least : (w v : Wants) (n : ℕ) → ((x : ℕ) → length (w x) ≤ length (v x)) → total w n ≤ total v n
+pub total_least : (w v : Wants) (n : ℕ) → ((x : ℕ) → length (w x) ≤ length (v x)) → total w n ≤ total v n
 total_least w v zero h = omega arith
 total_least w v (suc n) h = let i : total w n ≤ total v n = total_least w v n h in let l = h n in omega (arith, i, l)
 
-total_none : (n : ℕ) → total (λ x. []) n ≤ 0
+pub total_none : (n : ℕ) → total (λ x. []) n ≤ 0
 total_none zero = omega arith
 total_none (suc n) = let h = total_none n in omega (arith, h)
 

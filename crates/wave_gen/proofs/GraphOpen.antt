@@ -1,5 +1,5 @@
 -- Drafts of graphs are open to notes.
-use Rattle.std.proofs.Common.{ℕ, zero, suc, ◌≡◌, ◌<◌, ◌≤◌, Bool, true, List, [], ◌∷◌, length, map, refl, sym, ap, subst, arith}
+use Rattle.std.proofs.Common.{◌++◌, ℕ, zero, suc, ◌≡◌, ◌<◌, ◌≤◌, Bool, true, List, [], ◌∷◌, length, map, refl, sym, ap, subst, arith}
 use Rattle.std.specs.List.{AllByRecursion}
 use Rattle.ws_words.specs.Outside.{World, zeros}
 use Rattle.ws_isa.specs.declared.instr.Op.{Op}
@@ -13,6 +13,8 @@ use Rattle.cfg_core.specs.Walk as walks
 use Rattle.wave_cut.specs.Cut.{Cut}
 use Rattle.wave_gen.specs.Plans.{Plan, plan_at, draft_of}
 use Rattle.wave_gen.specs.Gen.{gen_ops}
+use Rattle.wave_gen.specs.Shared.{none_known}
+use Rattle.wave_gen.proofs.Sharing.{shared_items}
 use Rattle.wave_gen.specs.Listing.{gen_exit, place_of, width_of, plans_of, needed, nothing_zeroed, array_of, arrays_of, graph_draft}
 use Rattle.wave_gen.specs.Fitting.{Fits}
 use Rattle.wave_gen.specs.Words.{GraphOfWords, WorldOfWords}
@@ -48,9 +50,9 @@ module _ (g : Graph) (live : ℕ → ℕ → Bool) (cut : Cut) (fit : Fits g liv
   plan_items h n l =
       let r = found g live cut fit n l in
       let d = gen_ops (width_of g) (block_at g r.0).ops in
-      subst (λ (p : Plan). Items P p.items) (sym r.2) (both P d.items (gen_exit (place_of g cut) d.next (block_at g r.0).exit).items
+      subst (λ (p : Plan). Items P p.items) (sym r.2) (shared_items P none_known (d.items ++ (gen_exit (place_of g cut) d.next (block_at g r.0).exit).items) (both P d.items (gen_exit (place_of g cut) d.next (block_at g r.0).exit).items
       (ops_items P plain (block_at g r.0).ops (width_of g) (h.ops r.0 r.1))
-      (exit_items P plain (place_of g cut) (block_at g r.0).exit d.next (h.exits r.0 r.1)))
+      (exit_items P plain (place_of g cut) (block_at g r.0).exit d.next (h.exits r.0 r.1))))
 
   pub plan_kind : BlocksHave → (n : ℕ) → (1 ≤ n) × (n ≤ length (plans_of g live cut)) → Kind P (plan_at (plans_of g live cut) n).exit
   plan_kind h n l =

@@ -1,5 +1,5 @@
 -- What the items of a graph's terms, operations and exits weigh.
-use Rattle.std.proofs.Common.{ℕ, zero, suc, ◌+◌, ◌*◌, ◌≡◌, ◌<◌, ◌≤◌, List, [], ◌∷◌, ◌++◌, length, arith}
+use Rattle.std.proofs.Common.{ℕ, zero, suc, ◌+◌, ◌*◌, ◌≡◌, ◌<◌, ◌≤◌, List, [], ◌∷◌, ◌++◌, length, cond, Some, None, ap, arith, ne_eqb}
 use Rattle.std.specs.List.{sum_by}
 use Rattle.std.proofs.lemmas.List.Sums.{sum_by-cons}
 use Rattle.ws_words.specs.declared.alu.Alu.TheVariants.{Sub, Eq}
@@ -16,47 +16,70 @@ use Rattle.wave_gen.specs.Drawn.{gen_source, gen_terms}
 use Rattle.wave_gen.specs.Listing.{gen_exit}
 use Rattle.wave_gen.specs.Cost.{values_sent}
 use Rattle.wave_gen.proofs.Planned.{AllBelow, ItemsAre}
-use Rattle.wave_gen.proofs.Weights.{weight, weights, ItemsBelow}
+use Rattle.wave_gen.specs.Shared.{const_of}
+use Rattle.wave_gen.proofs.Sharing.{extra_of, heavies}
+use Rattle.wave_gen.proofs.Weights.{weight, ItemsBelow}
 
-pub weights_append : (xs ys : List Item) → weights (xs ++ ys) ≡ weights xs + weights ys
-weights_append [] ys = omega arith
-weights_append (x ∷ xs) ys = let e : weights (xs ++ ys) ≡ weights xs + weights ys = weights_append xs ys in omega (arith, e)
+pub heavies_append : (xs ys : List Item) → heavies (xs ++ ys) ≡ heavies xs + heavies ys
+heavies_append [] ys = omega arith
+heavies_append (x ∷ xs) ys = let e : heavies (xs ++ ys) ≡ heavies xs + heavies ys = heavies_append xs ys in omega (arith, e)
 
-one_more : (xs : List Item) (i : Item) (n m : ℕ) → weights xs ≤ n → weight i ≤ m → weights (xs ++ i ∷ []) ≤ n + m
-one_more xs i n m h l = let e : weights (xs ++ i ∷ []) ≡ weights xs + weights (i ∷ []) = weights_append xs (i ∷ []) in omega (arith, e, h, l)
+one_more : (xs : List Item) (i : Item) (n m : ℕ) → heavies xs ≤ n → weight i + extra_of (const_of i) ≤ m → heavies (xs ++ i ∷ []) ≤ n + m
+one_more xs i n m h l = let e : heavies (xs ++ i ∷ []) ≡ heavies xs + heavies (i ∷ []) = heavies_append xs (i ∷ []) in omega (arith, e, h, l)
 
-both_weigh : (xs ys : List Item) (n m : ℕ) → weights xs ≤ n → weights ys ≤ m → weights (xs ++ ys) ≤ n + m
-both_weigh xs ys n m h l = let e : weights (xs ++ ys) ≡ weights xs + weights ys = weights_append xs ys in omega (arith, e, h, l)
+both_weigh : (xs ys : List Item) (n m : ℕ) → heavies xs ≤ n → heavies ys ≤ m → heavies (xs ++ ys) ≤ n + m
+both_weigh xs ys n m h l = let e : heavies (xs ++ ys) ≡ heavies xs + heavies ys = heavies_append xs ys in omega (arith, e, h, l)
 
-term_weight : (t : Term) (k : ℕ) → weights (gen_term k t).items ≤ 9 * term_nodes t
-term_weight (Number zero) k = omega arith
-term_weight (Number (suc n)) k = omega arith
-term_weight (Var x) k = omega arith
-term_weight (Cell a t) k = let g = gen_term k t in let h = one_more g.items (Make g.next (Load a) (g.name ∷ [])) (9 * term_nodes t) 5 (term_weight t k) (omega arith) in omega (arith, h)
-term_weight (Flip t) k =
-    let g = gen_term k t in
-    let h = one_more g.items (Make g.next (Const top_word) (g.name ∷ [])) (9 * term_nodes t) 4 (term_weight t k) (omega arith) in
-    let i = one_more (g.items ++ Make g.next (Const top_word) (g.name ∷ []) ∷ []) (Make (suc g.next) (Alu Sub) (g.next ∷ g.name ∷ [])) (9 * term_nodes t + 4) 5 h (omega arith) in omega (arith, i)
-term_weight (Not t) k = let g = gen_term k t in let h = one_more g.items (Make g.next (Alu Eq) (g.name ∷ pulse ∷ [])) (9 * term_nodes t) 5 (term_weight t k) (omega arith) in omega (arith, h)
-term_weight (Neg t) k = let g = gen_term k t in let h = one_more g.items (Make g.next (Alu Sub) (pulse ∷ g.name ∷ [])) (9 * term_nodes t) 5 (term_weight t k) (omega arith) in omega (arith, h)
-term_weight (Binary op a b) k =
-    let g = gen_term k a in let i = gen_term g.next b in
-    let w = both_weigh g.items i.items (9 * term_nodes a) (9 * term_nodes b) (term_weight a k) (term_weight b g.next) in
-    let h = one_more (g.items ++ i.items) (Make i.next (Alu op) (g.name ∷ i.name ∷ [])) (9 * term_nodes a + 9 * term_nodes b) 5 w (omega arith) in omega (arith, h)
+-- A name that is the pulse may make a constant of what it triggers.
+abbrev lone : ℕ → ℕ
+lone zero = 1
+lone (suc x) = 0
 
-source_weight : (t : Term) (k : ℕ) → weights (gen_source k t).items ≤ 9 * term_nodes t
+lone_few : (x : ℕ) → lone x ≤ 1
+lone_few zero = omega arith
+lone_few (suc x) = omega arith
+
+top_weight : (k x n : ℕ) → weight (Make k (Const n) (x ∷ [])) + extra_of (const_of (Make k (Const n) (x ∷ []))) ≤ 4 + lone x
+top_weight k zero n = omega arith
+top_weight k (suc x) n = let e : extra_of (const_of (Make k (Const n) (suc x ∷ []))) ≡ 0 = ap (λ v. extra_of (cond v (Some n) None)) (ne_eqb (suc x) pulse (λ e. omega (arith, e))) in omega (arith, e)
+
+term_lone : (t : Term) (k : ℕ) → heavies (gen_term k t).items + lone (gen_term k t).name ≤ 9 * term_nodes t
+term_lone (Number zero) k = omega arith
+term_lone (Number (suc n)) k = let l = lone_few k in omega (arith, l)
+term_lone (Var x) k = omega arith
+term_lone (Cell a t) k = let g = gen_term k t in let i = term_lone t k in let l = lone_few g.next in let h = one_more g.items (Make g.next (Load a) (g.name ∷ [])) (9 * term_nodes t) 5 (omega (arith, i)) (omega arith) in omega (arith, h, l)
+term_lone (Flip t) k =
+    let g = gen_term k t in let l = term_lone t k in
+    let a = heavies_append g.items (Make g.next (Const top_word) (g.name ∷ []) ∷ []) in
+    let w = top_weight g.next g.name top_word in
+    let i = one_more (g.items ++ Make g.next (Const top_word) (g.name ∷ []) ∷ []) (Make (suc g.next) (Alu Sub) (g.next ∷ g.name ∷ [])) (9 * term_nodes t + 4) 5 (omega (arith, a, l, w)) (omega arith) in omega (arith, i)
+term_lone (Not t) k = let g = gen_term k t in let i = term_lone t k in let l = lone_few g.next in let h = one_more g.items (Make g.next (Alu Eq) (g.name ∷ pulse ∷ [])) (9 * term_nodes t) 5 (omega (arith, i)) (omega arith) in omega (arith, h, l)
+term_lone (Neg t) k = let g = gen_term k t in let i = term_lone t k in let l = lone_few g.next in let h = one_more g.items (Make g.next (Alu Sub) (pulse ∷ g.name ∷ [])) (9 * term_nodes t) 5 (omega (arith, i)) (omega arith) in omega (arith, h, l)
+term_lone (Binary op a b) k =
+    let g = gen_term k a in let i = gen_term g.next b in let l = lone_few i.next in
+    let u = term_lone a k in let v = term_lone b g.next in
+    let w = both_weigh g.items i.items (9 * term_nodes a) (9 * term_nodes b) (omega (arith, u)) (omega (arith, v)) in
+    let h = one_more (g.items ++ i.items) (Make i.next (Alu op) (g.name ∷ i.name ∷ [])) (9 * term_nodes a + 9 * term_nodes b) 5 w (omega arith) in omega (arith, h, l)
+
+term_weight : (t : Term) (k : ℕ) → heavies (gen_term k t).items ≤ 9 * term_nodes t
+term_weight t k = let l = term_lone t k in omega (arith, l)
+
+source_weight : (t : Term) (k : ℕ) → heavies (gen_source k t).items ≤ 9 * term_nodes t
 source_weight (Number zero) k = omega arith
 source_weight (Number (suc n)) k = omega arith
 source_weight (Var x) k = omega arith
 source_weight (Cell a t) k = let h = term_weight t k in omega (arith, h)
-source_weight (Flip t) k = let g = gen_term k t in let h = one_more g.items (Make g.next (Const top_word) (g.name ∷ [])) (9 * term_nodes t) 4 (term_weight t k) (omega arith) in omega (arith, h)
+source_weight (Flip t) k =
+    let g = gen_term k t in let l = term_lone t k in
+    let a = heavies_append g.items (Make g.next (Const top_word) (g.name ∷ []) ∷ []) in
+    let w = top_weight g.next g.name top_word in omega (arith, a, l, w)
 source_weight (Not t) k = let h = term_weight t k in omega (arith, h)
 source_weight (Neg t) k = let h = term_weight t k in omega (arith, h)
 source_weight (Binary op a b) k =
     let g = gen_term k a in let i = gen_term g.next b in
     let w = both_weigh g.items i.items (9 * term_nodes a) (9 * term_nodes b) (term_weight a k) (term_weight b g.next) in omega (arith, w)
 
-terms_weight : (ts : List Term) (k : ℕ) → weights (gen_terms k ts).items ≤ 9 * sum_by term_nodes ts + 5 * length ts
+terms_weight : (ts : List Term) (k : ℕ) → heavies (gen_terms k ts).items ≤ 9 * sum_by term_nodes ts + 5 * length ts
 terms_weight [] k = omega arith
 terms_weight (t ∷ ts) k =
     let g = gen_term k t in
@@ -65,7 +88,7 @@ terms_weight (t ∷ ts) k =
     let h = both_weigh g.items (Same g.next g.name ∷ (gen_terms (suc g.next) ts).items) (9 * term_nodes t) (5 + (9 * sum_by term_nodes ts + 5 * length ts)) (term_weight t k) (omega (arith, i)) in
     omega (arith, h, e)
 
-op_weight : (op : graph.Op) (k : ℕ) → weights (gen_op k op).items ≤ 9 * op_nodes op + 6 * acts_of op
+op_weight : (op : graph.Op) (k : ℕ) → heavies (gen_op k op).items ≤ 9 * op_nodes op + 6 * acts_of op
 op_weight (graph.Assign x t) k = let g = gen_term k t in let h = one_more g.items (Same (suc x) g.name) (9 * term_nodes t) 5 (term_weight t k) (omega arith) in omega (arith, h)
 op_weight (graph.Store a t u) k =
     let g = gen_term k t in let i = gen_term g.next u in
@@ -84,7 +107,7 @@ op_weight (graph.Tick n) k = omega arith
 op_weight (graph.TickBy t n m) k = omega arith
 
 -- the items of operations
-pub ops_weight : (ops : List graph.Op) (k : ℕ) → weights (gen_ops k ops).items ≤ 9 * sum_by op_nodes ops + 6 * sum_by acts_of ops
+pub ops_weight : (ops : List graph.Op) (k : ℕ) → heavies (gen_ops k ops).items ≤ 9 * sum_by op_nodes ops + 6 * sum_by acts_of ops
 ops_weight [] k = omega arith
 ops_weight (op ∷ ops) k =
     let e : sum_by op_nodes (op ∷ ops) ≡ op_nodes op + sum_by op_nodes ops = sum_by-cons op_nodes op ops in
@@ -93,7 +116,7 @@ ops_weight (op ∷ ops) k =
     omega (arith, h, e, f)
 
 -- the items of an exit
-pub exit_weight : (place : ℕ → ℕ) (exit : graph.Exit) (k : ℕ) → weights (gen_exit place k exit).items ≤ 9 * exit_nodes exit + 5 * values_sent exit
+pub exit_weight : (place : ℕ → ℕ) (exit : graph.Exit) (k : ℕ) → heavies (gen_exit place k exit).items ≤ 9 * exit_nodes exit + 5 * values_sent exit
 exit_weight place (graph.Goto c) k = omega arith
 exit_weight place (graph.Branch t a b) k = let h = source_weight t k in omega (arith, h)
 exit_weight place (graph.Call r f ts back) k = omega arith

@@ -72,3 +72,19 @@ mod ItemWeights
 mod BlockWeights
 mod EdgeWeights
 mod Costs
+mod Buckets
+mod Marked
+mod Outlined
+mod Counts
+mod Sharing
+mod Fresh
+mod Sharers
+mod Listed
+mod Making
+mod Hanging
+mod Keepings
+mod Framed
+mod Numberings
+pub mod LeadingAhead
+mod Generated
+mod Counting

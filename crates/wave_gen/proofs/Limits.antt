@@ -34,6 +34,7 @@ use Rattle.wave_gen.proofs.PlanFacts.{as_many}
 use Rattle.wave_gen.proofs.PlansGiving.{some_of, found, plans_give}
 use Rattle.wave_gen.proofs.PlansMade.{plans_are}
 use Rattle.wave_gen.proofs.PlansOpening.{plans_open}
+use Rattle.wave_gen.proofs.Counts.{instrs_few}
 
 -- constants
 plain_const : Plain ConstWithin
@@ -258,6 +259,7 @@ module _ (g : Graph) (live : ℕ → ℕ → Bool) (cut : Cut) (fit : Fits g liv
 
   limits : OpenToNotes I → KeepsLimits g I
   limits o = record {
+    instrs = instrs_few g live cut fit;
     blocks = (let a : length (plans_of g live cut) ≡ length (listing g cut) = as_many g live cut fit in omega (arith, count, a, listed_few));
     waves = waves;
     consts = consts;

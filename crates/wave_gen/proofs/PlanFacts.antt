@@ -1,5 +1,5 @@
 -- The plans of a graph, by their numbers, and what they need.
-use Rattle.std.proofs.Common.{ℕ, zero, suc, ◌+◌, ◌-◌, ◌≡◌, ◌<◌, ◌≤◌, Bool, true, false, List, [], ◌∷◌, length, map, Some, None, refl, sym, ap, ◌∙◌, subst, inl, inr, arith}
+use Rattle.std.proofs.Common.{ℕ, zero, suc, ◌+◌, ◌-◌, ◌≡◌, ◌<◌, ◌≤◌, Bool, true, false, List, [], ◌∷◌, ◌++◌, length, map, Some, None, refl, sym, ap, ◌∙◌, subst, inl, inr, arith}
 use Rattle.std.proofs.lemmas.Bool.{both_ways}
 use Rattle.ws_isa.specs.Image.{In, nth, or_else}
 use Rattle.cfg_core.specs.Graph as graph
@@ -15,6 +15,7 @@ use Rattle.wave_gen.specs.Listing.{gen_exit, entries_of, plan_of, turned, listin
 use Rattle.wave_gen.specs.Fitting.{Fits}
 use Rattle.wave_gen.proofs.Tied.{all_at, same_home}
 use Rattle.wave_gen.proofs.ReadTerms.{Ground, reads_append}
+use Rattle.wave_gen.proofs.Sharing.{shared_read}
 use Rattle.wave_gen.proofs.ReadBlocks.{Kept, ops_reads, exit_first, ExitGives, exit_reads}
 use Rattle.wave_gen.proofs.Sorted.{nth_below}
 use Rattle.wave_gen.proofs.Chains.{listed_at, listed_once, listed_there}
@@ -134,7 +135,7 @@ module _ (g : Graph) (live : ℕ → ℕ → Bool) (cut : Cut) (fit : Fits g liv
       let d = gen_ops (width_of g) (block_at g b).ops in
       let e = gen_exit (place_of g cut) d.next (block_at g b).exit in
       let Q : ℕ → Type 0 = Needs Need (exit_next d.next (block_at g b).exit) e.exit in
-      elim (ops_reads (block_at g b).ops (block_at g b).exit (width_of g) (Reads e.items Q) x (reads_append d.items e.items Q x h)) [
+      elim (ops_reads (block_at g b).ops (block_at g b).exit (width_of g) (Reads e.items Q) x (reads_append d.items e.items Q x (shared_read (d.items ++ e.items) Q x h))) [
         | inl r ↦ first_read b x l r
         | inr q ↦ exit_read b x l q.1 (exit_reads (place_of g cut) Need (block_at g b).exit d.next x q.0)
       ]

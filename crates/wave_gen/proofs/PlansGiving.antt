@@ -1,5 +1,5 @@
 -- The plans of a graph give what they make, and have pads only where a wave begins.
-use Rattle.std.proofs.Common.{ℕ, zero, suc, ◌≡◌, ◌<◌, ◌≤◌, ◌||◌, Bool, true, false, cond, List, [], ◌∷◌, length, map, refl, sym, ap, ◌∙◌, subst, inl, inr, arith, ne_eqb}
+use Rattle.std.proofs.Common.{◌++◌, ℕ, zero, suc, ◌≡◌, ◌<◌, ◌≤◌, ◌||◌, Bool, true, false, cond, List, [], ◌∷◌, length, map, refl, sym, ap, ◌∙◌, subst, inl, inr, arith, ne_eqb}
 use Rattle.std.proofs.lemmas.Bool.{both_ways, cases_eq}
 use Rattle.ws_isa.specs.Image.{In}
 use Rattle.cfg_core.specs.Graph as graph
@@ -7,6 +7,8 @@ use Rattle.cfg_core.specs.Graph.{Graph, Spot, spots, spot_at, block_at, no_spot}
 use Rattle.wave_cut.specs.Cut.{Cut, Returns, is_first}
 use Rattle.wave_gen.specs.Plans.{Plan, plan_at, pulse, is_among}
 use Rattle.wave_gen.specs.Gen.{gen_ops}
+use Rattle.wave_gen.specs.Shared.{none_known}
+use Rattle.wave_gen.proofs.Sharing.{shared_give}
 use Rattle.wave_gen.proofs.More.{ItemsGive, SourceGives, PlansGive}
 use Rattle.wave_gen.specs.Listing.{gen_exit, landings_of, in_some, has_pads, start_block, listing, place_of, width_of, plans_of}
 use Rattle.wave_gen.specs.Fitting.{Fits}
@@ -56,7 +58,7 @@ module _ (g : Graph) (live : ℕ → ℕ → Bool) (cut : Cut) (fit : Fits g liv
   pub plans_give : PlansGive (plans_of g live cut)
   plans_give = record {
     items = λ n h. (let r = found n h in let d = gen_ops (width_of g) (block_at g r.0).ops in
-        subst (λ (p : Plan). ItemsGive p.items) (sym r.2) (gives_append d.items (gen_exit (place_of g cut) d.next (block_at g r.0).exit).items (ops_give_all (block_at g r.0).ops (width_of g)) (exit_gives_all (place_of g cut) (block_at g r.0).exit d.next)));
+        subst (λ (p : Plan). ItemsGive p.items) (sym r.2) (shared_give none_known (d.items ++ (gen_exit (place_of g cut) d.next (block_at g r.0).exit).items) (gives_append d.items (gen_exit (place_of g cut) d.next (block_at g r.0).exit).items (ops_give_all (block_at g r.0).ops (width_of g)) (exit_gives_all (place_of g cut) (block_at g r.0).exit d.next))));
     source = λ n h. (let r = found n h in let d = gen_ops (width_of g) (block_at g r.0).ops in
         subst (λ (p : Plan). SourceGives p.exit) (sym r.2) (exit_source_gives (place_of g cut) (block_at g r.0).exit d.next));
     pads = λ n h f. (let r = found n h in

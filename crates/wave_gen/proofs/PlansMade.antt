@@ -1,5 +1,5 @@
 -- The plans of a graph make a draft, and are drawn from it.
-use Rattle.std.proofs.Common.{ℕ, zero, suc, ◌≡◌, ◌<◌, ◌≤◌, ◌||◌, Bool, true, false, cond, List, [], ◌∷◌, length, map, Some, refl, sym, ap, ◌∙◌, subst, inl, inr, arith, eq-eqb}
+use Rattle.std.proofs.Common.{◌++◌, ℕ, zero, suc, ◌≡◌, ◌<◌, ◌≤◌, ◌||◌, Bool, true, false, cond, List, [], ◌∷◌, length, map, Some, refl, sym, ap, ◌∙◌, subst, inl, inr, arith, eq-eqb}
 use Rattle.std.proofs.lemmas.Bool.{both_ways}
 use Rattle.std.specs.List.{AllByRecursion}
 use Rattle.ws_isa.specs.Image.{In, nth, Array, cells_of}
@@ -12,6 +12,10 @@ use Rattle.wave_cut.specs.Cut.{Cut, is_first}
 use Rattle.wave_gen.specs.Plans.{Plan, plan_at, pulse}
 use Rattle.wave_gen.proofs.Planned.{Reads, Needs, Apart, PlanIs, PlansAre, EdgesAre}
 use Rattle.wave_gen.specs.Gen.{gen_ops}
+use Rattle.wave_gen.specs.Shared.{none_known}
+use Rattle.wave_gen.proofs.Runs.{run_items}
+use Rattle.wave_gen.proofs.Sharing.{shared_are, shared_run}
+use Rattle.wave_gen.proofs.Fresh.{block_once}
 use Rattle.wave_gen.specs.Drawn.{exit_next}
 use Rattle.wave_gen.proofs.DrawnPlans.{Leads, here, Keeps, LandsAll, ExitDrawn, BlockDrawn}
 use Rattle.wave_gen.proofs.IsDrawn.{IsDrawn}
@@ -53,7 +57,7 @@ module _ (g : Graph) (live : ℕ → ℕ → Bool) (cut : Cut) (fit : Fits g liv
       let z : d.next ≤ exit_next d.next (block_at g b).exit = next_of_exit (block_at g b).exit d.next in
       let m : place_of g cut b ≡ suc i = place_is g live cut fit i b e in
       record {
-        items = rw q (items_append d.items _ (ops_items (block_at g b).ops (width_of g)) (exit_items (place_of g cut) (block_at g b).exit d.next));
+        items = rw q (shared_are none_known (d.items ++ (gen_exit (place_of g cut) d.next (block_at g b).exit).items) (items_append d.items _ (ops_items (block_at g b).ops (width_of g)) (exit_items (place_of g cut) (block_at g b).exit d.next)));
         source = rw q (exit_source (place_of g cut) (block_at g b).exit d.next);
         edges = rw q (subst (λ n. EdgesAre ps n (P b).exit) m (edges_are g live cut fit b d.next l));
         live = λ x r. of_entry g live cut fit i b x e (plan_reads g live cut fit b x l (subst (λ (p : Plan). Reads p.items (Needs Need p.test p.exit) x) q r));
@@ -153,7 +157,7 @@ module _ (g : Graph) (live : ℕ → ℕ → Bool) (cut : Cut) (fit : Fits g liv
       let q : plan_at ps (place_of g cut b) ≡ P b = at_place g live cut fit b l in
       record {
         first = (gen_exit (place_of g cut) d.next (block_at g b).exit).items;
-        items = rw q refl;
+        items = λ s. ap (λ (p : Plan). run_items p.items s) q ∙ shared_run (d.items ++ (gen_exit (place_of g cut) d.next (block_at g b).exit).items) (block_once g (spot_at g b).vars (width_of g) (vars_below g b l) (place_of g cut) (block_at g b).ops (block_at g b).exit (numbers g live cut fit b l).ops) s;
         exit = rw q (exit_drawn b d.next l);
         wide = vars_below g b l;
         test = rw q (omega arith);

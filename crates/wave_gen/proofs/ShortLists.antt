@@ -1,5 +1,6 @@
 -- The lists of a draft fit.
 use Rattle.std.proofs.Common.{ℕ, zero, suc, ◌+◌, ◌≡◌, ◌<◌, ◌≤◌, ◌⊎◌, Bool, true, false, cond, List, [], ◌∷◌, length, Some, None, refl, sym, ap, ◌∙◌, subst, inl, inr, arith}
+use Rattle.std.proofs.lemmas.Bool.{cases_Bool}
 use Rattle.ws_isa.specs.declared.instr.Op.TheVariants.{Merge, Halt}
 use Rattle.ws_isa.specs.Image as image
 use Rattle.ws_isa.specs.Image.{Image, Instr, Pad, Array, In, nth, instr_at, block_at, IsIn, IsBlock}
@@ -127,6 +128,13 @@ module _ (arrays : List Array) (width : ℕ) (ps : List Plan) (Live : ℕ → �
 
   few : (b : ℕ) → Is b → Few (made_at width ps b)
   few b h = few_from (suc (length ps)) b h (omega (arith, h.0))
+
+  -- what is wanted of a name at the start of a block
+  pub starts_few : (c : ℕ) → Is c → (x : ℕ) → length (S c x) ≤ 7
+  starts_few c h x = elim (cases_Bool (plan_at ps c).first) [
+    | inl f ↦ rw (ap (λ (w : Wants). w x) (starts_outer width ps c f)) (elim (fronts_one c 0 (plan_at ps c).entries x) [ inl e ↦ rw e (omega arith) | inr r ↦ rw r.3 (omega arith) ])
+    | inr f ↦ rw (ap (λ (w : Wants). w x) (starts_inner width ps c f)) ((few c h).wants x)
+  ]
 
   short_at : (ls : List Line) (i : ℕ) (l : Line) → Short ls → nth ls i ≡ Some l → (length l.dests ≤ 7) × (length l.others ≤ 7)
   short_at [] i l s e = absurd (let a : None ≡ Some l = e in cc)

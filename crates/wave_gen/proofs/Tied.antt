@@ -275,7 +275,7 @@ module _ (arrays : List Array) (width : ℕ) (ps : List Plan) (Live : ℕ → �
     state1 = zeroes (zeroed b) st s0 a.stands.zero a.stands.state
 
     items_run : run_items (plan_at ps (place b)).items s0 ≡ run_items d.first s2
-    items_run = ap (λ (x : List Item). run_items x s0) d.items ∙ run_append (zero_items (zeroed b)) ((gen_ops width (graph.block_at g b).ops).items ++ d.first) s0 ∙ run_append (gen_ops width (graph.block_at g b).ops).items d.first s1
+    items_run = d.items s0 ∙ run_append (zero_items (zeroed b)) ((gen_ops width (graph.block_at g b).ops).items ++ d.first) s0 ∙ run_append (gen_ops width (graph.block_at g b).ops).items d.first s1
 
     ops_done : (st' : State) (k l : ℕ) → run_ops (graph.block_at g b).ops st k ≡ Done st' l → Left width st st' (gen_ops width (graph.block_at g b).ops).items (gen_ops width (graph.block_at g b).ops).next s1
     ops_done st' k l e = ops_left g (graph.block_at g b).ops width (spot_at g b).vars st st' s1 k l spot.ops bare a.vars d.wide fine.ops state1 e

@@ -4,7 +4,7 @@ use Rattle.std.specs.List.{sum_by}
 use Rattle.ws_words.specs.Outside.{Outside, World}
 use Rattle.ws_isa.specs.Image.{Image}
 use Rattle.image_walk.specs.Walk.{CostAtMost}
-use Rattle.cfg_core.specs.Graph.{Exit, Send, Graph, spot_at, block_at}
+use Rattle.cfg_core.specs.Graph.{Exit, Send, Graph, Spot, spot_at}
 use Rattle.cfg_core.specs.Walk.{Over, walk, opening}
 use Rattle.cfg_core.specs.Weights.{acts_of, block_nodes, path}
 
@@ -15,9 +15,17 @@ values_sent _ = 0
 
 -- What a block weighs, in quarters of an instruction: its nodes, its operations, the values that it
 -- sends, and what brings its variables in and out.
+abbrev pub quarters_of : Spot → ℕ
+quarters_of s = 9 * block_nodes s.block + 6 * sum_by acts_of s.block.ops
+    + 12 * values_sent s.block.exit + 18 * suc s.vars + 12
+
 abbrev pub quarters : Graph → ℕ → ℕ
-quarters g b = 9 * block_nodes (block_at g b) + 6 * sum_by acts_of (block_at g b).ops
-    + 12 * values_sent (block_at g b).exit + 18 * suc (spot_at g b).vars + 12
+quarters g b = quarters_of (spot_at g b)
+
+-- How many quarters of an instruction the code of a block has at most: what the block weighs, and
+-- the destinations that wait past its end, up to 7 for each name.
+abbrev pub most_quarters : Spot → ℕ
+most_quarters s = quarters_of s + 7 * suc s.vars
 
 -- Where the graph's walk ends after m blocks, the draft's costs at most a quarter of what these
 -- blocks weigh.

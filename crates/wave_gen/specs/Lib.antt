@@ -1,5 +1,8 @@
 pub mod Waits
 pub mod Wire
+pub mod Tables
+pub mod Kept
+pub mod Numbered
 pub mod Plans
 pub mod Gen
 pub mod Drawn
@@ -10,3 +13,6 @@ pub mod Fitting
 pub mod Words
 pub mod Limits
 pub mod Cost
+pub mod View
+pub mod Placed
+pub mod Shared

@@ -1,12 +1,13 @@
 -- How far the numbers of a draft go.
-use Rattle.std.specs.Prelude.{ℕ, ◌≡◌, ◌≤◌, List, length}
-use Rattle.std.specs.List.{AllByRecursion}
+use Rattle.std.specs.Prelude.{ℕ, ◌*◌, ◌≡◌, ◌≤◌, List, length}
+use Rattle.std.specs.List.{AllByRecursion, sum_by}
 use Rattle.ws_isa.specs.declared.instr.Op.TheVariants as op
 use Rattle.ws_isa.specs.Image as image
 use Rattle.ws_isa.specs.Image.{Image, IsBlock, IsIn, flat, instr_at}
 use Rattle.ws_isa.specs.Formed.{ConstWithin, PadsRise}
 use Rattle.cfg_core.specs.Graph.{Term, Send, Graph, spots, block_at}
 use Rattle.wave_gen.specs.Words.{GraphOfWords}
+use Rattle.wave_gen.specs.Cost.{most_quarters}
 use Rattle.wave_gen.specs.Listing.{start_block}
 
 -- each Send has at most so many values, and the block where the walk begins names no more variables
@@ -20,11 +21,12 @@ abbrev pub LandsAtMost : ℕ → Graph → Type 0
 LandsAtMost n g = (b : ℕ) (t : Term) (ts : List Term) (ls : List ℕ) →
     (block_at g b).exit ≡ Send t ts ls → length ls ≤ n
 
--- The numbers of a graph's draft: no more blocks than the graph has, and no more waves than blocks;
--- constants are words; pads rise, and their numbers are at most the most values of a Send.
+-- The numbers of a graph's draft: no more blocks than the graph has, no more waves than blocks, and
+-- no more instructions than its blocks may have; constants are words; pads rise, and their numbers are at most the most values of a Send.
 pub record KeepsLimits (g : Graph) (draft : Image) : Type 0 where
   pub blocks : length draft.blocks ≤ length (spots g)
   pub waves : (b : ℕ) → IsBlock draft b → (image.block_at draft b).wave ≤ length draft.blocks
+  pub instrs : 4 * length (flat draft.blocks) ≤ sum_by most_quarters (spots g)
   pub consts : GraphOfWords g → AllByRecursion (λ i. ConstWithin i.op) (flat draft.blocks)
   pub rise : AllByRecursion (λ b. PadsRise b.pads) draft.blocks
   pub pads : (n : ℕ) → BringsAtMost n g →

@@ -8,6 +8,7 @@ use Rattle.wave_cut.specs.Cut.{Cut, wave, is_first}
 use Rattle.wave_gen.specs.Wire.{Item}
 use Rattle.wave_gen.specs.Plans.{Leaves, Onto, Either, Lands, Halts, Plan, pulse, is_among, draft_of}
 use Rattle.wave_gen.specs.Gen.{gen_term, gen_ops}
+use Rattle.wave_gen.specs.Shared.{shared, none_known}
 use Rattle.wave_gen.specs.Drawn.{gen_source, gen_terms, exit_next}
 
 -- where the walk of a graph begins
@@ -68,7 +69,7 @@ plan_of g live waves firsts place width b =
       joined = not (firsts b || in_some arms_of (spots g) b);
       entries = cond (firsts b) (entries_of g live b) [];
       pads = cond (has_pads g b) (pulse ∷ map suc (block_at g b).named) [];
-      items = d.items ++ l.items;
+      items = shared none_known (d.items ++ l.items);
       exit = l.exit;
       test = exit_next d.next (block_at g b).exit;
     }

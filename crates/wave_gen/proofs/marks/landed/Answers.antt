@@ -1,0 +1,16 @@
+use Rattle.std.proofs.Common.{◌≡◌, ◌<◌, ◌≤◌, ◌∙◌, length, arith}
+use Rattle.cfg_core.specs.Graph.{spots}
+use Rattle.cfg_core.specs.View as view
+use Rattle.wave_gen.specs.Listing.{landings_of}
+use Rattle.wave_gen.specs.Placed.{flag}
+use Rattle.wave_gen.proofs.Marked.{spots_there, some_next}
+use Rattle.wave_gen.proofs.marks.landed.Goals as goal
+
+pub loop-i-preserved : goal.loop-i-preserved
+loop-i-preserved c =
+    let t = c.args.table.now in let g = view.graph t.graph.now in let h = c.loop-i.invariant in
+    record {
+      count = c.mark_landings_at.ensures.count ∙ h.count;
+      marked = λ b l. (let m : b < length c.loop-i.flags.items = omega (arith, l, h.count) in
+          some_next landings_of g c.loop-i.i b (flag c.loop-i.flags.items b) (flag c.mark_landings_at.new.flags.items b) (omega arith) (omega (arith, spots_there t c.requires, t.spots.ok.0, c.len-i.ensures)) (h.marked b l) (c.mark_landings_at.ensures.marked b m));
+    }

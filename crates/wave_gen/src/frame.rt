@@ -1,0 +1,143 @@
+//! What stands around the items of a block: the choice of its edge, and its front.
+
+ghost use Rattle.std.specs.Prelude.{◌≡◌, ◌∷◌, ◌-◌, ◌/◌, [], ℕ, OnOk, IfOk, length};
+ghost use Rattle.wave_gen.specs.Wire.{Made, Spot, make, with_rooms};
+ghost use Rattle.wave_gen.specs.Plans.{has_front, renew, advances};
+ghost use Rattle.wave_gen.specs.View as view;
+ghost use Rattle.wave_gen.specs.Tables.{Stands, leaves_made, behind_of, begun};
+
+use crate::maker::Maker;
+use crate::plan::{Leaves, Plan};
+use crate::spot::{Line, Spot};
+use std::alloc::Global;
+use ws_isa::Op;
+use ws_words::NoMemory;
+
+/// The name of the pulse.
+pub(crate) const PULSE: usize = 0;
+
+impl Maker {
+    /// The instruction by which a block's edge is chosen, or a halt. The answer is how many
+    /// instructions stand behind the one by which it is chosen.
+    pub(crate) fn leave(
+        &mut self,
+        alloc: Global,
+        test: usize,
+        exit: &Leaves,
+    ) -> Result<usize, NoMemory>
+        ensures made { OnOk result ((b : ℕ) (s : Made) → Stands b self.old s →
+            Stands b self.new (leaves_made b test (view.leaves exit.now) s)) }
+        ensures behind { IfOk result (λ n. (b : ℕ) (s : Made) → Stands b self.old s →
+            n ≡ behind_of b (view.leaves exit.now) s) }
+    {
+        match exit {
+            Leaves::Onto(_) => Ok(self.code.len()),
+            Leaves::Either { op, from, .. } => self.choose(alloc, test, *op, from),
+            Leaves::Lands { op, from, .. } => self.choose(alloc, test, *op, from),
+            Leaves::Halts => self.halt(alloc),
+        }
+    }
+
+    fn choose(
+        &mut self,
+        alloc: Global,
+        name: usize,
+        op: Op,
+        from: &[usize],
+    ) -> Result<usize, NoMemory>
+        ensures made { OnOk result ((b : ℕ) (s : Made) → Stands b self.old s →
+            Stands b self.new (make b name op from.now s)) }
+        ensures behind { IfOk result (λ n. (b : ℕ) (s : Made) → Stands b self.old s →
+            n ≡ length (with_rooms b (length from.now) from.now s).code) }
+    {
+        self.make_rooms(alloc, from)?;
+        let behind = self.code.len();
+        self.emit(alloc, name, op, from)?;
+        Ok(behind)
+    }
+
+    fn halt(&mut self, alloc: Global) -> Result<usize, NoMemory>
+        ensures made { OnOk result ((b : ℕ) (s : Made) → Stands b self.old s →
+            Stands b self.new (leaves_made b 0 (view.leaves Leaves.Halts) s)) }
+        ensures behind { IfOk result (λ n. (b : ℕ) (s : Made) → Stands b self.old s →
+            n ≡ length s.code) }
+    {
+        let behind = self.code.len();
+        let line = Line {
+            op: Op::Halt,
+            dests: Vec::new(alloc),
+            others: Vec::new(alloc),
+        };
+        self.rest(alloc, line, &[PULSE])?;
+        Ok(behind)
+    }
+
+    /// The front of a block.
+    pub(crate) fn begin(&mut self, alloc: Global, plan: &Plan) -> Result<(), NoMemory>
+        ensures { OnOk result ((b : ℕ) (s : Made) → Stands b self.old s →
+            Stands b self.new (begun b (view.plan plan.now) s)) }
+    {
+        if plan.first {
+            self.renew(alloc, &plan.entries)?;
+            self.advance(alloc, &plan.entries)
+        } else if plan.joined {
+            self.emit(alloc, PULSE, Op::Merge, &[PULSE])
+        } else {
+            Ok(())
+        }
+    }
+
+    // An advance that would send to one of its own block sends to a merge.
+    fn renew(&mut self, alloc: Global, entries: &[usize]) -> Result<(), NoMemory>
+        ensures { OnOk result ((b : ℕ) (s : Made) → Stands b self.old s →
+            Stands b self.new (renew b entries.now s)) }
+    {
+        for name in entries {
+            self.renew_one(alloc, *name)?;
+        }
+        Ok(())
+    }
+
+    fn renew_one(&mut self, alloc: Global, name: usize) -> Result<(), NoMemory>
+        ensures { OnOk result ((b : ℕ) (s : Made) → Stands b self.old s →
+            Stands b self.new (renew b (name ∷ []) s)) }
+    {
+        if has_front(self.wants.list(name), self.block) {
+            self.gather(alloc, name)
+        } else {
+            Ok(())
+        }
+    }
+
+    fn advance(&mut self, alloc: Global, entries: &[usize]) -> Result<(), NoMemory>
+        ensures { OnOk result ((b : ℕ) (s : Made) → Stands b self.old s →
+            Stands b self.new (advances b entries.now s)) }
+    {
+        let mut left = entries.len();
+        while left > 0 {
+            left -= 1;
+            self.emit(alloc, entries[left], Op::Advance, &[entries[left]])?;
+        }
+        Ok(())
+    }
+}
+
+fn has_front(spots: &[Spot], block: usize) -> bool
+    ensures { result ≡ has_front block spots.now }
+{
+    for spot in spots {
+        if fronts(*spot, block) {
+            return true;
+        }
+    }
+    false
+}
+
+fn fronts(spot: Spot, block: usize) -> bool
+    ensures { result ≡ has_front block (spot ∷ []) }
+{
+    match spot {
+        Spot::Front(front, _) => front == block,
+        Spot::Back(..) => false,
+    }
+}
