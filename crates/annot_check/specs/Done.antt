@@ -1,5 +1,5 @@
 -- A table of the slots with which blocks are come into, closed under edges.
-use Rattle.std.specs.Prelude.{ℕ, suc, ◌≡◌, true, false, Option, Some}
+use Rattle.std.specs.Prelude.{ℕ, ◌≡◌, true, false, Option, Some}
 use Rattle.ws_isa.specs.Image.{Image, block_at, first_number, stops, target, is_first, start_dests, IsBlock}
 use Rattle.image_walk.specs.Sound.{Slots, none_open, all_opened, Fresh, opens_at, AdvancesOpen}
 use Rattle.annot_check.specs.Runs.{run, GoodRun}
