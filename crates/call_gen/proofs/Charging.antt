@@ -7,7 +7,7 @@ use Rattle.std.proofs.lemmas.List.{length-map, length_push}
 use Rattle.std.proofs.lemmas.List.Sums.{sum_by-cons, sum_by-append}
 use Rattle.cfg_core.specs.Graph.{Term, Number, Var, Op, Exit, Goto, Branch, Call, Return, Send, Stop, Graph, Spot, spots, spot_at, block_at, or_else, proc_at, entry_of}
 use Rattle.cfg_core.specs.Rules.{In, calls}
-use Rattle.cfg_core.specs.Weights.{term_nodes}
+use Rattle.cfg_core.specs.Weights.{term_nodes, first_block}
 use Rattle.live_vars.specs.Live.{Live}
 use Rattle.live_vars.specs.Marks.{has}
 use Rattle.call_gen.specs.Spelled.{is_called, is_result, is_saved, is_unset, moved, door, address, landings, below, saved, save, load, saves, left, clear, spelled}
@@ -249,6 +249,16 @@ module _ (g : Graph) (live : List (List ℕ)) (G : Given g live) where
     loads_at (Send t ts ls) e no_call = absurd (cc)
     loads_at Stop e no_call = absurd (cc)
 
+  -- where the walk begins what is live is cleared
+  opens_few : (n : ℕ) → LiveBelow live (first_block g) (proc_at g (length g.procs - 1)).vars n → length (block_at h (first_block h)).ops ≤ n
+  opens_few n low =
+      let main = length g.procs - 1 in
+      let lt : main < length g.procs = omega (arith, G.rules.numbers.some_proc) in
+      let at : first_block h ≡ door g main = first_is g live G F (all_celled g live G.rules) (λ b. 0) in
+      let same : length (block_at h (first_block h)).ops ≡ length (unset main lt) = ap (λ m. length (block_at h m).ops) at ∙ ap (λ (s : Spot). length s.block.ops) (F.entry main lt) ∙ length-map (unset main lt) clear in
+      let from = filter_between (is_unset g live main (proc_at g main).params) 0 n (proc_at g main).vars (λ x h. omega arith) (λ x lx h. low x lx (and_true (has live _ x) _ h).0) in
+      omega (arith, same, from)
+
   -- the blocks of the given graph pay for all blocks
   pub calls_charged : CallsCharged g live h
   calls_charged = record {
@@ -259,5 +269,6 @@ module _ (g : Graph) (live : List (List ℕ)) (G : Given g live) where
     points = λ b lt c. point_at b lt (block_at g b).exit refl c;
     loads = λ b lt c. loads_at b lt (block_at g b).exit refl c;
     begins = first_is g live G F (all_celled g live G.rules) (λ b. 0);
+    opens = opens_few;
     walks = λ w base pay. weighs g live G F (all_celled g live G.rules) w base pay;
   }

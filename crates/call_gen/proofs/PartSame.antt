@@ -1,7 +1,8 @@
 -- In a closed part of a graph each block does what it did, and no more is live.
-use Rattle.std.proofs.Common.{ℕ, ◌≡◌, Bool, true, List, [], ◌∷◌, refl, sym, ap, ◌∙◌, subst, inl, inr, Some, None}
+use Rattle.std.proofs.Common.{ℕ, ◌-◌, ◌≡◌, Bool, true, List, [], ◌∷◌, length, refl, sym, ap, ◌∙◌, subst, inl, inr, Some, None}
 use Rattle.cfg_core.specs.Graph.{Op, Exit, Goto, Branch, Call, Return, Send, Stop, Graph, Spot, spot_at, block_at, entry_of}
 use Rattle.cfg_core.specs.Rules.{Leads, IsGraph}
+use Rattle.cfg_core.specs.Weights.{first_block}
 use Rattle.live_vars.specs.Live.{ExitReads, ExitWrites, Carries, WrittenIn, ReadsFirst, Live, reads, passes}
 use Rattle.call_gen.specs.Keeps.{NoSend, HasNoSend}
 use Rattle.call_gen.specs.Reached.{Enters}
@@ -90,3 +91,7 @@ module _ (g : Graph) (keep : ℕ → Bool) (rules : IsGraph g) (C : Closed g kee
         exit = subst (λ (s : Spot). SameExit g h place (block_at g b).exit s.block.exit) (sym e) (exit_same b kept (block_at g b).exit refl (no_send b));
         held = λ x l. held (place b) x l b kept refl;
       }
+
+  -- the walk begins at the place where it began
+  pub begins_there : first_block h ≡ place (first_block g)
+  begins_there = ap (entry_of h) (walks.main_is g keep rules C) ∙ walks.entry_is g keep rules C (length g.procs - 1) (walks.main_there g keep rules C) C.main

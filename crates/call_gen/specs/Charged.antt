@@ -100,6 +100,9 @@ pub record CallsCharged (g : Graph) (live : List (List ℕ)) (h : Graph) : Type 
       length (block_at h (places.point b)).ops
       ≤ most_saved live (spot_at g b).vars (block_at g b).exit
   pub begins : first_block h ≡ places.door (length g.procs - 1)
+  pub opens : (n : ℕ) →
+      LiveBelow live (first_block g) (proc_at g (length g.procs - 1)).vars n →
+      length (block_at h (first_block h)).ops ≤ n
   pub walks : (weight : ℕ → ℕ) (base pay : ℕ) →
       WalksWeigh g (charged g places weight) base pay →
       WalksWeigh h weight (base + weight (first_block h)) pay
@@ -127,6 +130,7 @@ pub record DoesTheSame (g h : Graph) (place : ℕ → ℕ) (b : ℕ) : Type 0 wh
 -- much as the one in its place, or more.
 pub record ReachedInPlace (g h : Graph) : Type 0 where
   pub place : ℕ → ℕ
+  pub begins : first_block h ≡ place (first_block g)
   pub same : (b : ℕ) → b < length (spots g) → Reached g b → DoesTheSame g h place b
   pub walks : (weight given : ℕ → ℕ) (base pay : ℕ) →
       ((b : ℕ) → b < length (spots g) → Reached g b → weight (place b) ≤ given b) →
