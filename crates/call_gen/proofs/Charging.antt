@@ -1,16 +1,17 @@
 -- What stands for the blocks of the given graph, and what its walks weigh.
 use Rattle.std.proofs.Common.{ℕ, zero, suc, ◌+◌, ◌-◌, ◌*◌, ◌==◌, ◌&&◌, ◌≡◌, ◌<◌, ◌≤◌, ◌⊎◌, not, nat_lt, Bool, true, false, if◌then◌else◌, List, [], ◌∷◌, ◌++◌, length, map, refl, sym, ap, ◌∙◌, subst, inl, inr, Option, arith}
 use Rattle.std.specs.List.{AllByRecursion, filter, sum_by}
+use Rattle.std.proofs.lemmas.Bool.{cases_lt}
 use Rattle.std.proofs.lemmas.Bool.Decides.{nat_tests}
 use Rattle.std.proofs.lemmas.List.{length-map, length_push}
 use Rattle.std.proofs.lemmas.List.Sums.{sum_by-cons, sum_by-append}
-use Rattle.cfg_core.specs.Graph.{Term, Number, Var, Op, Exit, Goto, Branch, Call, Return, Send, Stop, GraphProc, Graph, Spot, spots, spot_at, block_at, nth, or_else, no_proc, proc_at}
-use Rattle.cfg_core.specs.Rules.{In, calls, ProcNumbers}
-use Rattle.cfg_core.specs.Weights.{term_nodes}
+use Rattle.cfg_core.specs.Graph.{Term, Number, Var, Op, Exit, Goto, Branch, Call, Return, Send, Stop, Graph, Spot, spots, spot_at, block_at, or_else, proc_at, entry_of}
+use Rattle.cfg_core.specs.Rules.{In, calls}
+use Rattle.cfg_core.specs.Weights.{term_nodes, first_block}
 use Rattle.live_vars.specs.Live.{Live}
 use Rattle.live_vars.specs.Marks.{has}
 use Rattle.call_gen.specs.Spelled.{is_called, is_result, is_saved, is_unset, moved, door, address, landings, below, saved, save, load, saves, left, clear, spelled}
-use Rattle.call_gen.specs.Charged.{IsSave, IsLoad, IsClear, live_count, most_saved, StandsForExit, StandsFor, GoesOnAfter, CallsCharged}
+use Rattle.call_gen.specs.Charged.{IsSave, IsLoad, IsClear, LiveBelow, live_count, most_saved, StandsForExit, StandsFor, GoesOnAfter, CallsCharged}
 use Rattle.call_gen.proofs.Counting.{one_at_most}
 use Rattle.call_gen.proofs.Facts.{Given, Placed}
 use Rattle.call_gen.proofs.Slots.{below_count}
@@ -52,6 +53,19 @@ filter_from p m (suc n) h = by_test (p n) refl (filter_from p m n h) (filter_pus
         let le : m ≤ n = h n e in omega (arith, one, le, i, q)
     by_test false e i q =
         let none : 0 + (if p n then 1 else 0) ≡ 0 + 0 = ap (λ (c : Bool). 0 + (if c then 1 else 0)) e in omega (arith, none, i, q)
+
+-- a filter of numbers from m on and below k
+filter_between : (p : ℕ → Bool) (m k n : ℕ) → ((x : ℕ) → p x ≡ true → m ≤ x) → ((x : ℕ) → x < n → p x ≡ true → x < k) → length (filter p (below n)) ≤ k - m
+filter_between p m k zero h i = omega arith
+filter_between p m k (suc n) h i = elim (cases_lt n k) [
+  | inl low ↦ let f = filter_from p m (suc n) h in omega (arith, f, low)
+  | inr high ↦ by_test high (p n) refl (filter_between p m k n h (λ x lt e. i x (omega arith) e)) (filter_push p (below n) n)
+]
+  where
+    by_test : k ≤ n → (v : Bool) → p n ≡ v → length (filter p (below n)) ≤ k - m → length (filter p (below n ++ n ∷ [])) ≡ length (filter p (below n)) + (if p n then 1 else 0) → length (filter p (below n ++ n ∷ [])) ≤ k - m
+    by_test high true e r q = absurd (let lt : n < k = i n (omega arith) e in omega (arith, lt, high))
+    by_test high false e r q =
+        let none : 0 + (if p n then 1 else 0) ≡ 0 + 0 = ap (λ (c : Bool). 0 + (if c then 1 else 0)) e in omega (arith, none, r, q)
 
 and_true : (a c : Bool) → (a && c) ≡ true → (a ≡ true) × (c ≡ true)
 and_true true true e = (refl, refl)
@@ -153,15 +167,6 @@ module _ (g : Graph) (live : List (List ℕ)) (G : Given g live) where
       known y (inl k) = inl k.1
       known y (inr k) = inr k.0
 
-  params_low : (f : ℕ) → f < length g.procs → (proc_at g f).params ≤ (proc_at g f).vars
-  unfolding proc_at
-  params_low f lt = each g.procs f G.rules.numbers.procs lt
-    where
-      each : (ps : List GraphProc) (f : ℕ) → AllByRecursion ProcNumbers ps → f < length ps → (or_else (nth ps f) no_proc).params ≤ (or_else (nth ps f) no_proc).vars
-      each [] f i lt = absurd (omega arith)
-      each (p ∷ ps) zero i lt = i.0.params
-      each (p ∷ ps) (suc f) i lt = each ps f i.1 (omega arith)
-
   module _ (f : ℕ) (lt : f < length g.procs) where
     abbrev params : ℕ
     params = (proc_at g f).params
@@ -179,10 +184,11 @@ module _ (g : Graph) (live : List (List ℕ)) (G : Given g live) where
     names_few true = omega (arith, length_push (below params) vf, below_count params)
     names_few false = omega arith
 
-    both_few : (c : Bool) → is_called g f ≡ c → length (names c) + length unset ≤ suc vf
-    both_few true e =
-        let from = filter_from (is_unset g live f params) params vf (λ x h. given x (and_true (has live _ x) _ h).1) in
-        omega (arith, length_push (below params) vf, below_count params, params_low f lt, from)
+    -- the variables that are named, and those that are live and aren't given
+    both_few : (n : ℕ) → params ≤ n → LiveBelow live (entry_of g f) vf n → (c : Bool) → is_called g f ≡ c → length (names c) + length unset ≤ suc n
+    both_few n most low true e =
+        let from = filter_between (is_unset g live f params) params n vf (λ x h. given x (and_true (has live _ x) _ h).1) (λ x lt h. low x lt (and_true (has live _ x) _ h).0) in
+        omega (arith, length_push (below params) vf, below_count params, most, from)
       where
         given : (x : ℕ) → (if is_called g f then not (nat_lt x params) else true) ≡ true → params ≤ x
         given x h = by_test (nat_lt x params) refl (ap (λ (c : Bool). if c then not (nat_lt x params) else true) (sym e) ∙ h)
@@ -190,45 +196,68 @@ module _ (g : Graph) (live : List (List ℕ)) (G : Given g live) where
             by_test : (t : Bool) → nat_lt x params ≡ t → not t ≡ true → params ≤ x
             by_test true q z = absurd (cc)
             by_test false q z = grind (arith, nat_tests)
-    both_few false e = omega (arith, filter_few (is_unset g live f params) (below vf), below_count vf)
+    both_few n most low false e =
+        let from = filter_between (is_unset g live f params) 0 n vf (λ x h. omega arith) (λ x lt h. low x lt (and_true (has live _ x) _ h).0) in
+        omega (arith, from)
 
-    door_stands : GoesOnAfter IsClear (suc params) (suc vf) h (door g f)
+    door_stands : GoesOnAfter IsClear (suc params) h (door g f)
     door_stands =
         let same = F.entry f lt in
         let n = named_door g live G f lt in
         record {
           ops = subst (λ (s : Spot). AllByRecursion IsClear s.block.ops) (sym same) (map_all IsClear clear unset (λ x. tt));
           named = subst (λ (xs : List ℕ). length xs ≤ suc params) (sym n) (names_few (is_called g f));
-          few =
-              let ops : length (block_at h (door g f)).ops ≡ length unset = ap (λ (s : Spot). length s.block.ops) same ∙ length-map unset clear in
-              let count : length (block_at h (door g f)).named ≡ length (names (is_called g f)) = ap length n in
-              omega (arith, ops, count, both_few (is_called g f) refl);
           goes = (_, ap (λ (s : Spot). s.block.exit) same);
           held = λ x l. subst (λ (xs : List ℕ). In x xs) (sym n) (door_live g live G f lt (door g f) refl x l);
         }
 
-  point_at : (b : ℕ) → b < length (spots g) → (x : Exit) → (block_at g b).exit ≡ x → calls x ≡ true → GoesOnAfter IsLoad 1 (suc (most_saved live (spot_at g b).vars x)) h (suc (moved g b))
-  point_at b lt (Call r f ts back) e c =
-      let home = (spot_at g b).home in
-      let v = (spot_at g b).vars in
-      let xs = saved g live home v r back in
-      let same = F.point b r f ts back lt e in
-      let n : (block_at h (suc (moved g b))).named ≡ or_else r v ∷ [] = ap (λ (s : Spot). s.block.named) same in
-      record {
-        ops = subst (λ (s : Spot). AllByRecursion IsLoad s.block.ops) (sym same) (map_all IsLoad (load g home) xs (λ x. tt));
-        named = let one : length (block_at h (suc (moved g b))).named ≡ 1 = ap length n in omega (arith, one);
-        few =
-            let one : length (block_at h (suc (moved g b))).named ≡ 1 = ap length n in
-            let ops : length (block_at h (suc (moved g b))).ops ≡ length xs = ap (λ (s : Spot). length s.block.ops) same ∙ length-map xs (load g home) in
-            omega (arith, one, ops, saved_few g live home v r back);
-        goes = (_, ap (λ (s : Spot). s.block.exit) same);
-        held = λ x l. subst (λ (ys : List ℕ). In x ys) (sym n) (inl (point_live g live G b r f ts back lt e (suc (moved g b)) refl x l));
-      }
-  point_at b lt (Goto c) e no_call = absurd (cc)
-  point_at b lt (Branch t c d) e no_call = absurd (cc)
-  point_at b lt (Return t) e no_call = absurd (cc)
-  point_at b lt (Send t ts ls) e no_call = absurd (cc)
-  point_at b lt Stop e no_call = absurd (cc)
+    door_clears : (n : ℕ) → params ≤ n → LiveBelow live (entry_of g f) vf n → length (block_at h (door g f)).named + length (block_at h (door g f)).ops ≤ suc n
+    door_clears n most low =
+        let ops : length (block_at h (door g f)).ops ≡ length unset = ap (λ (s : Spot). length s.block.ops) (F.entry f lt) ∙ length-map unset clear in
+        let count : length (block_at h (door g f)).named ≡ length (names (is_called g f)) = ap length (named_door g live G f lt) in
+        omega (arith, ops, count, both_few n most low (is_called g f) refl)
+
+  module _ (b : ℕ) (lt : b < length (spots g)) where
+    point_at : (x : Exit) → (block_at g b).exit ≡ x → calls x ≡ true → GoesOnAfter IsLoad 1 h (suc (moved g b))
+    point_at (Call r f ts back) e c =
+        let home = (spot_at g b).home in
+        let v = (spot_at g b).vars in
+        let same = F.point b r f ts back lt e in
+        let n : (block_at h (suc (moved g b))).named ≡ or_else r v ∷ [] = ap (λ (s : Spot). s.block.named) same in
+        record {
+          ops = subst (λ (s : Spot). AllByRecursion IsLoad s.block.ops) (sym same) (map_all IsLoad (load g home) (saved g live home v r back) (λ x. tt));
+          named = let one : length (block_at h (suc (moved g b))).named ≡ 1 = ap length n in omega (arith, one);
+          goes = (_, ap (λ (s : Spot). s.block.exit) same);
+          held = λ x l. subst (λ (ys : List ℕ). In x ys) (sym n) (inl (point_live g live G b r f ts back lt e (suc (moved g b)) refl x l));
+        }
+    point_at (Goto c) e no_call = absurd (cc)
+    point_at (Branch t c d) e no_call = absurd (cc)
+    point_at (Return t) e no_call = absurd (cc)
+    point_at (Send t ts ls) e no_call = absurd (cc)
+    point_at Stop e no_call = absurd (cc)
+
+    loads_at : (x : Exit) → (block_at g b).exit ≡ x → calls x ≡ true → length (block_at h (suc (moved g b))).ops ≤ most_saved live (spot_at g b).vars x
+    loads_at (Call r f ts back) e c =
+        let home = (spot_at g b).home in
+        let v = (spot_at g b).vars in
+        let xs = saved g live home v r back in
+        let ops : length (block_at h (suc (moved g b))).ops ≡ length xs = ap (λ (s : Spot). length s.block.ops) (F.point b r f ts back lt e) ∙ length-map xs (load g home) in
+        omega (arith, ops, saved_few g live home v r back)
+    loads_at (Goto c) e no_call = absurd (cc)
+    loads_at (Branch t c d) e no_call = absurd (cc)
+    loads_at (Return t) e no_call = absurd (cc)
+    loads_at (Send t ts ls) e no_call = absurd (cc)
+    loads_at Stop e no_call = absurd (cc)
+
+  -- where the walk begins what is live is cleared
+  opens_few : (n : ℕ) → LiveBelow live (first_block g) (proc_at g (length g.procs - 1)).vars n → length (block_at h (first_block h)).ops ≤ n
+  opens_few n low =
+      let main = length g.procs - 1 in
+      let lt : main < length g.procs = omega (arith, G.rules.numbers.some_proc) in
+      let at : first_block h ≡ door g main = first_is g live G F (all_celled g live G.rules) (λ b. 0) in
+      let same : length (block_at h (first_block h)).ops ≡ length (unset main lt) = ap (λ m. length (block_at h m).ops) at ∙ ap (λ (s : Spot). length s.block.ops) (F.entry main lt) ∙ length-map (unset main lt) clear in
+      let from = filter_between (is_unset g live main (proc_at g main).params) 0 n (proc_at g main).vars (λ x h. omega arith) (λ x lx h. low x lx (and_true (has live _ x) _ h).0) in
+      omega (arith, same, from)
 
   -- the blocks of the given graph pay for all blocks
   pub calls_charged : CallsCharged g live h
@@ -236,7 +265,10 @@ module _ (g : Graph) (live : List (List ℕ)) (G : Given g live) where
     places = places g live;
     blocks = block_stands;
     doors = door_stands;
+    clears = λ f n lt most low. door_clears f lt n most low;
     points = λ b lt c. point_at b lt (block_at g b).exit refl c;
+    loads = λ b lt c. loads_at b lt (block_at g b).exit refl c;
     begins = first_is g live G F (all_celled g live G.rules) (λ b. 0);
+    opens = opens_few;
     walks = λ w base pay. weighs g live G F (all_celled g live G.rules) w base pay;
   }

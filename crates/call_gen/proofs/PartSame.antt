@@ -1,9 +1,11 @@
 -- In a closed part of a graph each block does what it did, and no more is live.
-use Rattle.std.proofs.Common.{ℕ, ◌≡◌, Bool, true, List, [], ◌∷◌, refl, sym, ap, ◌∙◌, subst, inl, inr, Some, None}
-use Rattle.cfg_core.specs.Graph.{Op, Exit, Goto, Branch, Call, Return, Send, Stop, Graph, Spot, spot_at, block_at}
+use Rattle.std.proofs.Common.{ℕ, ◌-◌, ◌≡◌, Bool, true, List, [], ◌∷◌, length, refl, sym, ap, ◌∙◌, subst, inl, inr, Some, None}
+use Rattle.cfg_core.specs.Graph.{Op, Exit, Goto, Branch, Call, Return, Send, Stop, Graph, Spot, spot_at, block_at, entry_of}
 use Rattle.cfg_core.specs.Rules.{Leads, IsGraph}
+use Rattle.cfg_core.specs.Weights.{first_block}
 use Rattle.live_vars.specs.Live.{ExitReads, ExitWrites, Carries, WrittenIn, ReadsFirst, Live, reads, passes}
 use Rattle.call_gen.specs.Keeps.{NoSend, HasNoSend}
+use Rattle.call_gen.specs.Reached.{Enters}
 use Rattle.call_gen.specs.Part.{before, number, name, part}
 use Rattle.call_gen.specs.Charged.{SameExit, DoesTheSame}
 use Rattle.call_gen.proofs.PartPlaces.{part_spot}
@@ -29,13 +31,16 @@ module _ (g : Graph) (keep : ℕ → Bool) (rules : IsGraph g) (C : Closed g kee
   block_is : (b : ℕ) → keep b ≡ true → spot_at h (place b) ≡ part_spot keep named (number g keep) (spot_at g b)
   block_is = walks.block_is g keep rules C
 
-  exit_same : (x : Exit) → NoSend x → SameExit place x (named x)
-  exit_same (Goto c) n = refl
-  exit_same (Branch t c d) n = refl
-  exit_same (Call r f ts back) n = (number g keep f, refl)
-  exit_same (Return t) n = refl
-  exit_same (Send t ts ls) n = absurd n
-  exit_same Stop n = refl
+  exit_same : (b : ℕ) → keep b ≡ true → (x : Exit) → (block_at g b).exit ≡ x → NoSend x → SameExit g h place x (named x)
+  exit_same b kept (Goto c) e n = refl
+  exit_same b kept (Branch t c d) e n = refl
+  exit_same b kept (Call r f ts back) e n =
+      let there = (walks.exit_in g rules b (Call r f ts back) e).1 in
+      let k : keep (entry_of g f) ≡ true = C.call b (entry_of g f) kept (subst (λ (y : Exit). Enters g y (entry_of g f)) (sym e) refl) in
+      (number g keep f, refl, walks.entry_is g keep rules C f there k)
+  exit_same b kept (Return t) e n = refl
+  exit_same b kept (Send t ts ls) e n = absurd n
+  exit_same b kept Stop e n = refl
 
   reads_same : (y : Exit) (x : ℕ) → ExitReads (named y) x → ExitReads y x
   reads_same (Goto c) x r = r
@@ -83,6 +88,10 @@ module _ (g : Graph) (keep : ℕ → Bool) (rules : IsGraph g) (C : Closed g kee
         there = walks.block_there g keep rules C b kept;
         vars = ap (λ (s : Spot). s.vars) e;
         ops = ap (λ (s : Spot). s.block.ops) e;
-        exit = subst (λ (s : Spot). SameExit place (block_at g b).exit s.block.exit) (sym e) (exit_same (block_at g b).exit (no_send b));
+        exit = subst (λ (s : Spot). SameExit g h place (block_at g b).exit s.block.exit) (sym e) (exit_same b kept (block_at g b).exit refl (no_send b));
         held = λ x l. held (place b) x l b kept refl;
       }
+
+  -- the walk begins at the place where it began
+  pub begins_there : first_block h ≡ place (first_block g)
+  begins_there = ap (entry_of h) (walks.main_is g keep rules C) ∙ walks.entry_is g keep rules C (length g.procs - 1) (walks.main_there g keep rules C) C.main

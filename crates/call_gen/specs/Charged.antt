@@ -1,7 +1,7 @@
 -- What stands for the blocks of a graph in the one that a pass makes of it, and what pays for that.
 use Rattle.std.specs.Prelude.{◌≡◌, ℕ, zero, suc, ◌+◌, ◌-◌, ◌<◌, ◌≤◌, ◌⊎◌, true, List, [], ◌∷◌, ◌++◌, length, if◌then◌else◌}
 use Rattle.std.specs.List.{AllByRecursion}
-use Rattle.cfg_core.specs.Graph.{Number, Var, Cell, Op, Assign, Store, Exit, Goto, Branch, Call, Return, Send, Stop, Graph, spots, spot_at, block_at, proc_at}
+use Rattle.cfg_core.specs.Graph.{Number, Var, Cell, Op, Assign, Store, Exit, Goto, Branch, Call, Return, Send, Stop, Graph, spots, spot_at, block_at, proc_at, entry_of}
 use Rattle.cfg_core.specs.Rules.{In, calls}
 use Rattle.cfg_core.specs.Weights.{first_block, WalksWeigh}
 use Rattle.live_vars.specs.Live.{Live}
@@ -70,39 +70,51 @@ pub record StandsFor (g : Graph) (live : List (List ℕ)) (h : Graph) (p : Place
     pub ops : (block_at h c).ops ≡ (block_at g b).ops ++ saves
     pub held : (x : ℕ) → Live h c x → Live g b x ⊎ (x ≡ (spot_at g b).vars)
 
--- Block c, where a Send may land, holds such operations and goes on to one block. It names at most
--- so many variables and has with them at most so many operations, and only what it names is live.
-pub record GoesOnAfter (Is : Op → Type 0) (names most : ℕ) (h : Graph) (c : ℕ) : Type 0 where
+-- Block c, where a Send may land, names at most so many variables, holds such operations and goes on
+-- to one block. Only what it names is live.
+pub record GoesOnAfter (Is : Op → Type 0) (names : ℕ) (h : Graph) (c : ℕ) : Type 0 where
   pub ops : AllByRecursion Is (block_at h c).ops
   pub named : length (block_at h c).named ≤ names
-  pub few : length (block_at h c).named + length (block_at h c).ops ≤ most
   pub goes : (d : ℕ) × ((block_at h c).exit ≡ Goto d)
   pub held : (x : ℕ) → Live h c x → In x (block_at h c).named
+
+-- of so many variables those that are live at block b by the sets are among the first n
+abbrev pub LiveBelow : List (List ℕ) → ℕ → ℕ → ℕ → Type 0
+LiveBelow live b vars n = (x : ℕ) → x < vars → has live b x ≡ true → x < n
 
 -- What stands in the second graph for the blocks of the first, by these sets of live variables, and
 -- that these pay for it: whatever the blocks of the second weigh, its walks weigh no more than those
 -- of the first where each block is charged with all that stands for it, and the door by which the
--- walk begins.
+-- walk begins. A door clears what is live at the entry and isn't given.
 pub record CallsCharged (g : Graph) (live : List (List ℕ)) (h : Graph) : Type 0 where
   pub places : Places
   pub blocks : (b : ℕ) → b < length (spots g) → StandsFor g live h places b (places.block b)
   pub doors : (f : ℕ) → f < length g.procs →
-      GoesOnAfter IsClear (suc (proc_at g f).params) (suc (proc_at g f).vars) h (places.door f)
+      GoesOnAfter IsClear (suc (proc_at g f).params) h (places.door f)
+  pub clears : (f n : ℕ) → f < length g.procs → (proc_at g f).params ≤ n →
+      LiveBelow live (entry_of g f) (proc_at g f).vars n →
+      length (block_at h (places.door f)).named + length (block_at h (places.door f)).ops ≤ suc n
   pub points : (b : ℕ) → b < length (spots g) → calls (block_at g b).exit ≡ true →
-      GoesOnAfter IsLoad 1 (suc (most_saved live (spot_at g b).vars (block_at g b).exit)) h
-      (places.point b)
+      GoesOnAfter IsLoad 1 h (places.point b)
+  pub loads : (b : ℕ) → b < length (spots g) → calls (block_at g b).exit ≡ true →
+      length (block_at h (places.point b)).ops
+      ≤ most_saved live (spot_at g b).vars (block_at g b).exit
   pub begins : first_block h ≡ places.door (length g.procs - 1)
+  pub opens : (n : ℕ) →
+      LiveBelow live (first_block g) (proc_at g (length g.procs - 1)).vars n →
+      length (block_at h (first_block h)).ops ≤ n
   pub walks : (weight : ℕ → ℕ) (base pay : ℕ) →
       WalksWeigh g (charged g places weight) base pay →
       WalksWeigh h weight (base + weight (first_block h)) pay
 
--- the same exit, to the places of its blocks
-abbrev pub SameExit : (ℕ → ℕ) → Exit → Exit → Type 0
-SameExit place (Goto b) y = y ≡ Goto (place b)
-SameExit place (Branch t a b) y = y ≡ Branch t (place a) (place b)
-SameExit place (Call x f ts back) y = (e : ℕ) × (y ≡ Call x e ts (place back))
-SameExit place (Return t) y = y ≡ Return t
-SameExit place _ y = y ≡ Stop
+-- the same exit of the second graph, to the places of its blocks and of its callee's first block
+abbrev pub SameExit : Graph → Graph → (ℕ → ℕ) → Exit → Exit → Type 0
+SameExit g h place (Goto b) y = y ≡ Goto (place b)
+SameExit g h place (Branch t a b) y = y ≡ Branch t (place a) (place b)
+SameExit g h place (Call x f ts back) y =
+    (e : ℕ) × (y ≡ Call x e ts (place back)) × (entry_of h e ≡ place (entry_of g f))
+SameExit g h place (Return t) y = y ≡ Return t
+SameExit g h place _ y = y ≡ Stop
 
 -- in its place in the second graph a block does what it did in the first, on as many variables, and
 -- no more are live
@@ -110,7 +122,7 @@ pub record DoesTheSame (g h : Graph) (place : ℕ → ℕ) (b : ℕ) : Type 0 wh
   pub there : place b < length (spots h)
   pub vars : (spot_at h (place b)).vars ≡ (spot_at g b).vars
   pub ops : (block_at h (place b)).ops ≡ (block_at g b).ops
-  pub exit : SameExit place (block_at g b).exit (block_at h (place b)).exit
+  pub exit : SameExit g h place (block_at g b).exit (block_at h (place b)).exit
   pub held : (x : ℕ) → Live h (place b) x → Live g b x
 
 -- Each block that is reached has a place in the second graph. Whatever the blocks of the second
@@ -118,6 +130,7 @@ pub record DoesTheSame (g h : Graph) (place : ℕ → ℕ) (b : ℕ) : Type 0 wh
 -- much as the one in its place, or more.
 pub record ReachedInPlace (g h : Graph) : Type 0 where
   pub place : ℕ → ℕ
+  pub begins : first_block h ≡ place (first_block g)
   pub same : (b : ℕ) → b < length (spots g) → Reached g b → DoesTheSame g h place b
   pub walks : (weight given : ℕ → ℕ) (base pay : ℕ) →
       ((b : ℕ) → b < length (spots g) → Reached g b → weight (place b) ≤ given b) →
