@@ -26,3 +26,7 @@ pub mod OpsPassed
 pub mod OpsCount
 pub mod Ends
 pub mod Place
+pub mod Making
+pub mod Waves
+pub mod Owing
+pub mod Reached

@@ -46,3 +46,10 @@ pub record AfterFired (image : Image) (world : World) (s : State) (p : ℕ) : Ty
   pub fired : FirstFired image world s p
   pub most : (t : ℕ) → FirstFired image world s (length (ops image world t)) →
       length (ops image world t) ≤ p
+
+-- memory is what the first p operations of the walk leave, and they are at least as many as have
+-- fired without a gap
+pub record Passed (image : Image) (world : World) (s : State) (p : ℕ) : Type 0 where
+  pub memory : Effect image world p s.memory
+  pub most : (t : ℕ) → FirstFired image world s (length (ops image world t)) →
+      length (ops image world t) ≤ p

@@ -3,7 +3,7 @@ use Rattle.std.specs.Prelude.{ℕ, ◌≡◌, ◌<◌, ◌↔◌, Bool, true, fa
 use Rattle.ws_words.specs.Outside.{Outside, World}
 use Rattle.ws_isa.specs.Image.{Image, Token, or_else, ports, is_memory, result_of, sends}
 use Rattle.image_walk.specs.Walk.{Ports, no_ports, start_tokens}
-use Rattle.core_law.specs.Core.{Chain, Key, State, HasFired, same_key, put_all, operands_in}
+use Rattle.core_law.specs.Core.{Chain, Key, State, HasFired, IsSent, Issuable, same_key, put_all, operands_in}
 use Rattle.core_law.specs.Fit.{RightToken, RightRequest, Legal}
 
 -- what the 16 tables hold and list together
@@ -81,3 +81,14 @@ shown image t b = record {
   stopped = b.stopped;
   memory = b.memory;
 }
+
+-- every token that is owed is held, and the buffer knows each memory instance that has fired
+pub record OwesNothing (image : Image) (t : Tables) (b : Buffer) : Type 0 where
+  pub tokens : (w i p v : ℕ) → IsSent (owed image t b) w i p v → (u : ℕ) × (t.held w i p ≡ Some u)
+  pub requests : (w i : ℕ) → HasFired t.fired w i → is_memory image i ≡ true →
+      (xs : List ℕ) × (b.kept w i ≡ Some xs)
+
+-- nothing that waits in the buffer is issuable
+abbrev pub NoneIssuable : Image → Buffer → Type 0
+NoneIssuable image b = (w i : ℕ) (xs : List ℕ) → asking b w i ≡ Some xs →
+    Issuable image b.issued b.chain b.stopped w i xs → ⊥

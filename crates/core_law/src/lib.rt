@@ -8,9 +8,9 @@ ghost use Rattle.ws_isa.specs.Formed.{Formed};
 ghost use Rattle.image_walk.specs.Walk.{Inst, fires, walk};
 ghost use Rattle.image_walk.specs.Operations.{ops, Effect, FaultsAt};
 ghost use Rattle.image_walk.specs.Sound.{Sound};
-ghost use Rattle.core_law.specs.Core.{State, Event, Ready, Issue, Enabled, Reach, Step, Rest, HasFired, Once, core_opening};
+ghost use Rattle.core_law.specs.Core.{State, Same, Event, Ready, Issue, Enabled, Reach, Step, Rest, HasFired, Once, core_opening};
 ghost use Rattle.core_law.specs.Fit.{Fit, Grounded};
-ghost use Rattle.core_law.specs.Ends.{Whole, AtFault, Meets, AfterFired};
+ghost use Rattle.core_law.specs.Ends.{Whole, AtFault, Meets, Passed, AfterFired};
 
 /// From the opening state of a formed, sound image every list of events leads to a state that is
 /// fit and grounded. A fit state at rest has fired every instance of the walk and issued every
@@ -18,7 +18,14 @@ ghost use Rattle.core_law.specs.Ends.{Whole, AtFault, Meets, AfterFired};
 /// order, memory is the same at the end.
 pub fn every_list_of_events()
     ensures reach { (image : Image) (world : World) → Formed image → Sound image → (state : State) →
-        Reach image world state → Fit image world state × Grounded image world state }
+        Reach image world state → Fit image world state × Grounded image world state
+        × Once state.fired }
+    ensures makes { (image : Image) (world : World) → Formed image → Sound image →
+        (state : State) → Fit image world state → (event : Event) → Enabled image state event →
+        (new : State) × Step image state event new }
+    ensures alone { (image : Image) (world : World) → Formed image → Sound image →
+        (state : State) → Fit image world state → (event : Event) (one other : State) →
+        Step image state event one → Step image state event other → Same one other }
     ensures kept { (image : Image) (world : World) → Formed image → Sound image →
         (event : Event) (old new : State) → Fit image world old → Step image old event new →
         Fit image world new }
@@ -61,6 +68,14 @@ pub fn counts()
         Fit image world state → Grounded image world state → state.stopped ≡ false →
         ((wave instr : ℕ) → Enabled image state (Issue wave instr) → ⊥) → (p : ℕ)
         × AfterFired image world state p }
+    ensures passed { (image : Image) (world : World) → Formed image → Sound image →
+        (state : State) → Fit image world state → state.stopped ≡ false →
+        ((wave instr : ℕ) → Enabled image state (Issue wave instr) → ⊥) →
+        (p : ℕ) × Passed image world state p }
+    ensures waves { (image : Image) (world : World) → Formed image → Sound image →
+        (state : State) → Fit image world state → Grounded image world state →
+        (wave instr port value : ℕ) → state.way wave instr port ≡ Some value →
+        wave ≤ length state.fired }
     ensures place { (image : Image) (world : World) → Formed image → Sound image → (state : State) →
         Fit image world state → Grounded image world state → state.stopped ≡ true → (t : ℕ) →
         FaultsAt image world t → length (ops image world t) < length state.fired }
@@ -73,11 +88,19 @@ pub fn counts()
         one ≡ other }
 {}
 
-ghost use Rattle.core_law.specs.Shown.{Tables, Buffer, TablesOk, BufferOk, shown};
+ghost use Rattle.core_law.specs.Shown.{Tables, Buffer, TablesOk, BufferOk, OwesNothing, NoneIssuable, shown};
 
 /// What tables and a buffer stand for is fit, whatever was lost between the locks.
 pub fn shown_is_fit()
     ensures { (image : Image) (world : World) → Formed image → Sound image →
         (tables : Tables) (buffer : Buffer) → TablesOk image world tables →
         BufferOk image world buffer → Fit image world (shown image tables buffer) }
+{}
+
+/// Where tables and a buffer owe nothing, and nothing that waits in the buffer is issuable, the
+/// state for which they stand is at rest.
+pub fn owing_nothing_is_rest()
+    ensures { (image : Image) (tables : Tables) (buffer : Buffer) →
+        OwesNothing image tables buffer →
+        NoneIssuable image buffer → Rest image (shown image tables buffer) }
 {}
