@@ -1,0 +1,155 @@
+-- What the end of a run says of the walk.
+use Rattle.std.proofs.Common.{ℕ, ◌+◌, ◌≡◌, ◌<◌, ◌≤◌, ◌⊎◌, true, false, [], length, inl, inr, refl, sym, ◌∙◌, subst, arith}
+use Rattle.std.proofs.lemmas.Bool.{both_ways}
+use Rattle.ws_words.specs.Outside.{Outside, World}
+use Rattle.ws_isa.specs.Image.{Image}
+use Rattle.ws_isa.specs.Formed.{Formed}
+use Rattle.image_walk.specs.Walk.{Inst, mem, walk, CostAtMost}
+use Rattle.image_walk.specs.Operations.{ops, effect_of, Effect, FaultsAt, NoFault}
+use Rattle.image_walk.specs.Sound.{Sound}
+use Rattle.core_law.specs.Effect.{effect_at}
+use Rattle.core_law.specs.Core.{State, HasFired, Once, core_opening}
+use Rattle.core_law.specs.Fit.{FiresAt, RightToken, NoOp, Fit, Grounded}
+use Rattle.core_law.specs.Ends.{Whole, AtFault}
+use Rattle.core_law.proofs.Facts.{WalkFacts}
+use Rattle.core_law.proofs.FromSound.{facts_of}
+use Rattle.core_law.proofs.PortsThere.{ports_there}
+use Rattle.core_law.proofs.Effects.{effect_is}
+use Rattle.core_law.proofs.Quiet.{no_op_no_write, mem_same}
+use Rattle.core_law.proofs.Law.{opening_fit, opening_grounded, step_kept, step_grounded}
+use Rattle.core_law.proofs.Ends.{rest_ends, at_fault, after_fired, same_effect, one_fault}
+use Rattle.core_law.proofs.Counting.{rest_count, fired_count, way_count, once_kept}
+use Rattle.core_law.proofs.Place.{fault_place}
+use Rattle.core_run.specs.declared.drive.Finish.{Finish}
+use Rattle.core_run.specs.declared.drive.Finish.TheVariants as finish
+use Rattle.core_run.specs.declared.flow.Flow.{Flow}
+use Rattle.core_run.specs.Outdoors.{OutIs}
+use Rattle.core_run.specs.Flows.{IsFault, Holds, Reaches, stays, steps}
+use Rattle.core_run.specs.Finishes.{FinishIs, IsSpent}
+use Rattle.core_run.specs.Told.{done_of, run_of}
+use Rattle.core_run.specs.Answer.{Tells, Rested, Cut, Faulted, RunSo}
+use Rattle.core_run.proofs.Issuing.{printed_alike, ports_alike}
+use Rattle.core_run.proofs.Firings.{StepsOf, steps_of, none_fires}
+
+-- what is kept on the way to a state
+record Kept (image : Image) (world : World) (s : State) : Type 0 where
+  fit : Fit image world s
+  grounded : Grounded image world s
+  once : Once s.fired
+
+kept : (image : Image) (world : World) (facts : WalkFacts image world) (s t : State) → Reaches image s t → Kept image world s → Kept image world t
+kept image world facts s t stays k = k
+kept image world facts s t (steps {t = m} e st rest) k = kept image world facts m t rest (record {
+  fit = step_kept image world facts s m e k.fit st;
+  grounded = step_grounded image world facts s m e k.fit k.grounded st;
+  once = once_kept image world facts s m e k.fit k.once st;
+})
+
+opened : (image : Image) (world : World) (facts : WalkFacts image world) → Kept image world (core_opening image world)
+unfolding core_opening
+opened image world facts = record { fit = opening_fit image world facts; grounded = opening_grounded image world facts; once = tt }
+
+no_fault_at : (image : Image) (world : World) → NoFault image world → (t : ℕ) → FaultsAt image world t → ⊥
+no_fault_at image world none t f = both_ways _ (none t f.inst f.fired) f.is_past
+
+going_rest : (image : Image) (world : World) (s : State) → s.stopped ≡ false → Whole image world s ⊎ AtFault image world s → Whole image world s
+going_rest image world s going (inl w) = w
+going_rest image world s going (inr f) = absurd (both_ways _ going f.stopped)
+
+-- an effect tells what is outside: loads neither print, nor store, nor give words to ports
+tells : (o : Outside) (flow : Flow) → OutIs (effect_of o) flow.memory → Tells o (done_of flow)
+tells o flow h = record {
+  printed = sym h.same_printed ∙ printed_alike o.acts;
+  arrays = sym h.same_cells;
+  took = sym h.same_took ∙ ports_alike o.acts;
+}
+
+module _ (image : Image) (world : World) (facts : WalkFacts image world) (budget : ℕ) (flow : Flow) (s : State) (k : Kept image world s) (h : Holds image world [] flow s) where
+  tells_at : (t : ℕ) → effect_at image world t ≡ s.memory → Tells (mem image world t) (done_of flow)
+  tells_at t e = tells (mem image world t) flow (subst (λ (o : Outside). OutIs o flow.memory) (sym e ∙ effect_is image world t) h.memory_is)
+
+  rested : flow.fired ≤ budget → Whole image world s → Rested image world budget (done_of flow)
+  rested within w =
+      let f = fired_count image world facts s k.fit k.once in
+      let n : length s.fired ≡ flow.fired = h.count_is in
+      let all : (t : ℕ) → length (walk image world t) ≤ length s.fired = rest_count image world facts s k.fit w.fired in
+      let cost : CostAtMost image world flow.fired = λ t. (let a : length (walk image world t) ≤ length s.fired = all t in omega arith) in
+      record {
+        no_fault = w.within;
+        steps = f.0;
+        fired = (let a : length (walk image world f.0) ≤ length s.fired = all f.0 in let b : length s.fired ≤ length (walk image world f.0) = f.1 in omega arith);
+        cost = cost;
+        within = within;
+        left = λ t l. tells_at t (
+            let quiet : NoOp image world t (t + w.end) = none_fires image world flow.fired t (t + w.end) cost l in
+            sym (mem_same image world facts t (t + w.end) (omega arith) (no_op_no_write image world t (t + w.end) quiet)) ∙ w.memory (t + w.end) (omega arith)
+            );
+      }
+
+  fired_at : (w i : ℕ) → HasFired s.fired w i → (t : ℕ) × (x : Inst) × FiresAt image world w i t x
+  fired_at w i has =
+      let f = k.fit.fired_full w i has in
+      let g = f.1 0 f.0 in
+      let r : RightToken image world w i 0 g.0 = k.fit.held_right w i 0 g.0 g.1 in
+      (r.time, r.inst, r.at)
+
+  cut : IsSpent image budget s → Cut image world budget (done_of flow)
+  cut p =
+      let after = after_fired image world facts s k.fit p.going k.grounded p.settled in
+      let of : StepsOf image world s.fired = steps_of image world facts s.fired k.once fired_at in
+      record {
+        dear = λ cost. (let r = way_count image world facts s k.fit k.once p.wave p.instr p.port p.value p.on_way in let l : length s.fired < length (walk image world r.0) = r.1 in let c : length (walk image world r.0) ≤ budget = cost r.0 in omega (arith, p.count));
+        fired = sym h.count_is ∙ p.count;
+        steps = of.steps;
+        firing = of.firing;
+        count = of.count ∙ p.count;
+        passed = _;
+        first = λ t x fx mx l. of.has x.wave x.instr t x (after.fired t x fx mx l) (record { fires = fx; wave = refl; instr = refl });
+        most = λ t f. after.most t (λ u x fx mx l. of.only u x (f u x fx mx l) fx);
+        front = after.memory.steps;
+        front_has = after.memory.count;
+        left = tells_at after.memory.steps (effect_is image world after.memory.steps ∙ after.memory.left);
+      }
+
+  faulted : flow.fired ≤ budget → s.stopped ≡ true → (array : ℕ) → IsFault image world array → Faulted image world budget array (done_of flow)
+  faulted within e array f =
+      let at : AtFault image world s = at_fault image world facts s k.fit e in
+      let same : at.time ≡ f.time = one_fault image world facts at.time f.time at.fault f.fault in
+      let left : Effect image world (length (ops image world f.time)) s.memory = subst (λ (t : ℕ). Effect image world (length (ops image world t)) s.memory) same at.memory in
+      let here : Effect image world (length (ops image world f.time)) (effect_of (mem image world f.time)) = record { steps = f.time; count = refl; left = refl } in
+      record {
+        time = f.time;
+        fault = f.fault;
+        array_is = f.array_is;
+        place = (let n : length (ops image world f.time) < length s.fired = fault_place image world facts s k.fit k.grounded e f.time f.fault in omega (arith, h.count_is));
+        within = within;
+        left = tells_at f.time (effect_is image world f.time ∙ same_effect image world facts (length (ops image world f.time)) (effect_of (mem image world f.time)) s.memory here left);
+      }
+
+  says : (finish : Finish) → flow.fired ≤ budget → FinishIs image world budget finish s → RunSo image world budget (run_of finish flow)
+  says finish.Rest le f =
+      let w = rested le (going_rest image world s f.1 (rest_ends image world facts s k.fit f.0)) in
+      record {
+        told = w;
+        rests = (λ e. (w.no_fault, λ t. (let a : length (walk image world t) ≤ flow.fired = w.cost t in omega arith)), λ e. refl);
+        faults = λ t at c. absurd (no_fault_at image world w.no_fault t at);
+      }
+  says finish.Budget le f =
+      let w = cut f in
+      record { told = w; rests = (λ e. absurd (both_ways false refl e), λ e. absurd (w.dear e.1)); faults = λ t at c. absurd (w.dear c) }
+  says (finish.Fault array) le f =
+      let w = faulted le f.0 array f.1 in
+      record { told = w; rests = (λ e. absurd (both_ways false refl e), λ e. absurd (no_fault_at image world e.0 w.time w.fault)); faults = λ t at c. refl }
+
+-- a run from what was opened
+pub opened_none : (image : Image) (world : World) (flow : Flow) → Holds image world [] flow (core_opening image world) → flow.fired ≡ 0
+unfolding core_opening
+opened_none image world flow h = sym h.count_is
+
+pub ran : (image : Image) (world : World) (budget : ℕ) (finish : Finish) (old new : Flow) → Formed image → Sound image → Holds image world [] old (core_opening image world) → new.fired ≤ budget →
+    ((world : World) (s : State) → Formed image → Sound image → Holds image world [] old s → (t : State) × Reaches image s t × Holds image world [] new t × FinishIs image world budget finish t) →
+    RunSo image world budget (run_of finish new)
+ran image world budget finish old new formed sound h le f =
+    let r = f world (core_opening image world) formed sound h in
+    let facts = facts_of image world (ports_there image formed) sound in
+    says image world facts budget new r.0 (kept image world facts (core_opening image world) r.0 r.1 (opened image world facts)) r.2 finish le r.3

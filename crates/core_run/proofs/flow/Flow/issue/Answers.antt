@@ -1,0 +1,53 @@
+use Rattle.std.proofs.Common.{◌≡◌, ◌≤◌, length, List, [], true, Some, refl, ap, ◌∙◌, subst, sym, arith}
+use Rattle.ws_isa.specs.declared.instr.Dest.{Dest}
+use Rattle.core_run.specs.Places.{image_of}
+use Rattle.core_law.specs.Core.{State, Step, Issue}
+use Rattle.core_run.specs.Chains.{chain_of, may_flag}
+use Rattle.ws_isa.specs.Image.{selector_of, tokens_to}
+use Rattle.core_run.specs.declared.flow.Flow.{Flow}
+use Rattle.core_run.specs.Places.{destinations}
+use Rattle.core_run.specs.Ways.{SentTo}
+use Rattle.core_run.specs.Flows.{Holds, all_of, asked_at, no_asked}
+use Rattle.core_run.proofs.Few.{few}
+use Rattle.core_run.proofs.Issuing as I
+use Rattle.core_run.proofs.flow.Flow.issue.Goals as goal
+
+pub returns-then-is_past-clause-leads : goal.returns-then-is_past-clause-leads
+returns-then-is_past-clause-leads c = λ world s formed sound h.
+    let old = c.args.self.now in
+    let a = c.index-asked.result.now in
+    let image = image_of c.args.program.now in
+    let a_is : a ≡ asked_at old c.args.place = I.or_any old.asked.items c.args.place a no_asked c.requires.place c.index-asked.ensures in
+    let new : Flow = record { slots = old.slots; way = old.way; asked = old.asked; early = old.early; chain = old.chain; fault = Some c.array_of.result; memory = old.memory; fired = old.fired } in
+    subst (λ b. (t : State) × Step image s (Issue b.wave b.instr) t × Holds image world [] new t) a_is
+    (I.issue_stops image world formed sound old s h c.args.place a c.requires.place c.index-asked.ensures c.requires.running
+    (subst (λ b. may_flag image (chain_of old.chain) b.wave b.instr b.operands.first ≡ true) (sym a_is) c.requires.may)
+    c.op-op.result c.op-op.ensures (sym c.is_past.ensures ∙ c.if-is_past.true) c.array_of.result c.array_of.ensures new refl refl refl refl refl refl refl refl)
+
+pub send-requires-clause-now : goal.send-requires-clause-now
+send-requires-clause-now c =
+    let f : length c.destinations-dests.result.now ≤ 8 = subst (λ (ds : List Dest). length ds ≤ 8) (sym c.destinations-dests.ensures) (few (image_of c.args.program.now) c.requires.going.formed c.index-asked.result.now.instr c.selector.result) in
+    omega (arith, f, c.requires.room.now)
+
+pub send-requires-clause-later : goal.send-requires-clause-later
+send-requires-clause-later c =
+    let f : length c.destinations-dests.result.now ≤ 8 = subst (λ (ds : List Dest). length ds ≤ 8) (sym c.destinations-dests.ensures) (few (image_of c.args.program.now) c.requires.going.formed c.index-asked.result.now.instr c.selector.result) in
+    omega (arith, f, c.requires.room.later)
+
+pub returns-clause-leads : goal.returns-clause-leads
+returns-clause-leads c = λ world s formed sound h.
+    let old = c.args.self.now in
+    let a = c.index-asked.result.now in
+    let image = image_of c.args.program.now in
+    let a_is : a ≡ asked_at old c.args.place = I.or_any old.asked.items c.args.place a no_asked c.requires.place c.index-asked.ensures in
+    let new : Flow = record { slots = old.slots; way = c.send.new.self; asked = c.remove.new.self; early = c.pass_on-self.new.early; chain = c.pass_on-self.result; fault = old.fault; memory = c.run.new.self; fired = old.fired } in
+    let to : c.destinations-dests.result.now ≡ destinations image a.instr (selector_of c.op-op.result (all_of a.operands)) = c.destinations-dests.ensures ∙ ap (destinations image a.instr) c.selector.ensures in
+    subst (λ b. (t : State) × Step image s (Issue b.wave b.instr) t × Holds image world [] new t) a_is
+    (I.issue_goes image world formed sound old s h c.args.place a c.requires.place c.index-asked.ensures c.requires.running
+    (subst (λ b. may_flag image (chain_of old.chain) b.wave b.instr b.operands.first ≡ true) (sym a_is) c.requires.may)
+    c.op-op.result c.op-op.ensures (sym c.is_past.ensures ∙ c.if-is_past.false) c.in_ok-word.word new c.in_ok-word.ensures.answer refl c.remove.ensures.items refl refl c.pass_on-self.ensures.passed (subst (λ ds. SentTo old.way c.send.new.self (tokens_to a.wave c.in_ok-word.word ds)) to c.send.ensures.sent))
+
+pub returns-clause-weight : goal.returns-clause-weight
+returns-clause-weight c =
+    let f : length c.destinations-dests.result.now ≤ 8 = subst (λ (ds : List Dest). length ds ≤ 8) (sym c.destinations-dests.ensures) (few (image_of c.args.program.now) c.requires.going.formed c.index-asked.result.now.instr c.selector.result) in
+    omega (arith, f, c.send.ensures.both, c.remove.ensures.len)

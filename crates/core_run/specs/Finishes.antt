@@ -1,0 +1,25 @@
+-- How a run ends.
+use Rattle.std.specs.Prelude.{◌≡◌, ℕ, true, false, length, Some}
+use Rattle.ws_words.specs.Outside.{World}
+use Rattle.ws_isa.specs.Image.{Image}
+use Rattle.core_law.specs.Core.{State, Issue, Enabled, Rest}
+use Rattle.core_run.specs.Flows.{IsFault}
+use Rattle.core_run.specs.declared.drive.Finish.{Finish}
+use Rattle.core_run.specs.declared.drive.Finish.TheVariants as finish
+
+-- the chain isn't stopped, so many instances have fired, something is on the way, and nothing may
+-- be issued
+pub record IsSpent (image : Image) (budget : ℕ) (s : State) : Type 0 where
+  pub going : s.stopped ≡ false
+  pub count : length s.fired ≡ budget
+  pub wave : ℕ
+  pub instr : ℕ
+  pub port : ℕ
+  pub value : ℕ
+  pub on_way : s.way wave instr port ≡ Some value
+  pub settled : (w i : ℕ) → Enabled image s (Issue w i) → ⊥
+
+abbrev pub FinishIs : Image → World → ℕ → Finish → State → Type 0
+FinishIs image world budget finish.Rest s = Rest image s × (s.stopped ≡ false)
+FinishIs image world budget finish.Budget s = IsSpent image budget s
+FinishIs image world budget (finish.Fault array) s = (s.stopped ≡ true) × IsFault image world array

@@ -1,0 +1,13 @@
+-- What a reader has to believe: Answer. The others serve the proof of the code alone: what it holds
+-- while it runs.
+pub mod Answer
+pub mod Told
+pub mod Stands
+pub mod Moves
+pub mod Chains
+pub mod Finishes
+pub mod Flows
+pub mod Outdoors
+pub mod Partial
+pub mod Places
+pub mod Ways
