@@ -1,0 +1,179 @@
+-- The rules on shape and slots read no notes.
+use Rattle.std.proofs.Common.{ℕ, zero, suc, ◌+◌, ◌-◌, ◌≡◌, ◌<◌, ◌≤◌, Bool, cond, inl, inr, true, false, not, eqb, List, [], ◌++◌, length, Some, refl, sym, ap, ap₂, ◌∙◌, subst}
+use Rattle.ws_isa.specs.declared.instr.Op.{Op}
+use Rattle.ws_isa.specs.declared.instr.Dest.{Dest}
+use Rattle.ws_isa.specs.Image.{Exit, Pad, Image, In, nth, instr_at, block_at, block_of, first_number, size_of, ports, ports_of, is_memory, is_memory_op, is_advance, is_advance_op, is_giving, is_giving_op, stops, is_stop, target, leave_to, is_first, pad_of, now_of, now_dests, edge_of, edge_dests, start_dests, IsIn, IsBlock}
+use Rattle.ws_isa.specs.Formed.{WavesInOrder}
+use Rattle.image_walk.specs.Sound.{Slots, none_open, all_opened, Fresh, closed, HasDest, HasPad, edge_all, opens_at, Opens, begin, turn, edge, AdvancesOpen, SlotRules, IsAhead, Carries, direct, through, ShapeRules, MoreShape}
+use Rattle.wave_link.proofs.GrownTriggers.{OpCase, steers, sends, plain, op_case}
+
+-- the same image but for notes
+pub record SameShape (image new : Image) : Type 0 where
+  pub numbers : (b : ℕ) → first_number new b ≡ first_number image b
+  pub count : length new.blocks ≡ length image.blocks
+  pub holders : (k : ℕ) → block_of new k ≡ block_of image k
+  pub waves : (b : ℕ) → (block_at new b).wave ≡ (block_at image b).wave
+  pub pads : (b : ℕ) → (block_at new b).pads ≡ (block_at image b).pads
+  pub exits : (b : ℕ) → (block_at new b).exit ≡ (block_at image b).exit
+  pub ops : (k : ℕ) → (instr_at new k).op ≡ (instr_at image k).op
+  pub dests : (k : ℕ) → (instr_at new k).dests ≡ (instr_at image k).dests
+  pub others : (k : ℕ) → (instr_at new k).others ≡ (instr_at image k).others
+  pub in_order : WavesInOrder image.blocks → WavesInOrder new.blocks
+
+module _ (image new : Image) (same : SameShape image new) where
+  block_back : (b : ℕ) → IsBlock new b → IsBlock image b
+  block_back b h = (h.0, subst (λ (n : ℕ). b ≤ n) same.count h.1)
+
+  block_on : (b : ℕ) → IsBlock image b → IsBlock new b
+  block_on b h = (h.0, subst (λ (n : ℕ). b ≤ n) (sym same.count) h.1)
+
+  in_back : (b k : ℕ) → IsIn new b k → IsIn image b k
+  in_back b k i = (subst (λ (n : ℕ). n ≤ k) (same.numbers b) i.0, subst (λ (n : ℕ). k < n) (same.numbers (suc b)) i.1)
+
+  in_on : (b k : ℕ) → IsIn image b k → IsIn new b k
+  in_on b k i = (subst (λ (n : ℕ). n ≤ k) (sym (same.numbers b)) i.0, subst (λ (n : ℕ). k < n) (sym (same.numbers (suc b))) i.1)
+
+  ports_same : (k : ℕ) → ports new k ≡ ports image k
+  unfolding ports
+  ports_same k = ap ports_of (same.ops k)
+
+  advance_same : (k : ℕ) → is_advance new k ≡ is_advance image k
+  unfolding is_advance
+  advance_same k = ap is_advance_op (same.ops k)
+
+  memory_same : (k : ℕ) → is_memory new k ≡ is_memory image k
+  unfolding is_memory
+  memory_same k = ap is_memory_op (same.ops k)
+
+  giving_same : (k : ℕ) → is_giving new k ≡ is_giving image k
+  unfolding is_giving
+  giving_same k = ap is_giving_op (same.ops k)
+
+  stops_same : (b : ℕ) → stops new b ≡ stops image b
+  unfolding stops
+  stops_same b = ap is_stop (same.exits b)
+
+  target_same : (b r : ℕ) → target new b r ≡ target image b r
+  unfolding target
+  target_same b r = ap (λ (x : Exit). leave_to x r) (same.exits b)
+
+  first_same : (b : ℕ) → is_first new b ≡ is_first image b
+  unfolding is_first
+  first_same zero = refl
+  first_same (suc zero) = refl
+  first_same (suc (suc b)) = ap₂ (λ (n m : ℕ). not (eqb n m)) (same.waves (suc (suc b))) (same.waves (suc b))
+
+  now_same : (k : ℕ) → now_dests new k ≡ now_dests image k
+  unfolding now_dests
+  now_same k = ap₂ now_of (same.ops k) (same.dests k)
+
+  start_same : start_dests new ≡ start_dests image
+  unfolding start_dests
+  start_same = ap (λ (ps : List Pad). pad_of ps 0) (same.pads 1)
+
+  edge_same : (b r k : ℕ) → edge_dests new b r k ≡ edge_dests image b r k
+  unfolding edge_dests
+  edge_same b r k = ap (edge_of new b r (instr_at new k)) (same.ops k) ∙ go (op_case (instr_at image k).op)
+    where
+      go : OpCase (instr_at image k).op → edge_of new b r (instr_at new k) (instr_at image k).op ≡ edge_of image b r (instr_at image k) (instr_at image k).op
+      go (steers e) = ap (edge_of new b r (instr_at new k)) e ∙ (ap₂ (λ (u v : List Dest). cond (eqb r 0) u v) (same.others k) (same.dests k) ∙ sym (ap (edge_of image b r (instr_at image k)) e))
+      go (sends p e) = ap (edge_of new b r (instr_at new k)) e
+          ∙ (ap (λ (c : ℕ). pad_of (block_at new c).pads p) (target_same b r) ∙ (ap (λ (ps : List Pad). pad_of ps p) (same.pads (target image b r)) ∙ sym (ap (edge_of image b r (instr_at image k)) e)))
+      go (plain e f g) = g new b r (instr_at new k) ∙ sym (g image b r (instr_at image k))
+
+  all_same : (b r k n : ℕ) → edge_all new b r k n ≡ edge_all image b r k n
+  all_same b r k zero = refl
+  all_same b r k (suc n) = ap₂ (λ (u v : List Dest). u ++ v) (edge_same b r k) (all_same b r (suc k) n)
+
+  opens_same : (b r : ℕ) → opens_at new b r ≡ opens_at image b r
+  unfolding opens_at size_of
+  opens_same b r = all_same b r (first_number new b) (first_number new (suc b) - first_number new b)
+      ∙ ap₂ (λ (k m : ℕ). edge_all image b r k (m - k)) (same.numbers b) (same.numbers (suc b))
+
+  moved : (b c k l : ℕ) (o p : Slots) → b ≡ c → k ≡ l → o ≡ p → Opens image b k o → Opens image c l p
+  moved b c k l o p e f g h = subst (λ (x : ℕ). Opens image x l p) e (subst (λ (x : ℕ). Opens image b x p) f (subst (Opens image b k) g h))
+
+  -- a path of the one is a path of the other
+  back : (b k : ℕ) (o : Slots) → Opens new b k o → Opens image b k o
+  back b k o begin = moved 1 1 (first_number image 1) (first_number new 1) (all_opened (start_dests image) none_open) (all_opened (start_dests new) none_open) refl (sym (same.numbers 1)) (ap (λ (ds : List Dest). all_opened ds none_open) (sym start_same)) begin
+  back b k o (turn {b = c} {k = l} {o = p} path w) =
+      moved c c (suc l) (suc l) (all_opened (now_dests image l) (closed l p)) (all_opened (now_dests new l) (closed l p)) refl refl (ap (λ (ds : List Dest). all_opened ds (closed l p)) (sym (now_same l)))
+      (turn (back c l p path) (subst (λ (n : ℕ). l < n) (same.numbers (suc c)) w))
+  back b k o (edge {b = c} {k = l} {o = p} path e s r) =
+      moved (target image c r) (target new c r) (first_number image (target image c r)) (first_number new (target new c r)) (all_opened (opens_at image c r) p) (all_opened (opens_at new c r) p)
+      (sym (target_same c r)) (ap (first_number image) (sym (target_same c r)) ∙ sym (same.numbers (target new c r))) (ap (λ (ds : List Dest). all_opened ds p) (sym (opens_same c r)))
+      (edge (back c l p path) (e ∙ same.numbers (suc c)) (sym (stops_same c) ∙ s) r)
+
+  advances_on : (b : ℕ) (o : Slots) → AdvancesOpen image b o → AdvancesOpen new b o
+  advances_on b o a j q = (
+    (λ e. (let x = (a j q).0 e in (in_on b j x.0, advance_same j ∙ x.1, x.2))),
+    (λ x. (a j q).1 (in_back b j x.0, sym (advance_same j) ∙ x.1, x.2)),
+  )
+
+  module _ (rules : SlotRules image) where
+    crosses : (b k : ℕ) (o : Slots) → Opens new b k o → k ≡ first_number new (suc b) → stops new b ≡ false → (r : ℕ) → is_first new (target new b r) ≡ true → AdvancesOpen new (target new b r) (all_opened (opens_at new b r) o)
+    crosses b k o path e s r f =
+        subst (λ (t : ℕ). AdvancesOpen new t (all_opened (opens_at new b r) o)) (sym (target_same b r))
+        (advances_on (target image b r) (all_opened (opens_at new b r) o)
+        (subst (λ (ds : List Dest). AdvancesOpen image (target image b r) (all_opened ds o)) (sym (opens_same b r))
+        (rules.crossing b k o (back b k o path) (e ∙ same.numbers (suc b)) (sym (stops_same b) ∙ s) r (sym (first_same (target image b r)) ∙ (ap (is_first new) (sym (target_same b r)) ∙ f)))))
+
+    pub slots_on : SlotRules new
+    slots_on = record {
+      start = subst (λ (ds : List Dest). Fresh ds none_open) (sym start_same) rules.start;
+      begins = advances_on 1 (all_opened (start_dests new) none_open) (subst (λ (ds : List Dest). AdvancesOpen image 1 (all_opened ds none_open)) (sym start_same) rules.begins);
+      has_all = λ b k o path w q l. rules.has_all b k o (back b k o path) (subst (λ (n : ℕ). k < n) (same.numbers (suc b)) w) q (subst (λ (n : ℕ). q < n) (ports_same k) l);
+      fresh = λ b k o path w. subst (λ (ds : List Dest). Fresh ds (closed k o)) (sym (now_same k)) (rules.fresh b k o (back b k o path) (subst (λ (n : ℕ). k < n) (same.numbers (suc b)) w));
+      edges = λ b k o path e s r. subst (λ (ds : List Dest). Fresh ds o) (sym (opens_same b r)) (rules.edges b k o (back b k o path) (e ∙ same.numbers (suc b)) (sym (stops_same b) ∙ s) r);
+      crossing = λ b k o path e s r f. crosses b k o path e s r f;
+      stop = λ b k o path e s j q. rules.stop b k o (back b k o path) (e ∙ same.numbers (suc b)) (sym (stops_same b) ∙ s) j q;
+      pending = λ b k c l r s o p pb pc eb ec sb sc t f j q.
+          ap (λ (ds : List Dest). all_opened ds o j q) (opens_same b r)
+          ∙ (rules.pending b k c l r s o p (back b k o pb) (back c l p pc) (eb ∙ same.numbers (suc b)) (ec ∙ same.numbers (suc c)) (sym (stops_same b) ∙ sb) (sym (stops_same c) ∙ sc)
+          (sym (target_same b r) ∙ (t ∙ target_same c s)) (sym (first_same (target image b r)) ∙ (ap (is_first new) (sym (target_same b r)) ∙ f)) j q
+          ∙ sym (ap (λ (ds : List Dest). all_opened ds p j q) (opens_same c s)));
+    }
+
+  carried : (b s k q : ℕ) → Carries image b s k q → Carries new b s k q
+  carried b s k q (direct place d e f g) = direct place d (ap (λ (ds : List Dest). nth ds place) (now_same s) ∙ e) f g
+  carried b s k q (through place d e f inside merge rest) =
+      through place d (ap (λ (ds : List Dest). nth ds place) (now_same s) ∙ e) f (in_on b d.instr inside) (same.ops d.instr ∙ merge) (carried b d.instr k q rest)
+
+  module _ (shape : ShapeRules image) where
+    pub shape_on : ShapeRules new
+    shape_on = record {
+      has_block = block_on 1 shape.has_block;
+      edges = λ b r h s. subst (IsBlock new) (sym (target_same b r)) (block_on (target image b r) (shape.edges b r (block_back b h) (sym (stops_same b) ∙ s)));
+      later = λ b r h s f. (let l = shape.later b r (block_back b h) (sym (stops_same b) ∙ s) (sym (first_same (target image b r)) ∙ (ap (is_first new) (sym (target_same b r)) ∙ f)) in
+          (subst (λ (n : ℕ). b < n) (sym (target_same b r)) l.0, ap (λ (n : ℕ). (block_at new n).wave) (target_same b r) ∙ (same.waves (target image b r) ∙ (l.1 ∙ sym (same.waves b)))));
+      advances = λ b k h i e. first_same b ∙ shape.advances b k (block_back b h) (in_back b k i) (sym (advance_same k) ∙ e);
+      front = λ b j k h i e l m. advance_same j ∙ shape.front b j k (block_back b h) (in_back b k i) (sym (advance_same k) ∙ e) (subst (λ (n : ℕ). n ≤ j) (same.numbers b) l) m;
+      source = λ b s x y h e. in_on b s (shape.source b s x y (block_back b h) (sym (same.exits b) ∙ e));
+      address = λ b s ls h e. in_on b s (shape.address b s ls (block_back b h) (sym (same.exits b) ∙ e));
+      steers = λ b k h i e. (let x = shape.steers b k (block_back b h) (in_back b k i) (sym (same.ops k) ∙ e) in (x.0, x.1, x.2, same.exits b ∙ x.3, carried b x.0 k 1 x.4));
+      sends = λ b k p h i e. (let x = shape.sends b k p (block_back b h) (in_back b k i) (sym (same.ops k) ∙ e) in (x.0, x.1, same.exits b ∙ x.2, carried b x.0 k 0 x.3));
+    }
+
+  ahead_on : (b k j : ℕ) → IsAhead image b k j → IsAhead new b k j
+  ahead_on b k j a = elim a [
+    | inl e ↦ inl (advance_same j ∙ e)
+    | inr l ↦ inr (l.0, ap (λ (n : ℕ). (block_at new n).wave) (same.holders j) ∙ (same.waves (block_of image j) ∙ (l.1 ∙ sym (same.waves b))))
+  ]
+
+  module _ (more : MoreShape image) where
+    pub more_on : MoreShape new
+    more_on = record {
+      waves = same.in_order more.waves;
+      pad_zero = subst (λ (ps : List Pad). HasPad ps 0) (sym (same.pads 1)) more.pad_zero;
+      pads_first = λ b h f. same.pads b ∙ more.pads_first b (block_back b h) (sym (first_same b) ∙ f);
+      source_gives = λ b s x y h e. giving_same s ∙ more.source_gives b s x y (block_back b h) (sym (same.exits b) ∙ e);
+      address_gives = λ b s ls h e. giving_same s ∙ more.address_gives b s ls (block_back b h) (sym (same.exits b) ∙ e);
+      landing_first = λ b s r ls h e. ap (is_first new) (target_same b r) ∙ (first_same (target image b r) ∙ more.landing_first b s r ls (block_back b h) (sym (same.exits b) ∙ e));
+      landing_pad = λ b k p r h i e. subst (λ (c : ℕ). HasPad (block_at new c).pads p) (sym (target_same b r)) (subst (λ (ps : List Pad). HasPad ps p) (sym (same.pads (target image b r))) (more.landing_pad b k p r (block_back b h) (in_back b k i) (sym (same.ops k) ∙ e)));
+      halt_stops = λ b k h i e. stops_same b ∙ more.halt_stops b k (block_back b h) (in_back b k i) (sym (same.ops k) ∙ e);
+      stop_halts = λ b h s. (let x = more.stop_halts b (block_back b h) (sym (stops_same b) ∙ s) in (x.0, in_on b x.0 x.1, same.ops x.0 ∙ x.2));
+      halt_last = λ b j k h i e l m. more.halt_last b j k (block_back b h) (in_back b k i) (sym (same.ops k) ∙ e) (in_back b j l) (sym (memory_same j) ∙ m);
+      dests_ahead = λ b k j q h i x. ahead_on b k j (more.dests_ahead b k j q (block_back b h) (in_back b k i) (subst (λ (ds : List Dest). HasDest ds j q) (same.dests k) x));
+      others_ahead = λ b k j q h i x. ahead_on b k j (more.others_ahead b k j q (block_back b h) (in_back b k i) (subst (λ (ds : List Dest). HasDest ds j q) (same.others k) x));
+      pads_to_advances = λ b p j q h i x. (let y = more.pads_to_advances b p j q (block_back b h) (subst (In p) (same.pads b) i) x in (in_on b j y.0, advance_same j ∙ y.1));
+    }
