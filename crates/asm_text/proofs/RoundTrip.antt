@@ -45,5 +45,6 @@ reads_again image f =
       lines_of_printed lines (lexemes_of lines opening t w.leads),
       passed_lines lines opening t 0 w.leads refl,
       made_lines lines t (parts [] [] 0 [] [])
-          (parts image.arrays image.blocks (last_wave 0 image.blocks) [] []) 0 (whole_builds image t f counts),
+          (parts image.arrays image.blocks (last_wave 0 image.blocks) [] []) 0
+          (whole_builds image t f counts),
     )
