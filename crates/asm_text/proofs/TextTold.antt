@@ -1,6 +1,7 @@
 -- The lines of a text that is read spell the items of its image.
 use Rattle.std.proofs.Common.{◌≡◌, ◌⊎◌, inl, inr, ℕ, ◌+◌, ◌||◌, not, cond, Bool, true, false, IfOk, List, [], ◌∷◌, ◌++◌, Option, Some, None, Result, Ok, Err, refl, sym, ap, subst, ◌∙◌, append_assoc, append-nil}
 use Rattle.std.proofs.lemmas.Bool.{true≢false, or_parts}
+use Rattle.std.proofs.lemmas.Option.{none-some}
 use Rattle.std.proofs.lemmas.Result.{IfOk-at_ok, IfOk-weaker}
 use Rattle.ws_isa.specs.Image.{Image}
 use Rattle.asm_text.specs.declared.line.Label.{Label}
@@ -25,6 +26,7 @@ use Rattle.asm_text.proofs.HeldNames.{NamesThere, passed_names}
 use Rattle.asm_text.proofs.Held.{Held, after}
 use Rattle.asm_text.proofs.HeldLines.{line_held}
 use Rattle.asm_text.proofs.HeldTexts.{nothing_held}
+use Rattle.asm_text.proofs.Given.{Given, line_given}
 use Rattle.asm_text.proofs.Told.{number, naming, told_items, NoNames, Told, Extends, Taken, line_told}
 
 -- A line that is taken.
@@ -143,6 +145,7 @@ record Adds (s u : State) (c : Built) (r : Reading) (ls : List Line) : Type 0 wh
   says : (rest : List Line) → Says r (more ++ rest) rest
   held : Held s u c
   told : Extends u s → Told s u c (ls ++ more)
+  given : Given u (ls ++ more)
 
 both_ok : {A : Type 0} (r : Maybe A) (P Q : A → Type 0) → IfOk r P → IfOk r Q → IfOk r (λ a. P a × Q a)
 both_ok (Ok a) P Q h k = (h, k)
@@ -153,17 +156,18 @@ under X (Ok a) P h = h
 under X (Err e) P h = tt
 
 step_told : (s t : State) (b : Built) (r : Reading) (ls : List Line) → NamesThere s → Held s t b
-    → Told s t b ls → ReadingFits r
+    → Told s t b ls → Given t ls → ReadingFits r
     → IfOk (step t r) (λ u. IfOk (add s b r) (λ c. Adds s u c r ls))
-step_told s t b Blank ls names held h f =
+step_told s t b Blank ls names held h y f =
     record {
       more = [];
       says = λ rest. refl;
       held = held;
       told = λ _. subst (Told s t b) (sym (append-nil ls)) h;
+      given = subst (Given t) (sym (append-nil ls)) y;
     }
-step_told s t b Wrong ls names held h f = tt
-step_told s t b (Found l wide) ls names held h f =
+step_told s t b Wrong ls names held h y f = tt
+step_told s t b (Found l wide) ls names held h y f =
     IfOk-weaker (behind t l wide) _ (λ u. IfOk (built s b l) (λ c. Adds s u c (Found l wide) ls))
     (λ u k. one u k.0 k.1.0 k.1.1 k.1.2) (taken t l wide)
   where
@@ -171,12 +175,22 @@ step_told s t b (Found l wide) ls names held h f =
         → IfOk (built s b l) (λ c. Adds s u c (Found l wide) ls)
     one u w p g e =
         let v = after t l p in
+        let counted_given = line_given t l ls y in
+        let given : Given v (ls ++ l ∷ []) =
+        record { blocks = counted_given.blocks; instrs = counted_given.instrs }
+        in
         let kept = line_held s t b l p names held f g.next g.numbered g.within in
         let spelled = under (Extends v s) (built s b l) (λ c. Told s v c (ls ++ l ∷ []))
         (λ x. line_told s t b l p ls held h g x) in
         IfOk-weaker (built s b l) _ (λ c. Adds s u c (Found l wide) ls)
         (λ c m. let P : State → Type 0 = λ u. Adds s u c (Found l wide) ls in
-        subst P (sym e) (record { more = l ∷ []; says = λ rest. (w, refl); held = m.0; told = m.1 }))
+        subst P (sym e) (record {
+          more = l ∷ [];
+          says = λ rest. (w, refl);
+          held = m.0;
+          told = m.1;
+          given = given;
+        }))
         (both_ok (built s b l) _ _ kept spelled)
 
 ended : (t s : State) (k : Fault) (b : Bool) → ◌≡◌ {A = Result State Fault} (cond b (Ok t) (Err k)) (Ok s) →
@@ -198,23 +212,27 @@ record Tells (s : State) (ls : List Line) (texts : List (List ℕ)) (d : Built) 
   more : List Line
   say : Say texts more
   told : Told s s d (ls ++ more)
+  given : Given s (ls ++ more)
   end : is_ended s.place ≡ true
 
 lines_tell : (s t : State) (b : Built) (n : ℕ) (texts : List (List ℕ)) (ls : List Line) → NamesThere s
-    → Held s t b → Told s t b ls → passed t n texts ≡ Ok s → IfOk (made s b n texts) (Tells s ls texts)
+    → Held s t b → Told s t b ls → Given t ls → passed t n texts ≡ Ok s
+    → IfOk (made s b n texts) (Tells s ls texts)
 unfolding passed made
-lines_tell s t b n [] ls names held h e =
+lines_tell s t b n [] ls names held h y e =
     let x = ended t s _ (is_ended t.place) e in
     record {
       more = [];
       say = refl;
       told = subst (λ u. Told s u b (ls ++ [])) x.1 (subst (Told s t b) (sym (append-nil ls)) h);
+      given = subst (λ u. Given u (ls ++ [])) x.1 (subst (Given t) (sym (append-nil ls)) y);
       end = subst (λ u. is_ended u.place ≡ true) x.1 x.0;
     }
-lines_tell s t b n (text ∷ texts) ls names held h e =
+lines_tell s t b n (text ∷ texts) ls names held h y e =
     along (n + 1) (Tells s ls (text ∷ texts)) s (step t (reading text)) (add s b (reading text))
     (λ u. passed u (n + 1) texts) (λ c. made s c (n + 1) texts)
-    (λ u c. Adds s u c (reading text) ls) (step_told s t b (reading text) ls names held h (reading_fits text))
+    (λ u c. Adds s u c (reading text) ls)
+    (step_told s t b (reading text) ls names held h y (reading_fits text))
     (λ u c k g.
     let told = k.told (IfOk-at_ok (Extends u) g (lines_extend u (n + 1) texts)) in
     IfOk-weaker (made s c (n + 1) texts) (Tells s (ls ++ k.more) texts) (Tells s ls (text ∷ texts))
@@ -222,14 +240,19 @@ lines_tell s t b n (text ∷ texts) ls names held h e =
       more = k.more ++ m.more;
       say = (m.more, k.says m.more, m.say);
       told = subst (Told s s d) (append_assoc ls k.more m.more) m.told;
+      given = subst (Given s) (append_assoc ls k.more m.more) m.given;
       end = m.end;
     })
-    (lines_tell s u c (n + 1) texts (ls ++ k.more) names k.held told g))
+    (lines_tell s u c (n + 1) texts (ls ++ k.more) names k.held told k.given g))
     e
 
 nothing_told : (s : State) → Told s opening nothing []
 unfolding opening nothing
 nothing_told s = record { spelled = tt; lacks = (refl, refl, (refl, refl)); plain = λ _. (refl, refl) }
+
+nothing_given : Given opening []
+unfolding opening
+nothing_given = record { blocks = λ w n e. absurd (none-some n e); instrs = λ w n e. absurd (none-some n e) }
 
 known_version : (v : Bool) (s : State) → (v ≡ false → NoNames s) → (number v ≡ 2) ⊎
     ((number v ≡ 1) × (naming s ≡ record { blocks = []; instrs = [] }))
@@ -249,6 +272,8 @@ end_spelled text s d h = record {
   lines = h.more;
   known = known_version s.named s h.told.plain;
   said = h.say;
+  given_blocks = h.given.blocks;
+  given_instrs = h.given.instrs;
   spelled =
       subst (Pairs (Spells (naming s)) h.more) (end_items s.place (number s.named) d h.end) h.told.spelled;
 }
@@ -265,7 +290,8 @@ text_spelled text = by (passed opening 0 (lines_of text)) refl
     by (Ok s) e =
         then_ok (Tells s [] (lines_of text)) (Spelled text) (made s nothing 0 (lines_of text)) _
         (lines_tell s opening nothing 0 (lines_of text) []
-        (IfOk-at_ok NamesThere e (passed_names (lines_of text))) (nothing_held s) (nothing_told s) e)
+        (IfOk-at_ok NamesThere e (passed_names (lines_of text))) (nothing_held s) (nothing_told s)
+        nothing_given e)
         (λ d h. end_spelled text s d h)
 
 pub read_spelled : (text : List ℕ) (image : Image) → read text ≡ Ok image → Spelled text image

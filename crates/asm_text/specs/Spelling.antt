@@ -6,6 +6,7 @@ use Rattle.ws_isa.specs.Image as plain
 use Rattle.asm_text.specs.declared.line.Label.{Label}
 use Rattle.asm_text.specs.declared.line.Label.TheVariants.{At, Named}
 use Rattle.asm_text.specs.declared.line.Target.{Target}
+use Rattle.asm_text.specs.declared.line.InstrLine.{InstrLine}
 use Rattle.asm_text.specs.declared.line.Line.{Line}
 use Rattle.asm_text.specs.declared.line.Line.TheVariants as line
 use Rattle.asm_text.specs.declared.reading.Reading.{Reading}
@@ -113,6 +114,17 @@ abbrev pub Say : List (List ℕ) → List Line → Type 0
 Say [] lines = lines ≡ []
 Say (text ∷ texts) lines = (more : List Line) × Says (reading text) lines more × Say texts more
 
+-- each name of a block is given by the line of a block
+abbrev pub GivesBlock : Names → List Line → Type 0
+GivesBlock names lines =
+    (w : List ℕ) (n : ℕ) → named names w ≡ Some n → plain.In (line.Block (Named w)) lines
+
+-- each name of an instruction is given by the line of an instruction
+abbrev pub GivesInstr : Names → List Line → Type 0
+GivesInstr names lines =
+    (w : List ℕ) (n : ℕ) → named names w ≡ Some n
+    → (i : InstrLine) × (i.own ≡ Named w) × plain.In (line.Instr i) lines
+
 -- The lines of a text spell the items of an image. Version 1 has no names.
 pub record Spelled (text : List ℕ) (image : plain.Image) : Type 0 where
   pub version : ℕ
@@ -120,4 +132,6 @@ pub record Spelled (text : List ℕ) (image : plain.Image) : Type 0 where
   pub lines : List Line
   pub known : (version ≡ 2) ⊎ ((version ≡ 1) × (naming ≡ record { blocks = []; instrs = [] }))
   pub said : Say (lines_of text) lines
+  pub given_blocks : GivesBlock naming.blocks lines
+  pub given_instrs : GivesInstr naming.instrs lines
   pub spelled : Pairs (Spells naming) lines (items version image)
