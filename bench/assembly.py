@@ -6,6 +6,7 @@ folder, over the libraries of the repository. The processor time and the most me
 the fastest of three, less the time of one that only takes the text in.
 """
 
+import multiprocessing
 import os
 import pathlib
 import shutil
@@ -173,10 +174,17 @@ def once(command, file):
     return used.ru_utime + used.ru_stime, used.ru_maxrss / 1024, out
 
 
-def time(program, file, kind, text, want):
+def write(file, make, size):
+    """Writes a text in a process of its own, whose memory isn't counted as that of the programs."""
+    process = multiprocessing.Process(target=lambda: file.write_text(make(size)))
+    process.start()
+    process.join()
+
+
+def time(program, file, kind, make, count, want):
     """Times reading, and printing where the text is read, and prints both."""
-    file.write_text(text)
-    size = len(text) / MIB
+    write(file, make, count)
+    size = file.stat().st_size / MIB
     idle = min(once([program], file)[0] for _ in range(RUNS))
     runs = [once([program, "read"], file) for _ in range(RUNS)]
     took, most, said = min(runs)
@@ -195,11 +203,11 @@ def main():
         program = build(folder)
         file = folder / "text.txt"
         for size in (10, 20, 40, 100):
-            time(program, file, "compiled form", compiled(size * MIB), "read")
-        time(program, file, "eight destinations each", many(100 * MIB), "read")
-        time(program, file, "names alike but for their end", names(130_000), "read")
-        time(program, file, "comments", comments(100 * MIB), "read")
-        time(program, file, "one line", one_line(50 * MIB), "Limit 5")
+            time(program, file, "compiled form", compiled, size * MIB, "read")
+        time(program, file, "eight destinations each", many, 100 * MIB, "read")
+        time(program, file, "names alike but for their end", names, 130_000, "read")
+        time(program, file, "comments", comments, 100 * MIB, "read")
+        time(program, file, "one line", one_line, 50 * MIB, "Limit 5")
 
 
 if __name__ == "__main__":

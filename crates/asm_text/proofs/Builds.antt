@@ -19,7 +19,7 @@ use Rattle.asm_text.specs.Building.{place_of, instr_of, block_of, or_zero, ports
 use Rattle.asm_text.specs.Reading.{reading, add}
 use Rattle.asm_text.specs.Printed.{instr_lexemes, instr_lines, wave_lines, block_lines, blocks_lines, pad_lexemes, exit_lexemes, exit_lines, array_lexemes, numbered, text_of, version, keeps_first_limits, image_lines}
 use Rattle.asm_text.proofs.Again.{target_of}
-use Rattle.asm_text.proofs.AgainLines.{array_line_of}
+use Rattle.asm_text.specs.Spelling.{array_line_of}
 use Rattle.asm_text.proofs.Walks.{length_map}
 use Rattle.asm_text.proofs.Items.{InstrIn, BlockIn, blocks_formed}
 use Rattle.asm_text.proofs.Says.{Says, pad_line, instr_line, exit_line, version_says, array_says, wave_says, block_says, pad_says, instr_says, exit_says, end_says}
@@ -33,11 +33,13 @@ pub record Counts (image : plain.Image) (s : State) : Type 0 where
 
 -- References.
 
-found : (names : List (List ℕ × ℕ)) (count n : ℕ) → 1 ≤ n → n ≤ count → place_of names count (At n) ≡ Ok n
+found : (names : List (List ℕ × ℕ)) (count n : ℕ) → 1 ≤ n → n ≤ count → place_of names count (At n)
+    ≡ Ok n
 unfolding place_of
 found names count n h k = rw (le-leb 1 n h, le-leb n count k)
 
-count_is : (image : plain.Image) (s : State) → Counts image s → length s.ports ≡ length (flat image.blocks)
+pub count_is : (image : plain.Image) (s : State) → Counts image s → length s.ports ≡ length
+    (flat image.blocks)
 count_is image s c = ap length c.ports ∙ length_map port_count (flat image.blocks)
 
 instr_found : (image : plain.Image) (s : State) (n : ℕ) → Counts image s → IsInstr image n
@@ -55,13 +57,14 @@ nth_ports [] k h = absurd (omega (arith, h))
 nth_ports (x ∷ xs) zero h = refl
 nth_ports (x ∷ xs) (suc k) h = nth_ports xs k (omega (arith, h))
 
-ports_found : (image : plain.Image) (s : State) (n : ℕ) → Counts image s → IsInstr image n
+pub ports_found : (image : plain.Image) (s : State) (n : ℕ) → Counts image s → IsInstr image n
     → ports_at s.ports n ≡ ports image n
 unfolding ports instr_at
 ports_found image s zero c h = absurd (omega (arith, h.0))
 ports_found image s (suc k) c h =
     let back : suc k - 1 ≡ k = omega arith in
-    (λ i. or_zero (slice_get (c.ports i) (back i))) ∙ nth_ports (flat image.blocks) k (omega (arith, h.1))
+    (λ i. or_zero (slice_get (c.ports i) (back i))) ∙ nth_ports (flat image.blocks) k
+    (omega (arith, h.1))
 
 dest_found : (image : plain.Image) (s : State) (d : Dest) → Counts image s → DestIn image d
     → dest_of s (target_of d) ≡ Ok d
@@ -86,32 +89,38 @@ unfolding each
 blocks_found image s [] c h = refl
 blocks_found image s (n ∷ ns) c h = rw (block_found image s n c h.0, blocks_found image s ns c h.1)
 
-array_known : (image : plain.Image) (s : State) (op : Op) → Counts image s → OpIn image op
+pub array_known : (image : plain.Image) (s : State) (op : Op) → Counts image s → OpIn image op
     → is_known s op ≡ true
-array_known image s (Load a) c h = rw (le-leb 1 a h.0, le-leb a s.arrays (omega (arith, h.1, c.arrays)))
-array_known image s (Store a) c h = rw (le-leb 1 a h.0, le-leb a s.arrays (omega (arith, h.1, c.arrays)))
+array_known image s (Load a) c h =
+    rw (le-leb 1 a h.0, le-leb a s.arrays (omega (arith, h.1, c.arrays)))
+array_known image s (Store a) c h =
+    rw (le-leb 1 a h.0, le-leb a s.arrays (omega (arith, h.1, c.arrays)))
 array_known image s op c h = refl
 
 -- Lines of lexemes lead from what is built to what is built behind them.
 abbrev pub Builds : State → Built → List (List Lexeme) → Built → Type 0
 Builds s b [] d = b ≡ d
-Builds s b (l ∷ ls) d = (e : Built) × (add s b (reading (text_of after.Start l)) ≡ Ok e) × Builds s e ls d
+Builds s b (l ∷ ls) d =
+    (e : Built) × (add s b (reading (text_of after.Start l)) ≡ Ok e) × Builds s e ls d
 
-builds_append : (s : State) (xs ys : List (List Lexeme)) (b d e : Built) → Builds s b xs d → Builds s d ys e
+builds_append : (s : State) (xs ys : List (List Lexeme)) (b d e : Built) → Builds s b xs d → Builds
+    s d ys e
     → Builds s b (xs ++ ys) e
 builds_append s [] ys b d e h k = let P : Built → Type 0 = λ x. Builds s x ys e in subst P (sym h) k
 builds_append s (x ∷ xs) ys b d e h k = (h.0, h.1, builds_append s xs ys h.0 d e h.2 k)
 
-builds_by : (l : List Lexeme) (x : Line) (ls : List (List Lexeme)) (s : State) (b d e : Built) → Says l x
+builds_by : (l : List Lexeme) (x : Line) (ls : List (List Lexeme)) (s : State) (b d e : Built) →
+    Says l x
     → built s b x ≡ Ok d → Builds s d ls e → Builds s b (l ∷ ls) e
 builds_by l x ls s b d e h k r = (d, ap (add s b) h.reads ∙ k, r)
 
-abbrev pub parts : List plain.Array → List plain.Block → ℕ → List plain.Pad → List plain.Instr → Built
+abbrev pub parts : List plain.Array → List plain.Block → ℕ → List plain.Pad → List plain.Instr →
+    Built
 parts as' bs w ps is = record { arrays = as'; blocks = bs; wave = w; pads = ps; instrs = is }
 
 -- Arrays.
 
-array_built : (s : State) (b : Built) (a : plain.Array)
+pub array_built : (s : State) (b : Built) (a : plain.Array)
     → built s b (array_line_of a.name a.length) ≡ Ok (record b { arrays = b.arrays ++ a ∷ [] })
 unfolding built
 array_built s b a = by a.name
@@ -130,12 +139,14 @@ arrays_build s as' (a ∷ bs) n l =
     let rest = arrays_build s (as' ++ a ∷ []) bs n.1 l.1 in
     let P : Built → Type 0 = Builds s (parts (as' ++ a ∷ []) [] 0 [] []) (map array_lexemes bs) in
     builds_by (array_lexemes a) (array_line_of a.name a.length) (map array_lexemes bs) s _
-    (parts (as' ++ a ∷ []) [] 0 [] []) _ (array_says a n.0 l.0) (array_built s (parts as' [] 0 [] []) a)
+    (parts (as' ++ a ∷ []) [] 0 [] []) _ (array_says a n.0 l.0)
+    (array_built s (parts as' [] 0 [] []) a)
     (subst P (λ i. parts (append_assoc as' (a ∷ []) bs i) [] 0 [] []) rest)
 
 -- Pads.
 
-pads_build : (image : plain.Image) (s : State) (as' : List plain.Array) (bs : List plain.Block) (w : ℕ)
+pads_build : (image : plain.Image) (s : State) (as' : List plain.Array) (bs : List plain.Block)
+    (w : ℕ)
     (qs ps : List plain.Pad)
     → Formed image → Counts image s
     → AllByRecursion (λ p. (p.number < most_pads) × (length p.dests ≤ most_dests)) ps
@@ -146,13 +157,15 @@ pads_build image s as' bs w qs [] f c k d = λ i. parts as' bs w (sym (append-ni
 pads_build image s as' bs w qs (p ∷ ps) f c k d =
     let rest = pads_build image s as' bs w (qs ++ p ∷ []) ps f c k.1 d.1 in
     let P : Built → Type 0 = Builds s (parts as' bs w (qs ++ p ∷ []) []) (map pad_lexemes ps) in
-    builds_by (pad_lexemes p) (pad_line p) (map pad_lexemes ps) s _ (parts as' bs w (qs ++ p ∷ []) []) _
+    builds_by (pad_lexemes p) (pad_line p) (map pad_lexemes ps) s _
+    (parts as' bs w (qs ++ p ∷ []) []) _
     (pad_says image p f k.0.0 d.0) (rw (dests_found image s p.dests c d.0))
     (subst P (λ i. parts as' bs w (append_assoc qs (p ∷ []) ps i) []) rest)
 
 -- Instructions.
 
-instr_built : (image : plain.Image) (s : State) (b : Built) (n : ℕ) (i : plain.Instr) → Counts image s
+instr_built : (image : plain.Image) (s : State) (b : Built) (n : ℕ) (i : plain.Instr) → Counts image
+    s
     → InstrIn image i → built s b (instr_line n i) ≡ Ok (record b { instrs = b.instrs ++ i ∷ [] })
 unfolding built
 instr_built image s b n i c g =
@@ -163,7 +176,8 @@ instr_built image s b n i c g =
           c g.others,
     )
 
-instrs_build : (image : plain.Image) (s : State) (as' : List plain.Array) (bs : List plain.Block) (w : ℕ)
+instrs_build : (image : plain.Image) (s : State) (as' : List plain.Array) (bs : List plain.Block)
+    (w : ℕ)
     (ps : List plain.Pad) (js is : List plain.Instr) (n : ℕ)
     → Formed image → Counts image s
     → n + length is < 2 ^ 32 → AllByRecursion (InstrIn image) is
@@ -171,7 +185,8 @@ instrs_build : (image : plain.Image) (s : State) (as' : List plain.Array) (bs : 
 unfolding instr_lines
 instrs_build image s as' bs w ps js [] n f c h g = λ i. parts as' bs w ps (sym (append-nil js) i)
 instrs_build image s as' bs w ps js (x ∷ xs) n f c h g =
-    let rest = instrs_build image s as' bs w ps (js ++ x ∷ []) xs (n + 1) f c (omega (arith, h)) g.1 in
+    let rest = instrs_build image s as' bs w ps (js ++ x ∷ []) xs (n + 1) f c (omega (arith, h)) g.1
+    in
     let P : Built → Type 0 = Builds s (parts as' bs w ps (js ++ x ∷ [])) (instr_lines (n + 1) xs) in
     builds_by (instr_lexemes n x) (instr_line n x) (instr_lines (n + 1) xs) s _
     (parts as' bs w ps (js ++ x ∷ [])) _ (instr_says image n x f (omega (arith, h)) g.0)
@@ -180,7 +195,8 @@ instrs_build image s as' bs w ps js (x ∷ xs) n f c h g =
 
 -- Exits.
 
-exit_built : (image : plain.Image) (s : State) (as' : List plain.Array) (bs : List plain.Block) (w : ℕ)
+exit_built : (image : plain.Image) (s : State) (as' : List plain.Array) (bs : List plain.Block)
+    (w : ℕ)
     (ps : List plain.Pad) (is : List plain.Instr) (e : plain.Exit)
     → Counts image s → ExitIn image e
     → built s (parts as' bs w ps is) (exit_line e) ≡ Ok
@@ -202,7 +218,8 @@ wave_built s as' bs w k h =
     (elim (w == k) as (λ t. (w == k) ≡ t → Builds s (parts as' bs w [] []) (wave_lines w k)
     (parts as' bs k [] [])) [
       | true ↦ λ e. rw e (λ i. parts as' bs (eqb-true w k e i) [] [])
-      | false ↦ λ e. rw e (builds_by (numbered (codes "wave") k) (line.Wave k) [] s _ _ _ (wave_says k h)
+      | false ↦ λ e. rw e (builds_by (numbered (codes "wave") k) (line.Wave k) [] s _ _ _
+          (wave_says k h)
           refl refl)
     ]) refl
 
@@ -223,10 +240,12 @@ block_builds image s first as' bs w n m x f c g hw hn hm =
     let instrs = instrs_build image s as' bs x.wave x.pads [] x.instrs m f c hm g.instrs in
     let exit : Builds s (parts as' bs x.wave x.pads x.instrs) (exit_lines x.exit)
     (parts as' (bs ++ x ∷ []) x.wave [] []) =
-    builds_by (exit_lexemes x.exit) (exit_line x.exit) [] s _ _ _ (exit_says image x.exit f g.exit g.landing)
+    builds_by (exit_lexemes x.exit) (exit_line x.exit) [] s _ _ _
+    (exit_says image x.exit f g.exit g.landing)
     (exit_built image s as' bs x.wave x.pads x.instrs x.exit c g.exit) refl
     in
-    builds_append s (wave_lines w x.wave ++ before ++ instr_lines m x.instrs) (exit_lines x.exit) _ _ _
+    builds_append s (wave_lines w x.wave ++ before ++ instr_lines m x.instrs) (exit_lines x.exit) _
+    _ _
     (builds_append s (wave_lines w x.wave ++ before) (instr_lines m x.instrs) _ _ _
     (builds_append s (wave_lines w x.wave) before _ _ _ wave pads) instrs) exit
   where
@@ -243,9 +262,11 @@ blocks_build : (image : plain.Image) (s : State) (first : Bool) (as' : List plai
     (bs xs : List plain.Block) (w n m : ℕ)
     → Formed image → Counts image s → AllByRecursion (BlockIn image first) xs
     → n + length xs < 2 ^ 32 → m + length (flat xs) < 2 ^ 32
-    → Builds s (parts as' bs w [] []) (blocks_lines w n m xs) (parts as' (bs ++ xs) (last_wave w xs) [] [])
+    → Builds s (parts as' bs w [] []) (blocks_lines w n m xs)
+    (parts as' (bs ++ xs) (last_wave w xs) [] [])
 unfolding blocks_lines last_wave most_waves
-blocks_build image s first as' bs [] w n m f c g hn hm = λ i. parts as' (sym (append-nil bs) i) w [] []
+blocks_build image s first as' bs [] w n m f c g hn hm =
+    λ i. parts as' (sym (append-nil bs) i) w [] []
 blocks_build image s first as' bs (x ∷ xs) w n m f c g hn hm =
     let both : length (x.instrs ++ flat xs) ≡ length x.instrs + length (flat xs) =
     length-append x.instrs (flat xs)
@@ -262,7 +283,8 @@ blocks_build image s first as' bs (x ∷ xs) w n m f c g hn hm =
     Builds s (parts as' (bs ++ x ∷ []) x.wave [] [])
     (blocks_lines x.wave (n + 1) (m + length x.instrs) xs)
     in
-    builds_append s (block_lines w n m x) (blocks_lines x.wave (n + 1) (m + length x.instrs) xs) _ _ _ one
+    builds_append s (block_lines w n m x) (blocks_lines x.wave (n + 1) (m + length x.instrs) xs) _ _
+    _ one
     (subst P (λ i. parts as' (append_assoc bs (x ∷ []) xs i) (last_wave x.wave xs) [] []) rest)
 
 -- The whole text.
@@ -280,8 +302,10 @@ whole_builds image s f c =
     let n : ℕ = if first then 1 else 2 in
     let arrays = arrays_build s [] image.arrays f.arrays.names f.arrays.lengths in
     let top : Builds s (parts [] [] 0 [] [])
-    (numbered (codes "wavescalar") n ∷ map array_lexemes image.arrays) (parts image.arrays [] 0 [] []) =
-    builds_by (numbered (codes "wavescalar") n) (line.Version n) (map array_lexemes image.arrays) s _
+    (numbered (codes "wavescalar") n ∷ map array_lexemes image.arrays)
+    (parts image.arrays [] 0 [] []) =
+    builds_by (numbered (codes "wavescalar") n) (line.Version n) (map array_lexemes image.arrays) s
+    _
     (parts [] [] 0 [] []) _ (version_says n (version_small first)) refl arrays
     in
     let blocks =
@@ -292,7 +316,8 @@ whole_builds image s f c =
     let last : Builds s end ((Word (codes "end") ∷ []) ∷ []) end =
     builds_by (Word (codes "end") ∷ []) line.End [] s end end end end_says refl refl
     in
-    builds_append s ((numbered (codes "wavescalar") n ∷ map array_lexemes image.arrays) ++ blocks_lines 0 1 1
+    builds_append s ((numbered (codes "wavescalar") n ∷ map array_lexemes image.arrays) ++
+    blocks_lines 0 1 1
     image.blocks) ((Word (codes "end") ∷ []) ∷ []) _ _ _
     (builds_append s (numbered (codes "wavescalar") n ∷ map array_lexemes image.arrays)
     (blocks_lines 0 1 1 image.blocks) _ _ _ top blocks) last

@@ -1,4 +1,5 @@
--- Going over the printed lines of a formed image: each may stand where it stands, and keeps the limits.
+-- Going over the printed lines of a formed image: each may stand where it stands, and keeps the
+-- limits.
 use Rattle.std.proofs.Common.{◌≡◌, ℕ, ◌+◌, ◌^◌, ◌<◌, ◌≤◌, ◌||◌, length, length-append, Bool, true, false, List, [], ◌∷◌, ◌++◌, map, Option, Some, None, Ok, refl, sym, ap, subst, ◌∙◌, append_assoc, append-nil, arith}
 use Rattle.std.specs.List.{AllByRecursion, list_all}
 use Rattle.std.proofs.lemmas.Bool.{le-leb, lt-ltb, eq-eqb}
@@ -22,7 +23,7 @@ use Rattle.asm_text.specs.Printed.{instr_lexemes, instr_lines, pad_lexemes, exit
 use Rattle.asm_text.specs.Reading.{reading, step}
 use Rattle.asm_text.proofs.Spelt.{AreLexemes}
 use Rattle.asm_text.proofs.Again.{target_of}
-use Rattle.asm_text.proofs.AgainLines.{array_line_of}
+use Rattle.asm_text.specs.Spelling.{array_line_of}
 use Rattle.asm_text.proofs.Walks.{length_map}
 use Rattle.asm_text.proofs.Items.{InstrIn, Small, dests_small}
 use Rattle.asm_text.proofs.Says.{Says, pad_line, instr_line, exit_line, array_says, pad_says, instr_says, exit_says}
@@ -42,13 +43,14 @@ pub leads_by : (l : List Lexeme) (x : Line) (ls : List (List Lexeme)) (s u t : S
     → behind s x false ≡ Ok u → Leads u ls t → Leads s (l ∷ ls) t
 leads_by l x ls s u t h e k = (u, h.lexemes, ap (step s) h.reads ∙ e, k)
 
-or_true : (b : Bool) → (b || true) ≡ true
+pub or_true : (b : Bool) → (b || true) ≡ true
 or_true true = refl
 or_true false = refl
 
 -- a line that passes each test
 pub goes : (s : State) (l : Line) (p : Place) → next_place s.place l ≡ Some p
-    → is_other_version l false ≡ false → is_plain l ≡ true → is_numbered s l ≡ true → is_within s l ≡ true
+    → is_other_version l false ≡ false → is_plain l ≡ true → is_numbered s l ≡ true → is_within s l
+    ≡ true
     → is_new s l ≡ true → behind s l false ≡ Ok (record (counted s l) { place = p })
 unfolding behind checked
 goes s l p a o b c d e = rw (a, o, b, or_true s.named, c, d, e)
@@ -73,9 +75,11 @@ at p v a c w b ports pad =
 
 cells_within : (v : Bool) (a c n : ℕ) → a < most_arrays → n ≤ most_length → c + n ≤ most_cells
     → is_within_cells (at place.Arrays v a c 0 0 [] None) n ≡ true
-cells_within v a c n h k m = rw (lt-ltb a most_arrays h, le-leb n most_length k, le-leb (c + n) most_cells m)
+cells_within v a c n h k m =
+    rw (lt-ltb a most_arrays h, le-leb n most_length k, le-leb (c + n) most_cells m)
 
-array_goes : (v : Bool) (a c : ℕ) (name : Option (List ℕ)) (n : ℕ) → a < most_arrays → n ≤ most_length
+pub array_goes : (v : Bool) (a c : ℕ) (name : Option (List ℕ)) (n : ℕ) → a < most_arrays → n ≤
+    most_length
     → c + n ≤ most_cells → NameFormed name
     → behind (at place.Arrays v a c 0 0 [] None) (array_line_of name n) false ≡ Ok
     (at place.Arrays v (a + 1) (c + n) 0 0 [] None)
@@ -96,7 +100,8 @@ array_goes v a c (Some w) n h k m f =
 pub arrays_lead : (v : Bool) (as' : List plain.Array) (a c a' c' : ℕ) → a' ≡ a + length as'
     → c' ≡ c + total_length as' → a' ≤ most_arrays → c' ≤ most_cells
     → AllByRecursion (λ x. NameFormed x.name) as' → AllByRecursion (λ x. x.length ≤ most_length) as'
-    → Leads (at place.Arrays v a c 0 0 [] None) (map array_lexemes as') (at place.Arrays v a' c' 0 0 [] None)
+    → Leads (at place.Arrays v a c 0 0 [] None) (map array_lexemes as')
+    (at place.Arrays v a' c' 0 0 [] None)
 arrays_lead v [] a c a' c' e f h k n l =
     let p : a ≡ a' = omega (arith, e) in
     let q : c ≡ c' = omega (arith, f) in
@@ -106,12 +111,14 @@ arrays_lead v (x ∷ xs) a c a' c' e f h k n l =
     (at place.Arrays v (a + 1) (c + x.length) 0 0 [] None) _
     (array_says x n.0 l.0)
     (array_goes v a c x.name x.length (omega (arith, e, h)) l.0 (omega (arith, f, k)) n.0)
-    (arrays_lead v xs (a + 1) (c + x.length) a' c' (omega (arith, e)) (omega (arith, f)) h k n.1 l.1)
+    (arrays_lead v xs (a + 1) (c + x.length) a' c' (omega (arith, e)) (omega (arith, f)) h k n.1
+    l.1)
 
 -- Waves and blocks.
 
 pub wave_goes : (p : Place) (v : Bool) (a c w b k : ℕ) (ports : List ℕ) (pad : Option ℕ)
-    → next_place p (line.Wave k) ≡ Some place.Wave → k ≡ w + 1 → w < limit v first_most_waves most_waves
+    → next_place p (line.Wave k) ≡ Some place.Wave → k ≡ w + 1 → w < limit v first_most_waves
+    most_waves
     → behind (at p v a c w b ports pad) (line.Wave k) false ≡ Ok (at place.Wave v a c k b ports pad)
 unfolding is_plain is_numbered is_within is_new counted
 wave_goes p v a c w b k ports pad q e h =
@@ -122,7 +129,8 @@ wave_goes p v a c w b k ports pad q e h =
 pub block_goes : (p : Place) (v : Bool) (a c w b n : ℕ) (ports : List ℕ) (pad : Option ℕ)
     → next_place p (line.Block (At n)) ≡ Some place.Pads → n ≡ b + 1
     → b < limit v first_most_blocks most_blocks
-    → behind (at p v a c w b ports pad) (line.Block (At n)) false ≡ Ok (at place.Pads v a c w n ports None)
+    → behind (at p v a c w b ports pad) (line.Block (At n)) false ≡ Ok
+    (at place.Pads v a c w n ports None)
 unfolding is_plain is_numbered is_within is_new counted
 block_goes p v a c w b n ports pad q e h =
     goes (at p v a c w b ports pad) (line.Block (At n)) place.Pads q refl refl (eq-eqb n (b + 1) e)
@@ -148,7 +156,7 @@ targets_few ds h = rw (length_map target_of ds, le-leb (length ds) most_dests h,
 
 -- Pads.
 
-pub last_pad : Option ℕ → List plain.Pad → Option ℕ
+unfoldable pub last_pad : Option ℕ → List plain.Pad → Option ℕ
 last_pad last [] = last
 last_pad last (p ∷ ps) = last_pad (Some p.number) ps
 
@@ -156,12 +164,12 @@ abbrev pub Rise : Option ℕ → List plain.Pad → Type 0
 Rise None ps = PadsRise ps
 Rise (Some n) ps = RiseFrom n ps
 
-rise_first : (last : Option ℕ) (p : plain.Pad) (ps : List plain.Pad) → Rise last (p ∷ ps)
+pub rise_first : (last : Option ℕ) (p : plain.Pad) (ps : List plain.Pad) → Rise last (p ∷ ps)
     → is_above last p.number ≡ true
 rise_first None p ps h = refl
 rise_first (Some n) p ps h = lt-ltb n p.number h.0
 
-rise_rest : (last : Option ℕ) (p : plain.Pad) (ps : List plain.Pad) → Rise last (p ∷ ps)
+pub rise_rest : (last : Option ℕ) (p : plain.Pad) (ps : List plain.Pad) → Rise last (p ∷ ps)
     → Rise (Some p.number) ps
 rise_rest None p ps h = h
 rise_rest (Some n) p ps h = h.1
@@ -169,17 +177,20 @@ rise_rest (Some n) p ps h = h.1
 abbrev pub PadWithin : plain.Pad → Type 0
 PadWithin p = (p.number < most_pads) × (length p.dests ≤ most_dests)
 
-pad_goes : (image : plain.Image) (v : Bool) (a c w b : ℕ) (ports : List ℕ) (last : Option ℕ) (p : plain.Pad)
+pad_goes : (image : plain.Image) (v : Bool) (a c w b : ℕ) (ports : List ℕ) (last : Option ℕ)
+    (p : plain.Pad)
     → Formed image → is_above last p.number ≡ true → PadWithin p → DestsIn image p.dests
     → behind (at place.Pads v a c w b ports last) (pad_line p) false ≡ Ok
     (at place.Pads v a c w b ports (Some p.number))
 unfolding next_place is_plain is_numbered is_within is_new counted
 pad_goes image v a c w b ports last p f h k d =
-    goes (at place.Pads v a c w b ports last) (pad_line p) place.Pads refl refl (targets_plain p.dests)
+    goes (at place.Pads v a c w b ports last) (pad_line p) place.Pads refl refl
+    (targets_plain p.dests)
     (rw (h, targets_ports p.dests (dests_small image p.dests f d)))
     (rw (lt-ltb p.number most_pads k.0, targets_few p.dests k.1)) refl
 
-pub pads_lead : (image : plain.Image) (v : Bool) (a c w b : ℕ) (ports : List ℕ) (ps : List plain.Pad)
+pub pads_lead : (image : plain.Image) (v : Bool) (a c w b : ℕ) (ports : List ℕ)
+    (ps : List plain.Pad)
     (last : Option ℕ)
     → Formed image → Rise last ps → AllByRecursion PadWithin ps
     → AllByRecursion (λ p. DestsIn image p.dests) ps
@@ -190,7 +201,8 @@ pads_lead image v a c w b ports [] last f r k d = refl
 pads_lead image v a c w b ports (p ∷ ps) last f r k d =
     leads_by (pad_lexemes p) (pad_line p) (map pad_lexemes ps) _
     (at place.Pads v a c w b ports (Some p.number)) _
-    (pad_says image p f k.0.0 d.0) (pad_goes image v a c w b ports last p f (rise_first last p ps r) k.0 d.0)
+    (pad_says image p f k.0.0 d.0)
+    (pad_goes image v a c w b ports last p f (rise_first last p ps r) k.0 d.0)
     (pads_lead image v a c w b ports ps (Some p.number) f (rise_rest last p ps r) k.1 d.1)
 
 -- Instructions.
@@ -201,7 +213,7 @@ Inside place.Pads = Unit {0}
 Inside place.Instrs = Unit {0}
 Inside p = ⊥
 
-pub behind_instrs : Place → List plain.Instr → Place
+unfoldable pub behind_instrs : Place → List plain.Instr → Place
 behind_instrs p [] = p
 behind_instrs p (i ∷ is) = place.Instrs
 
@@ -217,7 +229,8 @@ instr_next place.Pads n i h = refl
 instr_next place.Instrs n i h = refl
 instr_next p n i h = absurd h
 
-op_within : (image : plain.Image) (op : Op) → OpIn image op → SendWithin op → is_within_op op ≡ true
+pub op_within : (image : plain.Image) (op : Op) → OpIn image op → SendWithin op → is_within_op op ≡
+    true
 op_within image (Const k) o s = refl
 op_within image (Alu a) o s = refl
 op_within image Merge o s = refl
@@ -237,7 +250,8 @@ op_within image Halt o s = refl
 abbrev pub port_count : plain.Instr → ℕ
 port_count i = ports_of i.op
 
-instr_goes : (image : plain.Image) (p : Place) (v : Bool) (a c w b n : ℕ) (ports : List ℕ) (pad : Option ℕ)
+instr_goes : (image : plain.Image) (p : Place) (v : Bool) (a c w b n : ℕ) (ports : List ℕ)
+    (pad : Option ℕ)
     (i : plain.Instr)
     → Formed image → Inside p → n ≡ length ports + 1
     → length ports < limit v first_most_instrs most_instrs → InstrIn image i
@@ -264,27 +278,33 @@ unfolding first_most_instrs most_instrs
 limit_small true = omega arith
 limit_small false = omega arith
 
-still_instrs : (is : List plain.Instr) → behind_instrs place.Instrs is ≡ place.Instrs
+pub still_instrs : (is : List plain.Instr) → behind_instrs place.Instrs is ≡ place.Instrs
 unfolding behind_instrs
 still_instrs [] = refl
 still_instrs (i ∷ is) = refl
 
-pub instrs_lead : (image : plain.Image) (v : Bool) (a c w b : ℕ) (is : List plain.Instr) (p : Place) (n : ℕ)
+pub instrs_lead : (image : plain.Image) (v : Bool) (a c w b : ℕ) (is : List plain.Instr) (p : Place)
+    (n : ℕ)
     (ports : List ℕ) (pad : Option ℕ)
     → Formed image → Inside p → n ≡ length ports + 1
-    → length ports + length is ≤ limit v first_most_instrs most_instrs → AllByRecursion (InstrIn image) is
+    → length ports + length is ≤ limit v first_most_instrs most_instrs → AllByRecursion
+    (InstrIn image) is
     → Leads (at p v a c w b ports pad) (instr_lines n is)
     (at (behind_instrs p is) v a c w b (ports ++ map port_count is) pad)
 unfolding instr_lines behind_instrs
-instrs_lead image v a c w b [] p n ports pad f h e l g = λ i. at p v a c w b (sym (append-nil ports) i) pad
+instrs_lead image v a c w b [] p n ports pad f h e l g =
+    λ i. at p v a c w b (sym (append-nil ports) i) pad
 instrs_lead image v a c w b (x ∷ xs) p n ports pad f h e l g =
     let ports' = ports ++ port_count x ∷ [] in
     let size : length ports' ≡ length ports + 1 = length-append ports (port_count x ∷ []) in
-    let most : length ports' + length xs ≤ limit v first_most_instrs most_instrs = omega (arith, l, size) in
+    let most : length ports' + length xs ≤ limit v first_most_instrs most_instrs = omega
+    (arith, l, size) in
     let rest =
-    instrs_lead image v a c w b xs place.Instrs (n + 1) ports' pad f tt (omega (arith, e, size)) most g.1
+    instrs_lead image v a c w b xs place.Instrs (n + 1) ports' pad f tt (omega (arith, e, size))
+    most g.1
     in
-    let P : State → Type 0 = Leads (at place.Instrs v a c w b ports' pad) (instr_lines (n + 1) xs) in
+    let P : State → Type 0 = Leads (at place.Instrs v a c w b ports' pad) (instr_lines (n + 1) xs)
+    in
     leads_by (instr_lexemes n x) (instr_line n x) (instr_lines (n + 1) xs) _
     (at place.Instrs v a c w b ports' pad) _
     (instr_says image n x f (omega (arith, l, e, limit_small v)) g.0)
@@ -319,12 +339,15 @@ exit_next place.Instrs (plain.Landings s ls) h = refl
 exit_next place.Instrs plain.Stop h = refl
 exit_next p e h = absurd h
 
-exit_goes : (p : Place) (v : Bool) (a c w b : ℕ) (ports : List ℕ) (pad : Option ℕ) (e : plain.Exit) → Inside p
+exit_goes : (p : Place) (v : Bool) (a c w b : ℕ) (ports : List ℕ) (pad : Option ℕ) (e : plain.Exit)
+    → Inside p
     → ExitKeeps v e
-    → behind (at p v a c w b ports pad) (exit_line e) false ≡ Ok (at place.Exited v a c w b ports pad)
+    → behind (at p v a c w b ports pad) (exit_line e) false ≡ Ok
+    (at place.Exited v a c w b ports pad)
 unfolding is_plain is_numbered is_within is_new counted
 exit_goes p v a c w b ports pad (plain.Goto n) h k =
-    goes (at p v a c w b ports pad) (line.Go (At n)) place.Exited (exit_next p (plain.Goto n) h) refl refl
+    goes (at p v a c w b ports pad) (line.Go (At n)) place.Exited (exit_next p (plain.Goto n) h)
+    refl refl
     refl refl refl
 exit_goes p v a c w b ports pad (plain.Branch s n m) h k =
     goes (at p v a c w b ports pad) (line.If (At s) (At n) (At m)) place.Exited
@@ -339,9 +362,11 @@ exit_goes p v a c w b ports pad (plain.Landings s ls) h k =
           ls,
     )) refl
 exit_goes p v a c w b ports pad plain.Stop h k =
-    goes (at p v a c w b ports pad) line.Stop place.Exited (exit_next p plain.Stop h) refl refl refl refl refl
+    goes (at p v a c w b ports pad) line.Stop place.Exited (exit_next p plain.Stop h) refl refl refl
+    refl refl
 
-pub exit_leads : (image : plain.Image) (p : Place) (v : Bool) (a c w b : ℕ) (ports : List ℕ) (pad : Option ℕ)
+pub exit_leads : (image : plain.Image) (p : Place) (v : Bool) (a c w b : ℕ) (ports : List ℕ)
+    (pad : Option ℕ)
     (e : plain.Exit)
     → Formed image → Inside p → ExitIn image e → SomeLanding e → ExitKeeps v e
     → Leads (at p v a c w b ports pad) (exit_lines e) (at place.Exited v a c w b ports pad)

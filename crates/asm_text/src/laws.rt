@@ -27,6 +27,12 @@ pub fn read_texts_spell()
     ensures { (text : List ℕ) (image : Image) → read text ≡ Ok image → Spelled text image }
 {}
 
+/// Each text whose lines spell the items of a formed image is read as that image.
+pub fn spelled_texts_are_read()
+    ensures { (text : List ℕ) (image : Image) → Formed image → Spelled text image →
+        read text ≡ Ok image }
+{}
+
 /// Two small images are read from their texts, and the first of them from its text with names.
 pub fn small_texts_are_read()
     ensures first { read text_a ≡ Ok image_a }
