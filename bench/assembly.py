@@ -193,7 +193,7 @@ def time(program, file, kind, make, count, want):
     row = f"{kind}, {size:.1f} MiB: read in {took - idle:.2f} s"
     if want == "read":
         both, most, length = min(once([program, "read", "print"], file) for _ in range(RUNS))
-        row += f", printed in {both - took:.2f} s, {int(length) / MIB:.1f} MiB"
+        row += f", printed in {max(both - took, 0):.2f} s, {int(length) / MIB:.1f} MiB"
     print(f"{row}; at most {most:.0f} MB, {most / size:.1f} times the text", flush=True)
 
 

@@ -1,35 +1,30 @@
 -- Lines that spell the items of a formed image may stand where they stand, and keep the limits.
-use Rattle.std.proofs.Common.{◌≡◌, ◌⊎◌, inl, inr, ℕ, suc, ◌+◌, ◌<◌, ◌≤◌, ◌&&◌, ◌||◌, nat_le, is_none, length, length-append, Bool, true, false, List, [], ◌∷◌, ◌++◌, map, Option, Some, None, Ok, refl, sym, ap, subst, ◌∙◌, append_assoc, append-nil, arith}
+use Rattle.std.proofs.Common.{◌≡◌, inl, inr, ℕ, suc, ◌+◌, ◌<◌, ◌≤◌, ◌&&◌, ◌||◌, nat_le, length, length-append, Bool, true, false, List, [], ◌∷◌, ◌++◌, map, Option, Some, None, Ok, refl, sym, ap, subst, ◌∙◌, append_assoc, append-nil, arith}
 use Rattle.std.specs.List.{AllByRecursion, list_all}
 use Rattle.std.proofs.lemmas.List.{map-append}
-use Rattle.std.proofs.lemmas.Bool.{and_parts, le-leb, lt-ltb, leb-true, eq-eqb, ne_eqb}
-use Rattle.std.proofs.lemmas.Option.{none-some, same_Some}
-use Rattle.ws_isa.specs.Image as plain
+use Rattle.std.proofs.lemmas.Bool.{and_parts, le-leb, lt-ltb, leb-true, eq-eqb}
+use Rattle.std.proofs.lemmas.Option.{none-some}
 use Rattle.ws_isa.specs.Image.{flat, ports_of}
-use Rattle.ws_isa.specs.declared.instr.Dest.{Dest}
-use Rattle.ws_isa.specs.Formed.{most_instrs, most_blocks, most_waves, most_arrays, most_length, most_cells, most_dests, most_pads, most_landings, most_name, NameFormed, total_length, DestsIn, ExitWithin, WavesFrom, WavesInOrder, Formed}
+use Rattle.ws_isa.specs.Formed.{most_instrs, most_blocks, most_waves, most_arrays, most_length, most_cells, most_pads, most_landings, most_name, NameFormed, total_length, DestsIn, ExitWithin, WavesFrom, WavesInOrder, Formed}
 use Rattle.asm_text.specs.declared.line.Label.{Label}
-use Rattle.asm_text.specs.declared.line.Label.TheVariants.{At, Named}
 use Rattle.asm_text.specs.declared.line.Target.{Target}
 use Rattle.asm_text.specs.declared.line.InstrLine.{InstrLine}
 use Rattle.asm_text.specs.declared.line.Line.{Line}
-use Rattle.asm_text.specs.declared.line.Line.TheVariants as line
 use Rattle.asm_text.specs.declared.state.Place.{Place}
-use Rattle.asm_text.specs.declared.state.Place.TheVariants as place
 use Rattle.asm_text.specs.declared.state.State.{State}
-use Rattle.asm_text.specs.Names.{Names, named}
-use Rattle.asm_text.specs.Words.{is}
+use Rattle.asm_text.specs.Names.{Names}
 use Rattle.asm_text.specs.Limits.{first_most_instrs, first_most_blocks, first_most_waves, first_most_landings}
-use Rattle.asm_text.specs.State.{opening, next_place, is_number, are_numbers, is_plain, is_next, are_ports, is_above, is_numbered, is_short, are_short, are_few, limit, is_within, is_new_label, is_new, is_other_version, with_name, counted, checked, behind}
+use Rattle.asm_text.specs.State.{opening, next_place, is_number, are_numbers, is_plain, is_above, is_numbered, limit, is_within_cells, is_within, is_new, is_other_version, with_name, counted, checked, behind}
 use Rattle.asm_text.specs.Printed.{few_landings, keeps_first_limits}
-use Rattle.asm_text.specs.Spelling.{Version, Array, Wave, Block, Pad, Exit, End, instr_items, wave_items, block_items, blocks_items, items, Naming, IsFor, Pairs, TargetIsFor, Spells, SpellsExit, Short}
-use Rattle.asm_text.proofs.Items.{InstrIn, BlockIn, First, firsts_of, blocks_formed, Small, dests_small}
-use Rattle.asm_text.proofs.Leads.{array_goes, last_pad, Rise, rise_first, rise_rest, PadWithin, Inside, behind_instrs, still_inside, still_instrs, op_within, port_count}
-use Rattle.asm_text.proofs.Leads as numbers
+use Rattle.asm_text.specs.Spelling.{Version, Array, Wave, Block, Pad, Exit, End, instr_items, wave_items, block_items, blocks_items, items, Naming, IsFor, Pairs, TargetIsFor, Spells, SpellsExit, Short, array_line_of}
+use Rattle.asm_text.proofs.Items.{InstrIn, BlockIn, First, firsts_of, blocks_formed, dests_small}
 use Rattle.asm_text.proofs.Walks.{length_map}
-use Rattle.asm_text.proofs.Whole.{Open, Begun, ports_on}
 use Rattle.asm_text.proofs.Held.{last_wave}
-use Rattle.asm_text.proofs.Given.{named_in_more}
+use Rattle.ws_isa.specs.Image as plain
+use Rattle.asm_text.specs.declared.line.Line.TheVariants as line
+use Rattle.asm_text.specs.declared.state.Place.TheVariants as place
+use Rattle.asm_text.proofs.Labels.{halves, pairs_length, nil_of, cons_of, or_true, empty, IsPlain, plain_line, label_number, labels_number, targets_number, label_short, labels_short, targets_ports, targets_few, Sound, own_next, own_new, own_sound}
+use Rattle.asm_text.proofs.Inside.{port_count, last_pad, Rise, rise_first, rise_rest, PadWithin, Inside, behind_instrs, still_inside, still_instrs, op_within, Open, Begun, ports_on, limit_of, go_next, branch_next, send_next, stop_next, same_wave, new_wave, begun_next}
 
 -- Lines lead from one state to another.
 abbrev pub Walks : State → List Line → State → Type 0
@@ -64,155 +59,31 @@ at p v a c w b ports pad bs is =
       instr_names = is;
     }
 
--- Parts of paired lists.
+-- Arrays.
 
-pub record Halves {A B : Type 0} (R : A → B → Type 0) (ls : List A) (xs ys : List B) : Type 0 where
-  pub front : List A
-  pub back : List A
-  pub whole : ls ≡ front ++ back
-  pub first : Pairs R front xs
-  pub last : Pairs R back ys
+cells_within : (v : Bool) (a c n : ℕ) → a < most_arrays → n ≤ most_length → c + n ≤ most_cells
+    → is_within_cells (at place.Arrays v a c 0 0 [] None [] []) n ≡ true
+cells_within v a c n h k m =
+    rw (lt-ltb a most_arrays h, le-leb n most_length k, le-leb (c + n) most_cells m)
 
-pub halves : {A B : Type 0} (R : A → B → Type 0) (ls : List A) (xs ys : List B) → Pairs R ls
-    (xs ++ ys) → Halves R ls xs ys
-halves R ls [] ys h = record { front = []; back = ls; whole = refl; first = tt; last = h }
-halves R [] (x ∷ xs) ys h = absurd h
-halves R (l ∷ ls) (x ∷ xs) ys h =
-    let r = halves R ls xs ys h.1 in
-    record {
-      front = l ∷ r.front;
-      back = r.back;
-      whole = ap (λ k. l ∷ k) r.whole;
-      first =
-          (h.0, r.first);
-      last = r.last;
-    }
-
-pub pairs_length : {A B : Type 0} (R : A → B → Type 0) (xs : List A) (ys : List B) → Pairs R xs ys →
-    length xs ≡ length ys
-pairs_length R [] [] h = refl
-pairs_length R [] (y ∷ ys) h = absurd h
-pairs_length R (x ∷ xs) [] h = absurd h
-pairs_length R (x ∷ xs) (y ∷ ys) h = ap suc (pairs_length R xs ys h.1)
-
-pub nil_of : {A B : Type 0} (R : A → B → Type 0) (ls : List A) → Pairs R ls [] → ls ≡ []
-nil_of R [] h = refl
-nil_of R (l ∷ ls) h = absurd h
-
-pub cons_of : {A B : Type 0} (R : A → B → Type 0) (ls : List A) (y : B) (ys : List B) → Pairs R ls
-    (y ∷ ys) → (l : A) × (more : List A) × (ls ≡ l ∷ more) × R l y × Pairs R more ys
-cons_of R [] y ys h = absurd h
-cons_of R (l ∷ ls) y ys h = (l, ls, refl, h.0, h.1)
-
--- Labels.
-
-abbrev empty : Naming
-empty = record { blocks = []; instrs = [] }
-
-abbrev pub IsPlain : Bool → Naming → Type 0
-IsPlain v names = (v ≡ true) ⊎ (names ≡ empty)
-
-plain_line : (v x : Bool) (names : Naming) → IsPlain v names → (names ≡ empty → x ≡ true) → (v || x)
-    ≡ true
-plain_line v x names (inl e) h = rw e
-plain_line v x names (inr e) h = rw (h e) (numbers.or_true v)
-
-label_number : (l : Label) (n : ℕ) → IsFor [] l n → is_number l ≡ true
-label_number (At m) n h = refl
-label_number (Named w) n h = absurd (none-some n h)
-
-labels_number : (ls : List Label) (ns : List ℕ) → Pairs (IsFor []) ls ns → list_all is_number ls ≡
-    true
-labels_number [] [] h = refl
-labels_number [] (n ∷ ns) h = absurd h
-labels_number (l ∷ ls) [] h = absurd h
-labels_number (l ∷ ls) (n ∷ ns) h = rw (label_number l n h.0, labels_number ls ns h.1)
-
-targets_number : (ts : List Target) (ds : List Dest) → Pairs (TargetIsFor []) ts ds → are_numbers ts
-    ≡ true
-targets_number [] [] h = refl
-targets_number [] (d ∷ ds) h = absurd h
-targets_number (t ∷ ts) [] h = absurd h
-targets_number (t ∷ ts) (d ∷ ds) h =
-    rw (label_number t.instr d.instr (h.0).0, targets_number ts ds h.1)
-
-label_short : (names : Names) (l : Label) (n : ℕ) → Short names → IsFor names l n → is_short l ≡
-    true
-label_short names (At m) n s h = refl
-label_short names (Named w) n s h = le-leb (length w) most_name (s w n h)
-
-labels_short : (names : Names) (ls : List Label) (ns : List ℕ) → Short names → Pairs (IsFor names)
-    ls ns → list_all is_short ls ≡ true
-labels_short names [] [] s h = refl
-labels_short names [] (n ∷ ns) s h = absurd h
-labels_short names (l ∷ ls) [] s h = absurd h
-labels_short names (l ∷ ls) (n ∷ ns) s h =
-    rw (label_short names l n s h.0, labels_short names ls ns s h.1)
-
-targets_short : (names : Names) (ts : List Target) (ds : List Dest) → Short names → Pairs
-    (TargetIsFor names) ts ds → are_short ts ≡ true
-targets_short names [] [] s h = refl
-targets_short names [] (d ∷ ds) s h = absurd h
-targets_short names (t ∷ ts) [] s h = absurd h
-targets_short names (t ∷ ts) (d ∷ ds) s h =
-    rw (label_short names t.instr d.instr s (h.0).0, targets_short names ts ds s h.1)
-
-targets_ports : (names : Names) (ts : List Target) (ds : List Dest) → AllByRecursion Small ds →
-    Pairs (TargetIsFor names) ts ds → are_ports ts ≡ true
-targets_ports names [] [] s h = refl
-targets_ports names [] (d ∷ ds) s h = absurd h
-targets_ports names (t ∷ ts) [] s h = absurd h
-targets_ports names (t ∷ ts) (d ∷ ds) s h =
-    let port : t.port ≡ d.port = (h.0).1 in
-    let small : d.port ≤ 2 = (s.0).port in
-    rw (le-leb t.port 2 (omega (arith, port, small)), targets_ports names ts ds s.1 h.1)
-
-targets_few : (names : Names) (ts : List Target) (ds : List Dest) → Short names → Pairs
-    (TargetIsFor names) ts ds → length ds ≤ most_dests → are_few ts ≡ true
-targets_few names ts ds s h k =
-    let e : length ts ≡ length ds = pairs_length (TargetIsFor names) ts ds h in
-    rw (e, le-leb (length ds) most_dests k, targets_short names ts ds s h)
-
--- Own labels: names so far are those of the naming, with the numbers that stand already.
-abbrev pub Sound : Names → Names → ℕ → Type 0
-Sound names all count =
-    (w : List ℕ) (m : ℕ) → named names w ≡ Some m → (named all w ≡ Some m) × (m ≤ count)
-
-own_next : (all : Names) (l : Label) (n count : ℕ) → IsFor all l n → n ≡ count + 1 → is_next l count
-    ≡ true
-own_next all (At m) n count h e = eq-eqb m (count + 1) (h ∙ e)
-own_next all (Named w) n count h e = refl
-
-none_at : (all : Names) (w : List ℕ) (n count : ℕ) (o : Option ℕ) →
-    ((m : ℕ) → o ≡ Some m → (named all w ≡ Some m) × (m ≤ count)) → named all w ≡ Some n → n ≡ count
-    + 1 → is_none o ≡ true
-none_at all w n count None s h e = refl
-none_at all w n count (Some m) s h e =
-    let k = s m refl in
-    let same : m ≡ n = same_Some m n (sym k.0 ∙ h) in
-    absurd (omega (arith, k.1, same, e))
-
-own_new : (names all : Names) (l : Label) (n count : ℕ) → Sound names all count → IsFor all l n → n
-    ≡ count + 1 → is_new_label names l ≡ true
-own_new names all (At m) n count s h e = refl
-own_new names all (Named w) n count s h e =
-    none_at all w n count (named names w) (λ m k. s w m k) h e
-
-own_sound : (names all : Names) (l : Label) (n count : ℕ) → Sound names all count → IsFor all l n →
-    n ≡ count + 1 → Sound (with_name names l (count + 1)) all (count + 1)
-own_sound names all (At k) n count s h e w m f = let r = s w m f in (r.0, omega (arith, r.1))
-own_sound names all (Named v) n count s h e w m f = by (named_in_more names v w (count + 1) m f)
-  where
-    by : (named names w ≡ Some m) ⊎ ((w ≡ v) × (m ≡ count + 1)) → (named all w ≡ Some m) ×
-        (m ≤ count + 1)
-    by (inl g) = let r = s w m g in (r.0, omega (arith, r.1))
-    by (inr g) = (ap (named all) g.0 ∙ h ∙ ap Some (e ∙ sym g.1), omega (arith, g.1))
-
--- Limits of the version.
-
-limit_of : (v : Bool) (n few most : ℕ) → (v ≡ false → n ≤ few) → n ≤ most → n ≤ limit v few most
-limit_of true n few most h k = k
-limit_of false n few most h k = h refl
+array_goes : (v : Bool) (a c : ℕ) (name : Option (List ℕ)) (n : ℕ) → a < most_arrays
+    → n ≤ most_length → c + n ≤ most_cells → NameFormed name
+    → behind (at place.Arrays v a c 0 0 [] None [] []) (array_line_of name n) false
+    ≡ Ok (at place.Arrays v (a + 1) (c + n) 0 0 [] None [] [])
+unfolding next_place is_plain is_numbered is_within is_new counted
+array_goes v a c None n h k m f =
+    goes (at place.Arrays v a c 0 0 [] None [] []) (line.Hidden n) place.Arrays refl refl
+    (or_true v) refl
+    (cells_within v a c n h k m) refl
+array_goes v a c (Some w) n h k m f =
+    goes (at place.Arrays v a c 0 0 [] None [] []) (line.Array w n) place.Arrays refl refl
+    (or_true v) refl
+    (rw (
+      lt-ltb a most_arrays h,
+      le-leb n most_length k,
+      le-leb (c + n) most_cells m,
+      le-leb (length w) most_name f.1,
+    )) refl
 
 -- what a text says of an image
 pub record Setting (image : plain.Image) (v : Bool) (names : Naming) : Type 0 where
@@ -224,48 +95,6 @@ pub record Setting (image : plain.Image) (v : Bool) (names : Naming) : Type 0 wh
 
 abbrev pub IsIn : plain.Image → plain.Block → Type 0
 IsIn image b = BlockIn image (keeps_first_limits image) b
-
--- Exits stand inside a block.
-
-go_next : (p : Place) (l : Label) → Inside p → next_place p (line.Go l) ≡ Some place.Exited
-unfolding next_place
-go_next place.Pads l h = refl
-go_next place.Instrs l h = refl
-go_next p l h = absurd h
-
-branch_next : (p : Place) (l m n : Label) → Inside p → next_place p (line.If l m n) ≡ Some
-    place.Exited
-unfolding next_place
-branch_next place.Pads l m n h = refl
-branch_next place.Instrs l m n h = refl
-branch_next p l m n h = absurd h
-
-send_next : (p : Place) (l : Label) (ls : List Label) → Inside p → next_place p (line.Send l ls) ≡
-    Some place.Exited
-unfolding next_place
-send_next place.Pads l ls h = refl
-send_next place.Instrs l ls h = refl
-send_next p l ls h = absurd h
-
-stop_next : (p : Place) → Inside p → next_place p line.Stop ≡ Some place.Exited
-unfolding next_place
-stop_next place.Pads h = refl
-stop_next place.Instrs h = refl
-stop_next p h = absurd h
-
--- Waves.
-
-same_wave : (last wave : ℕ) → wave ≡ last → wave_items last wave ≡ []
-same_wave last wave e = rw (eq-eqb last wave (sym e))
-
-new_wave : (last wave : ℕ) → wave ≡ suc last → wave_items last wave ≡ Wave wave ∷ []
-new_wave last wave e = rw (ne_eqb last wave (λ d. absurd (omega (arith, d, e))))
-
-begun_next : (p : Place) (l : Label) → Begun p → next_place p (line.Block l) ≡ Some place.Pads
-unfolding next_place
-begun_next place.Exited l h = refl
-begun_next place.Wave l h = refl
-begun_next p l h = absurd h
 
 -- Names so far, behind instructions and behind blocks.
 
@@ -318,7 +147,7 @@ module _ (image : plain.Image) (v : Bool) (names : Naming) (S : Setting image v 
       (at place.Wave v a c k b ports pad bs is)
   unfolding is_plain is_numbered is_within is_new counted
   wave_goes p a c w b k ports pad bs is q e h =
-      goes (at p v a c w b ports pad bs is) (line.Wave k) place.Wave q refl (numbers.or_true v)
+      goes (at p v a c w b ports pad bs is) (line.Wave k) place.Wave q refl (or_true v)
       (eq-eqb k (w + 1) e) (lt-ltb w (limit v first_most_waves most_waves) h) refl
       ∙ (λ i. Ok (at place.Wave v a c (sym e i) b ports pad bs is))
 
@@ -477,7 +306,8 @@ module _ (image : plain.Image) (v : Bool) (names : Naming) (S : Setting image v 
           u,
           one,
           subst P
-              (λ i. at (still_instrs xs i) v a c w b (joined i) rest.pad rest.bs rest.is) rest.walks,
+              (λ i. at (still_instrs xs i) v a c w b (joined i) rest.pad rest.bs rest.is)
+              rest.walks,
         );
         blocks = rest.blocks;
         instrs = subst (λ m. Sound rest.is names.instrs (length m)) joined rest.instrs;
@@ -535,7 +365,7 @@ module _ (image : plain.Image) (v : Bool) (names : Naming) (S : Setting image v 
   exit_goes p a c w b ports pad bs is l plain.Stop h k x =
       let s = at p v a c w b ports pad bs is in
       ap (λ m. behind s m false) x ∙ goes s line.Stop place.Exited (stop_next p h) refl
-      (numbers.or_true v) refl refl refl
+      (or_true v) refl refl refl
 
   exit_walk : (ls : List Line) (p : Place) (a c w b : ℕ) (ports : List ℕ) (pad : Option ℕ)
       (bs is : Names) (e : plain.Exit) → Pairs (Spells names) ls (Exit e ∷ []) → Inside p → Keeps e
@@ -775,7 +605,7 @@ module _ (image : plain.Image) (v : Bool) (names : Naming) (S : Setting image v 
       (at place.Ended v a c w b ports pad bs is)
   unfolding next_place is_plain is_numbered is_within is_new counted
   end_goes a c w b ports pad bs is = goes (at place.Exited v a c w b ports pad bs is) line.End
-      place.Ended refl refl (numbers.or_true v) refl refl refl
+      place.Ended refl refl (or_true v) refl refl refl
 
   -- The whole text.
   pub text_walk : (version : ℕ) (ls : List Line) → Pairs (Spells names) ls (items version image) →

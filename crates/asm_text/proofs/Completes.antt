@@ -23,12 +23,11 @@ use Rattle.asm_text.specs.Printed.{keeps_first_limits}
 use Rattle.asm_text.specs.Reading.{lines_of, reading, step, add, on_line, is_ended, passed, made, nothing, read, Fault}
 use Rattle.asm_text.specs.Spelling.{Naming, Says, Say, Spelled}
 use Rattle.asm_text.proofs.Held.{last_wave, after}
-use Rattle.asm_text.proofs.Leads.{port_count}
-use Rattle.asm_text.proofs.Builds.{Counts, count_is, parts}
+use Rattle.asm_text.proofs.Inside.{port_count}
 use Rattle.asm_text.proofs.Told.{Extends, Taken}
 use Rattle.asm_text.proofs.TextTold.{taken, still, onward, placed, counted_extends}
 use Rattle.asm_text.proofs.Accepts.{Walks, Setting, at, text_walk}
-use Rattle.asm_text.proofs.Resolves.{Makes, Resolved, place_is, text_makes}
+use Rattle.asm_text.proofs.Resolves.{Counts, count_is, parts, Makes, Resolved, place_is, text_makes}
 
 -- Names that are given are found behind all lines.
 

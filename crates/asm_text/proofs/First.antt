@@ -22,7 +22,7 @@ use Rattle.asm_text.specs.Spelling.{IsFor, Pairs}
 use Rattle.asm_text.proofs.Held.{Held, after}
 use Rattle.asm_text.proofs.HeldSteps.{if_ok, then_ok}
 use Rattle.asm_text.proofs.Pairing.{blocks_for}
-use Rattle.asm_text.proofs.Accepts.{pairs_length}
+use Rattle.asm_text.proofs.Labels.{pairs_length}
 use Rattle.asm_text.proofs.Told.{Lacks, Taken}
 
 pub record FirstOk (t : State) (b : Built) : Type 0 where

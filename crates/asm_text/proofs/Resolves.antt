@@ -1,26 +1,79 @@
 -- Building of lines that spell the items of an image gives its parts.
-use Rattle.std.proofs.Common.{◌≡◌, ℕ, ◌+◌, ◌≤◌, ◌==◌, length, Bool, true, false, List, [], ◌∷◌, ◌++◌, map, Some, Ok, refl, sym, ap, subst, ◌∙◌, append_assoc, append-nil}
+use Rattle.std.proofs.Common.{◌≡◌, ℕ, ◌+◌, ◌≤◌, ◌==◌, length, Bool, true, false, List, [], ◌∷◌, ◌++◌, map, Some, Ok, refl, sym, ap, subst, ◌∙◌, append_assoc, append-nil, zero, suc, ◌-◌, ◌<◌, slice_get, Option, None, arith}
 use Rattle.std.specs.List.{AllByRecursion}
 use Rattle.std.proofs.lemmas.Bool.{le-leb, lt-ltb, eqb-true}
 use Rattle.std.proofs.lemmas.Option.{same_Some}
 use Rattle.ws_isa.specs.declared.instr.Dest.{Dest}
-use Rattle.ws_isa.specs.Image as plain
-use Rattle.ws_isa.specs.Image.{flat, ports, IsInstr, IsBlock}
-use Rattle.ws_isa.specs.Formed.{ExitIn, DestIn, DestsIn, Formed}
+use Rattle.ws_isa.specs.Image.{flat, ports, IsInstr, IsBlock, instr_at, nth, or_else, no_instr}
+use Rattle.ws_isa.specs.Formed.{ExitIn, DestIn, DestsIn, Formed, OpIn}
 use Rattle.asm_text.specs.declared.line.Label.{Label}
 use Rattle.asm_text.specs.declared.line.Label.TheVariants.{At, Named}
 use Rattle.asm_text.specs.declared.line.Target.{Target}
 use Rattle.asm_text.specs.declared.line.InstrLine.{InstrLine}
 use Rattle.asm_text.specs.declared.line.Line.{Line}
-use Rattle.asm_text.specs.declared.line.Line.TheVariants as line
 use Rattle.asm_text.specs.declared.state.State.{State}
 use Rattle.asm_text.specs.Names.{Names, named}
-use Rattle.asm_text.specs.Building.{place_of, instr_of, block_of, dest_of, each, dests_of, blocks_of, Built, exit_of, built}
-use Rattle.asm_text.specs.Spelling.{Version, Array, Wave, Block, Pad, Exit, End, instr_items, wave_items, block_items, blocks_items, items, Naming, IsFor, Pairs, TargetIsFor, Spells, SpellsExit}
+use Rattle.asm_text.specs.Building.{place_of, instr_of, block_of, dest_of, each, dests_of, blocks_of, Built, exit_of, built, or_zero, ports_at, is_known}
+use Rattle.asm_text.specs.Spelling.{Version, Array, Wave, Block, Pad, Exit, End, instr_items, wave_items, block_items, blocks_items, items, Naming, IsFor, Pairs, TargetIsFor, Spells, SpellsExit, array_line_of}
 use Rattle.asm_text.proofs.Items.{InstrIn, blocks_formed}
 use Rattle.asm_text.proofs.Held.{last_wave}
-use Rattle.asm_text.proofs.Builds.{Counts, ports_found, array_known, array_built, parts}
-use Rattle.asm_text.proofs.Accepts.{halves, nil_of, cons_of, Sound, IsIn}
+use Rattle.ws_isa.specs.declared.instr.Op.{Op}
+use Rattle.ws_isa.specs.declared.instr.Op.TheVariants.{Load, Store}
+use Rattle.asm_text.specs.Printed.{version}
+use Rattle.asm_text.proofs.Walks.{length_map}
+use Rattle.ws_isa.specs.Image as plain
+use Rattle.asm_text.specs.declared.line.Line.TheVariants as line
+use Rattle.asm_text.proofs.Labels.{halves, nil_of, cons_of, Sound}
+use Rattle.asm_text.proofs.Inside.{port_count}
+use Rattle.asm_text.proofs.Accepts.{IsIn}
+
+-- The counts of an image, as the state behind its text has them.
+pub record Counts (image : plain.Image) (s : State) : Type 0 where
+  pub arrays : s.arrays ≡ length image.arrays
+  pub blocks : s.blocks ≡ length image.blocks
+  pub ports : s.ports ≡ map port_count (flat image.blocks)
+
+pub count_is : (image : plain.Image) (s : State) → Counts image s → length s.ports ≡ length
+    (flat image.blocks)
+count_is image s c = ap length c.ports ∙ length_map port_count (flat image.blocks)
+
+nth_ports : (xs : List plain.Instr) (k : ℕ) → k < length xs
+    → or_zero (slice_get (map port_count xs) k) ≡ port_count (or_else (nth xs k) no_instr)
+nth_ports [] k h = absurd (omega (arith, h))
+nth_ports (x ∷ xs) zero h = refl
+nth_ports (x ∷ xs) (suc k) h = nth_ports xs k (omega (arith, h))
+
+pub ports_found : (image : plain.Image) (s : State) (n : ℕ) → Counts image s → IsInstr image n
+    → ports_at s.ports n ≡ ports image n
+unfolding ports instr_at
+ports_found image s zero c h = absurd (omega (arith, h.0))
+ports_found image s (suc k) c h =
+    let back : suc k - 1 ≡ k = omega arith in
+    (λ i. or_zero (slice_get (c.ports i) (back i))) ∙ nth_ports (flat image.blocks) k
+    (omega (arith, h.1))
+
+pub array_known : (image : plain.Image) (s : State) (op : Op) → Counts image s → OpIn image op
+    → is_known s op ≡ true
+array_known image s (Load a) c h =
+    rw (le-leb 1 a h.0, le-leb a s.arrays (omega (arith, h.1, c.arrays)))
+array_known image s (Store a) c h =
+    rw (le-leb 1 a h.0, le-leb a s.arrays (omega (arith, h.1, c.arrays)))
+array_known image s op c h = refl
+
+pub array_built : (s : State) (b : Built) (a : plain.Array)
+    → built s b (array_line_of a.name a.length) ≡ Ok (record b { arrays = b.arrays ++ a ∷ [] })
+unfolding built
+array_built s b a = by a.name
+  where
+    by : (name : Option (List ℕ))
+        → built s b (array_line_of name a.length) ≡ Ok
+        (record b { arrays = b.arrays ++ record { name = name; length = a.length } ∷ [] })
+    by None = refl
+    by (Some w) = refl
+
+abbrev pub parts : List plain.Array → List plain.Block → ℕ → List plain.Pad → List plain.Instr →
+    Built
+parts as' bs w ps is = record { arrays = as'; blocks = bs; wave = w; pads = ps; instrs = is }
 
 -- A label that stands for a number that is there is read as that number.
 
