@@ -86,3 +86,4 @@ mod Keepings
 mod Framed
 mod Numberings
 pub mod LeadingAhead
+mod SampleLeads

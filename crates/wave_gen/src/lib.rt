@@ -28,3 +28,6 @@ mod tails;
 mod values;
 
 pub use laws::graph_drafts_keep;
+
+#[cfg(test)]
+mod tests;
