@@ -6,7 +6,7 @@ use Rattle.ws_isa.specs.Image.{In, nth, or_else}
 use Rattle.image_walk.specs.Sound.{HasDest}
 use Rattle.wave_gen.specs.Waits.{Owner}
 use Rattle.wave_gen.specs.Wire.{Spot, Back, Front, dests_of, Line, Wants, no_wants, Made, emit, wire}
-use Rattle.wave_gen.specs.Plans.{Leaves, Onto, Either, Lands, Halts, Plan, pulse, same_spot, same_spots, differing, steered, is_among, past, Tail, steers, sends, selected, tails_of, end_wants, behind_source, exit_made, body_made, block_made, has_front, renew, advances, fronts, no_plan, no_made, plan_at, start_of, blocks_from, mades, made_at, starts_at, numbers, begins, owner_of}
+use Rattle.wave_gen.specs.Plans.{merges, Leaves, Onto, Either, Lands, Halts, Plan, pulse, same_spot, same_spots, differing, steered, is_among, past, Tail, steers, sends, selected, tails_of, end_wants, behind_source, exit_made, body_made, block_made, has_front, renew, advances, fronts, no_plan, no_made, plan_at, start_of, blocks_from, mades, made_at, starts_at, numbers, begins, owner_of}
 use Rattle.wave_gen.proofs.Planned.{Needs, Apart, Inner, Outer, EdgesAre, PlanIs}
 use Rattle.wave_gen.proofs.Steps.{first_le}
 use Rattle.wave_gen.proofs.Wiring.{Ahead, Inv, Good, emit_inv}
@@ -120,7 +120,7 @@ module _ (width : ℕ) (ps : List Plan) where
 
   block_same : (s t : ℕ → Wants) (b : ℕ) (p : Plan) → targets_agree s t p.exit → block_made width s b p ≡ block_made width t b p
   block_same s t b p a = let e : exit_made width s b p p.exit ≡ exit_made width t b p p.exit = exit_same s t b p p.exit (behind_same s t b p a) in
-      ap (λ (m : Made). cond p.first (advances b p.entries (renew b p.entries (wire b p.items m))) (cond p.joined (emit b pulse Merge (pulse ∷ []) (wire b p.items m)) (wire b p.items m))) e
+      ap (λ (m : Made). cond p.first (advances b p.entries (renew b p.entries (wire b p.items m))) (cond (merges p (wire b p.items m)) (emit b pulse Merge (pulse ∷ []) (wire b p.items m)) (wire b p.items m))) e
 
   laid_agree : (b : ℕ) (l : Laid b) (x : Leaves) → EdgesAre ps b x → targets_agree (start_of ps (suc b) l.later) (starts_at width ps) x
   unfolding targets_agree
@@ -359,7 +359,7 @@ module _ (width : ℕ) (ps : List Plan) where
         body_ok : Good F b (O b) Fine (F b) clear (body_made width S b (plan_at ps b))
         body_ok = body_good F b width Fine (F b) clear (E b) end_clean S (plan_at ps b) refl (plans b h).items (plans b h).source
 
-        made_inner : made_at width ps b ≡ cond (plan_at ps b).joined (emit b pulse Merge (pulse ∷ []) body) body
+        made_inner : made_at width ps b ≡ cond (merges (plan_at ps b) body) (emit b pulse Merge (pulse ∷ []) body) body
         unfolding body
         made_inner = made_is b h (plans b h).edges ∙ cond-false (plan_at ps b).first _ _ not_first
 
@@ -369,7 +369,7 @@ module _ (width : ℕ) (ps : List Plan) where
         inner_good false = body_ok
 
         good_made : Good F b (O b) Fine (F b) clear (made_at width ps b)
-        good_made = subst (λ (m : Made). Good F b (O b) Fine (F b) clear m) (sym made_inner) (inner_good (plan_at ps b).joined)
+        good_made = subst (λ (m : Made). Good F b (O b) Fine (F b) clear m) (sym made_inner) (inner_good (merges (plan_at ps b) body))
 
         inv_inner : Inv F b (O b) Fine (F b) (made_at width ps b)
         inv_inner =
@@ -386,7 +386,7 @@ module _ (width : ℕ) (ps : List Plan) where
         ]
 
         live_inner : (x : ℕ) → Wanted (S b) x → Live b x
-        live_inner x w = inner_live (plan_at ps b).joined x (λ e. w (ap (λ (v : Wants). v x) (starts_inner b not_first) ∙ ap (λ (m : Made). m.wants x) made_inner ∙ e))
+        live_inner x w = inner_live (merges (plan_at ps b) body) x (λ e. w (ap (λ (v : Wants). v x) (starts_inner b not_first) ∙ ap (λ (m : Made). m.wants x) made_inner ∙ e))
 
         clean_inner : (k : ℕ) → k ≤ F b → Clean F Fine k width (S b)
         clean_inner k l = subst (λ (w : Wants). Clean F Fine k width w) (sym (starts_inner b not_first)) (record {
