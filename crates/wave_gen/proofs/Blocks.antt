@@ -9,6 +9,7 @@ use Rattle.wave_gen.specs.Wire.{Spot, Back, Front, dests_of, Line, Wants, no_wan
 use Rattle.wave_gen.specs.Plans.{merges, Leaves, Onto, Either, Lands, Halts, Plan, pulse, same_spot, same_spots, differing, steered, is_among, past, Tail, steers, sends, selected, tails_of, end_wants, behind_source, exit_made, body_made, block_made, has_front, renew, advances, fronts, no_plan, no_made, plan_at, start_of, blocks_from, mades, made_at, starts_at, numbers, begins, owner_of}
 use Rattle.wave_gen.proofs.Planned.{Needs, Apart, Inner, Outer, EdgesAre, PlanIs}
 use Rattle.wave_gen.proofs.Steps.{first_le}
+use Rattle.wave_gen.proofs.SteeredNames.{or_in}
 use Rattle.wave_gen.proofs.Wiring.{Ahead, Inv, Good, emit_inv}
 use Rattle.wave_gen.proofs.Flow.{Wanted, wire_wanted, make_wanted, gather_wanted, with_uses_wanted, selected_wanted, reads_more, helds}
 use Rattle.wave_gen.proofs.Ends.{Clean, body_good, renew_good, merge_good}
@@ -185,12 +186,14 @@ module _ (width : ℕ) (ps : List Plan) where
 
   -- a name that is steered is the pulse or wanted in an arm
   pub steered_wanted : (w v : Wants) (y : ℕ) → In y (steered width w v) → (y ≡ pulse) ⊎ (Wanted w y ⊎ Wanted v y)
-  steered_wanted w v y (inl e) = inl e
-  steered_wanted w v y (inr h) = elim (nil_or (w y)) [
-    | inr n ↦ inr (inl n)
-    | inl e ↦ elim (nil_or (v y)) [
-      | inr n ↦ inr (inr n)
-      | inl f ↦ absurd (both_ways (same_spots (w y) (v y)) (differing_in w v 1 (width - 1) y h).0 (rw (e, f) refl))
+  steered_wanted w v y i = elim (or_in (differing w v 0 width) y i) [
+    | inl e ↦ inl e
+    | inr h ↦ elim (nil_or (w y)) [
+      | inr n ↦ inr (inl n)
+      | inl e ↦ elim (nil_or (v y)) [
+        | inr n ↦ inr (inr n)
+        | inl f ↦ absurd (both_ways (same_spots (w y) (v y)) (differing_in w v 0 width y h).0 (rw (e, f) refl))
+      ]
     ]
   ]
 

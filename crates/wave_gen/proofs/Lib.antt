@@ -38,6 +38,7 @@ mod SampleDrawn
 mod Few
 mod ShortLists
 mod Weighs
+mod SteeredNames
 mod OpenArms
 mod Valid
 mod MoreShapes

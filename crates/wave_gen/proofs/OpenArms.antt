@@ -1,5 +1,5 @@
 -- Arms, givers, and no notes: parts of what makes a draft open to notes.
-use Rattle.std.proofs.Common.{ℕ, zero, suc, ◌+◌, ◌≡◌, ◌<◌, ◌≤◌, ◌⊎◌, ◌||◌, Bool, true, false, List, [], ◌∷◌, ◌++◌, length, map, Some, None, refl, sym, ap, ◌∙◌, subst, inl, inr, arith}
+use Rattle.std.proofs.Common.{ℕ, zero, suc, ◌+◌, ◌≡◌, ◌<◌, ◌≤◌, ◌⊎◌, ◌||◌, true, false, List, [], ◌∷◌, ◌++◌, length, map, Some, None, refl, sym, ap, ◌∙◌, subst, inl, inr, arith}
 use Rattle.std.proofs.lemmas.Bool.{false≢true, cases_Bool, cond-true, cond-false}
 use Rattle.std.specs.List.{AllByRecursion}
 use Rattle.ws_isa.specs.declared.instr.Op.TheVariants.{Merge}
@@ -8,7 +8,8 @@ use Rattle.ws_isa.specs.Image.{Image, Instr, Block, Array, In, nth, flat, instr_
 use Rattle.ws_isa.specs.Formed.{NoNotes}
 use Rattle.image_walk.specs.Open.{OnlyEdge, IsArm, HasGiver, EnteredBySteer}
 use Rattle.wave_gen.specs.Wire.{Line, Made, emit}
-use Rattle.wave_gen.specs.Plans.{gives, merges, Leaves, Onto, Either, Lands, Halts, Plan, pulse, steer_of, tails_of, body_made, renew, plan_at, made_at, starts_at, begins, instr_of, blocks_of, draft_of, exit_of, source_of}
+use Rattle.wave_gen.specs.Plans.{gives, merges, differing, Leaves, Onto, Either, Lands, Halts, Plan, pulse, steer_of, tails_of, body_made, renew, plan_at, made_at, starts_at, begins, instr_of, blocks_of, draft_of, exit_of, source_of}
+use Rattle.wave_gen.proofs.SteeredNames.{or_first}
 use Rattle.wave_gen.proofs.Planned.{PlansAre, EdgesAre, Inner}
 use Rattle.wave_gen.proofs.Opening.{OnlyEdgeOf, PlansOpen}
 use Rattle.wave_gen.proofs.Blocks.{made_is, begins_next}
@@ -172,8 +173,9 @@ module _ (arrays : List Array) (width : ℕ) (ps : List Plan) (Live : ℕ → �
       go (inr f) (inr j) =
           let a = opens.bare b h f j in
           let S = starts_at width ps in
-          let t : nth (tails_of width (starts_at width ps) (plan_at ps a.before).exit) 0 ≡ Some (steer_of (starts_at width ps a.one) (starts_at width ps a.other) pulse) = ap (λ (l : Leaves). nth (tails_of width (starts_at width ps) l) 0) a.exit in
-          let i = tail_instr arrays width ps Live plans.each a.before a.there 0 (steer_of (starts_at width ps a.one) (starts_at width ps a.other) pulse) t in
+          let u = or_first (differing (S a.one) (S a.other) 0 width) in
+          let t : nth (tails_of width (starts_at width ps) (plan_at ps a.before).exit) 0 ≡ Some (steer_of (S a.one) (S a.other) u.name) = ap (λ (l : Leaves). nth (tails_of width (starts_at width ps) l) 0) a.exit ∙ u.is (S a.one) (S a.other) in
+          let i = tail_instr arrays width ps Live plans.each a.before a.there 0 (steer_of (S a.one) (S a.other) u.name) t in
           inr (record {
             before = a.before;
             place = a.place;

@@ -1,5 +1,5 @@
 -- The edges of the tests' plans lead ahead.
-use Rattle.std.proofs.Common.{ℕ, zero, suc, ◌≡◌, ◌<◌, List, [], ◌∷◌, ◌++◌, map, refl, ap, sym, subst, arith}
+use Rattle.std.proofs.Common.{ℕ, zero, suc, ◌≡◌, List, [], ◌∷◌, sym, subst, arith}
 use Rattle.ws_isa.specs.declared.instr.Op.{Op}
 use Rattle.wave_gen.specs.Plans.{Leaves, Onto, Either, Halts, Plan, no_plan, plan_at}
 use Rattle.wave_gen.specs.Kept.{LeadsAhead}
