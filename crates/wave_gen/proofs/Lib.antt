@@ -88,3 +88,5 @@ mod Framed
 mod Numberings
 pub mod LeadingAhead
 mod SampleLeads
+mod Generated
+mod Counting

@@ -14,6 +14,7 @@ mod fork;
 mod frame;
 mod kept;
 mod laws;
+mod make;
 mod maker;
 mod marks;
 mod numbering;
@@ -28,6 +29,9 @@ mod tails;
 mod values;
 
 pub use laws::graph_drafts_keep;
+pub use make::generate;
 
+#[cfg(test)]
+mod draft_tests;
 #[cfg(test)]
 mod tests;

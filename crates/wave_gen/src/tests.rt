@@ -1,108 +1,161 @@
-//! A draft of plans made by hand.
+//! Drafts of small graphs, walked.
 
-ghost use Rattle.std.specs.Prelude.{◌≡◌, ℕ, IfOk, map};
-ghost use Rattle.wave_gen.specs.Plans.{plan_at};
-ghost use Rattle.wave_gen.specs.View as view;
-ghost use Rattle.wave_gen.specs.Kept.{LeadsAhead};
+ghost use Rattle.std.specs.Prelude.{◌≡◌, [], map, IfOk};
+ghost use Rattle.ws_isa.specs.View as image;
+ghost use Rattle.image_walk.specs.Open.{Walkable};
+ghost use Rattle.cfg_core.specs.Rules.{IsGraph};
+ghost use Rattle.cfg_core.specs.Samples as samples;
+ghost use Rattle.cfg_core.specs.View as view;
+ghost use Rattle.call_gen.specs.Keeps.{HasNoSend, ArmsAlone};
 
-use crate::draft::make_draft;
-use crate::plan::{Item, Items, Leaves, Names, Plan, Plans};
+use super::*;
+use call_gen::spell_calls;
+use cfg_core::{
+    Graph, GraphBlock, GraphBlocks, GraphOp, GraphOps, GraphProc, GraphProcs, Leave, Term,
+};
+use image_walk::walk_draft;
+use live_vars::live;
 use std::alloc::Global;
+use std::process::Abort;
 use std::test::Fail;
-use ws_isa::{Instr, Op};
-use ws_words::NoMemory;
+use wave_cut::cut;
+use ws_isa::Draft;
+use ws_words::{Alu, Cells, NoMemory, Words, World};
 
-fn names(alloc: Global, names: &[usize]) -> Result<Names, NoMemory> {
-    let list = Vec::from_slice(alloc, names)?;
-    Ok(list)
-}
-
-fn made(alloc: Global, name: usize, op: Op, from: usize) -> Result<Item, NoMemory> {
-    let from = names(alloc, &[from])?;
-    Ok(Item::Make { name, op, from })
-}
-
-fn printed(alloc: Global, name: usize) -> Result<Item, NoMemory> {
-    let from = names(alloc, &[name])?;
-    let op = Op::Output;
-    Ok(Item::Act { op, from })
-}
-
-// A block of the first wave, whose first block has the pulse's entry.
-fn plan(alloc: Global, first: bool, items: Items, exit: Leaves) -> Result<Plan, NoMemory>
-    ensures { IfOk result (λ plan. plan.exit ≡ exit) }
+fn block(alloc: Global, ops: GraphOps, exit: Leave) -> GraphBlock
+    ensures { view.block result ≡ samples.block [] (map view.op ops.items) (view.exit exit) }
 {
-    let own: &[usize] = if first { &[0] } else { &[] };
-    Ok(Plan {
-        wave: 1,
-        first,
-        joined: false,
-        entries: names(alloc, own)?,
-        pads: names(alloc, own)?,
-        items,
+    GraphBlock {
+        named: Vec::new(alloc),
+        ops,
         exit,
-        test: 5,
-    })
+    }
 }
 
-// Two words are read; by the second one 1 or 2 is printed, and the first one in either case.
-fn asks(alloc: Global) -> Result<Plans, NoMemory>
-    ensures { IfOk result (λ plans. (b : ℕ) → LeadsAhead (map view.plan plans.items) b
-        (plan_at (map view.plan plans.items) b).exit) }
+fn proc(params: u32, vars: u32, blocks: GraphBlocks) -> GraphProc
+    ensures { view.proc result ≡ samples.proc params vars (map view.block blocks.items) }
 {
-    let second = made(alloc, 1, Op::Input, 0)?;
-    let reads = vec![in alloc; made(alloc, 2, Op::Input, 0)?, second]?;
-    let from = names(alloc, &[1])?;
-    let branch = Leaves::Either {
-        op: Op::Merge,
-        from,
-        some: 2,
-        none: 3,
-    };
-    let one = vec![in alloc; made(alloc, 3, Op::Const(1), 0)?, printed(alloc, 3)?]?;
-    let two = vec![in alloc; made(alloc, 3, Op::Const(2), 0)?, printed(alloc, 3)?]?;
-    let last = vec![in alloc; printed(alloc, 2)?]?;
-    let first = plan(alloc, true, reads, branch)?;
-    let some = plan(alloc, false, one, Leaves::Onto(4))?;
-    let none = plan(alloc, false, two, Leaves::Onto(4))?;
-    let end = plan(alloc, false, last, Leaves::Halts)?;
-    let mut plans = Vec::new(alloc);
-    plans.push(first)?;
-    plans.push(some)?;
-    plans.push(none)?;
-    plans.push(end)?;
-    Ok(plans)
+    GraphProc {
+        params,
+        vars,
+        blocks,
+    }
 }
 
-fn told(alloc: Global, instrs: &[Instr]) -> Result<String, NoMemory> {
-    let mut text = String::new(alloc);
-    for instr in instrs {
-        text.push_str(format!(in alloc; "{:?}", instr.op)?.as_str())?;
-        for dest in &instr.dests {
-            text.push_str(format!(in alloc; " {}.{}", dest.instr, dest.port)?.as_str())?;
-        }
-        for dest in &instr.others {
-            text.push_str(format!(in alloc; " or {}.{}", dest.instr, dest.port)?.as_str())?;
-        }
-        text.push_str("; ")?;
+fn graph(alloc: Global, procs: GraphProcs) -> Graph
+    ensures { view.graph result ≡ samples.graph [] (map view.proc procs.items) }
+{
+    Graph {
+        arrays: Vec::new(alloc),
+        procs,
     }
-    Ok(text)
 }
 
-// Only the pulse is steered: the word that is printed in either case goes past the branch.
-#[test]
-fn a_value_goes_past_a_branch(rt: HostRuntime) -> Result<(), Fail> {
-    let alloc = rt.alloc();
-    let plans = asks(alloc)?;
-    let draft = make_draft(alloc, Vec::new(alloc), 3, &plans)?;
-    let mut text = String::new(alloc);
-    for block in &draft.blocks {
-        text.push_str(told(alloc, &block.instrs)?.as_str())?;
-    }
-    assert_eq!(rt;
-        text.as_str(),
-        "Advance 2.0 3.0 5.0; Input 10.0; Input 4.0; Merge 5.1; \
-        Steer 6.0 11.0 or 8.0 or 11.0; Const(1) 7.0; Output; Const(2) 9.0; Output; Output; Halt; "
+// Counts down from 3.
+fn counts(alloc: Global) -> Result<Graph, NoMemory>
+    ensures { IfOk result (λ g. view.graph g ≡ samples.counts) }
+{
+    let first = vec![in alloc; GraphOp::Assign(0, Term::Number(3))]?;
+    let header = vec![in alloc; GraphOp::Tick(1)]?;
+    let less = Term::Binary(
+        Alu::Sub,
+        Box::new(alloc, Term::Var(0))?,
+        Box::new(alloc, Term::Number(1))?,
     );
+    let body = vec![in alloc; GraphOp::Print(Term::Var(0)), GraphOp::Assign(0, less)]?;
+    let blocks = vec![in alloc;
+        block(alloc, first, Leave::Goto(1)),
+        block(alloc, header, Leave::Branch(Term::Var(0), 2, 3)),
+        block(alloc, body, Leave::Goto(1)),
+        block(alloc, Vec::new(alloc), Leave::Stop),
+    ]?;
+    Ok(graph(alloc, vec![in alloc; proc(0, 1, blocks)]?))
+}
+
+// Main calls a procedure that calls a procedure.
+fn calls_twice(alloc: Global) -> Result<Graph, NoMemory>
+    ensures { IfOk result (λ g. view.graph g ≡ samples.calls_twice) }
+{
+    let fresh = Term::Binary(
+        Alu::Add,
+        Box::new(alloc, Term::Var(1))?,
+        Box::new(alloc, Term::Number(1))?,
+    );
+    let sum = Term::Binary(
+        Alu::Add,
+        Box::new(alloc, Term::Var(0))?,
+        Box::new(alloc, fresh)?,
+    );
+    let inner = vec![in alloc; block(alloc, Vec::new(alloc), Leave::Return(sum))]?;
+    let twice = Term::Binary(
+        Alu::Mul,
+        Box::new(alloc, Term::Var(0))?,
+        Box::new(alloc, Term::Number(2))?,
+    );
+    let call = Leave::Call {
+        result: Some(1),
+        callee: 0,
+        values: vec![in alloc; twice]?,
+        back: 2,
+    };
+    let outer = vec![in alloc;
+        block(alloc, vec![in alloc; GraphOp::Tick(1)]?, call),
+        block(alloc, Vec::new(alloc), Leave::Return(Term::Var(1))),
+    ]?;
+    let begin = Leave::Call {
+        result: Some(1),
+        callee: 1,
+        values: vec![in alloc; Term::Var(0)]?,
+        back: 4,
+    };
+    let ops = vec![in alloc; GraphOp::Assign(0, Term::Number(5)), GraphOp::Tick(1)]?;
+    let last = vec![in alloc; GraphOp::Print(Term::Var(0)), GraphOp::Print(Term::Var(1))]?;
+    let main = vec![in alloc; block(alloc, ops, begin), block(alloc, last, Leave::Stop)]?;
+    let procs = vec![in alloc; proc(1, 2, inner), proc(1, 2, outer), proc(0, 2, main)]?;
+    Ok(graph(alloc, procs))
+}
+
+// What the passes give is what a draft is made from.
+fn drafted(alloc: Global, graph: &Graph) -> Result<Draft, NoMemory>
+    requires rules { IsGraph (view.graph graph.now) }
+    requires no_send { HasNoSend (view.graph graph.now) }
+    requires arms { ArmsAlone (view.graph graph.now) }
+    ensures { IfOk result (λ made. Walkable (image.draft made)) }
+{
+    let needed = live(alloc, graph)?;
+    let spelled = spell_calls(alloc, graph, &needed)?;
+    let sets = live(alloc, &spelled)?;
+    let waves = cut(alloc, &spelled)?;
+    let draft = generate(alloc, &spelled, &waves, &sets)?;
+    Ok(draft)
+}
+
+fn prints(rt: &impl Abort, alloc: Global, draft: &Draft, printed: &[u64]) -> Result<(), Fail>
+    requires { Walkable (image.draft draft.now) }
+{
+    let world = World {
+        input: Words::empty(alloc),
+        left: Cells::empty(alloc),
+    };
+    let walked = walk_draft(alloc, draft, &world, 200)?;
+    assert_eq!(rt; walked.printed.as_slice(), printed);
+    assert!(rt; walked.whole);
+    assert_eq!(rt; walked.fault, None);
     Ok(())
+}
+
+#[test]
+#[tactic(auto, using(cfg_core::proofs::Kept::counts_kept, crate::proofs::Counting::counts_alone, crate::proofs::Counting::counts_sends_nothing))]
+fn the_draft_of_a_loop_counts_down(rt: HostRuntime) -> Result<(), Fail> {
+    let alloc = rt.alloc();
+    let draft = drafted(alloc, &counts(alloc)?)?;
+    prints(&rt, alloc, &draft, &[3, 2, 1])
+}
+
+#[test]
+#[tactic(auto, using(cfg_core::proofs::Kept::calls_twice_kept, crate::proofs::Counting::calls_alone, crate::proofs::Counting::calls_send_nothing))]
+fn the_draft_of_calls_prints_their_results(rt: HostRuntime) -> Result<(), Fail> {
+    let alloc = rt.alloc();
+    let draft = drafted(alloc, &calls_twice(alloc)?)?;
+    prints(&rt, alloc, &draft, &[5, 11])
 }

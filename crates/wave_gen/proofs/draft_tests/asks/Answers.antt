@@ -6,7 +6,7 @@ use Rattle.wave_gen.specs.View as view
 use Rattle.wave_gen.specs.Plans.{plan_at}
 use Rattle.wave_gen.specs.Kept.{LeadsAhead}
 use Rattle.wave_gen.proofs.SampleLeads.{asks_lead}
-use Rattle.wave_gen.proofs.tests.asks.Goals as goal
+use Rattle.wave_gen.proofs.draft_tests.asks.Goals as goal
 
 pub returns : goal.returns
 returns c b =
