@@ -1,19 +1,18 @@
 -- How large the last graph is.
-use Rattle.std.proofs.Common.{ℕ, zero, suc, ◌+◌, ◌*◌, ◌≡◌, ◌<◌, ◌≤◌, true, false, if◌then◌else◌, List, [], ◌∷◌, length, map, Option, Some, None, refl, sym, ap, ◌∙◌, subst, inl, inr, arith}
+use Rattle.std.proofs.Common.{ℕ, suc, ◌+◌, ◌≡◌, ◌<◌, ◌≤◌, if◌then◌else◌, List, [], ◌∷◌, length, map, Option, Some, None, refl, sym, ap, ◌∙◌, subst, inl, inr, arith}
 use Rattle.std.specs.List.{AllByRecursion, sum_by}
 use Rattle.std.proofs.lemmas.List.Sums.{sum_by-cons}
 use Rattle.src_ast.specs.Syntax.{Part}
-use Rattle.cfg_core.specs.Graph.{Term, Exit, Goto, Branch, Call, Return, Send, Stop, Block, GraphArray, GraphProc, Graph, Spot, spots, nth, or_else, no_spot, no_proc, spot_at, block_at, proc_at}
+use Rattle.cfg_core.specs.Graph.{Exit, Goto, Branch, Call, Return, Send, Stop, Block, GraphArray, GraphProc, Graph, Spot, spots, nth, or_else, no_spot, spot_at, block_at}
 use Rattle.cfg_core.specs.Rules.{calls}
 use Rattle.cfg_core.specs.Weights.{block_nodes}
 use Rattle.cfg_core.proofs.Total.{each_at}
 use Rattle.cfg_build.specs.Keeps.{IsFirstExit}
 use Rattle.wave_cut.specs.Cut.{Cut}
 use Rattle.phi_conv.specs.Short.{Short, short}
-use Rattle.phi_conv.specs.Joined as phi
 use Rattle.phi_conv.specs.Joined.{joined_if, joined_proc}
 use Rattle.phi_conv.proofs.Placing.{map_count, joined_spot, spots_are}
-use Rattle.call_gen.specs.Keeps.{SendsAtMost, ParamsAtMost}
+use Rattle.call_gen.specs.Keeps.{SendsAtMost}
 use Rattle.call_gen.specs.Sizes.{call_count, cell_count, Sizes, LandingsAtMost, BlockWithin, ProcWithin, IsWithin, spelled_sizes}
 use Rattle.wave_build.specs.Passed.{Passed}
 use Rattle.wave_build.specs.Small.{lowered_sizes, joined_sizes}
