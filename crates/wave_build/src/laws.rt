@@ -9,11 +9,18 @@ ghost use Rattle.src_ast.specs.LanguageLimits.{most_locals};
 ghost use Rattle.cfg_core.specs.Graph.{Graph, spots};
 ghost use Rattle.live_vars.specs.Marks.{has};
 ghost use Rattle.wave_cut.specs.Cut.{Cut};
+ghost use Rattle.call_gen.specs.Keeps.{HasNoSend};
 ghost use Rattle.call_gen.specs.Sizes.{call_count};
 ghost use Rattle.wave_gen.specs.Fitting.{Fits};
 ghost use Rattle.wave_gen.specs.Limits.{KeepsLimits};
-ghost use Rattle.wave_build.specs.Passed.{Passed};
+ghost use Rattle.wave_build.specs.Passed.{Joined, Lowered, Passed};
 ghost use Rattle.wave_build.specs.Small.{DraftFits};
+
+/// The joined graph of a program has no Send, as `reached` asks.
+pub fn joined_graphs_send_nothing()
+    ensures { (parts : List Part) (lowered joined : Graph) →
+        Lowered parts lowered → Joined lowered joined → HasNoSend joined }
+{}
 
 /// Plans can be made of the graph that the passes give.
 pub fn passed_graphs_fit()

@@ -6,4 +6,4 @@
 
 mod laws;
 
-pub use laws::{passed_drafts_fit, passed_graphs_fit};
+pub use laws::{joined_graphs_send_nothing, passed_drafts_fit, passed_graphs_fit};
