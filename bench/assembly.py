@@ -141,24 +141,24 @@ def rt(word, folder):
     return run.stdout.decode()
 
 
-def build(folder):
-    """Proves and builds the program in this folder, and gives its path."""
-    print("assembly: proving and building, which takes some minutes", file=sys.stderr)
-    said = rt("lib", ROOT / "crates" / "asm_text")
-    uses = USES.split()
+def build(folder, name="assembly", main=MAIN, used=USES):
+    """Proves and builds a program over these crates in this folder, and gives its path."""
+    print(f"{name}: proving and building, which takes some minutes", file=sys.stderr)
+    uses = used.split()
+    said = "".join(rt("lib", ROOT / "crates" / crate) for crate in uses[-2:])
     for crate in uses:
         for part in ("src", "specs", "proofs", "out/rlib"):
             if (ROOT / "crates" / crate / part).is_dir():
                 shutil.copytree(ROOT / "crates" / crate / part, folder / "crates" / crate / part)
     rows = [row for row in (ROOT / "crates.txt").read_text().splitlines() if row.split(":")[0] in uses]
-    (folder / "crates.txt").write_text("\n".join([*rows, "assembly: " + USES]) + "\n")
-    crate = folder / "crates" / "assembly"
+    (folder / "crates.txt").write_text("\n".join([*rows, f"{name}: {used}"]) + "\n")
+    crate = folder / "crates" / name
     (crate / "src").mkdir(parents=True)
-    (crate / "src" / "main.rt").write_text(MAIN)
+    (crate / "src" / "main.rt").write_text(main)
     said += rt("run", crate)
-    program = crate / "out" / "assembly"
+    program = crate / "out" / name
     if not program.is_file():
-        sys.exit(said + "assembly: not built")
+        sys.exit(f"{said}{name}: not built")
     return program
 
 

@@ -4,7 +4,8 @@ use Rattle.cfg_core.specs.Graph.{Term, Var, Branch, Spot, spots, spot_at, block_
 use Rattle.cfg_core.specs.Shape.{OnlyFrom, BranchesApart}
 use Rattle.cfg_core.specs.Samples.{counts, calls_twice}
 use Rattle.cfg_core.proofs.Total.{each_at}
-use Rattle.call_gen.specs.Keeps.{NoSend, HasNoSend, ArmsAlone}
+use Rattle.call_gen.specs.Keeps.{NoSend, HasNoSend}
+use Rattle.cfg_core.specs.Shape.{ArmsAlone}
 
 pub counts_sends_nothing : HasNoSend counts
 unfolding spot_at no_spot
