@@ -1,23 +1,22 @@
 -- Each text has one answer alone for each task.
 use Rattle.std.specs.Prelude.{◌≡◌, ℕ, ◌≤◌, ◌⊎◌, List, [], Result, Ok, Err, refl}
-use Rattle.std.proofs.Common.{sym, ap, ◌∙◌, subst, inl, inr}
+use Rattle.std.proofs.Common.{ap, ◌∙◌, subst, inl, inr}
 use Rattle.ws_words.specs.Outside.{Outside, World, printed_words}
 use Rattle.src_ast.specs.declared.lexeme.Place.{Place}
 use Rattle.src_ast.specs.declared.fault.Refusal.{Refusal}
 use Rattle.src_ast.specs.Syntax.{Part}
 use Rattle.src_ast.specs.Rules.{IsAccepted}
-use Rattle.src_ast.specs.Meaning.{arrays_of}
 use Rattle.src_ast.specs.Runs.{Runs, Goes, Faults}
 use Rattle.src_ast.specs.Printed.{printed_form}
 use Rattle.src_ast.specs.Written.{ReadsTheSame}
 use Rattle.src_ast.specs.Once.{ExactlyOne}
-use Rattle.seq_run.specs.Laws.{EndsWithin, FaultsWithin, GoesBeyond, HasAnswer}
+use Rattle.seq_run.specs.Laws.{HasAnswer}
 use Rattle.wsc_top.specs.declared.task.JobTask.{JobTask}
 use Rattle.wsc_top.specs.declared.task.JobTask.TheVariants.{Run, Format, Plain}
 use Rattle.wsc_top.specs.declared.task.PlainOptions.{PlainOptions}
 use Rattle.wsc_top.specs.declared.status.Status.{Status}
 use Rattle.wsc_top.specs.declared.status.Status.TheVariants.{Done, Refused, Budget, Fault}
-use Rattle.wsc_top.specs.Texts.{done_text, ended_text, faulted_text, going_text, refusal_text}
+use Rattle.wsc_top.specs.Texts.{done_text, ended_text, faulted_text, going_text, turns_line, names_of, array_name, refusal_text}
 use Rattle.wsc_top.specs.Job.{IsJob, Refuses, IsTextAnswer, world_of}
 use Rattle.wsc_top.specs.Answers.{unfit_for, Yields, ran, formatted, ended, faulted, going, Answered, refused, done, IsAnswer}
 use Rattle.wsc_top.proofs.Mains.{one_main}
@@ -46,9 +45,9 @@ Comes Run parts input status out = (n : ℕ) × (end : Outside) × Runs parts (w
 Comes Format parts input status out = (status ≡ Done) × (out ≡ printed_form parts)
 Comes (Plain options) parts input status out =
     ((n : ℕ) × (end : Outside) × Runs parts (world_of input) n end × (n ≤ options.turns) × (status ≡ Done)
-    × (out ≡ ended_text options.memory options.stats (arrays_of parts) (printed_words end.acts) end.cells n))
+    × (out ≡ ended_text options.memory options.stats (names_of parts) (printed_words end.acts) end.cells (turns_line n)))
     ⊎ (((n : ℕ) × (array : ℕ) × (state : Outside) × Faults parts (world_of input) n array state × (n ≤ options.turns) × (status ≡ Fault)
-    × (out ≡ faulted_text options.memory (arrays_of parts) array (printed_words state.acts) state.cells))
+    × (out ≡ faulted_text options.memory (array_name (names_of parts) array) (names_of parts) (printed_words state.acts) state.cells))
     ⊎ ((now : Outside) × Goes parts (world_of input) options.turns now × (status ≡ Budget) × (out ≡ going_text (printed_words now.acts))))
 
 comes : (task : JobTask) (parts : List Part) (input : List ℕ) (status : Status) (out : List ℕ) → Yields task parts input status out → Comes task parts input status out
@@ -85,14 +84,14 @@ module _ (law : RunsOnce) (parts : List Part) (input : List ℕ) where
     -- a sequential run that ends within the turns
     module _ (n : ℕ) (end : Outside) (r : Runs parts (world_of input) n end) (w : n ≤ options.turns) where
       abbrev end_text : List ℕ
-      end_text = ended_text options.memory options.stats (arrays_of parts) (printed_words end.acts) end.cells n
+      end_text = ended_text options.memory options.stats (names_of parts) (printed_words end.acts) end.cells (turns_line n)
 
       only_ended : (status : Status) (out : List ℕ) → Comes (Plain options) parts input status out → ◌≡◌ {A = Reply} (status, out) (Done, end_text)
       only_ended status out (inl c) =
           let same = law.one_end parts (world_of input) c.0 n c.1 end c.2 r in
-          let text : ended_text options.memory options.stats (arrays_of parts) (printed_words c.1.acts) c.1.cells c.0 ≡ end_text =
-          ap (λ (o : Outside). ended_text options.memory options.stats (arrays_of parts) (printed_words o.acts) o.cells c.0) same.1
-          ∙ ap (λ m. ended_text options.memory options.stats (arrays_of parts) (printed_words end.acts) end.cells m) same.0 in
+          let text : ended_text options.memory options.stats (names_of parts) (printed_words c.1.acts) c.1.cells (turns_line c.0) ≡ end_text =
+          ap (λ (o : Outside). ended_text options.memory options.stats (names_of parts) (printed_words o.acts) o.cells (turns_line c.0)) same.1
+          ∙ ap (λ m. ended_text options.memory options.stats (names_of parts) (printed_words end.acts) end.cells (turns_line m)) same.0 in
           same_reply status Done out end_text c.4 (c.5 ∙ text)
       only_ended status out (inr (inl c)) = absurd (law.no_end_with_a_fault parts (world_of input) n c.0 c.1 end c.2 r c.3)
       only_ended status out (inr (inr c)) = absurd (law.no_end_on_the_way parts (world_of input) n options.turns end c.0 w r c.1)
@@ -107,15 +106,15 @@ module _ (law : RunsOnce) (parts : List Part) (input : List ℕ) where
     -- one that meets an index fault within them
     module _ (n array : ℕ) (state : Outside) (f : Faults parts (world_of input) n array state) (w : n ≤ options.turns) where
       abbrev fault_text : List ℕ
-      fault_text = faulted_text options.memory (arrays_of parts) array (printed_words state.acts) state.cells
+      fault_text = faulted_text options.memory (array_name (names_of parts) array) (names_of parts) (printed_words state.acts) state.cells
 
       only_faulted : (status : Status) (out : List ℕ) → Comes (Plain options) parts input status out → ◌≡◌ {A = Reply} (status, out) (Fault, fault_text)
       only_faulted status out (inl c) = absurd (law.no_end_with_a_fault parts (world_of input) c.0 n array c.1 state c.2 f)
       only_faulted status out (inr (inl c)) =
           let same = law.one_fault parts (world_of input) c.0 n c.1 array c.2 state c.3 f in
-          let text : faulted_text options.memory (arrays_of parts) c.1 (printed_words c.2.acts) c.2.cells ≡ fault_text =
-          ap (λ a. faulted_text options.memory (arrays_of parts) a (printed_words c.2.acts) c.2.cells) same.1
-          ∙ ap (λ (o : Outside). faulted_text options.memory (arrays_of parts) array (printed_words o.acts) o.cells) same.2 in
+          let text : faulted_text options.memory (array_name (names_of parts) c.1) (names_of parts) (printed_words c.2.acts) c.2.cells ≡ fault_text =
+          ap (λ a. faulted_text options.memory (array_name (names_of parts) a) (names_of parts) (printed_words c.2.acts) c.2.cells) same.1
+          ∙ ap (λ (o : Outside). faulted_text options.memory (array_name (names_of parts) array) (names_of parts) (printed_words o.acts) o.cells) same.2 in
           same_reply status Fault out fault_text c.5 (c.6 ∙ text)
       only_faulted status out (inr (inr c)) = absurd (law.no_fault_on_the_way parts (world_of input) n options.turns array state c.0 w f c.1)
 

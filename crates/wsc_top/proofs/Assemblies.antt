@@ -15,7 +15,7 @@ use Rattle.wsc_top.specs.Sections.{program_of, input_of, input_place, IsInputFau
 use Rattle.src_ast.specs.declared.fault.TextFault.{TextFault}
 use Rattle.src_ast.specs.declared.fault.TextFault.TheVariants as text_fault
 use Rattle.wsc_top.specs.declared.assembly.AsmRefusal.{AsmRefusal}
-use Rattle.wsc_top.specs.Assembly.{fault_of_input, AnswersAssembly, IsSectionFault, IsAssemblyFault, RefusesAssembly, assembly, unsound, input}
+use Rattle.wsc_top.specs.Assembly.{fault_of_input, AnswersAssembly, IsSectionFault, IsAssemblyFault, assembly, unsound, input}
 
 pub bad_of : (image : Image) (f : CheckFault) (bad : Bad) → f ≡ check.Refused bad → Breach image f → BadBreach image bad
 bad_of image f bad e h = subst (λ x. Breach image x) e h

@@ -1,8 +1,6 @@
 -- The words of a call, and the answer to them.
-use Rattle.std.specs.Prelude.{◌≡◌, ◌⊎◌, ℕ, suc, ◌+◌, ◌≤◌, Bool, true, List, [], ◌∷◌, ◌++◌, length, map, Option, Some, None, IfNone, nat_eq, slice_index_or, refl}
-use Rattle.std.proofs.Common.{sym, ap, ◌∙◌, subst, arith, length-append, append-nil, inl, inr}
-use lib.Pointwise.{pointwise}
-use Rattle.std.specs.Cmp.Lexicographic.{same_text}
+use Rattle.std.specs.Prelude.{◌≡◌, ℕ, ◌+◌, ◌≤◌, List, [], length, Option, Some, None, IfNone, refl}
+use Rattle.std.proofs.Common.{sym, ap, ◌∙◌, subst, arith, length-append, inl, inr}
 use Rattle.ws_io.specs.Streams.{Rose, Takes, TakesAll}
 use Rattle.src_ast.specs.Syntax.{Part}
 use Rattle.wsc_top.specs.declared.task.JobTask.{JobTask}
@@ -16,13 +14,16 @@ use Rattle.wsc_top.specs.declared.assembly.AssemblyFault.TheVariants as fault
 use Rattle.wsc_top.specs.Assembly.{assembly_limit, IsAssembly, IsAssemblyFault}
 use Rattle.wsc_top.specs.Answers as answers
 use Rattle.wsc_top.specs.declared.status.Status.{Status}
-use Rattle.wsc_top.specs.declared.status.Status.TheVariants.{Done, Usage, Refused, Budget, ReadFault, WriteFault, NoMemory}
+use Rattle.wsc_top.specs.declared.status.Status.TheVariants.{Done, Usage, Refused, ReadFault, WriteFault, NoMemory}
 use Rattle.work_gen.specs.Job.{job_text}
 use Rattle.wsc_top.specs.Tasks.{IsLine, IsNoLine}
 use Rattle.wsc_top.proofs.Tasks.{OneLine, same_task_by}
-use Rattle.wsc_top.specs.Job.{IsJob}
+use Rattle.wsc_top.specs.declared.task.RunOptions.{RunOptions}
+use Rattle.ws_words.specs.Outside.{World}
+use Rattle.wsc_top.specs.Job.{IsJob, world_of}
 use Rattle.wsc_top.specs.Texts.{usage_text, unread_text, long_text, asm_refusal_text}
-use Rattle.wsc_top.specs.Answers.{job_limit, unfit_for, ran, formatted, ended, faulted, going, Answered, refused, done, IsReader, limit_of, text_of, AssemblyAnswered, Answers, usage, generated, unread, long, read, assembled, WereRead, IsToldJob, IsToldOther, IsToldAssembly, IsToldNoAssembly}
+use Rattle.wsc_top.specs.Executions.{Executes, rested, spent, stopped}
+use Rattle.wsc_top.specs.Answers.{job_limit, unfit_for, ran, formatted, ended, faulted, going, Answered, refused, done, IsReader, limit_of, AssemblyYields, checked, listed, executed, AssemblyEndsSo, AssemblyAnswered, Answers, usage, generated, unread, long, read, assembled, WereRead, IsToldJob, IsToldOther, IsToldAssembly, IsToldNoAssembly}
 
 -- the answer where the words are no line
 pub usage_answers : (words : List (List ℕ)) (left : Option (List ℕ)) (m n : ℕ) (out : List ℕ) → IsNoLine words → out ≡ usage_text → Answers words left left m n Usage out
@@ -62,13 +63,6 @@ pub assembled_answers : (words : List (List ℕ)) (left after : Option (List ℕ
 assembled_answers words left after m n text same out c status r l t e a =
     assembled c text r l t (subst (λ x. AssemblyAnswered c x status out) e a)
 
--- what is written of a sound image
-pub sound_answers : (task t : AssemblyTask) (text out : List ℕ) (image : Image) (input : List ℕ)
-    → IsAssembly text image input → task ≡ t → out ≡ text_of t image → AssemblyAnswered task text Done out
-sound_answers task t text out image input a e f =
-    subst (λ x. AssemblyAnswered x text Done out) (sym e)
-    (subst (λ o. AssemblyAnswered t text Done o) (sym f) (answers.AssemblyAnswered.done image input a))
-
 -- what is written where an assembly is refused
 pub unsound_answers : (task : AssemblyTask) (text out : List ℕ) (f : AssemblyFault) (why : AsmRefusal)
     → f ≡ fault.Refused why → IsAssemblyFault text f → out ≡ asm_refusal_text why
@@ -106,7 +100,7 @@ none_refused one words c text after m n status out (long d bytes q is k t) r b f
 none_refused one words c text after m n status out (read d other q k t a) r b f =
     let same : Job d ≡ Assembly c = same_task_by one words (Job d) (Assembly c) q r in absurd cc
 none_refused one words c text after m n status out (assembled d other q k t (answers.AssemblyAnswered.refused x h)) r b f = refl
-none_refused one words c text after m n status out (assembled d other q k t (answers.AssemblyAnswered.done image input a)) r b f =
+none_refused one words c text after m n status out (assembled d other q k t (answers.AssemblyAnswered.done image input a y)) r b f =
     absurd (b (subst (λ x. length x ≤ assembly_limit) (sym t.0) k) image input (subst (λ x. IsAssembly x image input) (sym t.0) a))
 
 -- a told text that is no assembly is refused, or reading failed
@@ -147,10 +141,26 @@ text_status c text status out (done ps input a (ended n e r w)) = tt
 text_status c text status out (done ps input a (faulted n x s f w)) = tt
 text_status c text status out (done ps input a (going now g)) = tt
 
+executes_status : (options : RunOptions) (image : Image) (world : World) (status : Status) (out : List ℕ) → Executes options image world status out → IsOfText status
+executes_status options image world status out (rested t n k w) = tt
+executes_status options image world status out (spent t s) = tt
+executes_status options image world status out (stopped t f w) = tt
+
+yield_status : (c : AssemblyTask) (image : Image) (input : List ℕ) (status : Status) (out : List ℕ) → AssemblyYields c image input status out → IsOfText status
+yield_status c image input status out checked = tt
+yield_status c image input status out listed = tt
+yield_status c image input status out (executed {options} e) = executes_status options image (world_of input) status out e
+
 assembly_status : (c : AssemblyTask) (text : List ℕ) (status : Status) (out : List ℕ) → AssemblyAnswered c text status out
     → IsOfText status
 assembly_status c text status out (answers.AssemblyAnswered.refused x h) = tt
-assembly_status c text status out (answers.AssemblyAnswered.done image input a) = tt
+assembly_status c text status out (answers.AssemblyAnswered.done image input a y) = yield_status c image input status out y
+
+-- the status of a task to an assembly, where it is the same image and the same words
+pub assembly_ends : (task : AssemblyTask) (found image : Image) (words input : List ℕ) (status : Status)
+    → (found ≡ image) × (words ≡ input) → AssemblyEndsSo task found words status → AssemblyEndsSo task image input status
+assembly_ends task found image words input status e h =
+    subst (λ w. AssemblyEndsSo task image w status) e.1 (subst (λ i. AssemblyEndsSo task i words status) e.0 h)
 
 -- no answer has this status
 pub not_memory : (words : List (List ℕ)) (left after : Option (List ℕ)) (m n : ℕ) (status : Status) (out : List ℕ) → Answers words left after m n status out → status ≡ NoMemory → ⊥

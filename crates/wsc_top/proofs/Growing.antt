@@ -1,5 +1,5 @@
 -- How the pieces of expressions over numbers grow.
-use Rattle.std.specs.Prelude.{◌≡◌, ℕ, zero, suc, ◌+◌, ◌-◌, ◌*◌, ◌/◌, ◌%◌, ◌^◌, ◌<◌, ◌≤◌, Bool, true, false, ◌==◌, ◌&&◌, nat_lt, nat_le, IsTrue, List, [], ◌∷◌, ◌++◌, length, refl, if◌then◌else◌}
+use Rattle.std.specs.Prelude.{◌≡◌, ℕ, zero, suc, ◌+◌, ◌^◌, ◌<◌, ◌≤◌, Bool, true, false, ◌==◌, ◌&&◌, nat_lt, nat_le, IsTrue, List, [], ◌∷◌, ◌++◌, length, refl, if◌then◌else◌}
 use Rattle.std.proofs.Common.{drop, sym, ap, ◌∙◌, subst, arith, append_assoc, length-append}
 use Rattle.std.proofs.lemmas.Nat.{xor_lt, or_lt}
 use Rattle.std.proofs.lemmas.List.{drop_all}
@@ -8,16 +8,15 @@ use Rattle.ws_words.specs.declared.alu.Alu.{Alu}
 use Rattle.ws_words.specs.declared.alu.Alu.TheVariants as alu
 use Rattle.ws_words.specs.Operators.{applied, flag}
 use Rattle.src_ast.specs.declared.tree.Unary.{Unary}
-use Rattle.src_ast.specs.declared.tree.Unary.TheVariants as unary
 use Rattle.src_ast.specs.declared.lexeme.Place.{Place}
 use Rattle.src_ast.specs.declared.tree.Stmt.{Stmt}
 use Rattle.src_ast.specs.View as view
-use Rattle.src_ast.specs.Syntax.{Expression, Number, Signed, Binary, Statement, Print, Statements, Nothing, Then}
+use Rattle.src_ast.specs.Syntax.{Expression, Number, Signed, Binary, Statement, Print, Statements, Then}
 use Rattle.src_ast.specs.Meaning.{signed_value}
 use Rattle.df_core.specs.declared.piece.Piece.{Piece}
 use Rattle.df_core.specs.declared.piece.Piece.TheVariants as piece
 use Rattle.df_core.specs.Built.{Computes, number, apply, Prints, halt, print}
-use Rattle.wsc_top.specs.Straights.{is_closed, closed_value, is_print, only_prints, word_of, words_of}
+use Rattle.wsc_top.specs.Straights.{is_closed, closed_value, is_print, only_prints, words_of}
 use Rattle.wsc_top.specs.Straights.{pieces_for_statement, pieces_for_all, GrowsBy, EndsInApply, GrowsByPrint, AreBegun}
 
 flag_fits : (b : Bool) → flag b < 2 ^ 64

@@ -1,15 +1,14 @@
 -- Why the text of a job is refused, and what it is otherwise.
-use Rattle.std.specs.Prelude.{◌≡◌, ℕ, ◌+◌, List, [], ◌∷◌, Option, Some, Result, Ok, Err, refl}
+use Rattle.std.specs.Prelude.{◌≡◌, ℕ, List, [], ◌∷◌, Option, Some, Err, refl}
 use Rattle.std.proofs.Common.{sym, ap, ◌∙◌, subst}
 use Rattle.src_ast.specs.declared.lexeme.Place.{Place}
 use Rattle.src_ast.specs.declared.fault.Refusal.{Refusal}
-use Rattle.src_ast.specs.declared.fault.RefusalKind.{RefusalKind}
 use Rattle.src_ast.specs.declared.fault.RefusalKind.TheVariants.{Unbuilt}
 use Rattle.src_ast.specs.declared.fault.TextFault.{TextFault}
 use Rattle.src_ast.specs.declared.fault.TextFault.TheVariants as fault
 use Rattle.src_ast.specs.Syntax.{Part}
 use Rattle.src_ast.specs.declared.lexeme.Lexeme.{Lexeme}
-use Rattle.src_ast.specs.Lexemes.{start, after, Lex, KeepLimits}
+use Rattle.src_ast.specs.Lexemes.{Lex, KeepLimits}
 use Rattle.src_ast.specs.Grammar.{Tree}
 use Rattle.src_ast.specs.Rules.{IsAccepted}
 use Rattle.src_ast.specs.Written.{IsWritten}

@@ -10,5 +10,7 @@ pub mod Tasks
 pub mod Assemblies
 pub mod Calls
 pub mod PlainTexts
+pub mod RunTexts
+pub mod Runs
 pub mod Outcomes
 pub mod AnswersOnce

@@ -1,18 +1,15 @@
 -- An accepted program in which everything is run is a `main` of prints alone.
-use Rattle.std.specs.Prelude.{◌≡◌, ℕ, suc, ◌+◌, ◌*◌, ◌^◌, ◌<◌, ◌≤◌, nat_lt, Bool, true, false, not, ◌&&◌, ◌||◌, IsTrue, List, [], ◌∷◌, ◌++◌, length, Option, Some, None, if◌then◌else◌, refl}
-use Rattle.std.proofs.Common.{sym, ap, ◌∙◌, subst, arith}
+use Rattle.std.specs.Prelude.{◌≡◌, ℕ, ◌+◌, ◌*◌, ◌^◌, ◌<◌, ◌≤◌, nat_lt, Bool, true, false, not, ◌&&◌, ◌||◌, IsTrue, List, [], ◌∷◌, ◌++◌, length, Option, Some, None, if◌then◌else◌, refl}
+use Rattle.std.proofs.Common.{sym, subst, arith}
 use Rattle.std.specs.List.{list_all}
 use Rattle.std.proofs.lemmas.Bool.{ltb-true}
 use Rattle.src_ast.specs.declared.lexeme.Place.{Place}
-use Rattle.src_ast.specs.declared.tree.Item.{Item}
-use Rattle.src_ast.specs.declared.tree.Item.TheVariants as item
 use Rattle.src_ast.specs.Syntax.{Expression, Number, Variable, Cell, Signed, Binary, Statement, Assign, Store, Print, Read, Give, Take, Call, If, While, Statements, Nothing, Then, Last, Procedure, Part, Proc, Array}
 use Rattle.src_ast.specs.LanguageLimits.{most_statements, most_procedures}
 use Rattle.src_ast.specs.Grammar.{level_of}
 use Rattle.src_ast.specs.Printed.{is_looser, is_no_tighter, is_binary}
 use Rattle.src_ast.specs.Written.{rounded, width, AreWrittenStatements, IsWritten}
-use Rattle.src_ast.specs.Rules.{Rule, Declared, variables, is_visible, size_of_all, parameter_rules, variable_rules, expression_rules, statement_rules, body_rules, ending_rules, rules_after, rules_of, part_rules, is_main, has_main, IsAccepted}
-use Rattle.src_ast.specs.View as view
+use Rattle.src_ast.specs.Rules.{Rule, Declared, variables, is_visible, size_of_all, parameter_rules, variable_rules, expression_rules, statement_rules, body_rules, ending_rules, rules_after, part_rules, is_main, has_main, IsAccepted}
 use Rattle.df_core.specs.declared.piece.Piece.{Piece}
 use Rattle.df_core.specs.Built.{Prints}
 use Rattle.wsc_top.specs.Straights.{pieces_for, pieces_for_all, is_closed, is_print, only_prints, words_of, place_of, unbuilt_in, unbuilt_ending, unbuilt_part, unbuilt_places}

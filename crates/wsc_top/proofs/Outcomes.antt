@@ -1,11 +1,10 @@
 -- What comes of the commands.
-use Rattle.std.specs.Prelude.{◌≡◌, ℕ, zero, suc, ◌+◌, ◌≤◌, ◌⊎◌, List, [], ◌∷◌, ◌++◌, refl}
+use Rattle.std.specs.Prelude.{◌≡◌, ℕ, zero, suc, ◌≤◌, ◌⊎◌, List, [], ◌∷◌, ◌++◌, refl}
 use Rattle.std.proofs.Common.{sym, ap, ◌∙◌, subst, inl, inr}
 use Rattle.ws_words.specs.Outside.{Outside, World, printed_words}
 use Rattle.ws_words.specs.declared.plain.Plain.{Plain as Reply}
 use Rattle.ws_words.specs.declared.plain.Plain.TheVariants as replies
 use Rattle.src_ast.specs.Syntax.{Part}
-use Rattle.src_ast.specs.Meaning.{arrays_of}
 use Rattle.src_ast.specs.Runs.{Runs, Goes, Faults}
 use Rattle.src_ast.specs.Written.{ReadsTheSame}
 use Rattle.src_ast.specs.Printed.{printed_form}
@@ -15,11 +14,10 @@ use Rattle.df_core.specs.Straight.{IsStraight, printed_by}
 use Rattle.seq_run.specs.Answer.{SaysEnded, SaysFault, SaysGoing, HasEnded, HasFaulted, IsGoing}
 use Rattle.wsc_top.specs.declared.task.JobTask.TheVariants.{Run, Format, Plain}
 use Rattle.wsc_top.specs.declared.task.PlainOptions.{PlainOptions}
-use Rattle.wsc_top.specs.declared.status.Status.{Status}
 use Rattle.wsc_top.specs.declared.status.Status.TheVariants.{Done, Budget, Fault}
 use Rattle.wsc_top.specs.Straights.{words_of}
-use Rattle.wsc_top.specs.Texts.{done_text, ended_text, faulted_text, going_text}
-use Rattle.wsc_top.specs.Straights.{IsMainAlone, ArePieces}
+use Rattle.wsc_top.specs.Texts.{done_text, ended_text, faulted_text, going_text, turns_line, names_of, array_name}
+use Rattle.wsc_top.specs.Straights.{ArePieces}
 use Rattle.wsc_top.specs.Job.{world_of}
 use Rattle.wsc_top.specs.Answers.{Yields, ran, formatted, ended, faulted, going, ComesToItsEnd, MeetsFault, WantsTurns, EndsSo}
 use Rattle.wsc_top.proofs.Printing.{numbers_run}
@@ -79,25 +77,25 @@ going_run parts world most printed (inr (inr h)) = h
 -- the text of a run that ended
 pub ended_yields : (options : PlainOptions) (parts : List Part) (input : List ℕ) (world : World) (printed : List ℕ) (arrays took : List (List ℕ)) (turns : ℕ) (out : List ℕ)
     → world ≡ world_of input → Says parts world options.turns (replies.Ended printed arrays took turns)
-    → out ≡ ended_text options.memory options.stats (arrays_of parts) printed arrays turns → Yields (Plain options) parts input Done out
+    → out ≡ ended_text options.memory options.stats (names_of parts) printed arrays (turns_line turns) → Yields (Plain options) parts input Done out
 ended_yields options parts input world printed arrays took turns out w r e =
     let h = ended_run parts world options.turns printed arrays took turns r in
-    let text : ended_text options.memory options.stats (arrays_of parts) printed arrays turns ≡ ended_text options.memory options.stats (arrays_of parts) (printed_words h.end.acts) h.end.cells h.taken =
-    ap (λ n. ended_text options.memory options.stats (arrays_of parts) printed arrays n) h.says.0
-    ∙ ap (λ ws. ended_text options.memory options.stats (arrays_of parts) ws arrays h.taken) h.says.1
-    ∙ ap (λ cells. ended_text options.memory options.stats (arrays_of parts) (printed_words h.end.acts) cells h.taken) h.says.2 in
+    let text : ended_text options.memory options.stats (names_of parts) printed arrays (turns_line turns) ≡ ended_text options.memory options.stats (names_of parts) (printed_words h.end.acts) h.end.cells (turns_line h.taken) =
+    ap (λ n. ended_text options.memory options.stats (names_of parts) printed arrays (turns_line n)) h.says.0
+    ∙ ap (λ ws. ended_text options.memory options.stats (names_of parts) ws arrays (turns_line h.taken)) h.says.1
+    ∙ ap (λ cells. ended_text options.memory options.stats (names_of parts) (printed_words h.end.acts) cells (turns_line h.taken)) h.says.2 in
     subst (λ o. Yields (Plain options) parts input Done o) (sym (e ∙ text)) (ended h.taken h.end (subst (λ x. Runs parts x h.taken h.end) w h.runs) h.within)
 
 -- the text of a run that met an index fault
 pub faulted_yields : (options : PlainOptions) (parts : List Part) (input : List ℕ) (world : World) (array : ℕ) (printed : List ℕ) (arrays took : List (List ℕ)) (turns : ℕ) (out : List ℕ)
     → world ≡ world_of input → Says parts world options.turns (replies.Fault array printed arrays took turns)
-    → out ≡ faulted_text options.memory (arrays_of parts) array printed arrays → Yields (Plain options) parts input Fault out
+    → out ≡ faulted_text options.memory (array_name (names_of parts) array) (names_of parts) printed arrays → Yields (Plain options) parts input Fault out
 faulted_yields options parts input world array printed arrays took turns out w r e =
     let h = faulted_run parts world options.turns array printed arrays took turns r in
-    let text : faulted_text options.memory (arrays_of parts) array printed arrays ≡ faulted_text options.memory (arrays_of parts) h.array (printed_words h.state.acts) h.state.cells =
-    ap (λ n. faulted_text options.memory (arrays_of parts) n printed arrays) h.says.0
-    ∙ ap (λ ws. faulted_text options.memory (arrays_of parts) h.array ws arrays) h.says.2
-    ∙ ap (λ cells. faulted_text options.memory (arrays_of parts) h.array (printed_words h.state.acts) cells) h.says.3 in
+    let text : faulted_text options.memory (array_name (names_of parts) array) (names_of parts) printed arrays ≡ faulted_text options.memory (array_name (names_of parts) h.array) (names_of parts) (printed_words h.state.acts) h.state.cells =
+    ap (λ n. faulted_text options.memory (array_name (names_of parts) n) (names_of parts) printed arrays) h.says.0
+    ∙ ap (λ ws. faulted_text options.memory (array_name (names_of parts) h.array) (names_of parts) ws arrays) h.says.2
+    ∙ ap (λ cells. faulted_text options.memory (array_name (names_of parts) h.array) (names_of parts) (printed_words h.state.acts) cells) h.says.3 in
     subst (λ o. Yields (Plain options) parts input Fault o) (sym (e ∙ text)) (faulted h.turn h.array h.state (subst (λ x. Faults parts x h.turn h.array h.state) w h.faults) h.within)
 
 -- the text of a run that goes on

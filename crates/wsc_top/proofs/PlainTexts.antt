@@ -8,11 +8,10 @@ use Rattle.src_ast.specs.declared.lexeme.Place.{Place}
 use Rattle.src_ast.specs.declared.tree.Item.{Item}
 use Rattle.src_ast.specs.declared.tree.Item.TheVariants.{Array, Proc}
 use Rattle.src_ast.specs.View as view
-use Rattle.src_ast.specs.Meaning.{arrays_of}
-use Rattle.wsc_top.specs.Texts.{maybe_line, array_lines, name_at}
+use Rattle.wsc_top.specs.Texts.{names_of, maybe_line, array_lines, name_at}
 
 -- the line of the next array, and the lines of the others
-lines_more : (n : Name) (ns : List Name) (rows : List (List ℕ)) (k : ℕ) → array_lines (n ∷ ns) (drop k rows) ≡ maybe_line n.text (slice_get rows k) ++ array_lines ns (drop (suc k) rows)
+lines_more : (n : List ℕ) (ns : List (List ℕ)) (rows : List (List ℕ)) (k : ℕ) → array_lines (n ∷ ns) (drop k rows) ≡ maybe_line n (slice_get rows k) ++ array_lines ns (drop (suc k) rows)
 lines_more n [] [] zero = refl
 lines_more n (m ∷ ns) [] zero = refl
 lines_more n [] [] (suc k) = refl
@@ -25,56 +24,56 @@ items_more items i x lt is =
     drop-cons items i x lt ∙ ap (λ y. y ∷ drop (suc i) items) (sym is) ∙ ap (λ j. x ∷ drop j items) (let e : suc i ≡ i + 1 = omega arith in e)
 
 module _ (items : List Item) (rows : List (List ℕ)) (i k : ℕ) (x : Item) (text whole : List ℕ) (lt : i < length items) (is : x ≡ slice_index_or items i x)
-    (so : text ++ array_lines (arrays_of (view.parts (drop i items))) (drop k rows) ≡ whole) where
-  next : text ++ array_lines (arrays_of (view.parts (x ∷ drop (i + 1) items))) (drop k rows) ≡ whole
-  next = ap (λ rest. text ++ array_lines (arrays_of (view.parts rest)) (drop k rows)) (sym (items_more items i x lt is)) ∙ so
+    (so : text ++ array_lines (names_of (view.parts (drop i items))) (drop k rows) ≡ whole) where
+  next : text ++ array_lines (names_of (view.parts (x ∷ drop (i + 1) items))) (drop k rows) ≡ whole
+  next = ap (λ rest. text ++ array_lines (names_of (view.parts rest)) (drop k rows)) (sym (items_more items i x lt is)) ∙ so
 
   -- after the line of an array
   pub after_array : (name : Name) (n : ℕ) (at : Place) (now : List ℕ) → x ≡ Array name n at → now ≡ text ++ maybe_line name.text (slice_get rows k)
-      → now ++ array_lines (arrays_of (view.parts (drop (i + 1) items))) (drop (k + 1) rows) ≡ whole
+      → now ++ array_lines (names_of (view.parts (drop (i + 1) items))) (drop (k + 1) rows) ≡ whole
   after_array name n at now e h =
-      let rest = arrays_of (view.parts (drop (i + 1) items)) in
+      let rest = names_of (view.parts (drop (i + 1) items)) in
       ap (λ t. t ++ array_lines rest (drop (k + 1) rows)) h
       ∙ append_assoc text (maybe_line name.text (slice_get rows k)) (array_lines rest (drop (k + 1) rows))
       ∙ ap (λ j. text ++ (maybe_line name.text (slice_get rows k) ++ array_lines rest (drop j rows))) (let e : k + 1 ≡ suc k = omega arith in e)
-      ∙ ap (λ t. text ++ t) (sym (lines_more name rest rows k))
-      ∙ ap (λ y. text ++ array_lines (arrays_of (view.part y ∷ view.parts (drop (i + 1) items))) (drop k rows)) (sym e)
+      ∙ ap (λ t. text ++ t) (sym (lines_more name.text rest rows k))
+      ∙ ap (λ y. text ++ array_lines (names_of (view.part y ∷ view.parts (drop (i + 1) items))) (drop k rows)) (sym e)
       ∙ next
 
 -- after a procedure
 pub after_procedure : (items : List Item) (rows : List (List ℕ)) (i k : ℕ) (x : Item) (text whole : List ℕ) → i < length items → x ≡ slice_index_or items i x
-    → text ++ array_lines (arrays_of (view.parts (drop i items))) (drop k rows) ≡ whole → ((name : Name) (n : ℕ) (at : Place) → x ≡ Array name n at → ⊥)
-    → text ++ array_lines (arrays_of (view.parts (drop (i + 1) items))) (drop k rows) ≡ whole
+    → text ++ array_lines (names_of (view.parts (drop i items))) (drop k rows) ≡ whole → ((name : Name) (n : ℕ) (at : Place) → x ≡ Array name n at → ⊥)
+    → text ++ array_lines (names_of (view.parts (drop (i + 1) items))) (drop k rows) ≡ whole
 after_procedure items rows i k (Array name n at) text whole lt is so none = absurd (none name n at refl)
 after_procedure items rows i k (Proc name params vars body ending) text whole lt is so none = next items rows i k (Proc name params vars body ending) text whole lt is so
 
 -- the name of the array at a place is the first, or one of the others
 module _ (items : List Item) (i k : ℕ) (x : Item) (whole : List ℕ) (lt : i < length items) (is : x ≡ slice_index_or items i x)
-    (so : name_at (arrays_of (view.parts (drop i items))) k ≡ whole) where
-  name_next : name_at (arrays_of (view.parts (x ∷ drop (i + 1) items))) k ≡ whole
-  name_next = ap (λ rest. name_at (arrays_of (view.parts rest)) k) (sym (items_more items i x lt is)) ∙ so
+    (so : name_at (names_of (view.parts (drop i items))) k ≡ whole) where
+  name_next : name_at (names_of (view.parts (x ∷ drop (i + 1) items))) k ≡ whole
+  name_next = ap (λ rest. name_at (names_of (view.parts rest)) k) (sym (items_more items i x lt is)) ∙ so
 
   -- at the array that is sought
   pub name_here : (name : Name) (n : ℕ) (at : Place) → x ≡ Array name n at → k ≡ 0 → name.text ≡ whole
   name_here name n at e z =
-      ap (λ j. name_at (name ∷ arrays_of (view.parts (drop (i + 1) items))) j) (sym z)
-      ∙ ap (λ y. name_at (arrays_of (view.part y ∷ view.parts (drop (i + 1) items))) k) (sym e)
+      ap (λ j. name_at (name.text ∷ names_of (view.parts (drop (i + 1) items))) j) (sym z)
+      ∙ ap (λ y. name_at (names_of (view.part y ∷ view.parts (drop (i + 1) items))) k) (sym e)
       ∙ name_next
 
   -- after an array that isn't
-  pub name_after_array : (name : Name) (n : ℕ) (at : Place) (left : ℕ) → x ≡ Array name n at → k ≡ suc left → name_at (arrays_of (view.parts (drop (i + 1) items))) left ≡ whole
+  pub name_after_array : (name : Name) (n : ℕ) (at : Place) (left : ℕ) → x ≡ Array name n at → k ≡ suc left → name_at (names_of (view.parts (drop (i + 1) items))) left ≡ whole
   name_after_array name n at left e z =
-      ap (λ j. name_at (name ∷ arrays_of (view.parts (drop (i + 1) items))) j) (sym z)
-      ∙ ap (λ y. name_at (arrays_of (view.part y ∷ view.parts (drop (i + 1) items))) k) (sym e)
+      ap (λ j. name_at (name.text ∷ names_of (view.parts (drop (i + 1) items))) j) (sym z)
+      ∙ ap (λ y. name_at (names_of (view.part y ∷ view.parts (drop (i + 1) items))) k) (sym e)
       ∙ name_next
 
 -- after a procedure
 pub name_after_procedure : (items : List Item) (i k : ℕ) (x : Item) (whole : List ℕ) → i < length items → x ≡ slice_index_or items i x
-    → name_at (arrays_of (view.parts (drop i items))) k ≡ whole → ((name : Name) (n : ℕ) (at : Place) → x ≡ Array name n at → ⊥)
-    → name_at (arrays_of (view.parts (drop (i + 1) items))) k ≡ whole
+    → name_at (names_of (view.parts (drop i items))) k ≡ whole → ((name : Name) (n : ℕ) (at : Place) → x ≡ Array name n at → ⊥)
+    → name_at (names_of (view.parts (drop (i + 1) items))) k ≡ whole
 name_after_procedure items i k (Array name n at) whole lt is so none = absurd (none name n at refl)
 name_after_procedure items i k (Proc name params vars body ending) whole lt is so none = name_next items i k (Proc name params vars body ending) whole lt is so
 
 -- after the last item there is no name
-pub name_none : (items : List Item) (i k : ℕ) (whole : List ℕ) → length items ≤ i → name_at (arrays_of (view.parts (drop i items))) k ≡ whole → [] ≡ whole
-name_none items i k whole h so = ap (λ rest. name_at (arrays_of (view.parts rest)) k) (sym (drop_all i items h)) ∙ so
+pub name_none : (items : List Item) (i k : ℕ) (whole : List ℕ) → length items ≤ i → name_at (names_of (view.parts (drop i items))) k ≡ whole → [] ≡ whole
+name_none items i k whole h so = ap (λ rest. name_at (names_of (view.parts rest)) k) (sym (drop_all i items h)) ∙ so

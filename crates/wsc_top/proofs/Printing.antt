@@ -1,12 +1,11 @@
 -- The sequential run of a program that only prints expressions over numbers.
-use Rattle.std.specs.Prelude.{◌≡◌, ℕ, zero, suc, ◌+◌, ◌<◌, Bool, true, false, ◌&&◌, IsTrue, List, [], ◌∷◌, ◌++◌, map, length, Option, None, refl}
+use Rattle.std.specs.Prelude.{◌≡◌, ℕ, zero, suc, ◌+◌, Bool, true, false, ◌&&◌, IsTrue, List, [], ◌∷◌, ◌++◌, map, length, None, refl}
 use Rattle.std.proofs.Common.{sym, ap, ◌∙◌, subst, arith, append_assoc, append-nil}
 use Rattle.ws_words.specs.Operators.{applied}
 use Rattle.ws_words.specs.Outside.{Outside, State, Act, World, prints, printed_words, opening_out, zeros}
-use Rattle.src_ast.specs.declared.lexeme.Name.{Name}
 use Rattle.src_ast.specs.Syntax.{Expression, Number, Variable, Cell, Signed, Binary, Statement, Assign, Store, Print, Read, Give, Take, Call, If, While, Statements, Nothing, Then, Procedure, Part, Proc}
-use Rattle.src_ast.specs.Turns.{PartEnd, Ended, and_then, CallEnd, Returned, ending}
-use Rattle.src_ast.specs.Meaning.{Scope, Calls, value, loads_of, signed_value, run_one, run_all, finish, scope_of, calls_below, run, lengths_of}
+use Rattle.src_ast.specs.Turns.{Ended, and_then, ending}
+use Rattle.src_ast.specs.Meaning.{Scope, Calls, value, loads_of, signed_value, run_one, run_all, finish, scope_of, calls_below, lengths_of}
 use Rattle.src_ast.specs.Runs.{Runs}
 use Rattle.ws_words.specs.Past.{AreWithin}
 use Rattle.wsc_top.specs.Straights.{is_closed, is_print, only_prints, closed_value, word_of, words_of}

@@ -1,12 +1,9 @@
 -- The program of a job: what is answered, what else is refused, and nothing both.
-use Rattle.std.specs.Prelude.{◌≡◌, ℕ, Bool, true, false, ◌&&◌, IsTrue, List, [], ◌∷◌, ◌++◌, Result, Ok, Err, refl}
-use Rattle.std.proofs.Common.{sym, ap, ◌∙◌, subst}
-use Rattle.std.specs.List.{list_all}
+use Rattle.std.specs.Prelude.{◌≡◌, ℕ, List, Ok, Err}
+use Rattle.std.proofs.Common.{sym, subst}
 use Rattle.src_ast.specs.declared.lexeme.Place.{Place}
 use Rattle.src_ast.specs.declared.lexeme.Lexeme.{Lexeme}
 use Rattle.src_ast.specs.declared.lexeme.Lexemes as code
-use Rattle.src_ast.specs.declared.fault.Refusal.{Refusal}
-use Rattle.src_ast.specs.declared.fault.RefusalKind.TheVariants.{Syntax}
 use Rattle.src_ast.specs.declared.fault.TextFault.{TextFault}
 use Rattle.src_ast.specs.declared.fault.TextFault.TheVariants as fault
 use Rattle.src_ast.specs.declared.tree.Program.{Program}
@@ -15,8 +12,8 @@ use Rattle.src_ast.specs.Syntax.{Part}
 use Rattle.src_ast.specs.Lexemes.{Lex, KeepLimits}
 use Rattle.src_ast.specs.LexFaults.{IsLexFault, AnswersLexemes}
 use Rattle.src_ast.specs.Grammar.{Tree}
-use Rattle.src_ast.specs.Faults.{IsSyntaxFault, SyntaxAt, AnswersTree}
-use Rattle.src_ast.specs.Rules.{Rule, rules_of, IsAccepted, IsFirstBroken, IsCheckFault}
+use Rattle.src_ast.specs.Faults.{IsSyntaxFault, AnswersTree}
+use Rattle.src_ast.specs.Rules.{IsAccepted, IsCheckFault}
 use Rattle.wsc_top.specs.Sections.{program_of}
 use Rattle.wsc_top.specs.Job.{ReadsAs, ProgramFault, lexemes, syntax, rules, IsProgramFault, AnswersParts}
 

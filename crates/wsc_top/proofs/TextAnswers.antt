@@ -13,7 +13,7 @@ use Rattle.src_ast.specs.Faults.{SyntaxAt, IsTreeAnswer}
 use Rattle.src_ast.specs.Rules.{rules_of, IsAccepted, IsFirstBroken, IsRuleAnswer}
 use Rattle.src_ast.specs.Once.{ExactlyOne}
 use Rattle.wsc_top.specs.Sections.{program_of, input_of, input_place, InputWords, InputFault, IsInputAnswer}
-use Rattle.wsc_top.specs.Job.{ReadsAs, ProgramFault, lexemes, syntax, rules, Unfit, IsJob, Refuses, program, unbuilt, input, IsTextAnswer}
+use Rattle.wsc_top.specs.Job.{ReadsAs, ProgramFault, lexemes, syntax, rules, Unfit, program, unbuilt, input, IsTextAnswer}
 use Rattle.wsc_top.proofs.Inputs.{one_answer}
 
 -- what a program section comes to: its tree, or its first fault

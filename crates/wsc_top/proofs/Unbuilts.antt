@@ -1,5 +1,5 @@
 -- The first place of what isn't run.
-use Rattle.std.specs.Prelude.{◌≡◌, ℕ, suc, ◌<◌, length, Bool, true, false, List, [], ◌∷◌, ◌++◌, Option, Some, None, refl}
+use Rattle.std.specs.Prelude.{◌≡◌, ℕ, suc, ◌<◌, length, false, List, [], ◌∷◌, ◌++◌, Some, None, refl}
 use Rattle.std.proofs.Common.{sym, ap, ◌∙◌, drop, get_or}
 use Rattle.std.proofs.Math.Seq.{drop-cons}
 use Rattle.src_ast.specs.declared.lexeme.Place.{Place}

@@ -4,7 +4,6 @@ use Rattle.ws_io.specs.Streams.{Rose, Takes, TakesAll}
 use Rattle.ws_words.specs.Outside.{Outside, printed_words}
 use Rattle.src_ast.specs.declared.fault.Refusal.{Refusal}
 use Rattle.src_ast.specs.Syntax.{Part}
-use Rattle.src_ast.specs.Meaning.{arrays_of}
 use Rattle.src_ast.specs.Runs.{Runs, Goes, Faults}
 use Rattle.src_ast.specs.Printed.{printed_form}
 use Rattle.src_ast.specs.Written.{ReadsTheSame}
@@ -15,8 +14,9 @@ use Rattle.wsc_top.specs.declared.task.Task.TheVariants.{Job, Assembly, Generate
 use Rattle.wsc_top.specs.declared.task.JobTask.{JobTask}
 use Rattle.wsc_top.specs.declared.task.JobTask.TheVariants.{Run, Format, Plain}
 use Rattle.wsc_top.specs.declared.task.AssemblyTask.{AssemblyTask}
-use Rattle.wsc_top.specs.declared.task.AssemblyTask.TheVariants.{Check, List as Listing}
+use Rattle.wsc_top.specs.declared.task.AssemblyTask.TheVariants.{Check, List as Listing, Exec}
 use Rattle.wsc_top.specs.declared.task.PlainOptions.{PlainOptions}
+use Rattle.wsc_top.specs.declared.task.RunOptions.{RunOptions}
 use Rattle.wsc_top.specs.declared.assembly.AsmRefusal.{AsmRefusal}
 use Rattle.ws_isa.specs.Image.{Image}
 use Rattle.list_out.specs.Listing.{listing}
@@ -25,7 +25,8 @@ use Rattle.work_gen.specs.Job.{job_text}
 use Rattle.wsc_top.specs.Tasks.{IsLine, IsNoLine}
 use Rattle.wsc_top.specs.Straights.{unbuilt_places}
 use Rattle.wsc_top.specs.Job.{Unfit, IsJob, Refuses, world_of}
-use Rattle.wsc_top.specs.Texts.{done_text, ended_text, faulted_text, going_text, usage_text, unread_text, long_text, refusal_text, sound_text, asm_refusal_text}
+use Rattle.wsc_top.specs.Texts.{done_text, ended_text, faulted_text, going_text, turns_line, names_of, array_name, usage_text, unread_text, long_text, refusal_text, sound_text, asm_refusal_text}
+use Rattle.wsc_top.specs.Executions.{Executes, EndsRun}
 
 -- the most bytes of a job
 abbrev pub job_limit : ℕ
@@ -51,13 +52,13 @@ pub data Yields : JobTask → List Part → List ℕ → Status → List ℕ →
   ended : {options : PlainOptions} {parts : List Part} {input : List ℕ} (n : ℕ) (end : Outside)
       → Runs parts (world_of input) n end → n ≤ options.turns
       → Yields (Plain options) parts input Done
-      (ended_text options.memory options.stats (arrays_of parts)
-      (printed_words end.acts) end.cells n)
+      (ended_text options.memory options.stats (names_of parts)
+      (printed_words end.acts) end.cells (turns_line n))
   faulted : {options : PlainOptions} {parts : List Part} {input : List ℕ}
       (n array : ℕ) (state : Outside)
       → Faults parts (world_of input) n array state → n ≤ options.turns
       → Yields (Plain options) parts input Fault
-      (faulted_text options.memory (arrays_of parts) array
+      (faulted_text options.memory (array_name (names_of parts) array) (names_of parts)
       (printed_words state.acts) state.cells)
   going : {options : PlainOptions} {parts : List Part} {input : List ℕ} (now : Outside)
       → Goes parts (world_of input) options.turns now
@@ -106,19 +107,32 @@ pub data Answered (task : JobTask) (text : List ℕ) : Status → List ℕ → T
 abbrev pub IsAnswer : JobTask → List ℕ → Status × List ℕ → Type 0
 IsAnswer task text answer = Answered task text answer.0 answer.1
 
--- what is written of a sound image
-abbrev pub text_of : AssemblyTask → Image → List ℕ
-text_of Check image = sound_text
-text_of Listing image = listing image
+-- What comes of a task to a sound image and its input words: `check` says that it is sound, `list`
+-- lists it, and `exec` runs it.
+pub data AssemblyYields : AssemblyTask → Image → List ℕ → Status → List ℕ → Type 0 where
+  checked : {image : Image} {input : List ℕ} → AssemblyYields Check image input Done sound_text
+  listed : {image : Image} {input : List ℕ}
+      → AssemblyYields Listing image input Done (listing image)
+  executed : {options : RunOptions} {image : Image} {input : List ℕ} {status : Status}
+      {out : List ℕ} → Executes options image (world_of input) status out
+      → AssemblyYields (Exec options) image input status out
+
+-- the status of a task to a sound image: Done, but for a run
+abbrev pub AssemblyEndsSo : AssemblyTask → Image → List ℕ → Status → Type 0
+AssemblyEndsSo Check image input status = status ≡ Done
+AssemblyEndsSo Listing image input status = status ≡ Done
+AssemblyEndsSo (Exec options) image input status =
+    EndsRun image (world_of input) options.budget status
 
 -- The status and the text of the answer of a task to an assembly.
 pub data AssemblyAnswered (task : AssemblyTask) (text : List ℕ) : Status → List ℕ → Type 0 where
   -- it is refused
   refused : (r : AsmRefusal) → RefusesAssembly text r
       → AssemblyAnswered task text Refused (asm_refusal_text r)
-  -- it is sound, and this is written of it
-  done : (image : Image) (input : List ℕ) → IsAssembly text image input
-      → AssemblyAnswered task text Done (text_of task image)
+  -- it is sound, and this comes of it
+  done : {status : Status} {out : List ℕ} (image : Image) (input : List ℕ)
+      → IsAssembly text image input → AssemblyYields task image input status out
+      → AssemblyAnswered task text status out
 
 -- a task that reads from the source
 abbrev pub IsReader : Task → Type 0

@@ -5,4 +5,5 @@ pub mod Straights
 pub mod Job
 pub mod Assembly
 pub mod Texts
+pub mod Executions
 pub mod Answers

@@ -1,5 +1,5 @@
 -- What the program does for a line of the command line, of what is built so far.
-use Rattle.std.specs.Prelude.{◌≡◌, ℕ, Bool, true, false, cond, not, ◌&&◌, eqb, List, Option, Some, None}
+use Rattle.std.specs.Prelude.{◌≡◌, ℕ, Bool, cond, not, ◌&&◌, eqb, List, Option, Some, None}
 use Rattle.wsc_words.specs.Lines as lines
 use Rattle.wsc_words.specs.declared.line.Line.{Line}
 use Rattle.wsc_words.specs.declared.command.Command.{Command}
@@ -23,6 +23,11 @@ task_by command.Plain line = Some (Job (Plain (record {
 })))
 task_by command.Format line = Some (Job Format)
 task_by command.Check line = Some (Assembly assembly.Check)
+task_by command.Exec line = Some (Assembly (assembly.Exec (record {
+  budget = line.budget;
+  memory = line.memory;
+  stats = line.stats;
+})))
 task_by command.List line = Some (Assembly assembly.List)
 task_by command.Gen line = Some (Generate line.number)
 task_by _ line = None

@@ -1,11 +1,14 @@
 -- The texts of answers.
-use Rattle.std.specs.Prelude.{ℕ, zero, suc, ◌-◌, Bool, List, [], ◌∷◌, ◌++◌, Option, Some, None, if◌then◌else◌, codes, decimal, flat_map}
+use Rattle.std.specs.Prelude.{ℕ, zero, suc, ◌-◌, Bool, List, [], ◌∷◌, ◌++◌, Option, Some, None, if◌then◌else◌, codes, decimal, flat_map, map, unwrap_or}
 use Rattle.src_ast.specs.declared.fault.Quantity.{Quantity}
 use Rattle.src_ast.specs.declared.fault.Quantity.TheVariants.{NameBytes, Depth, Lexemes, Arrays, Length, CellSum, Procs, Params, Vars, Statements, PortNumber}
 use Rattle.src_ast.specs.declared.fault.Refusal.{Refusal}
 use Rattle.src_ast.specs.declared.fault.RefusalKind.{RefusalKind}
 use Rattle.src_ast.specs.declared.fault.RefusalKind.TheVariants.{Byte, Wide, Syntax, Unknown, Twice, Kind, Count, Main, Limit, TooLong, Input, Unbuilt}
-use Rattle.src_ast.specs.declared.lexeme.Name.{Name}
+use Rattle.src_ast.specs.Syntax.{Part}
+use Rattle.src_ast.specs.Meaning.{arrays_of}
+use Rattle.ws_isa.specs.Image.{Array}
+use Rattle.ws_isa.specs.Shown.{shown_arrays}
 use Rattle.asm_text.specs.declared.fault.AsmKind as asm
 use Rattle.asm_text.specs.declared.fault.AsmKind.TheVariants as Asm
 use Rattle.annot_check.specs.declared.fault.Bad.{Bad}
@@ -108,47 +111,82 @@ separated_words (w ∷ ws) = decimal w ++ flat_map further_word ws
 abbrev pub array_line : List ℕ → List ℕ → List ℕ
 array_line name cells = name ++ codes " = [" ++ separated_words cells ++ codes "]\n"
 
--- a line for each array that has cells
-abbrev pub array_lines : List Name → List (List ℕ) → List ℕ
+-- the names of a program's arrays, in order of declaration
+abbrev pub names_of : List Part → List (List ℕ)
+names_of parts = map (λ name. name.text) (arrays_of parts)
+
+-- the names of an image's arrays that are shown
+abbrev pub shown_names : List Array → List (List ℕ)
+shown_names arrays = map (λ array. unwrap_or array.name []) (shown_arrays arrays)
+
+-- a line for each name that has cells
+abbrev pub array_lines : List (List ℕ) → List (List ℕ) → List ℕ
 array_lines [] rows = []
 array_lines (n ∷ ns) [] = []
-array_lines (n ∷ ns) (row ∷ rows) = array_line n.text row ++ array_lines ns rows
+array_lines (n ∷ ns) (row ∷ rows) = array_line n row ++ array_lines ns rows
 
 -- a line for an array, where it has cells
 abbrev pub maybe_line : List ℕ → Option (List ℕ) → List ℕ
 maybe_line name None = []
 maybe_line name (Some cells) = array_line name cells
 
+-- the same where it may have no name
+abbrev pub shown_line : Option (List ℕ) → Option (List ℕ) → List ℕ
+shown_line None cells = []
+shown_line (Some name) cells = maybe_line name cells
+
 -- a line for the turns of a run
 abbrev pub turns_line : ℕ → List ℕ
 turns_line n = codes "turns " ++ decimal n ++ codes "\n"
 
--- the answer of a sequential run that came to its end
-abbrev pub ended_text : Bool → Bool → List Name → List ℕ → List (List ℕ) → ℕ → List ℕ
-ended_text memory stats names words arrays turns =
-    done_text words ++ (if memory then array_lines names arrays else [])
-    ++ (if stats then turns_line turns else [])
+-- a line for its firings
+abbrev pub firings_line : ℕ → List ℕ
+firings_line n = codes "firings " ++ decimal n ++ codes "\n"
 
--- the name of the array that stands at a place, counted from 0
-abbrev pub name_at : List Name → ℕ → List ℕ
+-- the answer of a run that came to its end, with a line that tells how long it was
+abbrev pub ended_text : Bool → Bool → List (List ℕ) → List ℕ → List (List ℕ) → List ℕ → List ℕ
+ended_text memory stats names words rows line =
+    done_text words ++ (if memory then array_lines names rows else [])
+    ++ (if stats then line else [])
+
+-- the name that stands at a place, counted from 0
+abbrev pub name_at : List (List ℕ) → ℕ → List ℕ
 name_at [] k = []
-name_at (n ∷ ns) zero = n.text
+name_at (n ∷ ns) zero = n
 name_at (n ∷ ns) (suc k) = name_at ns k
 
--- the name of an array by its number from 1; none where there is no such array
-abbrev pub array_name : List Name → ℕ → List ℕ
+-- the name of an array of a program by its number from 1; none where there is no such array
+abbrev pub array_name : List (List ℕ) → ℕ → List ℕ
 array_name names array = name_at names (array - 1)
 
--- a line for an index fault on this array
+-- the name of the array that stands at a place of an image, counted from 0, where it has one
+abbrev pub maybe_name : List Array → ℕ → Option (List ℕ)
+maybe_name [] k = None
+maybe_name (a ∷ arrays) zero = a.name
+maybe_name (a ∷ arrays) (suc k) = maybe_name arrays k
+
+abbrev pub name_or_number : Option (List ℕ) → ℕ → List ℕ
+name_or_number (Some name) array = name
+name_or_number None array = codes "hidden " ++ decimal array
+
+-- what an array of an image is called, by its number from 1: its name, or `hidden` and its number
+abbrev pub called : List Array → ℕ → List ℕ
+called arrays array = name_or_number (maybe_name arrays (array - 1)) array
+
+-- a line for an index fault on the array that is called so
 abbrev pub fault_line : List ℕ → List ℕ
 fault_line name = codes "fault " ++ name ++ codes "\n"
 
--- the answer of one that met an index fault
-abbrev pub faulted_text : Bool → List Name → ℕ → List ℕ → List (List ℕ) → List ℕ
-faulted_text memory names array words arrays =
-    flat_map word_line words ++ fault_line (array_name names array)
-    ++ (if memory then array_lines names arrays else [])
+-- the answer of a run that met an index fault on the array that is called so
+abbrev pub faulted_text : Bool → List ℕ → List (List ℕ) → List ℕ → List (List ℕ) → List ℕ
+faulted_text memory name names words rows =
+    flat_map word_line words ++ fault_line name ++ (if memory then array_lines names rows else [])
 
--- the answer of one that wants more turns
+-- the answer of a sequential run that wants more turns
 abbrev pub going_text : List ℕ → List ℕ
 going_text words = flat_map word_line words ++ codes "turns\n"
+
+-- the answer of a run that wants more firings than its budget
+abbrev pub spent_text : Bool → List ℕ → ℕ → List ℕ
+spent_text stats words budget =
+    flat_map word_line words ++ codes "budget\n" ++ (if stats then firings_line budget else [])

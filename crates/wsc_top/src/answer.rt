@@ -11,14 +11,13 @@ ghost use Rattle.wsc_top.specs.Tasks.{IsLine};
 ghost use Rattle.wsc_top.specs.declared.status.Status.{Status};
 ghost use Rattle.wsc_top.specs.Job.{IsJob};
 ghost use Rattle.wsc_top.specs.Assembly.{assembly_limit, IsAssembly};
-ghost use Rattle.wsc_top.specs.Answers.{job_limit, unfit_for, EndsSo, Answered, AssemblyAnswered, Answers, WereRead, IsToldJob, IsToldAssembly};
+ghost use Rattle.wsc_top.specs.Answers.{job_limit, unfit_for, EndsSo, Answered, AssemblyEndsSo, AssemblyAnswered, Answers, WereRead, IsToldJob, IsToldAssembly};
 
 use crate::assembly::{self, AssemblyFault};
 use crate::status::Status;
 use crate::task::{AssemblyTask, JobTask, Task, read_task};
-use crate::yields::yielded;
+use crate::yields::{assembly_yielded, yielded};
 use crate::{job, texts};
-use list_out::list_image;
 use src_ast::{TextFault, read_is_written};
 use std::alloc::Global;
 use work_gen::workload;
@@ -80,14 +79,11 @@ fn of_job<S: Source>(
 fn to_assembly(alloc: Global, task: AssemblyTask, text: &[u8]) -> Result<(Status, Bytes), NoMemory>
     requires { length text.now ≤ assembly_limit }
     ensures answered { IfOk result (λ a. AssemblyAnswered task text.now a.0 a.1) }
-    ensures done { (image : Image) (input : List ℕ) → IsAssembly text.now image input
-        → IfOk result (λ a. a.0 ≡ Status.Done) }
+    ensures ends { (image : Image) (input : List ℕ) → IsAssembly text.now image input
+        → IfOk result (λ a. AssemblyEndsSo task image input a.0) }
 {
     match assembly::read(alloc, text) {
-        Ok((image, _)) => match task {
-            AssemblyTask::Check => Ok((Status::Done, Bytes::from_slice(alloc, texts::SOUND)?)),
-            AssemblyTask::List => Ok((Status::Done, list_image(alloc, &image)?)),
-        },
+        Ok((image, input)) => Ok(assembly_yielded(alloc, task, &image, input)?),
         Err(AssemblyFault::Refused(why)) => {
             Ok((Status::Refused, texts::asm_refused(alloc, why)?))
         }
@@ -105,10 +101,10 @@ fn of_assembly<S: Source>(
     ensures ok { IfOk result (λ a. (words : List (List ℕ)) → IsLine words (Task.Assembly task)
         → Answers words (S.left source.old) (S.left source.new)
         (S.faults source.old) (S.faults source.new) a.0 a.1) }
-    ensures done { (text : List ℕ) (image : Image) (input : List ℕ)
+    ensures ends { (text : List ℕ) (image : Image) (input : List ℕ)
         → S.left source.old ≡ Some text → length text ≤ assembly_limit
         → IsAssembly text image input
-        → IfOk result (λ a. a.0 ≢ Status.ReadFault → a.0 ≡ Status.Done) }
+        → IfOk result (λ a. a.0 ≢ Status.ReadFault → AssemblyEndsSo task image input a.0) }
     ensures memory { OnErr result ((bytes : List ℕ) × (length bytes ≤ assembly_limit + 1)
         × Takes (S.left source.old) bytes (S.left source.new)) }
 {
@@ -141,7 +137,7 @@ pub fn to_words<S: Source>(
         → IfOk result (λ a. a.0 ≢ Status.ReadFault → EndsSo task parts input a.0) }
     ensures assembled { (task : AssemblyTask) (image : Image) (input : List ℕ)
         → IsToldAssembly (map string_bytes words.now) (S.left source.old) task image input
-        → IfOk result (λ a. a.0 ≢ Status.ReadFault → a.0 ≡ Status.Done) }
+        → IfOk result (λ a. a.0 ≢ Status.ReadFault → AssemblyEndsSo task image input a.0) }
     ensures memory { OnErr result ((bytes : List ℕ)
         × WereRead (map string_bytes words.now) bytes
         × Takes (S.left source.old) bytes (S.left source.new)) }

@@ -1,6 +1,6 @@
 //! The call of the program.
 
-ghost use Rattle.std.specs.Prelude.{◌≡◌, ◌≢◌, ℕ, ◌≤◌, List, length, map, take, string_bytes};
+ghost use Rattle.std.specs.Prelude.{◌≡◌, ◌≢◌, ◌⊎◌, ℕ, ◌≤◌, List, length, map, take, string_bytes};
 ghost use Rattle.ws_io.specs.Streams.{Rose, Takes, Adds, Flushes};
 ghost use Rattle.src_ast.specs.Syntax.{Part};
 ghost use Rattle.wsc_top.specs.declared.task.Task.{Task};
@@ -9,7 +9,7 @@ ghost use Rattle.wsc_top.specs.declared.task.JobTask.{JobTask};
 ghost use Rattle.wsc_top.specs.declared.task.AssemblyTask.{AssemblyTask};
 ghost use Rattle.wsc_top.specs.declared.status.Status.{Status};
 ghost use Rattle.wsc_top.specs.Tasks.{IsLine, IsNoLine};
-ghost use Rattle.wsc_top.specs.Answers.{ComesToItsEnd, MeetsFault, WantsTurns, Answers, WereRead, IsToldJob, IsToldOther, IsToldAssembly, IsToldNoAssembly, OrNoMemory};
+ghost use Rattle.wsc_top.specs.Answers.{ComesToItsEnd, MeetsFault, WantsTurns, AssemblyEndsSo, Answers, WereRead, IsToldJob, IsToldOther, IsToldAssembly, IsToldNoAssembly, OrNoMemory};
 
 use crate::answer::to_words;
 use crate::status::{Outcome, Status};
@@ -90,7 +90,7 @@ pub fn wsc<S: Source, K: Sink>(
         → IsToldAssembly (map string_bytes words.now) (S.left source.old) task image input
         → ¬ Rose (S.faults source.old) (S.faults source.new)
         → ¬ Rose (K.faults sink.old) (K.faults sink.new)
-        → OrNoMemory result.status Status.Done }
+        → AssemblyEndsSo task image input result.status ⊎ (result.status ≡ Status.NoMemory) }
     ensures unassembled { (task : AssemblyTask)
         → IsToldNoAssembly (map string_bytes words.now) (S.left source.old) task
         → ¬ Rose (S.faults source.old) (S.faults source.new)

@@ -5,14 +5,17 @@
 mod answer;
 mod assembly;
 mod call;
+mod exec;
 mod input;
 mod job;
 mod laws;
+mod run_texts;
 mod sections;
 mod status;
 mod straight;
 mod task;
 mod texts;
+mod world;
 mod yields;
 
 pub use call::wsc;

@@ -18,6 +18,17 @@ pub struct PlainOptions {
     pub stats: bool,
 }
 
+/// How the run of an image is asked for. One thread runs it, for whatever number of workers is asked.
+#[derive(Clone, Copy, Debug, PartialEq, Eq)]
+pub struct RunOptions {
+    /// The most instances that may fire.
+    pub budget: u64,
+    /// Whether the cells of the arrays that have names are shown at its end.
+    pub memory: bool,
+    /// Whether the instances that fired are counted.
+    pub stats: bool,
+}
+
 /// What is done with a job.
 #[derive(Clone, Copy, Debug, PartialEq, Eq)]
 pub enum JobTask {
@@ -36,6 +47,8 @@ pub enum AssemblyTask {
     Check,
     /// Its blocks and memory operations are listed.
     List,
+    /// It is run.
+    Exec(RunOptions),
 }
 
 /// What the program does, of what is built so far.
@@ -76,6 +89,11 @@ fn task_of(line: &Line) -> Option<Task>
         Command::Format => Some(Task::Job(JobTask::Format)),
         Command::Check => Some(Task::Assembly(AssemblyTask::Check)),
         Command::List => Some(Task::Assembly(AssemblyTask::List)),
+        Command::Exec => Some(Task::Assembly(AssemblyTask::Exec(RunOptions {
+            budget: line.budget,
+            memory: line.memory,
+            stats: line.stats,
+        }))),
         Command::Gen => Some(Task::Generate(line.number)),
         _ => None,
     }

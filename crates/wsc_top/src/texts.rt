@@ -2,15 +2,14 @@
 
 ghost use Rattle.std.specs.Prelude.{◌≡◌, ◌++◌, List, [], ◌∷◌, flat_map, slice_get, IfOk, OnOk};
 ghost use Rattle.src_ast.specs.View as view;
-ghost use Rattle.src_ast.specs.Meaning.{arrays_of};
 ghost use Rattle.annot_check.specs.declared.fault.Bad.TheVariants as bad;
 ghost use Rattle.wsc_top.specs.declared.assembly.AsmRefusal.TheVariants as refusal;
-ghost use Rattle.wsc_top.specs.Texts.{asm_word, broken_text, bad_text, asm_refusal_text, word_line, done_text, kind_word, refusal_text, separated_words, further_word, maybe_line, array_line, array_lines, turns_line, array_name, ended_text, faulted_text, going_text};
+ghost use Rattle.wsc_top.specs.Texts.{asm_word, broken_text, bad_text, asm_refusal_text, word_line, done_text, kind_word, refusal_text, separated_words, further_word, maybe_line, array_line, array_lines, turns_line, names_of, array_name, ended_text, faulted_text, going_text};
 
 use crate::assembly::AsmRefusal;
 use annot_check::Bad;
 use asm_text::AsmKind;
-use src_ast::{Item, Name, Program, Quantity, Refusal, RefusalKind};
+use src_ast::{Item, Program, Quantity, Refusal, RefusalKind};
 use std::alloc::Global;
 use ws_io::put_decimal;
 use ws_words::{Bytes, Cells, NoMemory, Words};
@@ -26,8 +25,8 @@ pub const FAULT: &[u8] = b"fault read\n";
 /// The answer where a text has too many bytes.
 pub const LONG: &[u8] = b"refused long\n";
 
-// Puts a line for each word after a text.
-fn put_words(text: &mut Bytes, words: &Words) -> Result<(), NoMemory>
+/// Puts a line for each word after a text.
+pub fn put_words(text: &mut Bytes, words: &Words) -> Result<(), NoMemory>
     ensures { OnOk result (text.new ≡ text.old ++ flat_map word_line words.now) }
 {
     for word in words.as_slice() {
@@ -198,21 +197,26 @@ fn put_separated(text: &mut Bytes, words: &[u64]) -> Result<(), NoMemory>
     }
 }
 
-// Puts a line for an array with these cells after a text.
-fn put_array(text: &mut Bytes, name: &Name, cells: &Words) -> Result<(), NoMemory>
-    ensures { OnOk result (text.new ≡ text.old ++ array_line name.now.text cells.now) }
+// Puts a line for an array with this name and these cells after a text.
+fn put_array(text: &mut Bytes, name: &Bytes, cells: &Words) -> Result<(), NoMemory>
+    ensures { OnOk result (text.new ≡ text.old ++ array_line name.now cells.now) }
 {
-    text.extend(name.text.as_slice())?;
+    text.extend(name.as_slice())?;
     text.extend(b" = [")?;
     put_separated(text, cells.as_slice())?;
     text.extend(b"]\n")
 }
 
-// Puts a line for the array of this number, counted from 0, after a text; nothing where it has no
-// cells.
-fn put_array_at(text: &mut Bytes, name: &Name, arrays: &Cells, place: usize) -> Result<(), NoMemory>
+/// Puts a line for the array of this number, counted from 0, after a text; nothing where it has no
+/// cells.
+pub fn put_array_at(
+    text: &mut Bytes,
+    name: &Bytes,
+    arrays: &Cells,
+    place: usize,
+) -> Result<(), NoMemory>
     ensures { OnOk result
-        (text.new ≡ text.old ++ maybe_line name.now.text (slice_get arrays.now place)) }
+        (text.new ≡ text.old ++ maybe_line name.now (slice_get arrays.now place)) }
 {
     match arrays.get(place) {
         Some(cells) => put_array(text, name, cells),
@@ -223,12 +227,12 @@ fn put_array_at(text: &mut Bytes, name: &Name, arrays: &Cells, place: usize) -> 
 // Puts a line for each array of a program that has cells after a text, in order of declaration.
 fn put_arrays(text: &mut Bytes, items: &[Item], arrays: &Cells) -> Result<(), NoMemory>
     ensures { OnOk result
-        (text.new ≡ text.old ++ array_lines (arrays_of (view.parts items.now)) arrays.now) }
+        (text.new ≡ text.old ++ array_lines (names_of (view.parts items.now)) arrays.now) }
 {
     let mut count = 0;
     for item in items {
         if let Item::Array { name, .. } = item {
-            put_array_at(text, name, arrays, count)?;
+            put_array_at(text, &name.text, arrays, count)?;
             count += 1;
         }
     }
@@ -256,7 +260,7 @@ pub fn ended(
     turns: u64,
 ) -> Result<Bytes, NoMemory>
     ensures { IfOk result (λ text. text ≡ ended_text memory stats
-        (arrays_of (view.parts program.now.items.items)) words.now arrays.now turns) }
+        (names_of (view.parts program.now.items.items)) words.now arrays.now (turns_line turns)) }
 {
     let mut text = done(alloc, words)?;
     if memory {
@@ -272,7 +276,7 @@ pub fn ended(
 // array.
 fn put_array_name(text: &mut Bytes, items: &[Item], array: u32) -> Result<(), NoMemory>
     ensures { OnOk result
-        (text.new ≡ text.old ++ array_name (arrays_of (view.parts items.now)) array) }
+        (text.new ≡ text.old ++ array_name (names_of (view.parts items.now)) array) }
 {
     let mut before = array.saturating_sub(1);
     for item in items {
@@ -298,7 +302,8 @@ pub fn faulted(
     arrays: &Cells,
 ) -> Result<Bytes, NoMemory>
     ensures { IfOk result (λ text. text ≡ faulted_text memory
-        (arrays_of (view.parts program.now.items.items)) array words.now arrays.now) }
+        (array_name (names_of (view.parts program.now.items.items)) array)
+        (names_of (view.parts program.now.items.items)) words.now arrays.now) }
 {
     let mut text = Bytes::empty(alloc);
     put_words(&mut text, words)?;

@@ -1,25 +1,27 @@
 //! What comes of the commands.
 
 ghost use Rattle.std.specs.Prelude.{◌≡◌, ℕ, List, [], IfOk};
-ghost use Rattle.ws_words.specs.Plain as given;
 ghost use Rattle.src_ast.specs.View as view;
 ghost use Rattle.src_ast.specs.Written.{IsWritten};
 ghost use Rattle.wsc_top.specs.Straights.{unbuilt_places};
-ghost use Rattle.wsc_top.specs.Job.{world_of};
-ghost use Rattle.wsc_top.specs.Answers.{unfit_for, Yields, EndsSo};
+ghost use Rattle.wsc_top.specs.Answers.{unfit_for, Yields, EndsSo, AssemblyYields, AssemblyEndsSo};
 ghost use Rattle.wsc_top.specs.declared.task.JobTask.{JobTask};
 ghost use Rattle.wsc_top.specs.declared.status.Status.{Status};
 
+use crate::exec::executed;
 use crate::status::Status;
 use crate::straight::straight_image;
-use crate::task::{JobTask, PlainOptions};
+use crate::task::{AssemblyTask, JobTask, PlainOptions};
 use crate::texts;
+use crate::world::world;
 use df_core::{Core, built_is_straight};
+use image_walk::Checked;
+use list_out::list_image;
 use seq_run::run_plain;
 use src_ast::{print_program, printed_reads_the_same};
 use src_check::Accepted;
 use std::alloc::Global;
-use ws_words::{Bytes, Cells, NoMemory, Plain, Words, World};
+use ws_words::{Bytes, NoMemory, Plain, Words};
 
 // What a run of this program prints: its words, a line each, and `halt`.
 #[tactic(auto, using(crate::proofs::Outcomes::pieces_are_straight, crate::proofs::Outcomes::run_yields))]
@@ -34,17 +36,6 @@ fn run(alloc: Global, accepted: &Accepted) -> Result<Bytes, NoMemory>
     let mut core = Core::begin(alloc, &straight)?;
     core.run();
     texts::done(alloc, core.printed())
-}
-
-// What a sequential run is given: these words, and nothing left in any port.
-fn world(alloc: Global, input: Words) -> Result<World, NoMemory>
-    ensures { IfOk result (λ world. given.world_of world ≡ world_of input) }
-{
-    let mut left = Cells::empty(alloc);
-    for _ in 0..7u8 {
-        left.push(Words::empty(alloc))?;
-    }
-    Ok(World { input, left })
 }
 
 // What comes of the sequential run of this program on these words.
@@ -118,5 +109,22 @@ pub fn yielded(
         JobTask::Run => Ok((Status::Done, run(alloc, accepted)?)),
         JobTask::Format => Ok((Status::Done, print_program(alloc, &accepted.program)?)),
         JobTask::Plain(options) => plainly(alloc, options, accepted, input),
+    }
+}
+
+/// The status and the text of what comes of a task to a sound image.
+pub fn assembly_yielded(
+    alloc: Global,
+    task: AssemblyTask,
+    image: &Checked,
+    input: Words,
+) -> Result<(Status, Bytes), NoMemory>
+    ensures yields { IfOk result (λ y. AssemblyYields task image.now input y.0 y.1) }
+    ensures ends { IfOk result (λ y. AssemblyEndsSo task image.now input y.0) }
+{
+    match task {
+        AssemblyTask::Check => Ok((Status::Done, Bytes::from_slice(alloc, texts::SOUND)?)),
+        AssemblyTask::List => Ok((Status::Done, list_image(alloc, image)?)),
+        AssemblyTask::Exec(options) => executed(alloc, options, image, input),
     }
 }

@@ -11,8 +11,8 @@ pub returns-in_ok-from_slice-in-Err-TooLong-clause-ok : goal.returns-in_ok-from_
 returns-in_ok-from_slice-in-Err-TooLong-clause-ok g c words line =
     long_answers words _ _ _ _ _ (Assembly c.args.task) line tt (c.in-Err-TooLong.ensures.long (cc)) c.in_ok-from_slice-in-Err-TooLong.ensures
 
-pub returns-in_ok-from_slice-in-Err-TooLong-clause-done : goal.returns-in_ok-from_slice-in-Err-TooLong-clause-done
-returns-in_ok-from_slice-in-Err-TooLong-clause-done g c text image input told short assembly f =
+pub returns-in_ok-from_slice-in-Err-TooLong-clause-ends : goal.returns-in_ok-from_slice-in-Err-TooLong-clause-ends
+returns-in_ok-from_slice-in-Err-TooLong-clause-ends g c text image input told short assembly f =
     let long = c.in-Err-TooLong.ensures.long (cc) in
     absurd (too_much assembly_limit _ text long.0 _ told short long.1 long.2)
 
@@ -20,6 +20,6 @@ pub returns-in_ok-status-in-Ok-clause-ok : goal.returns-in_ok-status-in-Ok-claus
 returns-in_ok-status-in-Ok-clause-ok g c words line =
     assembled_answers words _ _ _ _ _ _ _ c.args.task _ line c.in-Ok.ensures.within c.in-Ok.ensures.ok c.as_slice.ensures c.in_ok-status-in-Ok.ensures.answered
 
-pub returns-in_ok-status-in-Ok-clause-done : goal.returns-in_ok-status-in-Ok-clause-done
-returns-in_ok-status-in-Ok-clause-done g c text image input told short assembly f =
-    c.in_ok-status-in-Ok.ensures.done image input (assembly_is _ _ text _ _ image input told assembly c.in-Ok.ensures.ok c.as_slice.ensures)
+pub returns-in_ok-status-in-Ok-clause-ends : goal.returns-in_ok-status-in-Ok-clause-ends
+returns-in_ok-status-in-Ok-clause-ends g c text image input told short assembly f =
+    c.in_ok-status-in-Ok.ensures.ends image input (assembly_is _ _ text _ _ image input told assembly c.in-Ok.ensures.ok c.as_slice.ensures)

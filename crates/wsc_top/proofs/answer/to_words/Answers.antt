@@ -1,8 +1,8 @@
 use Rattle.std.proofs.Common.{subst, sym}
 use Rattle.wsc_top.specs.declared.task.Task.TheVariants.{Job, Assembly, Generate}
 use Rattle.wsc_top.specs.Job.{IsJob}
-use Rattle.wsc_top.specs.Answers.{EndsSo, unfit_for}
-use Rattle.wsc_top.proofs.Tasks.{found_line, same_job}
+use Rattle.wsc_top.specs.Answers.{EndsSo, AssemblyEndsSo, unfit_for}
+use Rattle.wsc_top.proofs.Tasks.{found_line, same_job, same_assembly}
 use Rattle.wsc_top.proofs.Calls.{no_line, usage_answers, generated_answers}
 use Rattle.wsc_top.proofs.answer.to_words.Goals as goal
 
@@ -37,4 +37,7 @@ returns-in_ok-from_slice-in-None-clause-assembled g c task image input told f =
 
 pub returns-in_ok-status-in-Some-Assembly-clause-assembled : goal.returns-in_ok-status-in-Some-Assembly-clause-assembled
 returns-in_ok-status-in-Some-Assembly-clause-assembled g c task image input told f =
-    c.in_ok-status-in-Some-Assembly.ensures.done told.text image input told.told told.short told.assembly f
+    let line = found_line _ c.in_ok-read_task.field-0 (Assembly c.in-Some-Assembly.task) c.in_ok-read_task.ensures.some (cc) in
+    let same = same_assembly c.words_are_one_line.ensures _ task c.in-Some-Assembly.task told.line line in
+    subst (λ d. AssemblyEndsSo d image input c.in_ok-status-in-Some-Assembly.status) (sym same)
+    (c.in_ok-status-in-Some-Assembly.ensures.ends told.text image input told.told told.short told.assembly f)

@@ -1,4 +1,4 @@
-use Rattle.std.proofs.Common.{◌≡◌, Ok, ap, sym, ◌∙◌}
+use Rattle.std.proofs.Common.{ap, sym, ◌∙◌}
 use Rattle.ws_isa.specs.View as view
 use Rattle.asm_text.specs.Reading.{read}
 use Rattle.wsc_top.proofs.Assemblies.{bad_of}

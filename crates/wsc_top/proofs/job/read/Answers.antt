@@ -1,4 +1,4 @@
-use Rattle.std.proofs.Common.{sym, ap, subst}
+use Rattle.std.proofs.Common.{sym}
 use Rattle.src_ast.specs.View as view
 use Rattle.wsc_top.specs.Answers.{unfit_for}
 use Rattle.wsc_top.proofs.Jobs.{program_only, program_refused, unfit_only, unfit_refused, fits, words_only, words_refused}

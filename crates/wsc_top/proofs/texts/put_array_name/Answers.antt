@@ -1,7 +1,6 @@
-use Rattle.std.proofs.Common.{◌≡◌, ◌++◌, List, ℕ, OnOk, ap, ◌∙◌, subst, sym, arith, append-nil}
+use Rattle.std.proofs.Common.{◌≡◌, ◌++◌, List, ℕ, OnOk, ap, ◌∙◌, subst, sym, append-nil}
 use Rattle.src_ast.specs.View as view
-use Rattle.src_ast.specs.Meaning.{arrays_of}
-use Rattle.wsc_top.specs.Texts.{array_name}
+use Rattle.wsc_top.specs.Texts.{names_of, array_name}
 use Rattle.wsc_top.proofs.PlainTexts.{name_here, name_none}
 use Rattle.wsc_top.proofs.texts.put_array_name.Goals as goal
 
@@ -10,7 +9,7 @@ returns-then-before-eq0 c =
     let name = name_here c.args.items.now c.loop-item.item-index c.loop-item.before c.item-item.result _ c.loop-item-test.true c.item-item.is c.loop-item.invariant.name
     c.in-Array.name c.in-Array.length c.in-Array.length_place c.in-Array.is c.if-before-eq0.true in
     let put = subst (λ (bytes : List ℕ). OnOk c.extend.result (c.extend.new.self ≡ c.loop-item.text ++ bytes)) (c.as_slice.ensures ∙ name) c.extend.ensures.ok in
-    subst (λ (text : List ℕ). OnOk c.extend.result (c.extend.new.self ≡ text ++ array_name (arrays_of (view.parts c.args.items.now)) c.args.array)) c.loop-item.invariant.text put
+    subst (λ (text : List ℕ). OnOk c.extend.result (c.extend.new.self ≡ text ++ array_name (names_of (view.parts c.args.items.now)) c.args.array)) c.loop-item.invariant.text put
 
 pub returns : goal.returns
 returns c =

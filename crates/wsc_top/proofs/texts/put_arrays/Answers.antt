@@ -1,7 +1,6 @@
 use Rattle.std.proofs.Common.{◌+◌, ◌++◌, List, ℕ, drop, ap, ◌∙◌, arith}
 use Rattle.src_ast.specs.View as view
-use Rattle.src_ast.specs.Meaning.{arrays_of}
-use Rattle.wsc_top.specs.Texts.{array_lines}
+use Rattle.wsc_top.specs.Texts.{names_of, array_lines}
 use Rattle.wsc_top.proofs.PlainTexts.{after_array, after_procedure}
 use Rattle.wsc_top.proofs.texts.put_arrays.Goals as goal
 use Rattle.wsc_top.proofs.texts.put_arrays.Goals.{in-Array+in_ok-put_array_at, in_default}
@@ -12,8 +11,8 @@ loop-item-preserved c =
     let rows = c.args.arrays.now in
     let i = c.loop-item.item-index in
     let k = c.loop-item.count in
-    let whole = c.args.text.now ++ array_lines (arrays_of (view.parts items)) rows in
-    let rest = arrays_of (view.parts (drop (i + 1) items)) in
+    let whole = c.args.text.now ++ array_lines (names_of (view.parts items)) rows in
+    let rest = names_of (view.parts (drop (i + 1) items)) in
     elim c.match-item.branch [
       | in-Array+in_ok-put_array_at w ↦ record {
         place = omega (arith, w.count-is, c.loop-item.invariant.place);

@@ -1,11 +1,10 @@
 use Rattle.std.proofs.Common.{◌≡◌, ◌≤◌, ◌++◌, drop}
 use Rattle.src_ast.specs.View as view
-use Rattle.src_ast.specs.Meaning.{arrays_of}
-use Rattle.wsc_top.specs.Texts.{array_lines}
+use Rattle.wsc_top.specs.Texts.{names_of, array_lines}
 use Rattle.wsc_top.proofs.texts.put_arrays.Given as goal
 
 abbrev pub invariant-loop-item : goal.invariant-loop-item
 invariant-loop-item l = record {
   place : l.count ≤ l.item-index;
-  text : l.text ++ array_lines (arrays_of (view.parts (drop l.item-index l.items))) (drop l.count l.arrays) ≡ l.initial.text ++ array_lines (arrays_of (view.parts l.items)) l.arrays;
+  text : l.text ++ array_lines (names_of (view.parts (drop l.item-index l.items))) (drop l.count l.arrays) ≡ l.initial.text ++ array_lines (names_of (view.parts l.items)) l.arrays;
 }

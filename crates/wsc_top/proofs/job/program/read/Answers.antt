@@ -1,4 +1,4 @@
-use Rattle.std.proofs.Common.{ap, subst, sym}
+use Rattle.std.proofs.Common.{subst, sym}
 use Rattle.src_ast.specs.View as view
 use Rattle.src_ast.specs.Rules.{IsAccepted, IsCheckFault}
 use Rattle.wsc_top.proofs.Programs.{lex_fault, lexed, syntax_fault, rule_fault, same_lexemes, err_lexemes, err_tree, err_check, tree_of}

@@ -1,4 +1,4 @@
-use Rattle.wsc_top.proofs.Mains.{one_main, few_pieces, pieces_are}
+use Rattle.wsc_top.proofs.Mains.{one_main, pieces_are}
 use Rattle.wsc_top.proofs.straight.pieces.straight_image.Goals as goal
 
 pub returns-clause-ok : goal.returns-clause-ok

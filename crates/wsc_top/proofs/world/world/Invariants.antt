@@ -1,6 +1,6 @@
 use Rattle.std.proofs.Common.{◌≡◌}
 use Rattle.wsc_top.proofs.Outcomes.{empties}
-use Rattle.wsc_top.proofs.yields.world.Given as goal
+use Rattle.wsc_top.proofs.world.world.Given as goal
 
 abbrev pub invariant-loop : goal.invariant-loop
 invariant-loop l = l.left ≡ empties l.counter
