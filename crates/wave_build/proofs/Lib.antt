@@ -1,3 +1,5 @@
 pub mod Fitting
 pub mod Sizing
 pub mod Forming
+pub mod RoomSteps
+pub mod RoomParts

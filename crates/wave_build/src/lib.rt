@@ -5,5 +5,6 @@
 #![tactic(auto)]
 
 mod laws;
+mod room;
 
 pub use laws::{joined_graphs_send_nothing, passed_drafts_fit, passed_graphs_fit};
