@@ -3,10 +3,10 @@ use Rattle.std.proofs.Common.{ℕ, zero, suc, ◌≡◌, ◌≢◌, ◌<◌, Lis
 use Rattle.cfg_core.specs.Graph as graph
 use Rattle.cfg_core.specs.Graph.{Term, Var, Branch, Spot, spots, spot_at, block_at, no_spot}
 use Rattle.cfg_core.specs.Edges.{Edge}
-use Rattle.cfg_core.specs.Shape.{OnlyFrom, BranchesApart}
+use Rattle.cfg_core.specs.Shape.{OnlyFrom, BranchesApart, ArmsAlone}
 use Rattle.cfg_core.specs.Samples.{counts, calls_twice}
 use Rattle.cfg_core.proofs.Total.{each_at}
-use Rattle.call_gen.specs.Keeps.{NoSend, HasNoSend, ArmsAlone}
+use Rattle.call_gen.specs.Keeps.{NoSend, HasNoSend}
 
 pub counts_sends_nothing : HasNoSend counts
 unfolding spot_at no_spot

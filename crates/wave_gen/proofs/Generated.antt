@@ -10,7 +10,8 @@ use Rattle.cfg_core.specs.Rules.{IsGraph, calls}
 use Rattle.live_vars.specs.Live.{Live}
 use Rattle.live_vars.specs.Marks.{AreLive, has}
 use Rattle.wave_cut.specs.Cut.{Cut, IsCut, AreWaves}
-use Rattle.call_gen.specs.Keeps.{NoCall, HasNoCall, NoneAcross, NoneLiveAcross, ArmsAlone}
+use Rattle.cfg_core.specs.Shape.{ArmsAlone}
+use Rattle.call_gen.specs.Keeps.{NoCall, HasNoCall, NoneAcross, NoneLiveAcross}
 use Rattle.wave_gen.specs.Plans.{Plan, plan_at, draft_of}
 use Rattle.wave_gen.specs.Kept.{LeadsAhead}
 use Rattle.wave_gen.specs.Lists.{ListsFit}
