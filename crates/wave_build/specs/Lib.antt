@@ -1,1 +1,4 @@
+pub mod Compiled
 pub mod Passed
+pub mod Prepared
+pub mod Wordy
