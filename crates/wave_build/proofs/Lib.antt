@@ -4,3 +4,7 @@ pub mod CompilingShown
 pub mod CompilingWalks
 pub mod CompilingWords
 pub mod Fitting
+pub mod Sizing
+pub mod Forming
+pub mod RoomSteps
+pub mod RoomParts
