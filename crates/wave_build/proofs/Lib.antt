@@ -1,3 +1,8 @@
+pub mod CompilingGraphs
+pub mod CompilingRuns
+pub mod CompilingShown
+pub mod CompilingWalks
+pub mod CompilingWords
 pub mod Fitting
 pub mod Sizing
 pub mod Forming
