@@ -26,7 +26,7 @@ const TURNS: &[u64] = &[
 ];
 
 // What runs read.
-const INPUTS: &[&[u64]] = &[
+pub const INPUTS: &[&[u64]] = &[
     &[],
     &[18_446_744_073_709_551_615, 63, 5],
     &[4, 7, 1, 9, 9, 2, 0, 8, 3, 6, 5, 1],
@@ -34,7 +34,7 @@ const INPUTS: &[&[u64]] = &[
 
 // Programs in which each kind of statement stands beside and inside others, and how many blocks
 // their graphs have.
-const PROGRAMS: &[(&str, usize)] = &[
+pub const PROGRAMS: &[(&str, usize)] = &[
     ("proc main() { }", 1),
     ("proc main() { var x; x = 1; print x; return x; }", 1),
     ("proc main() { if (0) { } }", 4),
@@ -178,7 +178,7 @@ const PROGRAMS: &[(&str, usize)] = &[
     ),
 ];
 
-fn accepted(alloc: Global, text: &str) -> Result<Accepted, Fail> {
+pub fn accepted(alloc: Global, text: &str) -> Result<Accepted, Fail> {
     if text.len() > 10_000 {
         return Err(Fail::from(NoMemory));
     }
@@ -195,7 +195,7 @@ fn accepted(alloc: Global, text: &str) -> Result<Accepted, Fail> {
 }
 
 // Ports 1, 2 and 3 have words left, the others none.
-fn world(alloc: Global, input: &[u64]) -> Result<World, NoMemory> {
+pub fn world(alloc: Global, input: &[u64]) -> Result<World, NoMemory> {
     let mut left = Cells::empty(alloc);
     left.push(Words::from_slice(alloc, &[4])?)?;
     left.push(Words::from_slice(alloc, &[6, 0, 11])?)?;

@@ -5,3 +5,5 @@
 mod calls;
 #[cfg(test)]
 mod graphs;
+#[cfg(test)]
+mod images;
