@@ -92,7 +92,7 @@ taken_holds image world old new tok s taken slots asked early chain stopped memo
 }
 
 -- where the test says no, no request may be issued
-has_at : (image : Image) (held : List Asked) (w i : ℕ) (xs : List ℕ) → HasRequest (map (request_of image) held) w i xs → (k : ℕ) × (k < length held) × ((slice_index_or held k no_asked).wave ≡ w) × ((slice_index_or held k no_asked).instr ≡ i) × (listed (ports image (slice_index_or held k no_asked).instr) (slice_index_or held k no_asked).operands ≡ xs)
+pub has_at : (image : Image) (held : List Asked) (w i : ℕ) (xs : List ℕ) → HasRequest (map (request_of image) held) w i xs → (k : ℕ) × (k < length held) × ((slice_index_or held k no_asked).wave ≡ w) × ((slice_index_or held k no_asked).instr ≡ i) × (listed (ports image (slice_index_or held k no_asked).instr) (slice_index_or held k no_asked).operands ≡ xs)
 has_at image [] w i xs h = absurd h
 has_at image (a ∷ held) w i xs (inl h) = (0, omega arith, h.0, h.1, h.2)
 has_at image (a ∷ held) w i xs (inr h) = let r = has_at image held w i xs h in (suc r.0, (let l : r.0 < length held = r.1 in omega arith), r.2, r.3, r.4)

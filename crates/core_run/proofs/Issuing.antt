@@ -102,11 +102,11 @@ out_effect o m h = record {
   same_took = ports_alike o.acts ∙ h.same_took;
 }
 
-map_append : {A B : Type 0} (f : A → B) (xs ys : List A) → map f (xs ++ ys) ≡ map f xs ++ map f ys
+pub map_append : {A B : Type 0} (f : A → B) (xs ys : List A) → map f (xs ++ ys) ≡ map f xs ++ map f ys
 map_append f [] ys = refl
 map_append f (x ∷ xs) ys = ap (λ zs. f x ∷ zs) (map_append f xs ys)
 
-split_at : {A : Type 0} (xs : List A) (k : ℕ) (d : A) → k < length xs → take k xs ++ slice_index_or xs k d ∷ drop (suc k) xs ≡ xs
+pub split_at : {A : Type 0} (xs : List A) (k : ℕ) (d : A) → k < length xs → take k xs ++ slice_index_or xs k d ∷ drop (suc k) xs ≡ xs
 split_at [] k d l = absurd (omega arith)
 split_at (x ∷ xs) zero d l = refl
 split_at (x ∷ xs) (suc k) d l = ap (λ ys. x ∷ ys) (split_at xs k d (omega arith))

@@ -22,3 +22,5 @@ pub mod Bounds
 pub mod Rooms
 pub mod Steady
 pub mod Fine
+pub mod Found
+pub mod Stepping

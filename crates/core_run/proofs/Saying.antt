@@ -8,46 +8,28 @@ use Rattle.image_walk.specs.Walk.{Inst, mem, walk, CostAtMost}
 use Rattle.image_walk.specs.Operations.{ops, effect_of, Effect, FaultsAt, NoFault}
 use Rattle.image_walk.specs.Sound.{Sound}
 use Rattle.core_law.specs.Effect.{effect_at}
-use Rattle.core_law.specs.Core.{State, HasFired, Once, core_opening}
-use Rattle.core_law.specs.Fit.{FiresAt, RightToken, NoOp, Fit, Grounded}
+use Rattle.core_law.specs.Core.{State, HasFired, core_opening}
+use Rattle.core_law.specs.Fit.{FiresAt, RightToken, NoOp}
 use Rattle.core_law.specs.Ends.{Whole, AtFault}
 use Rattle.core_law.proofs.Facts.{WalkFacts}
 use Rattle.core_law.proofs.FromSound.{facts_of}
 use Rattle.core_law.proofs.PortsThere.{ports_there}
 use Rattle.core_law.proofs.Effects.{effect_is}
 use Rattle.core_law.proofs.Quiet.{no_op_no_write, mem_same}
-use Rattle.core_law.proofs.Law.{opening_fit, opening_grounded, step_kept, step_grounded}
+use Rattle.core_law.proofs.Reached.{Kept}
 use Rattle.core_law.proofs.Ends.{rest_ends, at_fault, after_fired, same_effect, one_fault}
-use Rattle.core_law.proofs.Counting.{rest_count, fired_count, way_count, once_kept}
+use Rattle.core_law.proofs.Counting.{rest_count, fired_count, way_count}
 use Rattle.core_law.proofs.Place.{fault_place}
 use Rattle.core_run.specs.declared.drive.Finish.{Finish}
 use Rattle.core_run.specs.declared.drive.Finish.TheVariants as finish
 use Rattle.core_run.specs.declared.flow.Flow.{Flow}
 use Rattle.core_run.specs.Outdoors.{OutIs}
-use Rattle.core_run.specs.Flows.{IsFault, Holds, Reaches, stays, steps}
-use Rattle.core_run.specs.Finishes.{FinishIs, IsSpent}
+use Rattle.core_run.specs.Flows.{IsFault, Holds}
+use Rattle.core_run.specs.Finishes.{FinishIs, IsSpent, Ended}
 use Rattle.core_run.specs.Told.{done_of, run_of}
 use Rattle.core_run.specs.Answer.{Tells, Rested, Cut, Faulted, RunSo}
 use Rattle.core_run.proofs.Issuing.{printed_alike, ports_alike}
 use Rattle.core_run.proofs.Firings.{StepsOf, steps_of, none_fires}
-
--- what is kept on the way to a state
-record Kept (image : Image) (world : World) (s : State) : Type 0 where
-  fit : Fit image world s
-  grounded : Grounded image world s
-  once : Once s.fired
-
-kept : (image : Image) (world : World) (facts : WalkFacts image world) (s t : State) → Reaches image s t → Kept image world s → Kept image world t
-kept image world facts s t stays k = k
-kept image world facts s t (steps {t = m} e st rest) k = kept image world facts m t rest (record {
-  fit = step_kept image world facts s m e k.fit st;
-  grounded = step_grounded image world facts s m e k.fit k.grounded st;
-  once = once_kept image world facts s m e k.fit k.once st;
-})
-
-opened : (image : Image) (world : World) (facts : WalkFacts image world) → Kept image world (core_opening image world)
-unfolding core_opening
-opened image world facts = record { fit = opening_fit image world facts; grounded = opening_grounded image world facts; once = tt }
 
 no_fault_at : (image : Image) (world : World) → NoFault image world → (t : ℕ) → FaultsAt image world t → ⊥
 no_fault_at image world none t f = both_ways _ (none t f.inst f.fired) f.is_past
@@ -146,10 +128,10 @@ pub opened_none : (image : Image) (world : World) (flow : Flow) → Holds image 
 unfolding core_opening
 opened_none image world flow h = sym h.count_is
 
-pub ran : (image : Image) (world : World) (budget : ℕ) (finish : Finish) (old new : Flow) → Formed image → Sound image → Holds image world [] old (core_opening image world) → new.fired ≤ budget →
-    ((world : World) (s : State) → Formed image → Sound image → Holds image world [] old s → (t : State) × Reaches image s t × Holds image world [] new t × FinishIs image world budget finish t) →
-    RunSo image world budget (run_of finish new)
-ran image world budget finish old new formed sound h le f =
-    let r = f world (core_opening image world) formed sound h in
-    let facts = facts_of image world (ports_there image formed) sound in
-    says image world facts budget new r.0 (kept image world facts (core_opening image world) r.0 r.1 (opened image world facts)) r.2 finish le r.3
+-- a run from wherever the parts stood
+pub answers : (image : Image) (world : World) (budget : ℕ) (finish : Finish) (old new : Flow) (s : State) → Formed image → Sound image → Holds image world [] old s → new.fired ≤ budget → Ended image budget old new finish → RunSo image world budget (run_of finish new)
+answers image world budget finish old new s formed sound h le f =
+    let r = f world s formed sound h in
+    let held : Holds image world [] new r.0 = r.2 in
+    let k : Kept image world r.0 = record { fit = held.stands.fit; grounded = held.stands.grounded; once = held.stands.once } in
+    says image world (facts_of image world (ports_there image formed) sound) budget new r.0 k held finish le r.3

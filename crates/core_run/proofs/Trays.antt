@@ -60,3 +60,8 @@ pub nth_below : (rows : List (Vec ℕ Global)) (p : ℕ) (v : Vec ℕ Global) �
 nth_below [] p v e = absurd (cc)
 nth_below (x ∷ rows) zero v e = omega arith
 nth_below (x ∷ rows) (suc p) v e = let l : p < length rows = nth_below rows p v e in omega arith
+
+pub past_row : (rows : List (Vec ℕ Global)) (k : ℕ) → length rows ≤ k → [] ≡ row (rows_of rows) k
+past_row [] k l = refl
+past_row (x ∷ rows) zero l = absurd (omega arith)
+past_row (x ∷ rows) (suc k) l = past_row rows k (omega arith)

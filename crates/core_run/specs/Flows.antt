@@ -77,6 +77,11 @@ NoneBelow image flow n = (k : ℕ) → k < n →
     may_flag image (chain_of flow.chain) (asked_at flow k).wave (asked_at flow k).instr
     (asked_at flow k).operands.first ≡ false
 
+-- the chain is stopped, or no request of the instance may be issued
+abbrev pub NotReady : Image → Flow → ℕ → ℕ → Type 0
+NotReady image flow w i = (is_some flow.fault ≡ true) ⊎ ((k : ℕ) → k < length flow.asked.items →
+    (asked_at flow k).wave ≡ w → (asked_at flow k).instr ≡ i → MayAt image flow k → ⊥)
+
 -- no request may
 abbrev pub NoneMay : Image → Flow → Type 0
 NoneMay image flow = (k : ℕ) → k < length flow.asked.items →

@@ -1,7 +1,8 @@
--- What a reader has to believe: Answer. The others serve the proof of the code alone: what it holds
--- while it runs.
+-- What a reader has to believe: Answer, and of the core's calls Cores. The others serve the proof
+-- of the code alone: what it holds while it runs.
 pub mod Answer
 pub mod Told
+pub mod Cores
 pub mod Stands
 pub mod Moves
 pub mod Chains

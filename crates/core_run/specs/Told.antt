@@ -15,7 +15,10 @@ done_of flow = record {
   fired = flow.fired;
 }
 
+abbrev pub run_from : Finish → Done → Run
+run_from finish.Rest done = run.Rest done
+run_from finish.Budget done = run.Budget done
+run_from (finish.Fault array) done = run.Fault array done
+
 abbrev pub run_of : Finish → Flow → Run
-run_of finish.Rest flow = run.Rest (done_of flow)
-run_of finish.Budget flow = run.Budget (done_of flow)
-run_of (finish.Fault array) flow = run.Fault array (done_of flow)
+run_of ended flow = run_from ended (done_of flow)

@@ -7,7 +7,7 @@ ghost use Rattle.core_law.specs.Core.{Match, Issue};
 ghost use Rattle.core_run.specs.Chains.{chain_of, may_flag};
 ghost use Rattle.core_run.specs.Places.{ProgramIs, image_of, destinations};
 ghost use Rattle.core_run.specs.Ways.{token_of, SentTo};
-ghost use Rattle.core_run.specs.Flows.{Going, Leads, Room, flight, AskedMore, all_of, asked_at, MayAt, NoneMay, SameParts, weight};
+ghost use Rattle.core_run.specs.Flows.{Going, Leads, Room, flight, AskedMore, all_of, asked_at, MayAt, NoneMay, NotReady, SameParts, weight};
 
 use crate::chain::Chain;
 use crate::memory::Memory;
@@ -142,6 +142,28 @@ impl<'w> Flow<'w> {
                 || (is_load(op)
                     && !program.is_past(op, asked.operands.first)
                     && note.ripple <= self.chain.position()))
+    }
+
+    /// The place of the request of an instance, if it may be issued.
+    pub fn ready(&self, program: &Program<'_>, wave: u64, instr: u32) -> Option<usize>
+        requires { ProgramIs program.now }
+        ensures { MatchOption result (NotReady (image_of program.now) self.now wave instr)
+            (λ place. (place < length self.now.asked.items) × (is_some self.now.fault ≡ false)
+            × MayAt (image_of program.now) self.now place
+            × (asked_at self.now place).wave ≡ wave × (asked_at self.now place).instr ≡ instr) }
+    {
+        if self.fault.is_some() {
+            return None;
+        }
+        let mut place = self.asked.len();
+        while place > 0 {
+            place -= 1;
+            let asked = self.asked[place];
+            if asked.wave == wave && asked.instr == instr && self.may_issue(program, asked) {
+                return Some(place);
+            }
+        }
+        None
     }
 
     /// Issues a request that may be issued; one past the end stops the chain.

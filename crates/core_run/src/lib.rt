@@ -5,6 +5,7 @@
 mod answer;
 mod chain;
 mod drive;
+mod engine;
 mod flow;
 mod memory;
 mod open;
@@ -16,6 +17,8 @@ mod way;
 mod whole;
 
 pub use answer::{Done, Run};
+pub use drive::Finish;
+pub use engine::{Core, Event, StepFault};
 pub use whole::run_checked;
 
 #[cfg(test)]

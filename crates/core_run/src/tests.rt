@@ -5,6 +5,7 @@ ghost use Rattle.ws_isa.specs.Samples as samples;
 ghost use Rattle.ws_isa.specs.View as view;
 
 use crate::answer::{Done, Run};
+use crate::engine::{Core, Event};
 use crate::whole::run_checked;
 use image_walk::Checked;
 use std::alloc::Global;
@@ -247,6 +248,60 @@ fn tell_b(alloc: Global, index: u64, input: u64, budget: u64) -> Result<String, 
     let image = checked_b(alloc, index)?;
     let world = world(alloc, &[input])?;
     tell(alloc, &run_checked(alloc, &image, &world, budget)?)
+}
+
+// Makes the events of image A in an order of their own, with some that aren't enabled.
+fn step_a(alloc: Global) -> Result<String, NoMemory> {
+    let image = checked_a(alloc)?;
+    let world = world(alloc, &[])?;
+    let mut core = Core::begin(alloc, &image, &world)?;
+    let early = core.step(Event::Issue { wave: 1, instr: 3 });
+    let mut made = 0;
+    for event in [
+        Event::Match {
+            wave: 0,
+            instr: 1,
+            port: 0,
+        },
+        Event::Match {
+            wave: 1,
+            instr: 4,
+            port: 0,
+        },
+        Event::Match {
+            wave: 1,
+            instr: 2,
+            port: 0,
+        },
+        Event::Match {
+            wave: 1,
+            instr: 3,
+            port: 0,
+        },
+        Event::Issue { wave: 1, instr: 3 },
+    ] {
+        if core.step(event).is_ok() {
+            made += 1;
+        }
+    }
+    let again = core.step(Event::Match {
+        wave: 1,
+        instr: 3,
+        port: 0,
+    });
+    core.prepare(9)?;
+    let finish = core.run(9);
+    let printed = core.printed();
+    let fired = core.fired();
+    let text = format!(in alloc; "{early:?} {made} {again:?} {finish:?} {printed:?} {fired}")?;
+    Ok(text)
+}
+
+#[test]
+fn events_are_made_one_by_one(rt: HostRuntime) -> Result<(), Fail> {
+    let wanted = "Err(NotReady) 5 Err(NotReady) Rest [7] 4";
+    assert_eq!(rt; step_a(rt.alloc())?.as_str(), wanted);
+    Ok(())
 }
 
 #[test]

@@ -1,8 +1,8 @@
 //! Tokens on the way.
 
-ghost use Rattle.std.specs.Prelude.{◌≡◌, ◌<◌, ◌≤◌, ◌+◌, ◌==◌, ℕ, [], ◌∷◌, ◌++◌, List, length, map, vec_len, vec_capacity, MatchOption, OnSome};
+ghost use Rattle.std.specs.Prelude.{◌≡◌, ◌<◌, ◌≤◌, ◌+◌, ◌==◌, ℕ, false, [], ◌∷◌, ◌++◌, List, length, map, vec_len, vec_capacity, MatchOption, OnSome};
 ghost use Rattle.ws_isa.specs.Image.{tokens_to};
-ghost use Rattle.core_run.specs.Ways.{token_of, way_of, SentTo, TakenFrom};
+ghost use Rattle.core_run.specs.Ways.{token_of, way_of, SentTo, TakenFrom, TakenAt, NoneAt, IsTokenAt};
 
 use crate::token::Token;
 use std::mem::swap;
@@ -68,6 +68,51 @@ impl Way {
             }
         }
     }
+
+    /// Whether there is a token at a port of an instance.
+    pub fn has(&self, wave: u64, instr: u32, port: u8) -> bool
+        ensures { result ≡ false → NoneAt (way_of self.entry.now) wave instr port }
+    {
+        find_token(&self.now, wave, instr, port).is_some()
+            || find_token(&self.later, wave, instr, port).is_some()
+    }
+
+    /// Takes the token at a port of an instance.
+    pub fn take_at(&mut self, wave: u64, instr: u32, port: u8) -> Option<Token>
+        ensures taken { MatchOption result
+            ((self.new ≡ self.old) × NoneAt (way_of self.old) wave instr port)
+            (TakenAt self.old self.new wave instr port) }
+        ensures fewer { MatchOption result (self.new ≡ self.old)
+            (λ token. vec_len self.new.now + vec_len self.new.later + 1
+            ≡ vec_len self.old.now + vec_len self.old.later) }
+        ensures now_room { vec_capacity self.new.now ≡ vec_capacity self.old.now }
+        ensures later_room { vec_capacity self.new.later ≡ vec_capacity self.old.later }
+    {
+        if let Some(place) = find_token(&self.now, wave, instr, port) {
+            return Some(self.now.remove(place));
+        }
+        match find_token(&self.later, wave, instr, port) {
+            Some(place) => Some(self.later.remove(place)),
+            None => None,
+        }
+    }
+}
+
+// The place of the token at a port of an instance.
+fn find_token(tokens: &[Token], wave: u64, instr: u32, port: u8) -> Option<usize>
+    ensures { MatchOption result (NoneAt (map token_of tokens.now) wave instr port)
+        (λ place. (place < length tokens.now)
+        × IsTokenAt tokens.now place wave instr port) }
+{
+    let mut place = tokens.len();
+    while place > 0 {
+        place -= 1;
+        let token = tokens[place];
+        if token.wave == wave && token.instr == instr && token.port == port {
+            return Some(place);
+        }
+    }
+    None
 }
 
 // Tokens of one word come behind others.

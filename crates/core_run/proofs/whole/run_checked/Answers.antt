@@ -8,7 +8,7 @@ use Rattle.core_run.specs.Places.{image_of}
 use Rattle.core_run.specs.Answer.{RunSo}
 use Rattle.core_run.specs.Told.{run_of}
 use Rattle.core_run.proofs.Placed.{length_map}
-use Rattle.core_run.proofs.Saying.{opened_none, ran}
+use Rattle.core_run.proofs.Saying.{opened_none, answers}
 use Rattle.core_run.proofs.Fine.{ok_so}
 use Rattle.core_run.proofs.whole.run_checked.Goals as goal
 
@@ -32,5 +32,5 @@ returns c =
     let formed : Formed (image_of c.in_ok-program.program) = subst Formed (sym e) c.image.ensures.formed in
     let sound : Sound (image_of c.in_ok-program.program) = subst Sound (sym e) c.image.ensures.sound in
     let so : RunSo (image_of c.in_ok-program.program) (world_of c.args.world.now) c.args.budget (run_of c.in_ok-finish.finish c.run_on.new.flow) =
-    ran (image_of c.in_ok-program.program) (world_of c.args.world.now) c.args.budget c.in_ok-finish.finish c.in_ok-flow.flow c.run_on.new.flow formed sound (c.in_ok-flow.ensures sound formed) c.in_ok-finish.ensures.within c.in_ok-finish.ensures.finish in
+    answers (image_of c.in_ok-program.program) (world_of c.args.world.now) c.args.budget c.in_ok-finish.finish c.in_ok-flow.flow c.run_on.new.flow _ formed sound (c.in_ok-flow.ensures sound formed) c.in_ok-finish.ensures.within c.in_ok-finish.ensures.finish in
     ok_so (RunSo c.args.image.now (world_of c.args.world.now) c.args.budget) (run_of c.in_ok-finish.finish c.run_on.new.flow) c.run_of.result c.run_of.ensures (subst (λ (image : plain.Image). RunSo image (world_of c.args.world.now) c.args.budget (run_of c.in_ok-finish.finish c.run_on.new.flow)) e so)

@@ -1,0 +1,89 @@
+-- The core's steps, event by event.
+use Rattle.std.proofs.Common.{ℕ, ◌≡◌, List, [], ◌∷◌, ◌++◌, map, is_some, slice_index_or, sym, ap, ◌∙◌, subst, inl, inr}
+use Rattle.std.proofs.lemmas.Bool.{both_ways}
+use Rattle.ws_words.specs.Outside.{World}
+use Rattle.ws_isa.specs.Image as plain
+use Rattle.ws_isa.specs.Image.{Image, ports}
+use Rattle.ws_isa.specs.Formed.{Formed}
+use Rattle.image_walk.specs.Walk.{Ports}
+use Rattle.image_walk.specs.Sound.{Sound}
+use Rattle.core_law.specs.Core as law
+use Rattle.core_law.specs.Core.{State, Match, Issue, MatchStep, Issuable, Ready}
+use Rattle.core_run.specs.declared.token.Token.{Token}
+use Rattle.core_run.specs.declared.way.Way.{Way}
+use Rattle.core_run.specs.declared.flow.Flow.{Flow}
+use Rattle.core_run.specs.declared.engine.Core.{Core}
+use Rattle.core_run.specs.Stands.{Request, Stands}
+use Rattle.core_run.specs.Partial.{partial_of, listed}
+use Rattle.core_run.specs.Places.{image_of}
+use Rattle.core_run.specs.Chains.{chain_of}
+use Rattle.core_run.specs.Ways.{token_of, way_of, NoneAt, TakenAt}
+use Rattle.core_run.specs.Flows.{request_of, Holds, Going, Leads, SameParts, NotReady, no_asked}
+use Rattle.core_run.specs.Cores.{IsAt, Runs, Makes, NotEnabled}
+use Rattle.core_run.proofs.Moving.{Reordered, stands_reordered, to_front}
+use Rattle.core_run.proofs.Found.{append_on}
+use Rattle.core_run.proofs.Driving.{same_holds, has_at, flagged}
+
+pub not_on_way : (core : Core) (w i p : ℕ) → NoneAt (way_of core.flow.way) w i p → NotEnabled (Match w i p) core
+not_on_way core w i p none image world s at e = none e.0 (at.holds.stands.way_to w i p e.0 e.1)
+
+pub same_way : (old new : Flow) (w i p : ℕ) → SameParts old new → NoneAt (way_of new.way) w i p → NoneAt (way_of old.way) w i p
+same_way old new w i p e none = subst (λ (ts : List plain.Token). NoneAt ts w i p) (ap (λ (xs : List Token). map token_of xs ++ map token_of new.way.later.items) e.now ∙ ap (λ (xs : List Token). map token_of old.way.now.items ++ map token_of xs) e.later) none
+
+taken_way : (image : Image) (world : World) (old new : Way) (w i p : ℕ) (tok : Token) (f : Ports) (asked : List Request) (early : List ℕ) (s : State) → TakenAt old new w i p tok → Stands image world f (way_of old) asked early s → Stands image world f (token_of tok ∷ way_of new) asked early s
+taken_way image world old new w i p tok f asked early s e st =
+    subst (λ (ts : List plain.Token). Stands image world f (token_of tok ∷ ts) asked early s) (sym e.new_is)
+    (stands_reordered image world f (e.before ++ token_of tok ∷ e.behind) (token_of tok ∷ (e.before ++ e.behind)) asked early s (subst (λ (ts : List plain.Token). Reordered ts (token_of tok ∷ (e.before ++ e.behind))) (append_on e.before (token_of tok ∷ []) e.behind) (to_front e.before (token_of tok) e.behind))
+    (subst (λ (ts : List plain.Token). Stands image world f ts asked early s) e.old_is st))
+
+taken_at : (image : Image) (world : World) (old new : Flow) (w i p : ℕ) (tok : Token) (s : State) → TakenAt old.way new.way w i p tok → new.slots ≡ old.slots → new.asked ≡ old.asked → new.early ≡ old.early → new.chain ≡ old.chain → new.fault ≡ old.fault → new.memory ≡ old.memory → new.fired ≡ old.fired →
+    Holds image world [] old s → Holds image world (token_of tok ∷ []) new s
+taken_at image world old new w i p tok s taken slots asked early chain stopped memory fired h = record {
+  stands = rw (slots, asked, early) (taken_way image world old.way new.way w i p tok (partial_of old.slots.slots.items old.slots.spill.items) (map (request_of image) old.asked.items) old.early.items s taken h.stands);
+  chain_is = h.chain_is ∙ ap chain_of (sym chain);
+  stopped_is = h.stopped_is ∙ ap is_some (sym stopped);
+  fault_is = rw stopped h.fault_is;
+  memory_is = rw memory h.memory_is;
+  count_is = h.count_is ∙ sym fired;
+}
+
+module _ (core : Core) (prepared mid : Flow) (w i p : ℕ) (tok : Token) (same : SameParts core.flow prepared) (taken : TakenAt prepared.way mid.way w i p tok)
+    (slots : mid.slots ≡ prepared.slots) (asked : mid.asked ≡ prepared.asked) (early : mid.early ≡ prepared.early) (chain : mid.chain ≡ prepared.chain) (stopped : mid.fault ≡ prepared.fault) (memory : mid.memory ≡ prepared.memory) (fired : mid.fired ≡ prepared.fired) where
+  holds_mid : (image : Image) (world : World) (s : State) → IsAt image world core s → Holds (image_of core.program) world (token_of tok ∷ []) mid s
+  holds_mid image world s at = taken_at (image_of core.program) world prepared mid w i p tok s taken slots asked early chain stopped memory fired
+      (same_holds (image_of core.program) world [] core.flow prepared s same (subst (λ (im : Image). Holds im world [] core.flow s) (sym at.image_is) at.holds))
+
+  pub going_match : Runs core → Going (image_of core.program) (token_of tok ∷ []) mid
+  going_match r = record {
+    world = r.world;
+    state = r.state;
+    formed = subst Formed (sym r.at.image_is) r.at.formed;
+    sound = subst Sound (sym r.at.image_is) r.at.sound;
+    holds = holds_mid r.image r.world r.state r.at;
+  }
+
+  pub makes_match : (new : Core) → new.program ≡ core.program → Leads (image_of core.program) (Match tok.wave tok.instr tok.port) (token_of tok ∷ []) mid new.flow → Makes (Match w i p) core new
+  makes_match new program leads image world s at =
+      let r = leads world s (subst Formed (sym at.image_is) at.formed) (subst Sound (sym at.image_is) at.sound) (holds_mid image world s at) in
+      let st : MatchStep (image_of core.program) s w i p r.0 = subst (λ (q : ℕ). MatchStep (image_of core.program) s w i q r.0) taken.port (subst (λ (j : ℕ). MatchStep (image_of core.program) s w j tok.port r.0) taken.instr (subst (λ (v : ℕ). MatchStep (image_of core.program) s v tok.instr tok.port r.0) taken.wave r.1)) in (
+        r.0,
+        subst (λ (im : Image). MatchStep im s w i p r.0) at.image_is st,
+        record {
+          program = rw program at.program;
+          image_is = ap image_of program ∙ at.image_is;
+          formed = at.formed;
+          sound = at.sound;
+          holds = subst (λ (im : Image). Holds im world [] new.flow r.0) at.image_is r.2;
+        },
+      )
+
+pub not_ready : (core : Core) (w i : ℕ) → NotReady (image_of core.program) core.flow w i → NotEnabled (Issue w i) core
+not_ready core w i (inl e) image world s at on = both_ways _ on.1.issuable.going (at.holds.stopped_is ∙ e)
+not_ready core w i (inr f) image world s at on =
+    let here : Image = image_of core.program in
+    let holds : Holds (image_of core.program) world [] core.flow s = subst (λ (im : Image). Holds im world [] core.flow s) (sym at.image_is) at.holds in
+    let ready : Ready (image_of core.program) s w i on.0 = subst (λ (im : Image). Ready im s w i on.0) (sym at.image_is) on.1 in
+    let r = has_at (image_of core.program) core.flow.asked.items w i on.0 (holds.stands.asked_to w i on.0 ready.waits) in
+    let m1 : Issuable (image_of core.program) s.issued (chain_of core.flow.chain) s.stopped w i on.0 = subst (λ (c : law.Chain). Issuable (image_of core.program) s.issued c s.stopped w i on.0) holds.chain_is ready.issuable in
+    let m2 : Issuable (image_of core.program) s.issued (chain_of core.flow.chain) s.stopped (slice_index_or core.flow.asked.items r.0 no_asked).wave (slice_index_or core.flow.asked.items r.0 no_asked).instr (listed (ports (image_of core.program) (slice_index_or core.flow.asked.items r.0 no_asked).instr) (slice_index_or core.flow.asked.items r.0 no_asked).operands) = rw (r.2, r.4, r.3) m1 in
+    f r.0 r.1 r.2 r.3 (flagged (image_of core.program) s.issued (chain_of core.flow.chain) s.stopped (slice_index_or core.flow.asked.items r.0 no_asked) m2)

@@ -1,0 +1,15 @@
+use Rattle.std.proofs.Common.{refl}
+use Rattle.core_run.proofs.Stepping.{not_on_way, same_way, going_match, makes_match}
+use Rattle.core_run.proofs.engine.Core.make_match.Goals as goal
+
+pub returns-then-not-has-clause-refused : goal.returns-then-not-has-clause-refused
+returns-then-not-has-clause-refused c = λ e. not_on_way c.args.self.now c.args.wave c.args.instr c.args.port (c.has.ensures c.if-not-has.true)
+
+pub arrive-requires-clause-going : goal.arrive-requires-clause-going
+arrive-requires-clause-going c = going_match c.args.self.now c.prepare.new.self _ c.args.wave c.args.instr c.args.port c.in-Some.token c.prepare.ensures.same c.in-Some.ensures.taken refl refl refl refl refl refl refl c.requires
+
+pub returns-in-Some-clause-made : goal.returns-in-Some-clause-made
+returns-in-Some-clause-made c = makes_match c.args.self.now c.prepare.new.self _ c.args.wave c.args.instr c.args.port c.in-Some.token c.prepare.ensures.same c.in-Some.ensures.taken refl refl refl refl refl refl refl _ refl c.arrive.ensures.leads
+
+pub returns-in-None-clause-refused : goal.returns-in-None-clause-refused
+returns-in-None-clause-refused c = λ e. not_on_way c.args.self.now c.args.wave c.args.instr c.args.port (same_way c.args.self.now.flow c.prepare.new.self c.args.wave c.args.instr c.args.port c.prepare.ensures.same c.in-None.ensures.taken.1)

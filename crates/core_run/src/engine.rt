@@ -1,0 +1,172 @@
+//! The core, event by event.
+
+ghost use Rattle.std.specs.Prelude.{◌≡◌, true, ◌≤◌, ◌-◌, ℕ, [], List, length, ◌⊎◌, map, IfOk, OnOk, OnErr, IfErr};
+ghost use Rattle.ws_words.specs.Outside.{World as Given, printed_words, row};
+ghost use Rattle.ws_words.specs.Plain.{took_by_ports, world_of};
+ghost use Rattle.ws_isa.specs.Image.{Image};
+ghost use Rattle.core_law.specs.Core.{State, Match, Issue, core_opening};
+ghost use Rattle.core_run.specs.Answer.{RunSo};
+ghost use Rattle.core_run.specs.Told.{run_from};
+ghost use Rattle.core_run.specs.Cores.{IsAt, Runs, Prepared, Makes, NotEnabled, Keeps, LeadsTo, done, event_of, is_not_ready};
+
+use crate::drive::{Finish, run};
+use crate::flow::Flow;
+use crate::open::open;
+use crate::program::Program;
+use image_walk::Checked;
+use std::alloc::Global;
+use ws_words::{Cells, NoMemory, World};
+
+/// A match of the token on its way to a port, or an issue of the request that waits.
+#[derive(Clone, Copy, Debug, PartialEq, Eq)]
+pub enum Event {
+    Match { wave: u64, instr: u32, port: u8 },
+    Issue { wave: u64, instr: u32 },
+}
+
+/// Why an event was not made.
+#[derive(Clone, Copy, Debug, PartialEq, Eq)]
+pub enum StepFault {
+    NotReady,
+    NoMemory,
+}
+
+/// A core in the middle of a run.
+#[derive(Drop)]
+pub struct Core<'i> {
+    program: Program<'i>,
+    flow: Flow<'i>,
+}
+
+impl<'i> Core<'i> {
+    /// The opening state: the start pulse is on the way.
+    pub fn begin(alloc: Global, image: &'i Checked, world: &'i World) -> Result<Core<'i>, NoMemory>
+        ensures { IfOk result (λ core. IsAt image.now (world_of world.now) core
+            (core_opening image.now (world_of world.now))) }
+    {
+        let program = Program::of(alloc, image.image())?;
+        let flow = open(alloc, &program, world)?;
+        Ok(Core { program, flow })
+    }
+
+    /// Makes an event. After an error the state is as before.
+    pub fn step(&mut self, event: Event) -> Result<(), StepFault>
+        requires { Runs self.old }
+        ensures made { OnOk result (Makes (event_of event) self.old self.new) }
+        ensures refused { IfErr result (λ fault. is_not_ready fault ≡ true →
+            NotEnabled (event_of event) self.old) }
+        ensures kept { OnErr result (Keeps self.old self.new) }
+    {
+        match event {
+            Event::Match { wave, instr, port } => self.make_match(wave, instr, port),
+            Event::Issue { wave, instr } => self.make_issue(wave, instr),
+        }
+    }
+
+    /// Makes room for a run until so many instances have fired in all.
+    pub fn prepare(&mut self, budget: u64) -> Result<(), NoMemory>
+        requires fired { (done self.old).fired ≤ budget }
+        ensures prepared { OnOk result (Prepared self.new budget) }
+        ensures kept { Keeps self.old self.new }
+    {
+        let fired = self.flow.fired;
+        self.flow.prepare(budget - fired)
+    }
+
+    /// Makes events until none is enabled or so many instances have fired in all, and then those
+    /// that fire nothing. Takes no memory.
+    pub fn run(&mut self, budget: u64) -> Finish
+        requires core { Runs self.old }
+        requires prepared { Prepared self.old budget }
+        ensures leads { LeadsTo self.old self.new }
+        ensures answer { (image : Image) (world : Given) (state : State) →
+            IsAt image world self.old state →
+            RunSo image world budget (run_from result (done self.new)) }
+    {
+        run(&self.program, &mut self.flow, budget)
+    }
+
+    /// The words printed so far.
+    pub fn printed(&self) -> &[u64]
+        ensures words { result.now ≡ (done self.now).printed }
+        ensures state { (image : Image) (world : Given) (state : State) →
+            IsAt image world self.now state → printed_words state.memory.acts ≡ result.now }
+    {
+        &self.flow.memory.printed
+    }
+
+    /// The cells of all arrays, in order, hidden ones too.
+    pub fn cells(&self) -> &Cells
+        ensures cells { result.now ≡ (done self.now).arrays }
+        ensures state { (image : Image) (world : Given) (state : State) →
+            IsAt image world self.now state → state.memory.cells ≡ result.now }
+    {
+        &self.flow.memory.cells
+    }
+
+    /// The words that a port has taken so far.
+    pub fn took(&self, port: u8) -> &[u64]
+        requires { 1 ≤ port }
+        ensures words { result.now ≡ row (done self.now).took (port - 1) }
+        ensures state { (image : Image) (world : Given) (state : State) →
+            IsAt image world self.now state →
+            row (took_by_ports state.memory.acts) (port - 1) ≡ result.now }
+    {
+        let place = (port - 1) as usize;
+        if place < self.flow.memory.took.len() {
+            &self.flow.memory.took[place]
+        } else {
+            &[]
+        }
+    }
+
+    /// How many instances have fired.
+    pub fn fired(&self) -> u64
+        ensures fired { result ≡ (done self.now).fired }
+        ensures state { (image : Image) (world : Given) (state : State) →
+            IsAt image world self.now state → length state.fired ≡ result }
+    {
+        self.flow.fired
+    }
+
+    fn make_match(&mut self, wave: u64, instr: u32, port: u8) -> Result<(), StepFault>
+        requires { Runs self.old }
+        ensures made { OnOk result (Makes (Match wave instr port) self.old self.new) }
+        ensures refused { IfErr result (λ fault. is_not_ready fault ≡ true →
+            NotEnabled (Match wave instr port) self.old) }
+        ensures kept { OnErr result (Keeps self.old self.new) }
+    {
+        if !self.flow.way.has(wave, instr, port) {
+            return Err(StepFault::NotReady);
+        }
+        if self.flow.fired >= u64::MAX - 1 || self.flow.prepare(1).is_err() {
+            return Err(StepFault::NoMemory);
+        }
+        match self.flow.way.take_at(wave, instr, port) {
+            Some(token) => {
+                self.flow.arrive(&self.program, token);
+                Ok(())
+            }
+            None => Err(StepFault::NotReady),
+        }
+    }
+
+    fn make_issue(&mut self, wave: u64, instr: u32) -> Result<(), StepFault>
+        requires { Runs self.old }
+        ensures made { OnOk result (Makes (Issue wave instr) self.old self.new) }
+        ensures refused { IfErr result (λ fault. is_not_ready fault ≡ true →
+            NotEnabled (Issue wave instr) self.old) }
+        ensures kept { OnErr result (Keeps self.old self.new) }
+    {
+        match self.flow.ready(&self.program, wave, instr) {
+            Some(place) => {
+                if self.flow.fired == u64::MAX || self.flow.prepare(0).is_err() {
+                    return Err(StepFault::NoMemory);
+                }
+                self.flow.issue(&self.program, place);
+                Ok(())
+            }
+            None => Err(StepFault::NotReady),
+        }
+    }
+}
