@@ -32,5 +32,5 @@ pub fn graph_drafts_keep()
         EndlessWith g (graph_draft g (arrays_of g) live cut) world }
     ensures cost { (g : Graph) (live : ℕ → ℕ → Bool) (cut : Cut) → Fits g live cut →
         GraphOfWords g → (world : World) → WorldOfWords world → (turns : ℕ) →
-        CostsAtMost g (graph_draft g (arrays_of g) live cut) world turns }
+        CostsAtMost g live (graph_draft g (arrays_of g) live cut) world turns }
 {}
