@@ -1,0 +1,42 @@
+-- The bound of a program holds for its draft.
+use Rattle.std.proofs.Common.{ℕ, suc, ◌+◌, ◌*◌, ◌≡◌, ◌≤◌, List, [], ◌∷◌, length, arith}
+use Rattle.std.specs.List.{sum_by}
+use Rattle.std.proofs.lemmas.List.Sums.{sum_by-cons}
+use Rattle.std.proofs.Math.Nat.{mul-le-mul_right}
+use Rattle.ws_words.specs.Outside.{World}
+use Rattle.ws_isa.specs.Image.{Image}
+use Rattle.src_ast.specs.Syntax.{Part}
+use Rattle.src_ast.specs.Bound.{widest, most_variables}
+use Rattle.src_ast.specs.LanguageLimits.{most_statement_nodes}
+use Rattle.cfg_core.specs.Graph.{Graph}
+use Rattle.cfg_core.specs.Walk.{opening}
+use Rattle.cfg_core.specs.Weights.{path}
+use Rattle.live_vars.specs.Marks.{has}
+use Rattle.wave_cut.specs.Cut.{Cut}
+use Rattle.wave_gen.specs.Cost.{quarters, CostsAtMost}
+use Rattle.wave_build.specs.Passed.{Passed}
+use Rattle.wave_build.specs.Bounds.{StaysWithin}
+use Rattle.wave_build.proofs.Costing.{last_weighs}
+
+-- four more for each item
+sum_more : (f : ℕ → ℕ) (xs : List ℕ) → sum_by (λ c. f c + 4) xs ≡ sum_by f xs + 4 * length xs
+sum_more f [] = omega arith
+sum_more f (x ∷ xs) =
+    let i = sum_more f xs in
+    let a = sum_by-cons f x xs in let b = sum_by-cons (λ c. f c + 4) x xs in omega (arith, i, a, b)
+
+in_all : (e v n : ℕ) → e ≤ 274 → (20 * v + 88) + (2 * (11 * v + 38) + (42 * v + 162 + 9 * e)) * n ≤ 4 * ((2 * e + 16 * (v + 8)) * suc n)
+in_all e v n h =
+    let m : (2 * (11 * v + 38) + (42 * v + 162 + 9 * e)) * n ≤ (8 * e + 64 * v + 512) * n = mul-le-mul_right n (omega (arith, h)) in
+    let s : 4 * ((2 * e + 16 * (v + 8)) * suc n) ≡ (8 * e + 64 * v + 512) + (8 * e + 64 * v + 512) * n = grind arith in
+    omega (arith, m, s)
+
+module _ (parts : List Part) (l j k s : Graph) (needed live : List (List ℕ)) (cut : Cut) (narrow : widest parts ≤ most_statement_nodes) (P : Passed parts l j k s needed live cut) where
+  pub stays_within : (draft : Image) (world : World) (turns : ℕ) → CostsAtMost s (has live) draft world turns → StaysWithin parts s draft world turns
+  stays_within draft world turns costs m o left e =
+      let c = costs m o left e in
+      let way = path s m (opening s world turns) in
+      let w = last_weighs parts l j k s needed live cut P world turns m in
+      let f = sum_more (quarters s (has live)) way in
+      let b = in_all (widest parts) (most_variables parts) turns (omega (arith, narrow)) in
+      (c.0, c.1, omega (arith, c.2, w, f, b))
