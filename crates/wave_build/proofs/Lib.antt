@@ -1,3 +1,4 @@
+pub mod CompilingBound
 pub mod CompilingGraphs
 pub mod CompilingRuns
 pub mod CompilingShown
@@ -8,3 +9,8 @@ pub mod Sizing
 pub mod Forming
 pub mod RoomSteps
 pub mod RoomParts
+pub mod Weights
+pub mod Counting
+pub mod Paying
+pub mod Costing
+pub mod Bounding

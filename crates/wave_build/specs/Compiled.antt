@@ -1,7 +1,8 @@
 -- What the image of a program does and shows.
-use Rattle.std.specs.Prelude.{◌≡◌, ℕ, true, List, ◌++◌, map}
+use Rattle.std.specs.Prelude.{◌≡◌, ℕ, suc, ◌*◌, true, List, ◌++◌, map}
 use Rattle.ws_words.specs.Outside.{Act, Outside, World}
 use Rattle.src_ast.specs.Syntax.{Part}
+use Rattle.src_ast.specs.Bound.{bound}
 use Rattle.src_ast.specs.Meaning.{Passes, Flows}
 use Rattle.src_ast.specs.Runs.{acts_in}
 use Rattle.ws_isa.specs.Image.{Array, Image}
@@ -68,6 +69,11 @@ pub record WalksAsRun (parts : List Part) (image : Image) (world : World) : Type
 -- in each world of words
 abbrev pub DoesAs : List Part → Image → Type 0
 DoesAs parts image = (world : World) → WorldOfWords world → WalksAsRun parts image world
+
+-- where the run ends in n turns, the walk costs at most the program's bound for each, and once more
+abbrev pub KeepsBound : List Part → Image → Type 0
+KeepsBound parts image = (world : World) → WorldOfWords world → (n : ℕ) (o : Outside) →
+    Passes parts world n o → CostAtMost image world (bound parts * suc n)
 
 -- There is a draft without notes of which this is an image: its blocks are kept but for what is
 -- added, each no-op that is added is needed, since no notes do without it, and gets its token nearby.

@@ -1,3 +1,4 @@
+pub mod Bounds
 pub mod Compiled
 pub mod Passed
 pub mod Prepared

@@ -4,11 +4,12 @@ ghost use Rattle.std.specs.Prelude.{◌≡◌, IfOk};
 ghost use Rattle.ws_isa.specs.Formed.{Formed};
 ghost use Rattle.ws_isa.specs.View as image;
 ghost use Rattle.src_ast.specs.View as ast;
+ghost use Rattle.src_ast.specs.Written.{IsWritten};
 ghost use Rattle.image_walk.specs.Sound.{Sound};
 ghost use Rattle.cfg_core.specs.View as view;
 ghost use Rattle.wave_link.specs.Numbered.{NumberedInOrder};
 ghost use Rattle.wave_link.specs.Ripples.{ExactRipples};
-ghost use Rattle.wave_build.specs.Compiled.{ShowsArrays, DoesAs, HasDraft};
+ghost use Rattle.wave_build.specs.Compiled.{ShowsArrays, DoesAs, KeepsBound, HasDraft};
 ghost use Rattle.wave_build.specs.Prepared.{Begun, Prepared};
 
 use crate::room::leaves_room;
@@ -19,6 +20,7 @@ use cfg_core::{Graph, walks_answer};
 use image_walk::Checked;
 use live_vars::live;
 use phi_conv::join_short;
+use src_ast::written_is_narrow;
 use src_check::Accepted;
 use std::alloc::Global;
 use wave_cut::cut;
@@ -58,11 +60,14 @@ fn image_of(alloc: Global, accepted: &Accepted) -> Result<Image, NoMemory>
         IfOk result (λ made. ShowsArrays parts (image.image made)) }
     ensures walk { let parts = ast.parts accepted.now.program.items.items in
         IfOk result (λ made. DoesAs parts (image.image made)) }
+    ensures cost { let parts = ast.parts accepted.now.program.items.items in
+        IfOk result (λ made. IsWritten parts → KeepsBound parts (image.image made)) }
     ensures numbers { IfOk result (λ made. NumberedInOrder (image.image made)) }
     ensures ripples { IfOk result (λ made. ExactRipples (image.image made)) }
     ensures draft { IfOk result (λ made. HasDraft (image.image made)) }
 {
     walks_answer();
+    written_is_narrow();
     let graph = prepare(alloc, accepted)?;
     see_words(&graph);
     let live = live(alloc, &graph)?;
@@ -84,6 +89,10 @@ pub fn compile(alloc: Global, accepted: &Accepted) -> Result<Checked, NoMemory>
         IfOk result (λ made. ShowsArrays parts made) }
     ensures walk { let parts = ast.parts accepted.now.program.items.items in
         IfOk result (λ made. DoesAs parts made) }
+
+    // its walk costs at most the program's bound for each turn of that run, and once more
+    ensures cost { let parts = ast.parts accepted.now.program.items.items in
+        IfOk result (λ made. IsWritten parts → KeepsBound parts made) }
 
     // its notes, and what was added to its draft for them
     ensures numbers { IfOk result (λ made. NumberedInOrder made) }

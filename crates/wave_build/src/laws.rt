@@ -1,18 +1,22 @@
 //! Laws of the passes together.
 
 ghost use Rattle.std.specs.Prelude.{ℕ, ◌≤◌, List};
+ghost use Rattle.ws_words.specs.Outside.{World};
 ghost use Rattle.ws_isa.specs.Image.{Image};
 ghost use Rattle.ws_isa.specs.Formed.{most_landings};
 ghost use Rattle.src_ast.specs.Syntax.{Part};
-ghost use Rattle.src_ast.specs.Bound.{most_variables};
-ghost use Rattle.src_ast.specs.LanguageLimits.{most_locals};
+ghost use Rattle.src_ast.specs.Bound.{most_variables, widest};
+ghost use Rattle.src_ast.specs.LanguageLimits.{most_locals, most_statement_nodes};
 ghost use Rattle.cfg_core.specs.Graph.{Graph, spots};
 ghost use Rattle.live_vars.specs.Marks.{has};
 ghost use Rattle.wave_cut.specs.Cut.{Cut};
 ghost use Rattle.call_gen.specs.Keeps.{HasNoSend};
 ghost use Rattle.call_gen.specs.Sizes.{call_count};
+ghost use Rattle.wave_gen.specs.Cost.{CostsAtMost};
 ghost use Rattle.wave_gen.specs.Fitting.{Fits};
 ghost use Rattle.wave_gen.specs.Limits.{KeepsLimits};
+ghost use Rattle.wave_link.specs.Passed.{WalksFor};
+ghost use Rattle.wave_build.specs.Bounds.{StaysWithin};
 ghost use Rattle.wave_build.specs.Passed.{Joined, Lowered, Passed};
 ghost use Rattle.wave_build.specs.Small.{DraftFits};
 
@@ -38,4 +42,15 @@ pub fn passed_drafts_fit()
         Passed parts lowered joined kept spelled needed live cut →
         most_variables parts ≤ most_locals → call_count (spots lowered) ≤ most_landings →
         (draft : Image) → KeepsLimits spelled draft → DraftFits spelled draft }
+{}
+
+/// Where the walk of that graph ends, the walk of an image of a draft that costs what its blocks
+/// weigh stays within the bound of the program.
+pub fn passed_walks_stay_within()
+    ensures { (parts : List Part) (lowered joined kept spelled : Graph)
+        (needed live : List (List ℕ)) (cut : Cut) → widest parts ≤ most_statement_nodes →
+        Passed parts lowered joined kept spelled needed live cut →
+        (draft image : Image) (world : World) (turns : ℕ) →
+        CostsAtMost spelled (has live) draft world turns → WalksFor draft image world →
+        StaysWithin parts spelled image world turns }
 {}

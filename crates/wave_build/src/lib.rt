@@ -1,8 +1,8 @@
 //! From an accepted program to an image, and what follows from the contracts of the passes together.
 //!
 //! The definitions stand in specs/: what an image does of its program (Compiled.antt), what the
-//! contracts of the passes over graphs say, in their order (Passed.antt), and how large the graphs
-//! become (Small.antt).
+//! contracts of the passes over graphs say, in their order (Passed.antt), how large the graphs
+//! become (Small.antt), and what the walk of a program's image costs (Bounds.antt).
 #![tactic(auto)]
 
 mod compiler;
@@ -11,4 +11,6 @@ mod room;
 mod words;
 
 pub use compiler::compile;
-pub use laws::{joined_graphs_send_nothing, passed_drafts_fit, passed_graphs_fit};
+pub use laws::{
+    joined_graphs_send_nothing, passed_drafts_fit, passed_graphs_fit, passed_walks_stay_within,
+};

@@ -77,6 +77,13 @@ advances_charge n b (x ∷ xs) s =
     let g : charge n (emit b x Advance (x ∷ []) (advances b xs s)) ≤ charge n (advances b xs s) + 5 = emit_charge n b x Advance (x ∷ []) (advances b xs s) in
     omega (arith, i, g)
 
+-- what the instruction weighs by which an edge is chosen, or that ends the walk
+abbrev pub exit_own : Leaves → ℕ
+exit_own (Onto c) = 0
+exit_own (Either op from c d) = 7
+exit_own (Lands op from values ls) = 4 + length from
+exit_own Halts = 5
+
 module _ (width : ℕ) (starts : ℕ → Wants) (n b : ℕ) (p : Plan) where
   abbrev ts : List Tail
   ts = tails_of width starts p.exit
@@ -91,14 +98,14 @@ module _ (width : ℕ) (starts : ℕ → Wants) (n b : ℕ) (p : Plan) where
       let e : weights (chain p.test (more 6 ts)) ≡ 4 * more 6 ts = chain_weight p.test (more 6 ts) in
       omega (arith, few, h, w, e)
 
-  exit_charge : (e : Leaves) → SourceIs e → above (operands_needed e) ≤ n → charge n (exit_made width starts b p e) ≤ charge n (behind_source width starts b p) + 7
+  exit_charge : (e : Leaves) → SourceIs e → above (operands_needed e) ≤ n → charge n (exit_made width starts b p e) ≤ charge n (behind_source width starts b p) + exit_own e
   exit_charge (Onto c) s l = omega arith
   exit_charge (Either op from c d) s l =
       let u : length from ≡ ports_of op = s.1 in let v = ports_few op in
       let h : charge n (exit_made width starts b p (Either op from c d)) ≤ charge n (behind_source width starts b p) + (4 + length from) = make_charge n b p.test op from (behind_source width starts b p) (all_below n from l) (omega (arith, u, v)) in omega (arith, h, u, v)
   exit_charge (Lands op from values ls) s l =
       let u : length from ≡ ports_of op = s.1 in let v = ports_few op in
-      let h : charge n (exit_made width starts b p (Lands op from values ls)) ≤ charge n (behind_source width starts b p) + (4 + length from) = make_charge n b p.test op from (behind_source width starts b p) (all_below n from l) (omega (arith, u, v)) in omega (arith, h, u, v)
+      let h : charge n (exit_made width starts b p (Lands op from values ls)) ≤ charge n (behind_source width starts b p) + (4 + length from) = make_charge n b p.test op from (behind_source width starts b p) (all_below n from l) (omega (arith, u, v)) in omega (arith, h)
   exit_charge Halts s l =
       let h : charge n (exit_made width starts b p Halts) ≤ charge n (behind_source width starts b p) + 5 = rest_charge n b (record { op = Halt; dests = []; others = [] }) (pulse ∷ []) (behind_source width starts b p) in omega (arith, h)
 
@@ -112,13 +119,13 @@ module _ (width : ℕ) (ps : List Plan) (Live : ℕ → ℕ → Type 0) (plans :
 
   -- what the block takes: tails, source, items
   abbrev pub taken : ℕ
-  taken = total (end_wants width (starts_at width ps) (plan_at ps b).exit) n + 7 * length (tails_of width (starts_at width ps) (plan_at ps b).exit) + 7 + weights (plan_at ps b).items
+  taken = total (end_wants width (starts_at width ps) (plan_at ps b).exit) n + 7 * length (tails_of width (starts_at width ps) (plan_at ps b).exit) + exit_own (plan_at ps b).exit + weights (plan_at ps b).items
 
   body_charge : charge n (body_made width (starts_at width ps) b (plan_at ps b)) ≤ taken
   body_charge =
       let p = plan_at ps b in
       let a : charge n (behind_source width S b p) ≤ total (end_wants width S p.exit) n + 7 * length (tails_of width S p.exit) = behind_charge width S n b p (omega (arith, high)) in
-      let c : charge n (exit_made width S b p p.exit) ≤ charge n (behind_source width S b p) + 7 = exit_charge width S n b p p.exit (plans.each b h).source (omega (arith, high)) in
+      let c : charge n (exit_made width S b p p.exit) ≤ charge n (behind_source width S b p) + exit_own p.exit = exit_charge width S n b p p.exit (plans.each b h).source (omega (arith, high)) in
       let d : charge n (body_made width S b p) ≤ charge n (exit_made width S b p p.exit) + weights p.items = wire_charge n b p.items (exit_made width S b p p.exit) (items_below n p.items (plans.each b h).items (omega (arith, high))) in
       omega (arith, a, c, d)
 

@@ -1,5 +1,5 @@
 -- The draft's walk costs what the blocks that the graph's walk leaves weigh.
-use Rattle.std.proofs.Common.{ℕ, zero, suc, ◌+◌, ◌*◌, ◌≡◌, ◌<◌, ◌≤◌, ◌⊎◌, Bool, true, false, cond, List, [], ◌∷◌, ◌++◌, length, refl, sym, ap, ◌∙◌, subst, inl, inr, arith}
+use Rattle.std.proofs.Common.{ℕ, zero, suc, ◌+◌, ◌*◌, ◌≡◌, ◌<◌, ◌≤◌, ◌⊎◌, ◌||◌, Bool, true, false, cond, List, [], ◌∷◌, ◌++◌, length, refl, sym, ap, ◌∙◌, subst, inl, inr, arith}
 use Rattle.std.proofs.lemmas.Bool.{cases_Bool, both_ways, cond-true, cond-false}
 use Rattle.std.specs.List.{sum_by}
 use Rattle.std.proofs.lemmas.List.Sums.{sum_by-cons}
@@ -7,25 +7,27 @@ use Rattle.ws_words.specs.Outside.{Outside, State, World}
 use Rattle.ws_isa.specs.Image.{Image, Array, first_number, stops, target}
 use Rattle.image_walk.specs.Walk.{opening_memory, has_ended, CostAtMost}
 use Rattle.image_walk.proofs.Ending.{over_is_whole}
+use Rattle.wave_link.specs.Passed.{blocks_left}
 use Rattle.cfg_core.specs.Graph as graph
 use Rattle.cfg_core.specs.Graph.{Term, Graph, spots, spot_at, block_at}
 use Rattle.cfg_core.specs.Rules.{ExitIn}
 use Rattle.cfg_core.specs.Walk.{Outcome, Done, Out, run_ops, Config, At, Over, Going, passed, step, walk, opening}
-use Rattle.cfg_core.specs.Weights.{acts_of, op_nodes, exit_nodes, block_left, path}
+use Rattle.cfg_core.specs.Weights.{block_left, path}
 use Rattle.wave_cut.specs.Cut.{Cut, is_first}
 use Rattle.wave_gen.specs.Waits.{Code, count, names_at, chosen, Place, pass, places}
 use Rattle.wave_gen.specs.Plans.{Leaves, Plan, pulse, tails_of, end_wants, steered, steers, plan_at, made_at, starts_at, begins, draft_of, code_of}
 use Rattle.wave_gen.specs.Gen.{gen_term, gen_ops}
 use Rattle.wave_gen.specs.Drawn.{gen_terms}
-use Rattle.wave_gen.specs.Listing.{gen_exit, live_from, entries_of, listing, index_of, place_of, width_of, plans_of, needed, nothing_zeroed, arrays_of, graph_draft}
+use Rattle.wave_gen.specs.Listing.{gen_exit, entries_of, listing, index_of, place_of, width_of, plans_of, needed, nothing_zeroed, arrays_of, graph_draft}
 use Rattle.wave_gen.specs.Fitting.{Fits}
 use Rattle.wave_gen.specs.Words.{GraphOfWords, WorldOfWords}
-use Rattle.wave_gen.specs.Cost.{values_sent, quarters, CostsAtMost}
+use Rattle.wave_gen.specs.Cost.{op_quarters, exit_quarters, live_in, quarters, CostsAtMost}
 use Rattle.wave_gen.proofs.Weights.{total, weights}
 use Rattle.wave_gen.specs.Shared.{shared, none_known}
 use Rattle.wave_gen.proofs.Sharing.{heavies, shared_weigh}
-use Rattle.wave_gen.proofs.ItemWeights.{heavies_append, ops_weight, exit_weight}
-use Rattle.wave_gen.proofs.BlockWeights.{plan_above, block_charge}
+use Rattle.wave_gen.proofs.ItemWeights.{heavies_append, ops_weight, exit_items, exit_weight}
+use Rattle.wave_gen.proofs.Nexts.{ops_next}
+use Rattle.wave_gen.proofs.BlockWeights.{exit_own, plan_above, block_charge}
 use Rattle.wave_gen.proofs.EdgeWeights.{steered_few, steers_count, sends_count, unwanted, ends_on, ends_stop}
 use Rattle.wave_gen.proofs.DrawnPlans.{WalkFine}
 use Rattle.wave_gen.proofs.IsDrawn.{IsDrawn}
@@ -35,6 +37,7 @@ use Rattle.wave_gen.proofs.Blocks.{begins_next}
 use Rattle.wave_gen.proofs.Waiting.{waits}
 use Rattle.wave_gen.proofs.Shape.{shape}
 use Rattle.wave_gen.proofs.Passes.{forth}
+use Rattle.wave_gen.proofs.Leaving.{steps_many, most_left, walk_going, path_enough}
 use Rattle.wave_gen.proofs.Paced.{exit_leaves}
 use Rattle.wave_gen.proofs.Paced as paced
 use Rattle.wave_gen.proofs.Tied.{AtBlock, Tied, at_block, at_end, out_of_turns, next, nexts, one_more, next_place, begins_so, same_home}
@@ -43,10 +46,6 @@ use Rattle.wave_gen.proofs.WordsStay.{words_fine}
 use Rattle.wave_gen.proofs.GraphOpen.{same_cells}
 use Rattle.wave_gen.proofs.PlanFacts.{at, at_place, place_there, to_entry, live_of_entry, numbers}
 use Rattle.wave_gen.proofs.PlansMade.{plans_drawn}
-
-walk_going : (g : Graph) (m : ℕ) (o p : Outside) (k : ℕ) → walk g m (Going o) ≡ Over p k → ⊥
-walk_going g zero o p k e = cc
-walk_going g (suc m) o p k e = walk_going g m o p k e
 
 module _ (g : Graph) (arrays : List Array) (width : ℕ) (ps : List Plan) (live : ℕ → ℕ → Bool) (place : ℕ → ℕ) (zeroed : ℕ → List ℕ) (d : IsDrawn g arrays width ps live place zeroed)
     (n : ℕ) (weight : ℕ → ℕ)
@@ -163,36 +162,42 @@ module _ (g : Graph) (arrays : List Array) (width : ℕ) (ps : List Plan) (live 
       go (Out q) r s i = absurd (walk_going g m q o k (ap (λ z. walk g m (passed g z (block_at g b).exit [])) (sym r) ∙ e))
       go (Done u l) r s i = on l s (subst (λ z. paced.Leaves (passed g z (block_at g b).exit []) l) (sym r) (exit_leaves g (block_at g b).exit u [] l)) i
 
-  pub walk_cost : (world : World) (turns : ℕ) → WalkFine g (opening g world turns) → (m : ℕ) (o : Outside) (left : ℕ) → walk g m (opening g world turns) ≡ Over o left →
-      (cost : ℕ) × CostAtMost I world cost × (4 * cost ≤ sum_by weight (path g m (opening g world turns)))
-  walk_cost world turns fine m o left e =
-      let v = main_entry g d.rules in
-      let t = begins_so arrays width ps (λ b x. live b x ≡ true) d.plans g d.rules place zeroed d.drawn world turns d.cells v.0 v.1 in
-      let c = cost_from m (places I C (opening_memory I world) 0) (opening g world turns) t fine o left e in
-      let q : afters m (places I C (opening_memory I world) 0) ≡ places I C (opening_memory I world) m = next_place arrays width ps (λ b x. live b x ≡ true) d.plans g d.rules place zeroed d.drawn (opening_memory I world) 0 m ∙ ap (λ (r : ℕ). places I C (opening_memory I world) r) (let z : 0 + m ≡ m = omega arith in z) in
-      let w : (places I C (opening_memory I world) m).over ≡ true = over_at m in
-      let r = forth I world C (shape arrays width ps (λ b x. live b x ≡ true) d.plans) (waits arrays width ps (λ b x. live b x ≡ true) d.plans) m in
-      let f : (afters m (places I C (opening_memory I world) 0)).fired ≡ (places I C (opening_memory I world) m).fired = ap (λ (p : Place). p.fired) q in
-      let x : length (Rattle.image_walk.specs.Walk.walk I world r.0) ≡ (places I C (opening_memory I world) m).fired = r.1.cost in
-      (length (Rattle.image_walk.specs.Walk.walk I world r.0), over_is_whole I world r.0 (r.1.over ∙ w), omega (arith, c, f, x))
-    where
-      over_at : (i : ℕ) → (places I C (opening_memory I world) m).over ≡ true
-      over_at i =
-          let v = main_entry g d.rules in
-          let t = begins_so arrays width ps (λ b x. live b x ≡ true) d.plans g d.rules place zeroed d.drawn world turns d.cells v.0 v.1 in
-          let s = Rattle.wave_gen.proofs.Tied.follows arrays width ps (λ b x. live b x ≡ true) d.plans g d.rules place zeroed d.drawn m (places I C (opening_memory I world) 0) (opening g world turns) t fine in
-          let q : afters m (places I C (opening_memory I world) 0) ≡ places I C (opening_memory I world) m = next_place arrays width ps (λ b x. live b x ≡ true) d.plans g d.rules place zeroed d.drawn (opening_memory I world) 0 m ∙ ap (λ (r : ℕ). places I C (opening_memory I world) r) (let z : 0 + m ≡ m = omega arith in z) in
-          ap (λ (p : Place). p.over) (sym q) ∙ tied_over (afters m (places I C (opening_memory I world) 0)) (walk g m (opening g world turns)) s o left e
+  module _ (world : World) (turns : ℕ) (fine : WalkFine g (opening g world turns)) where
+    starts_tied : Ties (places I C (opening_memory I world) 0) (opening g world turns)
+    starts_tied = let v = main_entry g d.rules in begins_so arrays width ps (λ b x. live b x ≡ true) d.plans g d.rules place zeroed d.drawn world turns d.cells v.0 v.1
+
+    place_of_walk : (m : ℕ) → afters m (places I C (opening_memory I world) 0) ≡ places I C (opening_memory I world) m
+    place_of_walk m = next_place arrays width ps (λ b x. live b x ≡ true) d.plans g d.rules place zeroed d.drawn (opening_memory I world) 0 m ∙ ap (λ (r : ℕ). places I C (opening_memory I world) r) (let z : 0 + m ≡ m = omega arith in z)
+
+    over_at : (m : ℕ) (o : Outside) (left : ℕ) → walk g m (opening g world turns) ≡ Over o left → (places I C (opening_memory I world) m).over ≡ true
+    over_at m o left e =
+        let s = Rattle.wave_gen.proofs.Tied.follows arrays width ps (λ b x. live b x ≡ true) d.plans g d.rules place zeroed d.drawn m (places I C (opening_memory I world) 0) (opening g world turns) starts_tied fine in
+        ap (λ (p : Place). p.over) (sym (place_of_walk m)) ∙ tied_over (afters m (places I C (opening_memory I world) 0)) (walk g m (opening g world turns)) s o left e
+
+    -- the draft's walk leaves no more blocks than the graph's
+    leaves_few : (m : ℕ) (o : Outside) (left : ℕ) → walk g m (opening g world turns) ≡ Over o left → (t : ℕ) → blocks_left I world t ≤ length (path g m (opening g world turns))
+    leaves_few m o left e t =
+        let n : ℕ = length (path g m (opening g world turns)) in
+        let r = forth I world C (shape arrays width ps (λ b x. live b x ≡ true) d.plans) (waits arrays width ps (λ b x. live b x ≡ true) d.plans) n in
+        let w = over_at n o left (path_enough g m (opening g world turns) o left e) in
+        let a = most_left I world r.0 (r.1.over ∙ w) t in
+        let b = steps_many I world r.0 in
+        let c : length (Rattle.image_walk.specs.Walk.walk I world r.0) ≡ (places I C (opening_memory I world) n).fired = r.1.cost in
+        let f : r.0 ≤ n + (places I C (opening_memory I world) n).fired = r.1.short in
+        omega (arith, a, b, c, f)
+
+    pub walk_cost : (m : ℕ) (o : Outside) (left : ℕ) → walk g m (opening g world turns) ≡ Over o left →
+        (cost : ℕ) × CostAtMost I world cost × (4 * cost ≤ sum_by weight (path g m (opening g world turns)))
+        × ((t : ℕ) → blocks_left I world t ≤ length (path g m (opening g world turns)))
+    walk_cost m o left e =
+        let c = cost_from m (places I C (opening_memory I world) 0) (opening g world turns) starts_tied fine o left e in
+        let w : (places I C (opening_memory I world) m).over ≡ true = over_at m o left e in
+        let r = forth I world C (shape arrays width ps (λ b x. live b x ≡ true) d.plans) (waits arrays width ps (λ b x. live b x ≡ true) d.plans) m in
+        let f : (afters m (places I C (opening_memory I world) 0)).fired ≡ (places I C (opening_memory I world) m).fired = ap (λ (p : Place). p.fired) (place_of_walk m) in
+        let x : length (Rattle.image_walk.specs.Walk.walk I world r.0) ≡ (places I C (opening_memory I world) m).fired = r.1.cost in
+        (length (Rattle.image_walk.specs.Walk.walk I world r.0), over_is_whole I world r.0 (r.1.over ∙ w), omega (arith, c, f, x), leaves_few m o left e)
 
 -- the blocks of a graph
-live_few : (f : ℕ → Bool) (x n : ℕ) → length (live_from f x n) ≤ n
-live_few f x zero = omega arith
-live_few f x (suc n) = go (f x) (live_few f (suc x) n)
-  where
-    go : (v : Bool) → length (live_from f (suc x) n) ≤ n → length (cond v (suc x ∷ live_from f (suc x) n) (live_from f (suc x) n)) ≤ suc n
-    go true i = omega (arith, i)
-    go false i = omega (arith, i)
-
 names_count : (ts : List Term) (k : ℕ) → length (gen_terms k ts).names ≡ length ts
 names_count [] k = refl
 names_count (t ∷ ts) k = ap suc (names_count ts (suc (gen_term k t).next))
@@ -204,9 +209,19 @@ module _ (g : Graph) (live : ℕ → ℕ → Bool) (cut : Cut) (fit : Fits g liv
   D : IsDrawn g (arrays_of g) (width_of g) (plans_of g live cut) (needed g live cut) (place_of g cut) nothing_zeroed
   D = plans_drawn g live cut fit (arrays_of g) (same_cells g.arrays)
 
-  entries_few : (x : ℕ) (v : Bool) → length (cond v (entries_of g live x) []) ≤ suc (spot_at g x).vars
-  entries_few x true = let h = live_few (live x) 0 (spot_at g x).vars in omega (arith, h)
+  entries_few : (x : ℕ) (v : Bool) → length (cond v (entries_of g live x) []) ≤ suc (live_in (live x) (spot_at g x).vars)
+  entries_few x true = omega arith
   entries_few x false = omega arith
+
+  -- a name that isn't live nobody wants
+  unlive : (a y : ℕ) → a < length (spots g) → live a y ≡ false → starts_at (width_of g) (plans_of g live cut) (place_of g cut a) (suc y) ≡ []
+  unlive a y la e = unwanted (arrays_of g) (width_of g) (plans_of g live cut) (λ n z. needed g live cut n z ≡ true) D.plans (place_of g cut a) (suc y) (omega arith, place_there g live cut fit a la)
+      (λ i. (let j = to_entry g live cut fit (index_of (listing g cut) a) a (suc y) (at g live cut fit a la) i in
+      let k = live_of_entry g live cut fit a y la j in both_ways (live a y) e ((fit.sets a y la k.0).1 k.1)))
+
+  both_false : (a b : Bool) → (a || b) ≡ false → (a ≡ false) × (b ≡ false)
+  both_false true b e = absurd (cc)
+  both_false false b e = (refl, e)
 
   -- past a procedure's variables nobody wants a name
   pub nobody : (x a y : ℕ) → x < length (spots g) → a < length (spots g) → (spot_at g a).home ≡ (spot_at g x).home → suc (spot_at g x).vars ≤ y → starts_at (width_of g) (plans_of g live cut) (place_of g cut a) y ≡ []
@@ -216,15 +231,17 @@ module _ (g : Graph) (live : ℕ → ℕ → Bool) (cut : Cut) (fit : Fits g liv
       let k : y < (spot_at g a).vars = (live_of_entry g live cut fit a y la j).0 in
       let v : (spot_at g a).vars ≡ (spot_at g x).vars = same_home g x a lx la h in omega (arith, k, v, u)))
 
-  tails_few : (x k : ℕ) → x < length (spots g) → length (tails_of (width_of g) (starts_at (width_of g) (plans_of g live cut)) (gen_exit (place_of g cut) k (block_at g x).exit).exit) ≤ suc (spot_at g x).vars + values_sent (block_at g x).exit
+  tails_few : (x k : ℕ) → x < length (spots g) → exit_items (block_at g x).exit + 7 * length (tails_of (width_of g) (starts_at (width_of g) (plans_of g live cut)) (gen_exit (place_of g cut) k (block_at g x).exit).exit) + exit_own (gen_exit (place_of g cut) k (block_at g x).exit).exit ≤ exit_quarters live (spot_at g x).vars (block_at g x).exit
   tails_few x k l = go (block_at g x).exit (numbers g live cut fit x l).exit
     where
-      go : (exit : graph.Exit) → ExitIn g (spot_at g x).home (spot_at g x).vars exit → length (tails_of (width_of g) (starts_at (width_of g) (plans_of g live cut)) (gen_exit (place_of g cut) k exit).exit) ≤ suc (spot_at g x).vars + values_sent exit
+      go : (exit : graph.Exit) → ExitIn g (spot_at g x).home (spot_at g x).vars exit → exit_items exit + 7 * length (tails_of (width_of g) (starts_at (width_of g) (plans_of g live cut)) (gen_exit (place_of g cut) k exit).exit) + exit_own (gen_exit (place_of g cut) k exit).exit ≤ exit_quarters live (spot_at g x).vars exit
       go (graph.Branch t a b) h =
           let w = starts_at (width_of g) (plans_of g live cut) (place_of g cut a) in
           let v = starts_at (width_of g) (plans_of g live cut) (place_of g cut b) in
           let c = steers_count w v (steered (width_of g) w v) in
-          let s = steered_few (width_of g) (suc (spot_at g x).vars) w v (omega arith) (λ y u. (nobody x a y l h.1.0 h.1.1 u, nobody x b y l h.2.0 h.2.1 u)) in
+          let s = steered_few (width_of g) (spot_at g x).vars w v (λ y. live a y || live b y)
+          (λ y e. (let o = both_false (live a y) (live b y) e in (unlive a y h.1.0 o.0, unlive b y h.2.0 o.1)))
+          (λ y u. (nobody x a (suc y) l h.1.0 h.1.1 (omega (arith, u)), nobody x b (suc y) l h.2.0 h.2.1 (omega (arith, u)))) in
           omega (arith, c, s)
       go (graph.Send t ts ls) h =
           let m = gen_terms (gen_term k t).next ts in
@@ -252,7 +269,7 @@ module _ (g : Graph) (live : ℕ → ℕ → Bool) (cut : Cut) (fit : Fits g liv
 
   pub block_cost : (n x : ℕ) → x < length (spots g) → plan_above (width_of g) (starts_at (width_of g) (plans_of g live cut)) (plan_at (plans_of g live cut) (place_of g cut x)) ≤ n →
       4 * length (made_at (width_of g) (plans_of g live cut) (place_of g cut x)).code + total (starts_at (width_of g) (plans_of g live cut) (place_of g cut x)) n
-      ≤ total (end_wants (width_of g) (starts_at (width_of g) (plans_of g live cut)) (plan_at (plans_of g live cut) (place_of g cut x)).exit) n + quarters g x
+      ≤ total (end_wants (width_of g) (starts_at (width_of g) (plans_of g live cut)) (plan_at (plans_of g live cut) (place_of g cut x)).exit) n + quarters g live x
   block_cost n x l high =
       let b = place_of g cut x in
       let q = at_place g live cut fit x l in
@@ -260,25 +277,27 @@ module _ (g : Graph) (live : ℕ → ℕ → Bool) (cut : Cut) (fit : Fits g liv
       let e = gen_exit (place_of g cut) k.next (block_at g x).exit in
       let c = block_charge (width_of g) (plans_of g live cut) (λ n z. needed g live cut n z ≡ true) D.plans n b (omega arith, place_there g live cut fit x l) high in
       let ts : length (tails_of (width_of g) (starts_at (width_of g) (plans_of g live cut)) (plan_at (plans_of g live cut) b).exit) ≡ length (tails_of (width_of g) (starts_at (width_of g) (plans_of g live cut)) e.exit) = ap (λ (p : Plan). length (tails_of (width_of g) (starts_at (width_of g) (plans_of g live cut)) p.exit)) q in
+      let eo : exit_own (plan_at (plans_of g live cut) b).exit ≡ exit_own e.exit = ap (λ (p : Plan). exit_own p.exit) q in
       let tf = tails_few x k.next l in
       let ws : weights (plan_at (plans_of g live cut) b).items ≡ weights (shared none_known (k.items ++ e.items)) = ap (λ (p : Plan). weights p.items) q in
       let sh = shared_weigh none_known (k.items ++ e.items) in
       let wa : heavies (k.items ++ e.items) ≡ heavies k.items + heavies e.items = heavies_append k.items e.items in
-      let wo = ops_weight (block_at g x).ops (width_of g) in
-      let we = exit_weight (place_of g cut) (block_at g x).exit k.next in
+      let wo = ops_weight (block_at g x).ops (width_of g) (omega arith) in
+      let kn = ops_next (block_at g x).ops (width_of g) in
+      let we = exit_weight (place_of g cut) (block_at g x).exit k.next (omega (arith, kn)) in
       let es : length (plan_at (plans_of g live cut) b).entries ≡ length (cond (is_first cut x) (entries_of g live x) []) = ap (λ (p : Plan). length p.entries) q in
       let ef = entries_few x (is_first cut x) in
-      let z : quarters g x ≡ 9 * (sum_by op_nodes (block_at g x).ops + exit_nodes (block_at g x).exit) + 6 * sum_by acts_of (block_at g x).ops + 12 * values_sent (block_at g x).exit + 18 * suc (spot_at g x).vars + 12 = refl in
-      omega (arith, c, ts, tf, ws, sh, wa, wo, we, es, ef, z)
+      let z : quarters g live x ≡ sum_by op_quarters (block_at g x).ops + exit_quarters live (spot_at g x).vars (block_at g x).exit + 11 * suc (live_in (live x) (spot_at g x).vars) + 5 = refl in
+      omega (arith, c, ts, eo, tf, ws, sh, wa, wo, we, es, ef, z)
 
-  pub costs : GraphOfWords g → (world : World) → WorldOfWords world → (turns : ℕ) → CostsAtMost g (draft_of (arrays_of g) (width_of g) (plans_of g live cut)) world turns
+  pub costs : GraphOfWords g → (world : World) → WorldOfWords world → (turns : ℕ) → CostsAtMost g live (draft_of (arrays_of g) (width_of g) (plans_of g live cut)) world turns
   costs words world w turns m o left e =
       let n = above_all (length (plans_of g live cut)) in
-      walk_cost g (arrays_of g) (width_of g) (plans_of g live cut) (needed g live cut) (place_of g cut) nothing_zeroed D n (quarters g)
+      walk_cost g (arrays_of g) (width_of g) (plans_of g live cut) (needed g live cut) (place_of g cut) nothing_zeroed D n (quarters g live)
       (λ x l. block_cost n x l (covers (length (plans_of g live cut)) (place_of g cut x) (omega arith) (place_there g live cut fit x l)))
       world turns (words_fine g words world turns w) m o left e
 
 -- what the draft of a graph costs
-pub graph_costs : (g : Graph) (live : ℕ → ℕ → Bool) (cut : Cut) → Fits g live cut → GraphOfWords g → (world : World) → WorldOfWords world → (turns : ℕ) → CostsAtMost g (graph_draft g (arrays_of g) live cut) world turns
+pub graph_costs : (g : Graph) (live : ℕ → ℕ → Bool) (cut : Cut) → Fits g live cut → GraphOfWords g → (world : World) → WorldOfWords world → (turns : ℕ) → CostsAtMost g live (graph_draft g (arrays_of g) live cut) world turns
 unfolding graph_draft
 graph_costs g live cut fit words world w turns = costs g live cut fit words world w turns

@@ -1,20 +1,22 @@
 -- How many instructions the draft of a graph has.
-use Rattle.std.proofs.Common.{ℕ, zero, suc, ◌+◌, ◌-◌, ◌*◌, ◌≡◌, ◌<◌, ◌≤◌, ◌⊎◌, Bool, true, false, cond, List, [], ◌∷◌, ◌++◌, length, map, Option, Some, None, refl, sym, ap, ◌∙◌, subst, inl, inr, arith, eq-eqb, ne_eqb}
+use Rattle.std.proofs.Common.{ℕ, zero, suc, ◌+◌, ◌-◌, ◌*◌, ◌≡◌, ◌<◌, ◌≤◌, ◌⊎◌, ◌||◌, Bool, true, false, cond, List, [], ◌∷◌, ◌++◌, length, map, Option, Some, None, refl, sym, ap, ◌∙◌, subst, inl, inr, arith, eq-eqb, ne_eqb}
 use Rattle.std.proofs.lemmas.Bool.{cases_eq, cases_lt}
 use Rattle.std.proofs.lemmas.List.{length-map}
 use Rattle.std.specs.List.{sum_by}
 use Rattle.std.proofs.lemmas.List.Sums.{sum_by-cons, sum_by-append}
 use Rattle.ws_isa.specs.Image.{nth, flat}
 use Rattle.cfg_core.specs.Graph as graph
-use Rattle.cfg_core.specs.Graph.{Graph, Spot, no_spot, spots, spot_at, block_at}
+use Rattle.cfg_core.specs.Graph.{Term, Number, Var, Cell, Flip, Not, Neg, Binary, Graph, Spot, no_spot, spots, spot_at, block_at}
 use Rattle.cfg_core.specs.Rules.{ExitIn}
+use Rattle.cfg_core.specs.Weights.{acts_of, term_nodes, op_nodes, exit_nodes}
 use Rattle.wave_cut.specs.Cut.{Cut}
 use Rattle.wave_gen.specs.Wire.{Wants}
 use Rattle.wave_gen.specs.Plans.{Plan, past, steered, end_wants, plan_at, made_at, starts_at, begins, instr_of, blocks_of, draft_of}
 use Rattle.wave_gen.specs.Gen.{gen_ops}
-use Rattle.wave_gen.specs.Listing.{gen_exit, of_wave, waves_from, turned, listing, place_of, width_of, plans_of, needed, arrays_of}
+use Rattle.wave_gen.specs.Listing.{gen_exit, live_from, of_wave, waves_from, turned, listing, place_of, width_of, plans_of, needed, arrays_of}
 use Rattle.wave_gen.specs.Fitting.{Fits}
-use Rattle.wave_gen.specs.Cost.{most_quarters}
+use Rattle.wave_gen.specs.Cost.{term_quarters, op_quarters, exit_quarters, quarters}
+use Rattle.wave_gen.specs.Limits.{values_sent, most_quarters}
 use Rattle.wave_gen.proofs.Weights.{total}
 use Rattle.wave_gen.proofs.Blocks.{past_is}
 use Rattle.wave_gen.proofs.EdgeWeights.{total_least, total_none}
@@ -148,6 +150,60 @@ module _ (g : Graph) (live : ℕ → ℕ → Bool) (cut : Cut) (fit : Fits g liv
       go (graph.Return t) h = nothing
       go graph.Stop h = nothing
 
+  -- live variables are variables
+  few_live : (f : ℕ → Bool) (x n : ℕ) → length (live_from f x n) ≤ n
+  few_live f x zero = omega arith
+  few_live f x (suc n) = one (f x) (few_live f (suc x) n)
+    where
+      one : (v : Bool) → length (live_from f (suc x) n) ≤ n → length (cond v (suc x ∷ live_from f (suc x) n) (live_from f (suc x) n)) ≤ suc n
+      one true i = omega (arith, i)
+      one false i = omega (arith, i)
+
+  term_most : (t : Term) → term_quarters t + 4 ≤ 9 * term_nodes t
+  term_most (Number zero) = omega arith
+  term_most (Number (suc n)) = omega arith
+  term_most (Var x) = omega arith
+  term_most (Cell a t) = let h = term_most t in omega (arith, h)
+  term_most (Flip t) = let h = term_most t in omega (arith, h)
+  term_most (Not t) = let h = term_most t in omega (arith, h)
+  term_most (Neg t) = let h = term_most t in omega (arith, h)
+  term_most (Binary op a b) = let h = term_most a in let i = term_most b in omega (arith, h, i)
+
+  terms_most : (ts : List Term) → sum_by term_quarters ts ≤ 9 * sum_by term_nodes ts
+  terms_most [] = omega arith
+  terms_most (t ∷ ts) = let h = term_most t in let i = terms_most ts in let a = sum_by-cons term_quarters t ts in let b = sum_by-cons term_nodes t ts in omega (arith, h, i, a, b)
+
+  op_most : (op : graph.Op) → op_quarters op ≤ 9 * op_nodes op + 6 * acts_of op
+  op_most (graph.Assign x t) = let h = term_most t in omega (arith, h)
+  op_most (graph.Store a t u) = let h = term_most t in let i = term_most u in omega (arith, h, i)
+  op_most (graph.Print t) = let h = term_most t in omega (arith, h)
+  op_most (graph.Read x) = omega arith
+  op_most (graph.Give p x) = omega arith
+  op_most (graph.Take p t) = let h = term_most t in omega (arith, h)
+  op_most (graph.Choose x t a b) = let h = term_most t in let i = term_most a in let j = term_most b in omega (arith, h, i, j)
+  op_most (graph.Tick n) = omega arith
+  op_most (graph.TickBy t n m) = omega arith
+
+  ops_most : (ops : List graph.Op) → sum_by op_quarters ops ≤ 9 * sum_by op_nodes ops + 6 * sum_by acts_of ops
+  ops_most [] = omega arith
+  ops_most (op ∷ ops) = let h = op_most op in let i = ops_most ops in let a = sum_by-cons op_quarters op ops in let b = sum_by-cons op_nodes op ops in let c = sum_by-cons acts_of op ops in omega (arith, h, i, a, b, c)
+
+  exit_most : (n : ℕ) (exit : graph.Exit) → exit_quarters live n exit ≤ 9 * exit_nodes exit + 12 * values_sent exit + 7 * suc n + 7
+  exit_most n (graph.Goto c) = omega arith
+  exit_most n (graph.Branch t a b) = let h = term_most t in let l = few_live (λ x. live a x || live b x) 0 n in omega (arith, h, l)
+  exit_most n (graph.Call r f ts back) = omega arith
+  exit_most n (graph.Return t) = let h = term_most t in omega (arith, h)
+  exit_most n (graph.Send t ts ls) = let h = term_most t in let i = terms_most ts in omega (arith, h, i)
+  exit_most n graph.Stop = omega arith
+
+  -- what a block weighs, by its nodes
+  most : (x : ℕ) → quarters g live x + 7 * suc (spot_at g x).vars ≤ most_quarters (spot_at g x)
+  most x =
+      let o = ops_most (block_at g x).ops in
+      let e = exit_most (spot_at g x).vars (block_at g x).exit in
+      let l = few_live (live x) 0 (spot_at g x).vars in
+      omega (arith, o, e, l)
+
   code_few : (x : ℕ) → x < length (spots g) → 4 * length (made_at (width_of g) (plans_of g live cut) (place_of g cut x)).code ≤ most_quarters (spot_at g x)
   code_few x l =
       let n = above_all g live cut fit (length (plans_of g live cut)) in
@@ -157,7 +213,8 @@ module _ (g : Graph) (live : ℕ → ℕ → Bool) (cut : Cut) (fit : Fits g liv
       let e : total (end_wants (width_of g) (starts_at (width_of g) (plans_of g live cut)) (plan_at (plans_of g live cut) (place_of g cut x)).exit) n ≡ total (end_wants (width_of g) (starts_at (width_of g) (plans_of g live cut)) (gen_exit (place_of g cut) k (block_at g x).exit).exit) n =
       ap (λ (p : Plan). total (end_wants (width_of g) (starts_at (width_of g) (plans_of g live cut)) p.exit) n) q in
       let f = ends_few n x k l in
-      omega (arith, c, e, f)
+      let m = most x in
+      omega (arith, c, e, f, m)
 
   pub instrs_few : 4 * length (flat (draft_of (arrays_of g) (width_of g) (plans_of g live cut)).blocks) ≤ sum_by most_quarters (spots g)
   unfolding draft_of

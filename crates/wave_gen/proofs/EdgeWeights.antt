@@ -1,8 +1,9 @@
 -- How many tails a block has, and what is wanted past its end against what is wanted where an edge leads.
-use Rattle.std.proofs.Common.{ℕ, zero, suc, ◌+◌, ◌-◌, ◌≡◌, ◌<◌, ◌≤◌, ◌⊎◌, ◌||◌, Bool, true, false, cond, eqb, List, [], ◌∷◌, length, refl, sym, ap, ◌∙◌, subst, inl, inr, arith, eq-eqb}
+use Rattle.std.proofs.Common.{ℕ, zero, suc, ◌+◌, ◌≡◌, ◌<◌, ◌≤◌, ◌⊎◌, ◌||◌, Bool, true, false, cond, eqb, List, [], ◌∷◌, length, refl, sym, ap, ◌∙◌, subst, inl, inr, arith, eq-eqb}
 use Rattle.std.proofs.lemmas.Bool.{cases_Bool, cases_lt, cases_eq, both_ways, cond-true, cond-false}
 use Rattle.ws_isa.specs.Image.{Image, Array, is_stop, stops, target}
 use Rattle.wave_gen.specs.Wire.{Spot, Wants}
+use Rattle.wave_gen.specs.Listing.{live_from}
 use Rattle.wave_gen.specs.Plans.{Leaves, Onto, Either, Lands, Halts, Plan, same_spot, same_spots, differing, steered, is_among, past, steers, sends, end_wants, plan_at, starts_at, exit_of, source_of, draft_of}
 use Rattle.wave_gen.proofs.SteeredNames.{or_count, or_among}
 use Rattle.wave_gen.proofs.Planned.{PlansAre, EdgesAre, Inner}
@@ -16,23 +17,45 @@ nil_or : (l : List Spot) → (l ≡ []) ⊎ (l ≡ [] → ⊥)
 nil_or [] = inl refl
 nil_or (p ∷ l) = inr (λ e. cc)
 
--- names from a bound on that nobody wants aren't steered
-differing_few : (w v : Wants) (high : ℕ) → ((y : ℕ) → high ≤ y → (w y ≡ []) × (v y ≡ [])) → (x n : ℕ) → length (differing w v x n) ≤ high - x
-differing_few w v high none x zero = omega arith
-differing_few w v high none x (suc n) =
-    let i : length (differing w v (suc x) n) ≤ high - suc x = differing_few w v high none (suc x) n in
-    elim (cases_lt x high) [
-      | inl l ↦ go (same_spots (w x) (v x)) i l
-      | inr l ↦ (let e : same_spots (w x) (v x) ≡ true = ap (λ (r : List Spot). same_spots r (v x)) (none x l).0 ∙ ap (same_spots []) (none x l).1 in
-          let c : length (differing w v x (suc n)) ≡ length (differing w v (suc x) n) = ap length (cond-true (same_spots (w x) (v x)) (differing w v (suc x) n) (x ∷ differing w v (suc x) n) e) in omega (arith, c, i))
-    ]
+-- names of variables that no arm wants aren't steered
+differing_live : (w v : Wants) (p : ℕ → Bool) → ((y : ℕ) → p y ≡ false → (w (suc y) ≡ []) × (v (suc y) ≡ [])) → (x n m : ℕ) → ((y : ℕ) → x + m ≤ y → (w (suc y) ≡ []) × (v (suc y) ≡ [])) → length (differing w v (suc x) n) ≤ length (live_from p x m)
+differing_live w v p none x zero m past = omega arith
+differing_live w v p none x (suc n) zero past =
+    let o = past x (omega arith) in
+    let e : same_spots (w (suc x)) (v (suc x)) ≡ true = ap (λ (r : List Spot). same_spots r (v (suc x))) o.0 ∙ ap (same_spots []) o.1 in
+    let c : length (differing w v (suc x) (suc n)) ≡ length (differing w v (suc (suc x)) n) = ap length (cond-true (same_spots (w (suc x)) (v (suc x))) (differing w v (suc (suc x)) n) (suc x ∷ differing w v (suc (suc x)) n) e) in
+    let i : length (differing w v (suc (suc x)) n) ≤ length (live_from p (suc x) 0) = differing_live w v p none (suc x) n 0 (λ y l. past y (omega (arith, l))) in
+    omega (arith, c, i)
+differing_live w v p none x (suc n) (suc m) past =
+    let i : length (differing w v (suc (suc x)) n) ≤ length (live_from p (suc x) m) = differing_live w v p none (suc x) n m (λ y l. past y (omega (arith, l))) in
+    by_test (p x) refl i
   where
-    go : (f : Bool) → length (differing w v (suc x) n) ≤ high - suc x → x < high → length (cond f (differing w v (suc x) n) (x ∷ differing w v (suc x) n)) ≤ high - x
-    go true i l = omega (arith, i, l)
-    go false i l = omega (arith, i, l)
+    more : (f : Bool) → length (differing w v (suc (suc x)) n) ≤ length (live_from p (suc x) m) → length (cond f (differing w v (suc (suc x)) n) (suc x ∷ differing w v (suc (suc x)) n)) ≤ suc (length (live_from p (suc x) m))
+    more true i = omega (arith, i)
+    more false i = omega (arith, i)
 
-pub steered_few : (width high : ℕ) (w v : Wants) → 1 ≤ high → ((y : ℕ) → high ≤ y → (w y ≡ []) × (v y ≡ [])) → length (steered width w v) ≤ high
-steered_few width high w v l none = or_count (differing w v 0 width) high l (let i : length (differing w v 0 width) ≤ high - 0 = differing_few w v high none 0 width in omega (arith, i))
+    by_test : (f : Bool) → p x ≡ f → length (differing w v (suc (suc x)) n) ≤ length (live_from p (suc x) m) → length (differing w v (suc x) (suc n)) ≤ length (live_from p x (suc m))
+    by_test true e i =
+        let c : length (live_from p x (suc m)) ≡ suc (length (live_from p (suc x) m)) = ap length (cond-true (p x) (suc x ∷ live_from p (suc x) m) (live_from p (suc x) m) e) in
+        let k = more (same_spots (w (suc x)) (v (suc x))) i in
+        omega (arith, c, k)
+    by_test false e i =
+        let o = none x e in
+        let s : same_spots (w (suc x)) (v (suc x)) ≡ true = ap (λ (r : List Spot). same_spots r (v (suc x))) o.0 ∙ ap (same_spots []) o.1 in
+        let d : length (differing w v (suc x) (suc n)) ≡ length (differing w v (suc (suc x)) n) = ap length (cond-true (same_spots (w (suc x)) (v (suc x))) (differing w v (suc (suc x)) n) (suc x ∷ differing w v (suc (suc x)) n) s) in
+        let c : length (live_from p x (suc m)) ≡ length (live_from p (suc x) m) = ap length (cond-false (p x) (suc x ∷ live_from p (suc x) m) (live_from p (suc x) m) e) in
+        omega (arith, i, d, c)
+
+pub steered_few : (width high : ℕ) (w v : Wants) (p : ℕ → Bool) → ((y : ℕ) → p y ≡ false → (w (suc y) ≡ []) × (v (suc y) ≡ [])) → ((y : ℕ) → high ≤ y → (w (suc y) ≡ []) × (v (suc y) ≡ [])) → length (steered width w v) ≤ suc (length (live_from p 0 high))
+steered_few width high w v p none past = or_count (differing w v 0 width) (suc (length (live_from p 0 high))) (omega arith) (few width)
+  where
+    with_pulse : (f : Bool) (xs : List ℕ) (n : ℕ) → length xs ≤ n → length (cond f xs (0 ∷ xs)) ≤ suc n
+    with_pulse true xs n i = omega (arith, i)
+    with_pulse false xs n i = omega (arith, i)
+
+    few : (width : ℕ) → length (differing w v 0 width) ≤ suc (length (live_from p 0 high))
+    few zero = omega arith
+    few (suc n) = with_pulse (same_spots (w 0) (v 0)) (differing w v 1 n) (length (live_from p 0 high)) (differing_live w v p none 0 n high (λ y l. past y (omega (arith, l))))
 
 pub steers_count : (w v : Wants) (xs : List ℕ) → length (steers w v xs) ≡ length xs
 steers_count w v [] = refl

@@ -58,22 +58,22 @@ fits g planes cut r l c w n a b = record {
   ahead = b.ahead;
 }
 
-pub record Kept (g : Graph) (draft : Image) : Type 0 where
+pub record Kept (g : Graph) (live : ℕ → ℕ → Bool) (draft : Image) : Type 0 where
   pub open_to_notes : OpenToNotes draft
   pub lists : ListsFit draft
   pub limits : KeepsLimits g draft
   pub arrays : draft.arrays ≡ arrays_of g
   pub walk : GraphOfWords g → (world : World) → WorldOfWords world → (turns : ℕ) → KeepsWalk g draft world turns
   pub endless : GraphOfWords g → (world : World) → WorldOfWords world → EndlessWith g draft world
-  pub cost : GraphOfWords g → (world : World) → WorldOfWords world → (turns : ℕ) → CostsAtMost g draft world turns
+  pub cost : GraphOfWords g → (world : World) → WorldOfWords world → (turns : ℕ) → CostsAtMost g live draft world turns
 
 arrays_kept : (g : Graph) (live : ℕ → ℕ → Bool) (cut : Cut) → (graph_draft g (arrays_of g) live cut).arrays ≡ arrays_of g
 unfolding graph_draft draft_of
 arrays_kept g live cut = refl
 
-pub kept : (g : Graph) (live : ℕ → ℕ → Bool) (cut : Cut) → Fits g live cut → (draft : Image) → draft ≡ draft_of (arrays_of g) (width_of g) (plans_of g live cut) → Kept g draft
+pub kept : (g : Graph) (live : ℕ → ℕ → Bool) (cut : Cut) → Fits g live cut → (draft : Image) → draft ≡ draft_of (arrays_of g) (width_of g) (plans_of g live cut) → Kept g live draft
 unfolding graph_draft
-kept g live cut f draft e = subst (Kept g) (sym e) (record {
+kept g live cut f draft e = subst (Kept g live) (sym e) (record {
   open_to_notes = graph_open g live cut f;
   lists = graph_lists g live cut f;
   limits = graph_limits g live cut f;

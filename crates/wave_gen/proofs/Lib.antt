@@ -72,6 +72,7 @@ mod Limits
 mod ItemWeights
 mod BlockWeights
 mod EdgeWeights
+mod Leaving
 mod Costs
 mod Buckets
 mod Marked

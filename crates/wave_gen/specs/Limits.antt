@@ -1,14 +1,25 @@
 -- How far the numbers of a draft go.
-use Rattle.std.specs.Prelude.{ℕ, ◌*◌, ◌≡◌, ◌≤◌, List, length}
+use Rattle.std.specs.Prelude.{ℕ, suc, ◌+◌, ◌*◌, ◌≡◌, ◌≤◌, List, length}
 use Rattle.std.specs.List.{AllByRecursion, sum_by}
 use Rattle.ws_isa.specs.declared.instr.Op.TheVariants as op
 use Rattle.ws_isa.specs.Image as image
 use Rattle.ws_isa.specs.Image.{Image, IsBlock, IsIn, flat, instr_at}
 use Rattle.ws_isa.specs.Formed.{ConstWithin, PadsRise}
-use Rattle.cfg_core.specs.Graph.{Term, Send, Graph, spots, block_at}
+use Rattle.cfg_core.specs.Graph.{Term, Exit, Send, Graph, Spot, spots, block_at}
+use Rattle.cfg_core.specs.Weights.{acts_of, block_nodes}
 use Rattle.wave_gen.specs.Words.{GraphOfWords}
-use Rattle.wave_gen.specs.Cost.{most_quarters}
 use Rattle.wave_gen.specs.Listing.{start_block}
+
+-- how many values an exit sends
+abbrev pub values_sent : Exit → ℕ
+values_sent (Send t ts ls) = length ts
+values_sent _ = 0
+
+-- How many quarters of an instruction the code of a block has at most: by its nodes, its
+-- operations, the values that it sends, and its variables, with what waits past its end.
+abbrev pub most_quarters : Spot → ℕ
+most_quarters s = 9 * block_nodes s.block + 6 * sum_by acts_of s.block.ops
+    + 12 * values_sent s.block.exit + 25 * suc s.vars + 12
 
 -- each Send has at most so many values, and the block where the walk begins names no more variables
 pub record BringsAtMost (n : ℕ) (g : Graph) : Type 0 where
@@ -22,7 +33,8 @@ LandsAtMost n g = (b : ℕ) (t : Term) (ts : List Term) (ls : List ℕ) →
     (block_at g b).exit ≡ Send t ts ls → length ls ≤ n
 
 -- The numbers of a graph's draft: no more blocks than the graph has, no more waves than blocks, and
--- no more instructions than its blocks may have; constants are words; pads rise, and their numbers are at most the most values of a Send.
+-- no more instructions than its blocks may have; constants are words; pads rise, and their numbers
+-- are at most the most values of a Send.
 pub record KeepsLimits (g : Graph) (draft : Image) : Type 0 where
   pub blocks : length draft.blocks ≤ length (spots g)
   pub waves : (b : ℕ) → IsBlock draft b → (image.block_at draft b).wave ≤ length draft.blocks

@@ -15,8 +15,8 @@ ghost use Rattle.wave_gen.specs.Fitting.{Fits};
 
 /// The draft of a graph, with the graph's arrays, is open to notes; its lists have room for one more
 /// destination. A graph of words keeps its walk in worlds of words: where that ends, the draft's
-/// ends and leaves the same, at a cost within what the blocks weigh that it leaves, and where it
-/// takes every turn, the draft's is endless.
+/// ends and leaves the same, at a cost within what the blocks weigh that it leaves, and leaves no
+/// more blocks; where it takes every turn, the draft's is endless.
 pub fn graph_drafts_keep()
     ensures open_to_notes { (g : Graph) (live : ℕ → ℕ → Bool) (cut : Cut) → Fits g live cut →
         OpenToNotes (graph_draft g (arrays_of g) live cut) }
@@ -32,5 +32,5 @@ pub fn graph_drafts_keep()
         EndlessWith g (graph_draft g (arrays_of g) live cut) world }
     ensures cost { (g : Graph) (live : ℕ → ℕ → Bool) (cut : Cut) → Fits g live cut →
         GraphOfWords g → (world : World) → WorldOfWords world → (turns : ℕ) →
-        CostsAtMost g (graph_draft g (arrays_of g) live cut) world turns }
+        CostsAtMost g live (graph_draft g (arrays_of g) live cut) world turns }
 {}

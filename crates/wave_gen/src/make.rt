@@ -6,7 +6,7 @@ ghost use Rattle.ws_isa.specs.View as image;
 ghost use Rattle.image_walk.specs.Open.{OpenToNotes};
 ghost use Rattle.cfg_core.specs.Rules.{IsGraph};
 ghost use Rattle.cfg_core.specs.View as view;
-ghost use Rattle.live_vars.specs.Marks.{AreLive};
+ghost use Rattle.live_vars.specs.Marks.{AreLive, has};
 ghost use Rattle.wave_cut.specs.Cut.{IsCut, AreWaves};
 ghost use Rattle.call_gen.specs.Keeps.{HasNoCall, NoneLiveAcross};
 ghost use Rattle.cfg_core.specs.Shape.{ArmsAlone};
@@ -60,7 +60,7 @@ pub fn generate(
         EndlessWith (view.graph graph.now) (image.draft made) world) }
     ensures cost { IfOk result (λ made. GraphOfWords (view.graph graph.now) → (world : World) →
         WorldOfWords world → (turns : ℕ) →
-        CostsAtMost (view.graph graph.now) (image.draft made) world turns) }
+        CostsAtMost (view.graph graph.now) (has live.now) (image.draft made) world turns) }
 {
     let outline = Outline::of(alloc, graph, live, waves)?;
     let plans = outline.plans(alloc)?;

@@ -3,7 +3,7 @@ use Rattle.src_ast.specs.View as ast
 use Rattle.ws_isa.specs.Image.{Image}
 use Rattle.wave_link.specs.Numbered.{NumberedInOrder}
 use Rattle.wave_link.specs.Ripples.{ExactRipples}
-use Rattle.wave_build.specs.Compiled.{ShowsArrays, DoesAs, HasDraft}
+use Rattle.wave_build.specs.Compiled.{ShowsArrays, DoesAs, KeepsBound, HasDraft}
 use Rattle.wave_build.proofs.compiler.compile.Goals as goal
 
 pub returns-clause-arrays : goal.returns-clause-arrays
@@ -20,3 +20,6 @@ returns-clause-ripples c = subst ExactRipples (sym c.from_sound.ensures) c.in_ok
 
 pub returns-clause-draft : goal.returns-clause-draft
 returns-clause-draft c = subst HasDraft (sym c.from_sound.ensures) c.in_ok-made.ensures.draft
+
+pub returns-clause-cost : goal.returns-clause-cost
+returns-clause-cost c = λ w. subst (KeepsBound (ast.parts c.args.accepted.now.program.items.items)) (sym c.from_sound.ensures) (c.in_ok-made.ensures.cost w)

@@ -6,6 +6,7 @@ use Rattle.src_ast.specs.View as ast
 use Rattle.cfg_core.specs.Graph.{GraphArray}
 use Rattle.cfg_core.specs.View as view
 use Rattle.wave_gen.specs.Listing.{array_of}
+use Rattle.wave_build.proofs.CompilingBound.{keeps_bound}
 use Rattle.wave_build.proofs.CompilingRuns.{arms_alone}
 use Rattle.wave_build.proofs.CompilingShown.{same_shown}
 use Rattle.wave_build.proofs.CompilingWalks.{walks_as_run}
@@ -45,3 +46,10 @@ returns-clause-draft c =
       never_linked = m.never_linked;
       triggers = m.triggers;
     }
+
+pub returns-clause-cost : goal.returns-clause-cost
+returns-clause-cost c =
+    let parts = ast.parts c.args.accepted.now.program.items.items in
+    λ w. keeps_bound parts (view.graph c.in_ok-graph.graph) c.in_ok-graph.ensures _ _ c.in_ok-live.ensures c.in_ok-waves.ensures.rule c.in_ok-waves.ensures.waves
+        (c.written_is_narrow.ensures parts w) (image.draft c.in_ok-draft.draft) (image.image c.in_ok-made.made)
+        (c.in_ok-draft.ensures.cost c.see_words.ensures) c.in_ok-made.ensures.walk
