@@ -1,11 +1,12 @@
 -- Tokens on the way, by place.
-use Rattle.std.proofs.Common.{ℕ, suc, ◌≡◌, ◌<◌, ◌≤◌, List, [], ◌∷◌, ◌++◌, length, map, take, drop, slice_index_or, refl, sym, ap, ◌∙◌, inl, inr, arith}
+use Rattle.std.proofs.Common.{ℕ, zero, suc, ◌≡◌, ◌<◌, ◌≤◌, List, [], ◌∷◌, ◌++◌, length, map, take, drop, slice_index_or, refl, sym, ap, ◌∙◌, inl, inr, arith}
 use Rattle.std.specs.List.{remove}
 use Rattle.std.proofs.lemmas.Bool.{cases_eq}
 use Rattle.ws_isa.specs.Image as plain
+use Rattle.core_law.specs.Core.{IsSent}
 use Rattle.core_run.specs.declared.token.Token.{Token}
 use Rattle.core_run.specs.declared.way.Way.{Way}
-use Rattle.core_run.specs.Ways.{token_of, NoneAt, IsTokenAt, TakenAt, no_token}
+use Rattle.core_run.specs.Ways.{token_of, way_of, NoneAt, IsTokenAt, TakenAt, no_token}
 use Rattle.core_run.proofs.Issuing.{map_append, split_at, or_any}
 
 pub none_at : (ts : List Token) (w i p : ℕ) → ((k : ℕ) → k < length ts → IsTokenAt ts k w i p → ⊥) → NoneAt (map token_of ts) w i p
@@ -68,3 +69,23 @@ taken_later old new k t w i p l e is same at =
       instr = ap (λ (x : Token). x.instr) is ∙ at.instr;
       port = ap (λ (x : Token). x.port) is ∙ at.port;
     }
+
+sent_at : (ts : List Token) (k : ℕ) (t : Token) → k < length ts → t ≡ slice_index_or ts k t → IsSent (map token_of ts) t.wave t.instr t.port t.value
+sent_at [] k t l e = absurd (omega arith)
+sent_at (x ∷ ts) zero t l e = inl (ap (λ (y : Token). y.wave) (sym e), ap (λ (y : Token). y.instr) (sym e), ap (λ (y : Token). y.port) (sym e), ap (λ (y : Token). y.value) (sym e))
+sent_at (x ∷ ts) (suc k) t l e = inr (sent_at ts k t (omega arith) e)
+
+left_sent : (xs ys : List plain.Token) (w i p v : ℕ) → IsSent xs w i p v → IsSent (xs ++ ys) w i p v
+left_sent [] ys w i p v h = absurd h
+left_sent (x ∷ xs) ys w i p v (inl h) = inl h
+left_sent (x ∷ xs) ys w i p v (inr h) = inr (left_sent xs ys w i p v h)
+
+right_sent : (xs ys : List plain.Token) (w i p v : ℕ) → IsSent ys w i p v → IsSent (xs ++ ys) w i p v
+right_sent [] ys w i p v h = h
+right_sent (x ∷ xs) ys w i p v h = inr (right_sent xs ys w i p v h)
+
+pub now_sent : (way : Way) (k : ℕ) (t : Token) → k < length way.now.items → t ≡ slice_index_or way.now.items k t → IsSent (way_of way) t.wave t.instr t.port t.value
+now_sent way k t l e = left_sent (map token_of way.now.items) (map token_of way.later.items) t.wave t.instr t.port t.value (sent_at way.now.items k t l e)
+
+pub later_sent : (way : Way) (k : ℕ) (t : Token) → k < length way.later.items → t ≡ slice_index_or way.later.items k t → IsSent (way_of way) t.wave t.instr t.port t.value
+later_sent way k t l e = right_sent (map token_of way.now.items) (map token_of way.later.items) t.wave t.instr t.port t.value (sent_at way.later.items k t l e)

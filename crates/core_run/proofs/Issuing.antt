@@ -199,7 +199,7 @@ module _ (image : Image) (world : World) (formed : Formed image) (sound : Sound 
         inr (op_is ∙ q.0, past_is_op ∙ not_false _ q.1, subst (λ (c : law.Chain). (note_of image a.instr).ripple ≤ position_after c.last) same_chain (leb-true _ _ p.1)))
   ]
 
-  may : Issuable image s.issued s.chain s.stopped a.wave a.instr xs
+  pub may : Issuable image s.issued s.chain s.stopped a.wave a.instr xs
   may = record {
     going = h.stopped_is ∙ running;
     current = eqb-true a.wave old.chain.wave flags.0 ∙ ap (λ (c : law.Chain). c.wave) same_chain;

@@ -1,5 +1,5 @@
 -- The core's steps, event by event.
-use Rattle.std.proofs.Common.{ℕ, ◌≡◌, List, [], ◌∷◌, ◌++◌, map, is_some, slice_index_or, sym, ap, ◌∙◌, subst, inl, inr}
+use Rattle.std.proofs.Common.{ℕ, ◌≡◌, List, [], ◌∷◌, ◌++◌, map, is_some, slice_index_or, sym, ap, ◌∙◌, subst, inl, inr, true, false, ◌⊎◌, ◌<◌, length}
 use Rattle.std.proofs.lemmas.Bool.{both_ways}
 use Rattle.ws_words.specs.Outside.{World}
 use Rattle.ws_isa.specs.Image as plain
@@ -8,21 +8,25 @@ use Rattle.ws_isa.specs.Formed.{Formed}
 use Rattle.image_walk.specs.Walk.{Ports}
 use Rattle.image_walk.specs.Sound.{Sound}
 use Rattle.core_law.specs.Core as law
-use Rattle.core_law.specs.Core.{State, Match, Issue, MatchStep, Issuable, Ready}
+use Rattle.core_law.specs.Core.{State, Match, Issue, MatchStep, Issuable, Ready, Enabled, IsSent}
 use Rattle.core_run.specs.declared.token.Token.{Token}
+use Rattle.core_run.specs.declared.token.Asked.{Asked}
 use Rattle.core_run.specs.declared.way.Way.{Way}
 use Rattle.core_run.specs.declared.flow.Flow.{Flow}
 use Rattle.core_run.specs.declared.engine.Core.{Core}
-use Rattle.core_run.specs.Stands.{Request, Stands}
+use Rattle.core_run.specs.Stands.{Request, HasRequest, Stands}
 use Rattle.core_run.specs.Partial.{partial_of, listed}
 use Rattle.core_run.specs.Places.{image_of}
-use Rattle.core_run.specs.Chains.{chain_of}
+use Rattle.core_run.specs.Chains.{chain_of, may_flag}
 use Rattle.core_run.specs.Ways.{token_of, way_of, NoneAt, TakenAt}
-use Rattle.core_run.specs.Flows.{request_of, Holds, Going, Leads, SameParts, NotReady, no_asked}
-use Rattle.core_run.specs.Cores.{IsAt, Runs, Makes, NotEnabled}
+use Rattle.core_run.specs.Flows.{request_of, Holds, Going, Leads, SameParts, NotReady, NoneMay, no_asked}
+use Rattle.core_run.specs.Cores.{IsAt, Runs, Makes, NotEnabled, IsEnabled, IsAtRest}
 use Rattle.core_run.proofs.Moving.{Reordered, stands_reordered, to_front}
 use Rattle.core_run.proofs.Found.{append_on}
-use Rattle.core_run.proofs.Driving.{same_holds, has_at, flagged}
+use Rattle.core_run.proofs.Driving.{same_holds, has_at, flagged, none_enabled}
+use Rattle.core_run.proofs.Bounds.{has_asked}
+use Rattle.core_run.proofs.Issuing as I
+use Rattle.core_run.proofs.Issuing.{or_any}
 
 pub not_on_way : (core : Core) (w i p : ℕ) → NoneAt (way_of core.flow.way) w i p → NotEnabled (Match w i p) core
 not_on_way core w i p none image world s at e = none e.0 (at.holds.stands.way_to w i p e.0 e.1)
@@ -87,3 +91,25 @@ not_ready core w i (inr f) image world s at on =
     let m1 : Issuable (image_of core.program) s.issued (chain_of core.flow.chain) s.stopped w i on.0 = subst (λ (c : law.Chain). Issuable (image_of core.program) s.issued c s.stopped w i on.0) holds.chain_is ready.issuable in
     let m2 : Issuable (image_of core.program) s.issued (chain_of core.flow.chain) s.stopped (slice_index_or core.flow.asked.items r.0 no_asked).wave (slice_index_or core.flow.asked.items r.0 no_asked).instr (listed (ports (image_of core.program) (slice_index_or core.flow.asked.items r.0 no_asked).instr) (slice_index_or core.flow.asked.items r.0 no_asked).operands) = rw (r.2, r.4, r.3) m1 in
     f r.0 r.1 r.2 r.3 (flagged (image_of core.program) s.issued (chain_of core.flow.chain) s.stopped (slice_index_or core.flow.asked.items r.0 no_asked) m2)
+
+-- a request that may be issued
+pub may_enabled : (core : Core) (k : ℕ) (a : Asked) → k < length core.flow.asked.items → a ≡ slice_index_or core.flow.asked.items k a → is_some core.flow.fault ≡ false → may_flag (image_of core.program) (chain_of core.flow.chain) a.wave a.instr a.operands.first ≡ true → IsEnabled (Issue a.wave a.instr) core
+may_enabled core k a l is running flag image world s at =
+    let holds : Holds (image_of core.program) world [] core.flow s = subst (λ (im : Image). Holds im world [] core.flow s) (sym at.image_is) at.holds in
+    let has = subst (λ (b : Asked). HasRequest (map (request_of (image_of core.program)) core.flow.asked.items) b.wave b.instr (listed (ports (image_of core.program) b.instr) b.operands)) (sym (or_any core.flow.asked.items k a no_asked l is)) (has_asked (image_of core.program) core.flow.asked.items k l) in
+    subst (λ (im : Image). Enabled im s (Issue a.wave a.instr)) at.image_is (
+      listed (ports (image_of core.program) a.instr) a.operands,
+      record {
+        waits = holds.stands.asked_from a.wave a.instr (listed (ports (image_of core.program) a.instr) a.operands) has;
+        issuable = I.may (image_of core.program) world (subst Formed (sym at.image_is) at.formed) (subst Sound (sym at.image_is) at.sound) core.flow s holds k a l is running flag;
+      },
+    )
+
+pub token_enabled : (core : Core) (tok : Token) → IsSent (way_of core.flow.way) tok.wave tok.instr tok.port tok.value → IsEnabled (Match tok.wave tok.instr tok.port) core
+token_enabled core tok h image world s at = (tok.value, at.holds.stands.way_from tok.wave tok.instr tok.port tok.value h)
+
+pub core_rests : (core : Core) → way_of core.flow.way ≡ [] → (is_some core.flow.fault ≡ true) ⊎ NoneMay (image_of core.program) core.flow → IsAtRest core
+core_rests core empty none image world s at (Match w i p) e = subst (λ (ts : List plain.Token). IsSent ts w i p e.0) empty (at.holds.stands.way_to w i p e.0 e.1)
+core_rests core empty (inl f) image world s at (Issue w i) e = both_ways _ e.1.issuable.going (at.holds.stopped_is ∙ f)
+core_rests core empty (inr none) image world s at (Issue w i) e =
+    none_enabled (image_of core.program) world core.flow s (subst (λ (im : Image). Holds im world [] core.flow s) (sym at.image_is) at.holds) none w i (subst (λ (im : Image). Enabled im s (Issue w i)) (sym at.image_is) e)

@@ -1,13 +1,13 @@
 //! The core, event by event.
 
-ghost use Rattle.std.specs.Prelude.{◌≡◌, true, ◌≤◌, ◌-◌, ℕ, [], List, length, ◌⊎◌, map, IfOk, OnOk, OnErr, IfErr};
+ghost use Rattle.std.specs.Prelude.{◌≡◌, true, ◌≤◌, ◌-◌, ℕ, [], List, length, ◌⊎◌, map, IfOk, OnOk, OnErr, IfErr, MatchOption};
 ghost use Rattle.ws_words.specs.Outside.{World as Given, printed_words, row};
 ghost use Rattle.ws_words.specs.Plain.{took_by_ports, world_of};
 ghost use Rattle.ws_isa.specs.Image.{Image};
 ghost use Rattle.core_law.specs.Core.{State, Match, Issue, core_opening};
 ghost use Rattle.core_run.specs.Answer.{RunSo};
 ghost use Rattle.core_run.specs.Told.{run_from};
-ghost use Rattle.core_run.specs.Cores.{IsAt, Runs, Prepared, Makes, NotEnabled, Keeps, LeadsTo, done, event_of, is_not_ready};
+ghost use Rattle.core_run.specs.Cores.{IsAt, Runs, Prepared, Makes, NotEnabled, IsEnabled, IsAtRest, Keeps, LeadsTo, done, event_of, is_not_ready};
 
 use crate::drive::{Finish, run};
 use crate::flow::Flow;
@@ -41,7 +41,8 @@ pub struct Core<'i> {
 impl<'i> Core<'i> {
     /// The opening state: the start pulse is on the way.
     pub fn begin(alloc: Global, image: &'i Checked, world: &'i World) -> Result<Core<'i>, NoMemory>
-        ensures { IfOk result (λ core. IsAt image.now (world_of world.now) core
+        ensures core { IfOk result Runs }
+        ensures opening { IfOk result (λ core. IsAt image.now (world_of world.now) core
             (core_opening image.now (world_of world.now))) }
     {
         let program = Program::of(alloc, image.image())?;
@@ -52,6 +53,7 @@ impl<'i> Core<'i> {
     /// Makes an event. After an error the state is as before.
     pub fn step(&mut self, event: Event) -> Result<(), StepFault>
         requires { Runs self.old }
+        ensures core { Runs self.new }
         ensures made { OnOk result (Makes (event_of event) self.old self.new) }
         ensures refused { IfErr result (λ fault. is_not_ready fault ≡ true →
             NotEnabled (event_of event) self.old) }
@@ -63,9 +65,33 @@ impl<'i> Core<'i> {
         }
     }
 
+    /// An event that is enabled, if there is one.
+    pub fn pick(&self) -> Option<Event>
+        requires { Runs self.now }
+        ensures { MatchOption result (IsAtRest self.now)
+            (λ event. IsEnabled (event_of event) self.now) }
+    {
+        if let Some(place) = self.flow.issuable(&self.program) {
+            let asked = self.flow.asked[place];
+            return Some(Event::Issue {
+                wave: asked.wave,
+                instr: asked.instr,
+            });
+        }
+        match self.flow.way.some() {
+            Some(token) => Some(Event::Match {
+                wave: token.wave,
+                instr: token.instr,
+                port: token.port,
+            }),
+            None => None,
+        }
+    }
+
     /// Makes room for a run until so many instances have fired in all.
     pub fn prepare(&mut self, budget: u64) -> Result<(), NoMemory>
         requires fired { (done self.old).fired ≤ budget }
+        ensures core { Runs self.old → Runs self.new }
         ensures prepared { OnOk result (Prepared self.new budget) }
         ensures kept { Keeps self.old self.new }
     {
@@ -78,6 +104,7 @@ impl<'i> Core<'i> {
     pub fn run(&mut self, budget: u64) -> Finish
         requires core { Runs self.old }
         requires prepared { Prepared self.old budget }
+        ensures core { Runs self.new }
         ensures leads { LeadsTo self.old self.new }
         ensures answer { (image : Image) (world : Given) (state : State) →
             IsAt image world self.old state →

@@ -255,8 +255,9 @@ fn step_a(alloc: Global) -> Result<String, NoMemory> {
     let image = checked_a(alloc)?;
     let world = world(alloc, &[])?;
     let mut core = Core::begin(alloc, &image, &world)?;
+    let opens = core.pick().is_some();
     let early = core.step(Event::Issue { wave: 1, instr: 3 });
-    let mut made = 0;
+    let mut made = 0u32;
     for event in [
         Event::Match {
             wave: 0,
@@ -281,7 +282,7 @@ fn step_a(alloc: Global) -> Result<String, NoMemory> {
         Event::Issue { wave: 1, instr: 3 },
     ] {
         if core.step(event).is_ok() {
-            made += 1;
+            made = made.saturating_add(1);
         }
     }
     let again = core.step(Event::Match {
@@ -289,17 +290,19 @@ fn step_a(alloc: Global) -> Result<String, NoMemory> {
         instr: 3,
         port: 0,
     });
-    core.prepare(9)?;
-    let finish = core.run(9);
+    let budget = core.fired().saturating_add(9);
+    core.prepare(budget)?;
+    let finish = core.run(budget);
     let printed = core.printed();
     let fired = core.fired();
-    let text = format!(in alloc; "{early:?} {made} {again:?} {finish:?} {printed:?} {fired}")?;
+    let steps = format!(in alloc; "{opens} {early:?} {made} {again:?}")?;
+    let text = format!(in alloc; "{steps} {finish:?} {printed:?} {fired}")?;
     Ok(text)
 }
 
 #[test]
 fn events_are_made_one_by_one(rt: HostRuntime) -> Result<(), Fail> {
-    let wanted = "Err(NotReady) 5 Err(NotReady) Rest [7] 4";
+    let wanted = "true Err(NotReady) 5 Err(NotReady) Rest [7] 4";
     assert_eq!(rt; step_a(rt.alloc())?.as_str(), wanted);
     Ok(())
 }

@@ -2,6 +2,7 @@
 
 ghost use Rattle.std.specs.Prelude.{◌≡◌, ◌<◌, ◌≤◌, ◌+◌, ◌==◌, ℕ, false, [], ◌∷◌, ◌++◌, List, length, map, vec_len, vec_capacity, MatchOption, OnSome};
 ghost use Rattle.ws_isa.specs.Image.{tokens_to};
+ghost use Rattle.core_law.specs.Core.{IsSent};
 ghost use Rattle.core_run.specs.Ways.{token_of, way_of, SentTo, TakenFrom, TakenAt, NoneAt, IsTokenAt};
 
 use crate::token::Token;
@@ -67,6 +68,23 @@ impl Way {
                 }
             }
         }
+    }
+
+    /// A token, if there is one.
+    pub fn some(&self) -> Option<Token>
+        ensures { MatchOption result (way_of self.entry.now ≡ [])
+            (λ token. IsSent (way_of self.entry.now)
+            token.wave token.instr token.port token.value) }
+    {
+        let count = self.now.len();
+        if count > 0 {
+            return Some(self.now[count - 1]);
+        }
+        let others = self.later.len();
+        if others > 0 {
+            return Some(self.later[others - 1]);
+        }
+        None
     }
 
     /// Whether there is a token at a port of an instance.
