@@ -4,7 +4,7 @@ use Rattle.core_run.specs.Places.{image_of}
 use Rattle.core_run.specs.Chains.{chain_of, may_flag}
 use Rattle.core_run.specs.Flows.{asked_at, no_asked}
 use Rattle.core_run.proofs.Issuing.{or_any}
-use Rattle.core_run.proofs.Stepping.{may_enabled, token_enabled, core_rests}
+use Rattle.core_run.proofs.Stepping.{may_enabled, core_rests}
 use Rattle.core_run.proofs.engine.Core.pick.Goals as goal
 
 pub returns-in-Some : goal.returns-in-Some
