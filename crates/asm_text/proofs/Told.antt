@@ -62,7 +62,7 @@ NoNames t = (t.block_names ≡ []) × (t.instr_names ≡ [])
 
 -- what isn't there yet
 abbrev pub Lacks : Place → State → Built → Type 0
-Lacks place.Start t b = (b.arrays ≡ []) × (b.blocks ≡ []) × NoNames t
+Lacks place.Start t b = (b.arrays ≡ []) × (b.blocks ≡ []) × NoNames t × (t.named ≡ false)
 Lacks place.Arrays t b = b.blocks ≡ []
 Lacks place.Pads t b = b.instrs ≡ []
 Lacks p t b = Unit {0}

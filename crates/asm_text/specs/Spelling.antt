@@ -1,16 +1,19 @@
 -- Which items an image has, in the order of its text, and which line spells each of them: with its
 -- numbers, or with names that stand for some of them.
-use Rattle.std.specs.Prelude.{◌≡◌, ℕ, ◌+◌, ◌==◌, ◌⊎◌, true, false, List, [], ◌∷◌, ◌++◌, length, map, Option, Some, None, if◌then◌else◌}
+use Rattle.std.specs.Prelude.{◌≡◌, ℕ, ◌+◌, ◌≤◌, ◌==◌, ◌⊎◌, true, false, List, [], ◌∷◌, ◌++◌, length, map, Option, Some, None, if◌then◌else◌}
 use Rattle.ws_isa.specs.declared.instr.Dest.{Dest}
 use Rattle.ws_isa.specs.Image as plain
+use Rattle.ws_isa.specs.Formed.{most_name}
 use Rattle.asm_text.specs.declared.line.Label.{Label}
 use Rattle.asm_text.specs.declared.line.Label.TheVariants.{At, Named}
 use Rattle.asm_text.specs.declared.line.Target.{Target}
+use Rattle.asm_text.specs.declared.line.InstrLine.{InstrLine}
 use Rattle.asm_text.specs.declared.line.Line.{Line}
 use Rattle.asm_text.specs.declared.line.Line.TheVariants as line
 use Rattle.asm_text.specs.declared.reading.Reading.{Reading}
 use Rattle.asm_text.specs.declared.reading.Reading.TheVariants.{Blank, Wrong, Found}
 use Rattle.asm_text.specs.Names.{Names, named}
+use Rattle.asm_text.specs.Printed.{keeps_first_limits}
 use Rattle.asm_text.specs.Reading.{lines_of, reading}
 
 -- The items of an image. A block and an instruction stand with their number.
@@ -65,9 +68,9 @@ Pairs R _ _ = ⊥
 abbrev pub TargetIsFor : Names → Target → Dest → Type 0
 TargetIsFor names t d = IsFor names t.instr d.instr × (t.port ≡ d.port)
 
-abbrev pub array_line : Option (List ℕ) → ℕ → Line
-array_line None n = line.Hidden n
-array_line (Some w) n = line.Array w n
+abbrev pub array_line_of : Option (List ℕ) → ℕ → Line
+array_line_of None n = line.Hidden n
+array_line_of (Some w) n = line.Array w n
 
 abbrev pub SpellsExit : Naming → Line → plain.Exit → Type 0
 SpellsExit names l (plain.Goto b) = (to : Label) × (l ≡ line.Go to) × IsFor names.blocks to b
@@ -82,7 +85,7 @@ SpellsExit names l plain.Stop = l ≡ line.Stop
 -- the line spells the item
 abbrev pub Spells : Naming → Line → Item → Type 0
 Spells names l (Version n) = l ≡ line.Version n
-Spells names l (Array a) = l ≡ array_line a.name a.length
+Spells names l (Array a) = l ≡ array_line_of a.name a.length
 Spells names l (Wave k) = l ≡ line.Wave k
 Spells names l (Block n) = (own : Label) × (l ≡ line.Block own) × IsFor names.blocks own n
 Spells names l (Pad p) =
@@ -113,11 +116,31 @@ abbrev pub Say : List (List ℕ) → List Line → Type 0
 Say [] lines = lines ≡ []
 Say (text ∷ texts) lines = (more : List Line) × Says (reading text) lines more × Say texts more
 
--- The lines of a text spell the items of an image. Version 1 has no names.
+-- each name of a block is given by the line of a block
+abbrev pub GivesBlock : Names → List Line → Type 0
+GivesBlock names lines =
+    (w : List ℕ) (n : ℕ) → named names w ≡ Some n → plain.In (line.Block (Named w)) lines
+
+-- each name of an instruction is given by the line of an instruction
+abbrev pub GivesInstr : Names → List Line → Type 0
+GivesInstr names lines =
+    (w : List ℕ) (n : ℕ) → named names w ≡ Some n
+    → (i : InstrLine) × (i.own ≡ Named w) × plain.In (line.Instr i) lines
+
+-- names aren't longer than they may be
+abbrev pub Short : Names → Type 0
+Short names = (w : List ℕ) (n : ℕ) → named names w ≡ Some n → length w ≤ most_name
+
+-- The lines of a text spell the items of an image. Version 1 has no names, and limits of its own.
 pub record Spelled (text : List ℕ) (image : plain.Image) : Type 0 where
   pub version : ℕ
   pub naming : Naming
   pub lines : List Line
   pub known : (version ≡ 2) ⊎ ((version ≡ 1) × (naming ≡ record { blocks = []; instrs = [] }))
+  pub first : version ≡ 1 → keeps_first_limits image ≡ true
   pub said : Say (lines_of text) lines
+  pub given_blocks : GivesBlock naming.blocks lines
+  pub given_instrs : GivesInstr naming.instrs lines
+  pub short_blocks : Short naming.blocks
+  pub short_instrs : Short naming.instrs
   pub spelled : Pairs (Spells naming) lines (items version image)

@@ -3,8 +3,10 @@
 ghost use Rattle.std.specs.Prelude.{◌≡◌, ℕ, List, Ok};
 ghost use Rattle.ws_isa.specs.Image.{Image};
 ghost use Rattle.ws_isa.specs.Formed.{Formed};
+ghost use Rattle.ws_isa.specs.Samples.{image_a, image_b};
 ghost use Rattle.asm_text.specs.Printed.{printed};
 ghost use Rattle.asm_text.specs.Reading.{read};
+ghost use Rattle.asm_text.specs.Samples.{text_a, text_b, text_named};
 ghost use Rattle.asm_text.specs.Spelling.{Spelled};
 
 /// The printed form of a formed image is read as that image.
@@ -23,4 +25,17 @@ pub fn read_images_are_formed()
 /// names may stand for the numbers of blocks and of instructions, each for one.
 pub fn read_texts_spell()
     ensures { (text : List ℕ) (image : Image) → read text ≡ Ok image → Spelled text image }
+{}
+
+/// Each text whose lines spell the items of a formed image is read as that image.
+pub fn spelled_texts_are_read()
+    ensures { (text : List ℕ) (image : Image) → Formed image → Spelled text image →
+        read text ≡ Ok image }
+{}
+
+/// Two small images are read from their texts, and the first of them from its text with names.
+pub fn small_texts_are_read()
+    ensures first { read text_a ≡ Ok image_a }
+    ensures second { read text_b ≡ Ok image_b }
+    ensures named { read text_named ≡ Ok image_a }
 {}

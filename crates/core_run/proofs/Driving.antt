@@ -1,8 +1,8 @@
 -- What leads from parts to parts, put together.
-use Rattle.std.proofs.Common.{ℕ, suc, ◌+◌, ◌≡◌, ◌<◌, ◌⊎◌, Bool, true, false, not, List, [], ◌∷◌, ◌++◌, length, map, Option, slice_index_or, refl, sym, ap, ◌∙◌, subst, inl, inr, arith, eq-eqb, is_some}
+use Rattle.std.proofs.Common.{ℕ, suc, ◌+◌, ◌≡◌, ◌<◌, ◌⊎◌, Bool, true, false, not, List, [], ◌∷◌, ◌++◌, length, map, Option, slice_index_or, refl, sym, ap, ◌∙◌, subst, inl, inr, arith, eq-eqb, is_some, Vec, Global}
 use Rattle.std.proofs.lemmas.Bool.{both_ways, and_from, le-leb}
 use Rattle.std.proofs.lemmas.List.{append-nil}
-use Rattle.ws_words.specs.Outside.{World}
+use Rattle.ws_words.specs.Outside.{Outside, World}
 use Rattle.ws_isa.specs.Image as plain
 use Rattle.ws_isa.specs.Image.{Image, instr_at, note_of, ports, is_load, is_load_op, is_past, is_past_op}
 use Rattle.ws_isa.specs.Formed.{Formed}
@@ -22,7 +22,11 @@ use Rattle.core_run.specs.Partial.{partial_of, listed}
 use Rattle.core_run.specs.Ways.{token_of, way_of, TakenFrom}
 use Rattle.core_run.specs.Chains.{chain_of, next_flag, may_flag}
 use Rattle.core_run.specs.Flows.{request_of, Holds, Going, Leads, NoneMay, SameParts, Reaches, stays, steps, Follows, no_asked}
-use Rattle.core_run.specs.Finishes.{IsSpent}
+use Rattle.core_run.specs.declared.memory.Memory.{Memory}
+use Rattle.core_run.specs.Outdoors.{OutIs, SameOut}
+use Rattle.core_run.specs.Finishes.{IsSpent, FinishIs, Ended, is_budget}
+use Rattle.core_run.specs.declared.drive.Finish.{Finish}
+use Rattle.core_run.specs.declared.drive.Finish.TheVariants as finish
 use Rattle.core_run.proofs.Nexts.{is_next_flag, or_left, or_right}
 use Rattle.core_run.proofs.Issuing.{same_past}
 use Rattle.core_run.proofs.Arriving.{ports_is_op}
@@ -43,6 +47,15 @@ follows_none image a world s formed sound h = (s, stays, h)
 pub going_on : (image : Image) (a b : Flow) → Going image [] a → Follows image a b → Going image [] b
 going_on image a b g f = let r = f g.world g.state g.formed g.sound g.holds in record { world = g.world; state = r.0; formed = g.formed; sound = g.sound; holds = r.2 }
 
+out_same : (o : Outside) (old new : Memory) → SameOut old new → OutIs o old → OutIs o new
+out_same o old new e h = record {
+  same_cells = h.same_cells ∙ sym e.cells;
+  same_input = h.same_input ∙ sym e.input;
+  same_left = h.same_left ∙ ap (λ (v : Vec (List ℕ) Global). v.items) (sym e.left);
+  same_printed = h.same_printed ∙ sym e.printed;
+  same_took = h.same_took ∙ sym e.took;
+}
+
 -- the same parts stand for the same
 pub same_holds : (image : Image) (world : World) (taken : List plain.Token) (a b : Flow) (s : State) → SameParts a b → Holds image world taken a s → Holds image world taken b s
 same_holds image world taken a b s e h = record {
@@ -50,7 +63,7 @@ same_holds image world taken a b s e h = record {
   chain_is = h.chain_is ∙ ap chain_of (sym e.chain);
   stopped_is = h.stopped_is ∙ ap is_some (sym e.fault);
   fault_is = rw e.fault h.fault_is;
-  memory_is = rw e.memory h.memory_is;
+  memory_is = out_same s.memory a.memory b.memory e.memory h.memory_is;
   count_is = h.count_is ∙ sym e.fired;
 }
 
@@ -182,3 +195,22 @@ spent image world flow s budget h going fired some none =
 pub none_may : (image : Image) (flow : Flow) → is_some flow.fault ≡ false → (is_some flow.fault ≡ true) ⊎ NoneMay image flow → NoneMay image flow
 none_may image flow going (inl e) = absurd (both_ways (is_some flow.fault) going e)
 none_may image flow going (inr n) = n
+
+-- a run that goes on
+pub same_follows : (image : Image) (a b : Flow) → SameParts a b → Follows image a b
+same_follows image a b e world s formed sound h = (s, stays, same_holds image world [] a b s e h)
+
+pub ended_follows : (image : Image) (until : ℕ) (a b : Flow) (finish : Finish) → Ended image until a b finish → Follows image a b
+ended_follows image until a b finish e world s formed sound h = let r = e world s formed sound h in (r.0, r.1, r.2)
+
+other_budget : (image : Image) (world : World) (until budget : ℕ) (ended : Finish) (s : State) → (until ≡ budget) ⊎ (is_budget ended ≡ false) → FinishIs image world until ended s → FinishIs image world budget ended s
+other_budget image world until budget finish.Rest s e f = f
+other_budget image world until budget (finish.Fault array) s e f = f
+other_budget image world until budget finish.Budget s (inl e) f = subst (λ (n : ℕ). IsSpent image n s) e f
+other_budget image world until budget finish.Budget s (inr e) f = absurd (both_ways true e refl)
+
+pub ended_on : (image : Image) (until budget : ℕ) (a b c : Flow) (ended : Finish) → (until ≡ budget) ⊎ (is_budget ended ≡ false) → Follows image a b → Ended image until b c ended → Ended image budget a c ended
+ended_on image until budget a b c ended e f g world s formed sound h =
+    let r = f world s formed sound h in
+    let q = g world r.0 formed sound r.2 in
+    (q.0, reaches_on image s r.0 q.0 r.1 q.1, q.2, other_budget image world until budget ended q.0 e q.3)

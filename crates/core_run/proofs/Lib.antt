@@ -17,3 +17,8 @@ pub mod Settling
 pub mod StandsIssue
 pub mod Moving
 pub mod Firings
+pub mod Trays
+pub mod Bounds
+pub mod Rooms
+pub mod Steady
+pub mod Fine

@@ -1,5 +1,5 @@
 -- One more operation that the chain passes.
-use Rattle.std.proofs.Common.{ℕ, zero, suc, ◌≡◌, ◌<◌, ◌⊎◌, List, [], ◌∷◌, length, slice_index, slice_index_or, true, false, refl, sym, ◌∙◌, subst, inl, inr, arith}
+use Rattle.std.proofs.Common.{ℕ, zero, suc, ◌≡◌, ◌<◌, ◌⊎◌, List, [], ◌∷◌, length, slice_index, slice_index_or, true, false, refl, sym, ap, ◌∙◌, subst, inl, inr, arith}
 use Rattle.std.specs.List.{remove}
 use Rattle.std.proofs.lemmas.Bool.{both_ways}
 use Rattle.ws_isa.specs.declared.instr.Link.{Link}
@@ -8,7 +8,8 @@ use Rattle.ws_isa.specs.declared.instr.Note.{Note}
 use Rattle.ws_isa.specs.Image.{Image, In, note_of}
 use Rattle.core_law.specs.Core.{Chain, IsNext, pass, pass_by}
 use Rattle.core_run.specs.Stands.{left_by, left_after, Settles, done, goes}
-use Rattle.core_run.specs.Chains.{is_nothing}
+use Rattle.core_run.specs.Chains.{is_nothing, next_flag, PassedOn}
+use Rattle.core_run.proofs.Nexts.{next_is}
 
 pub in_at : (xs : List ℕ) (i : ℕ) → In i xs → (k : ℕ) × (k < length xs) × (slice_index xs k ≡ i)
 in_at [] i h = absurd h
@@ -67,3 +68,16 @@ same_by c n Unknown e = refl
 
 pub same_wave : (c : Chain) (n : Note) → is_nothing n.succ ≡ false → (pass c n).wave ≡ c.wave
 same_wave c n e = same_by c n n.succ e
+
+-- an operation that ends its wave is passed, and none is left behind it
+left_none : (l : Link) (early : List ℕ) → is_nothing l ≡ true → left_by l early ≡ []
+left_none Nothing early e = refl
+left_none Unknown early e = absurd (both_ways false refl e)
+left_none (Is k) early e = absurd (both_ways false refl e)
+
+pub wave_ended : (image : Image) (c d : Chain) (i : ℕ) (n : Note) (early left : List ℕ) → n ≡ note_of image i → next_flag c n ≡ true → is_nothing n.succ ≡ true → d ≡ pass c n → left ≡ [] → PassedOn image c i early d left
+wave_ended image c d i n early left note next ends behind none =
+    let nx : IsNext c (note_of image i) = subst (IsNext c) note (next_is c n next) in
+    let e : left_after (note_of image i) early ≡ [] = left_none (note_of image i).succ early (subst (λ (m : Note). is_nothing m.succ ≡ true) note ends) in
+    let p : d ≡ pass c (note_of image i) = behind ∙ ap (pass c) note in
+    inl (nx, rw (p, none, e) (done (λ j h. absurd h)))

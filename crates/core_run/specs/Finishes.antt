@@ -1,9 +1,12 @@
 -- How a run ends.
-use Rattle.std.specs.Prelude.{◌≡◌, ℕ, true, false, length, Some}
+use Rattle.std.specs.Prelude.{◌≡◌, ℕ, Bool, true, false, [], length, Some}
 use Rattle.ws_words.specs.Outside.{World}
 use Rattle.ws_isa.specs.Image.{Image}
+use Rattle.ws_isa.specs.Formed.{Formed}
+use Rattle.image_walk.specs.Sound.{Sound}
 use Rattle.core_law.specs.Core.{State, Issue, Enabled, Rest}
-use Rattle.core_run.specs.Flows.{IsFault}
+use Rattle.core_run.specs.declared.flow.Flow.{Flow}
+use Rattle.core_run.specs.Flows.{IsFault, Holds, Reaches}
 use Rattle.core_run.specs.declared.drive.Finish.{Finish}
 use Rattle.core_run.specs.declared.drive.Finish.TheVariants as finish
 
@@ -23,3 +26,14 @@ abbrev pub FinishIs : Image → World → ℕ → Finish → State → Type 0
 FinishIs image world budget finish.Rest s = Rest image s × (s.stopped ≡ false)
 FinishIs image world budget finish.Budget s = IsSpent image budget s
 FinishIs image world budget (finish.Fault array) s = (s.stopped ≡ true) × IsFault image world array
+
+-- a run leads on to such an end
+abbrev pub Ended : Image → ℕ → Flow → Flow → Finish → Type 0
+Ended image budget old new ended = (world : World) (s : State) → Formed image → Sound image →
+    Holds image world [] old s →
+    (t : State) × Reaches image s t × Holds image world [] new t
+    × FinishIs image world budget ended t
+
+abbrev pub is_budget : Finish → Bool
+is_budget finish.Budget = true
+is_budget _ = false

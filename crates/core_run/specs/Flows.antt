@@ -1,5 +1,5 @@
 -- The state for which a run's parts stand.
-use Rattle.std.specs.Prelude.{◌≡◌, ◌<◌, ◌≤◌, ◌+◌, ◌*◌, ℕ, cond, List, [], ◌∷◌, ◌++◌, length, map, true, false, slice_index_or, Option, Some, None, is_some, vec_len, vec_capacity}
+use Rattle.std.specs.Prelude.{◌≡◌, ◌<◌, ◌≤◌, ◌+◌, ◌*◌, ◌⊎◌, ℕ, cond, List, [], ◌∷◌, ◌++◌, length, map, true, false, slice_index_or, Option, Some, None, is_some, vec_len, vec_capacity}
 use Rattle.ws_words.specs.Outside.{World}
 use Rattle.ws_isa.specs.Image as plain
 use Rattle.ws_isa.specs.Image.{Image, ports, array_at}
@@ -14,7 +14,7 @@ use Rattle.core_run.specs.declared.flow.Flow.{Flow}
 use Rattle.core_run.specs.Partial.{partial_of, listed}
 use Rattle.core_run.specs.Chains.{chain_of, may_flag}
 use Rattle.core_run.specs.Ways.{way_of}
-use Rattle.core_run.specs.Outdoors.{OutIs}
+use Rattle.core_run.specs.Outdoors.{OutIs, Space, SameOut}
 
 abbrev pub request_of : Image → Asked → Request
 request_of image a =
@@ -71,19 +71,37 @@ MayAt image flow k =
     may_flag image (chain_of flow.chain)
     (asked_at flow k).wave (asked_at flow k).instr (asked_at flow k).operands.first ≡ true
 
+-- none of the first n requests may
+abbrev pub NoneBelow : Image → Flow → ℕ → Type 0
+NoneBelow image flow n = (k : ℕ) → k < n →
+    may_flag image (chain_of flow.chain) (asked_at flow k).wave (asked_at flow k).instr
+    (asked_at flow k).operands.first ≡ false
+
 -- no request may
 abbrev pub NoneMay : Image → Flow → Type 0
 NoneMay image flow = (k : ℕ) → k < length flow.asked.items →
     may_flag image (chain_of flow.chain)
     (asked_at flow k).wave (asked_at flow k).instr (asked_at flow k).operands.first ≡ false
 
--- there is room for what one event adds
-pub record Room (flow : Flow) : Type 0 where
-  pub spill : vec_len flow.slots.spill < vec_capacity flow.slots.spill
-  pub asked : vec_len flow.asked < vec_capacity flow.asked
-  pub early : vec_len flow.early < vec_capacity flow.early
-  pub now : vec_len flow.way.now + 8 ≤ vec_capacity flow.way.now
-  pub later : vec_len flow.way.later + 8 ≤ vec_capacity flow.way.later
+-- so many tokens may be in flight, with some in hand and so many more firings: an instance sends at
+-- most 8
+abbrev pub flight : Flow → ℕ → ℕ → ℕ
+flight flow hand more = vec_len flow.way.now + vec_len flow.way.later + vec_len flow.slots.spill
+    + hand + 8 * (vec_len flow.asked + more)
+
+-- there is room for some tokens in hand, so many more firings, and all that comes of them
+pub record Room (flow : Flow) (hand more : ℕ) : Type 0 where
+  pub now : flight flow hand more ≤ vec_capacity flow.way.now
+  pub later : flight flow hand more ≤ vec_capacity flow.way.later
+  pub spill : flight flow hand more ≤ vec_capacity flow.slots.spill
+  pub asked : vec_len flow.asked + more ≤ vec_capacity flow.asked
+  pub early : vec_len flow.early + (vec_len flow.asked + more) ≤ vec_capacity flow.early
+  pub memory : Space flow.memory (vec_len flow.asked + more)
+
+-- the same requests wait, or one more
+abbrev pub AskedMore : Flow → Flow → Type 0
+AskedMore old new = (new.asked.items ≡ old.asked.items)
+    ⊎ ((a : Asked) × (new.asked.items ≡ old.asked.items ++ a ∷ []))
 
 -- what is left to do before the next firing: a measure
 abbrev pub weight : Flow → ℕ
@@ -101,7 +119,7 @@ pub record SameParts (old new : Flow) : Type 0 where
   pub early : new.early.items ≡ old.early.items
   pub chain : new.chain ≡ old.chain
   pub fault : new.fault ≡ old.fault
-  pub memory : new.memory ≡ old.memory
+  pub memory : SameOut old.memory new.memory
   pub fired : new.fired ≡ old.fired
 
 -- events lead from a state to another

@@ -5,12 +5,13 @@ use Rattle.core_run.specs.declared.answer.Run.TheVariants as run
 use Rattle.core_run.specs.declared.drive.Finish.{Finish}
 use Rattle.core_run.specs.declared.drive.Finish.TheVariants as finish
 use Rattle.core_run.specs.declared.flow.Flow.{Flow}
+use Rattle.core_run.specs.Outdoors.{rows_of}
 
 abbrev pub done_of : Flow → Done
 done_of flow = record {
-  printed = flow.memory.printed;
+  printed = flow.memory.printed.items;
   arrays = flow.memory.cells;
-  took = flow.memory.took;
+  took = rows_of flow.memory.took.items;
   fired = flow.fired;
 }
 

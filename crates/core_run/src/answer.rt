@@ -1,11 +1,13 @@
 //! What a run answers.
 
-ghost use Rattle.std.specs.Prelude.{◌≡◌};
+ghost use Rattle.std.specs.Prelude.{◌≡◌, IfOk};
+ghost use Rattle.core_run.specs.Outdoors.{rows_of};
 ghost use Rattle.core_run.specs.Told.{run_of};
 
 use crate::drive::Finish;
 use crate::flow::Flow;
-use ws_words::{Cells, Words};
+use std::alloc::Global;
+use ws_words::{Cells, NoMemory, Words};
 
 /// What the instances that have fired have done: the words that they printed, the cells of all
 /// arrays, in order, hidden ones too, the words that each of the ports 1 to 7 took, and how many
@@ -28,19 +30,38 @@ pub enum Run {
 }
 
 /// The answer of a run that ended so.
-pub fn run_of(finish: Finish, flow: Flow<'_>) -> Run
-    ensures { result ≡ run_of finish flow.entry }
+pub fn run_of(alloc: Global, finish: Finish, flow: Flow<'_>) -> Result<Run, NoMemory>
+    ensures { IfOk result (λ run. run ≡ run_of finish flow.entry) }
 {
     let memory = flow.memory;
     let done = Done {
-        printed: memory.printed,
+        printed: words_of(alloc, memory.printed),
         arrays: memory.cells,
-        took: memory.took,
+        took: cells_of(alloc, memory.took)?,
         fired: flow.fired,
     };
-    match finish {
+    Ok(match finish {
         Finish::Rest => Run::Rest(done),
         Finish::Budget => Run::Budget(done),
         Finish::Fault { array } => Run::Fault(array, done),
+    })
+}
+
+fn words_of(alloc: Global, items: Vec<u64>) -> Words
+    ensures { result ≡ items.items }
+{
+    let mut items = items;
+    let mut words = Words::empty(alloc);
+    words.exchange(&mut items);
+    words
+}
+
+fn cells_of(alloc: Global, rows: Vec<Vec<u64>>) -> Result<Cells, NoMemory>
+    ensures { IfOk result (λ cells. cells ≡ rows_of rows.items) }
+{
+    let mut cells = Cells::empty(alloc);
+    for row in rows {
+        cells.push(words_of(alloc, row))?;
     }
+    Ok(cells)
 }

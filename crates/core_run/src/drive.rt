@@ -1,4 +1,4 @@
-//! The core.
+//! The core: events until none is left.
 
 ghost use Rattle.std.specs.Prelude.{◌≡◌, ◌<◌, ◌≤◌, ◌+◌, ◌-◌, ◌*◌, ◌^◌, ℕ, [], List, length, true, false, is_some, ◌⊎◌, IfOk, OnOk, vec_len};
 ghost use Rattle.ws_words.specs.Outside.{World};
@@ -6,8 +6,8 @@ ghost use Rattle.ws_isa.specs.Formed.{Formed};
 ghost use Rattle.image_walk.specs.Sound.{Sound};
 ghost use Rattle.core_law.specs.Core.{State};
 ghost use Rattle.core_run.specs.Places.{ProgramIs, image_of};
-ghost use Rattle.core_run.specs.Flows.{Going, Follows, NoneMay, weight, Holds, Reaches};
-ghost use Rattle.core_run.specs.Finishes.{FinishIs};
+ghost use Rattle.core_run.specs.Flows.{Going, Follows, NoneMay, NoneBelow, Room, weight};
+ghost use Rattle.core_run.specs.Finishes.{Ended, is_budget};
 
 use crate::flow::Flow;
 use crate::program::Program;
@@ -22,75 +22,123 @@ pub enum Finish {
     Fault { array: u32 },
 }
 
+// For so many firings room is made at once.
+const AHEAD: u64 = 1024;
+
 /// Makes events until none is left or so many instances have fired, and issues what may be issued.
-pub fn run(program: &Program<'_>, flow: &mut Flow<'_>, budget: u64) -> Result<Finish, NoMemory>
+/// Takes no memory.
+pub fn run(program: &Program<'_>, flow: &mut Flow<'_>, budget: u64) -> Finish
+    requires program { ProgramIs program.now }
+    requires going { Going (image_of program.now) [] flow.old }
+    requires fired { flow.old.fired ≤ budget }
+    requires room { Room flow.old 0 (budget - flow.old.fired) }
+    ensures within { flow.new.fired ≤ budget }
+    ensures spent { is_budget result ≡ true → flow.new.fired ≡ budget }
+    ensures finish { Ended (image_of program.now) budget flow.old flow.new result }
+{
+    issue_all(program, flow);
+    loop {
+        if let Some(array) = flow.fault {
+            return Finish::Fault { array };
+        }
+        if flow.way.is_empty() {
+            return Finish::Rest;
+        }
+        if flow.fired >= budget {
+            return Finish::Budget;
+        }
+        match_next(program, flow);
+    }
+}
+
+/// The same, and takes the memory that it needs on its way.
+pub fn run_on(program: &Program<'_>, flow: &mut Flow<'_>, budget: u64) -> Result<Finish, NoMemory>
     requires program { ProgramIs program.now }
     requires going { Going (image_of program.now) [] flow.old }
     requires fired { flow.old.fired ≤ budget }
     ensures within { OnOk result (flow.new.fired ≤ budget) }
-    ensures finish { IfOk result (λ finish. (world : World) (s : State) →
-        Formed (image_of program.now) →
-        Sound (image_of program.now) → Holds (image_of program.now) world [] flow.old s →
-        (t : State) × Reaches (image_of program.now) s t
-        × Holds (image_of program.now) world [] flow.new t
-        × FinishIs (image_of program.now) world budget finish t) }
+    ensures finish { IfOk result (Ended (image_of program.now) budget flow.old flow.new) }
 {
     loop {
-        issue_all(program, flow)?;
-        if let Some(array) = flow.fault {
-            return Ok(Finish::Fault { array });
+        let until = budget.min(flow.fired.saturating_add(AHEAD));
+        flow.prepare(until - flow.fired)?;
+        let finish = run(program, flow, until);
+        if until >= budget || !is_budget(finish) {
+            return Ok(finish);
         }
-        if flow.way.is_empty() {
-            return Ok(Finish::Rest);
-        }
-        if flow.fired >= budget {
-            return Ok(Finish::Budget);
-        }
-        match_next(program, flow)?;
     }
 }
 
-// Matches the next token on the way.
-fn match_next(program: &Program<'_>, flow: &mut Flow<'_>) -> Result<(), NoMemory>
+fn is_budget(finish: Finish) -> bool
+    ensures { result ≡ is_budget finish }
+{
+    match finish {
+        Finish::Budget => true,
+        _ => false,
+    }
+}
+
+// Matches the next token on the way, and issues what then may be issued.
+fn match_next(program: &Program<'_>, flow: &mut Flow<'_>)
     requires program { ProgramIs program.now }
     requires going { Going (image_of program.now) [] flow.old }
     requires fired { flow.old.fired + 1 < 2 ^ 64 }
     requires some { 0 < vec_len flow.old.way.now + vec_len flow.old.way.later }
-    ensures follows { OnOk result (Follows (image_of program.now) flow.old flow.new) }
-    ensures weight { OnOk result (weight flow.new + 9 * flow.old.fired
-        < weight flow.old + 9 * flow.new.fired) }
-    ensures count { OnOk result ((flow.old.fired ≤ flow.new.fired)
-        × (flow.new.fired ≤ flow.old.fired + 1)) }
+    requires running { is_some flow.old.fault ≡ false }
+    requires none { NoneMay (image_of program.now) flow.old }
+    requires room { Room flow.old 0 1 }
+    ensures follows { Follows (image_of program.now) flow.old flow.new }
+    ensures none { (is_some flow.new.fault ≡ true) ⊎ NoneMay (image_of program.now) flow.new }
+    ensures room { (n m : ℕ) → m + flow.new.fired ≡ n + flow.old.fired → Room flow.old 0 n →
+        Room flow.new 0 m }
+    ensures weight { weight flow.new + 9 * flow.old.fired < weight flow.old + 9 * flow.new.fired }
+    ensures count { (flow.old.fired ≤ flow.new.fired) × (flow.new.fired ≤ flow.old.fired + 1) }
 {
-    flow.make_room()?;
+    let waiting = flow.asked.len();
     match flow.way.take() {
-        Some(token) => {
-            if token.wave >= u64::MAX - 1 {
-                return Err(NoMemory);
-            }
-            flow.arrive(program, token);
-            Ok(())
-        }
+        Some(token) => flow.arrive(program, token),
         None => unreachable!(),
+    }
+    if flow.asked.len() > waiting {
+        issue_last(program, flow);
+    }
+}
+
+// Issues the last request if it may be issued, and then all that may; the others may not before.
+fn issue_last(program: &Program<'_>, flow: &mut Flow<'_>)
+    requires program { ProgramIs program.now }
+    requires going { Going (image_of program.now) [] flow.old }
+    requires fired { flow.old.fired < 2 ^ 64 }
+    requires running { is_some flow.old.fault ≡ false }
+    requires some { 0 < length flow.old.asked.items }
+    requires others { NoneBelow (image_of program.now) flow.old (length flow.old.asked.items - 1) }
+    requires room { Room flow.old 0 0 }
+    ensures follows { Follows (image_of program.now) flow.old flow.new }
+    ensures none { (is_some flow.new.fault ≡ true) ⊎ NoneMay (image_of program.now) flow.new }
+    ensures room { (n : ℕ) → Room flow.old 0 n → Room flow.new 0 n }
+    ensures weight { weight flow.new ≤ weight flow.old }
+    ensures count { flow.new.fired ≡ flow.old.fired }
+{
+    let place = flow.asked.len() - 1;
+    if flow.may_issue(program, flow.asked[place]) {
+        flow.issue(program, place);
+        issue_all(program, flow);
     }
 }
 
 // Issues requests until none may be issued.
-fn issue_all(program: &Program<'_>, flow: &mut Flow<'_>) -> Result<(), NoMemory>
+fn issue_all(program: &Program<'_>, flow: &mut Flow<'_>)
     requires program { ProgramIs program.now }
     requires going { Going (image_of program.now) [] flow.old }
-    ensures follows { OnOk result (Follows (image_of program.now) flow.old flow.new) }
-    ensures none { OnOk result ((is_some flow.new.fault ≡ true)
-        ⊎ NoneMay (image_of program.now) flow.new) }
-    ensures weight { OnOk result (weight flow.new ≤ weight flow.old) }
-    ensures count { OnOk result (flow.new.fired ≡ flow.old.fired) }
+    requires fired { flow.old.fired < 2 ^ 64 }
+    requires room { Room flow.old 0 0 }
+    ensures follows { Follows (image_of program.now) flow.old flow.new }
+    ensures none { (is_some flow.new.fault ≡ true) ⊎ NoneMay (image_of program.now) flow.new }
+    ensures room { (n : ℕ) → Room flow.old 0 n → Room flow.new 0 n }
+    ensures weight { weight flow.new ≤ weight flow.old }
+    ensures count { flow.new.fired ≡ flow.old.fired }
 {
     while let Some(place) = flow.issuable(program) {
-        flow.make_room()?;
-        if flow.chain.wave >= u64::MAX - 2 {
-            return Err(NoMemory);
-        }
-        flow.issue(program, place)?;
+        flow.issue(program, place);
     }
-    Ok(())
 }

@@ -1,13 +1,13 @@
 //! The state of a run, and its two kinds of event: a match and an issue.
 
-ghost use Rattle.std.specs.Prelude.{◌≡◌, ◌<◌, ◌≤◌, ◌+◌, ◌*◌, ◌^◌, ℕ, suc, [], ◌∷◌, ◌++◌, List, length, map, vec_len, vec_capacity, true, false, is_some, cond, ◌⊎◌, MatchOption, OnOk, OnErr};
+ghost use Rattle.std.specs.Prelude.{◌≡◌, ◌<◌, ◌≤◌, ◌+◌, ◌*◌, ◌^◌, ℕ, suc, [], ◌∷◌, ◌++◌, List, length, map, vec_len, vec_capacity, true, false, is_some, cond, ◌⊎◌, MatchOption, OnOk, IfSome};
 ghost use Rattle.ws_isa.specs.Image.{array_of_op, is_memory_op, is_load_op, result_of_op, selector_of, tokens_to, instr_at, ports_of, is_advance_op};
 ghost use Rattle.ws_isa.specs.Formed.{Formed};
 ghost use Rattle.core_law.specs.Core.{Match, Issue};
 ghost use Rattle.core_run.specs.Chains.{chain_of, may_flag};
 ghost use Rattle.core_run.specs.Places.{ProgramIs, image_of, destinations};
 ghost use Rattle.core_run.specs.Ways.{token_of, SentTo};
-ghost use Rattle.core_run.specs.Flows.{Going, Leads, Room, all_of, asked_at, MayAt, NoneMay, SameParts, weight};
+ghost use Rattle.core_run.specs.Flows.{Going, Leads, Room, flight, AskedMore, all_of, asked_at, MayAt, NoneMay, SameParts, weight};
 
 use crate::chain::Chain;
 use crate::memory::Memory;
@@ -18,6 +18,9 @@ use crate::token::{Asked, Operands, Token};
 use crate::way::Way;
 use ws_isa::Op;
 use ws_words::{NoMemory, apply};
+
+// So many firings that there is room for are counted without overflow.
+const MOST: u64 = 1 << 56;
 
 /// The state of a run: tokens that have arrived at unfired instances, tokens on the way, requests
 /// that wait, issued loads that the chain hasn't passed, the chain, the array of the index fault at
@@ -40,11 +43,15 @@ impl<'w> Flow<'w> {
     pub fn arrive(&mut self, program: &Program<'_>, token: Token)
         requires program { ProgramIs program.now }
         requires going { Going (image_of program.now) (token_of token ∷ []) self.old }
-        requires room { Room self.old }
-        requires wave { token.wave + 1 < 2 ^ 64 }
+        requires room { Room self.old 1 1 }
         requires fired { self.old.fired + 1 < 2 ^ 64 }
         ensures leads { Leads (image_of program.now) (Match token.wave token.instr token.port)
             (token_of token ∷ []) self.old self.new }
+        ensures room { (n m : ℕ) → m + self.new.fired ≡ n + self.old.fired → Room self.old 1 n →
+            Room self.new 0 m }
+        ensures asked { AskedMore self.old self.new }
+        ensures chain { self.new.chain ≡ self.old.chain }
+        ensures fault { self.new.fault ≡ self.old.fault }
         ensures count { (self.old.fired ≤ self.new.fired) × (self.new.fired ≤ self.old.fired + 1) }
         ensures weight { weight self.new + 9 * self.old.fired
             ≤ weight self.old + 9 * self.new.fired }
@@ -68,18 +75,37 @@ impl<'w> Flow<'w> {
         }
     }
 
-    /// Makes room for what one event adds.
-    pub fn make_room(&mut self) -> Result<(), NoMemory>
-        ensures room { OnOk result (Room self.new) }
+    /// Makes room for so many more firings and all events around them.
+    pub fn prepare(&mut self, more: u64) -> Result<(), NoMemory>
+        ensures room { OnOk result (Room self.new 0 more) }
         ensures same { SameParts self.old self.new }
-        ensures weight { weight self.new ≡ weight self.old }
     {
-        self.slots.spill.reserve(1)?;
-        self.asked.reserve(1)?;
-        self.early.reserve(1)?;
-        self.way.now.reserve(8)?;
-        self.way.later.reserve(8)?;
-        Ok(())
+        if more > MOST {
+            return Err(NoMemory);
+        }
+        let more = more as usize;
+        let asked = self.asked.len() + more;
+        match self.flight(more) {
+            Some(flight) => {
+                self.way.now.reserve(flight - self.way.now.len())?;
+                self.way.later.reserve(flight - self.way.later.len())?;
+                self.slots.spill.reserve(flight - self.slots.spill.len())?;
+                self.early.reserve(asked)?;
+                self.memory.reserve(asked)?;
+                self.asked.reserve(more)?;
+                Ok(())
+            }
+            None => Err(NoMemory),
+        }
+    }
+
+    // How many tokens there may be on the way and at ports, with so many more firings.
+    fn flight(&self, more: usize) -> Option<usize>
+        ensures { IfSome result (λ count. count ≡ flight self.now 0 more) }
+    {
+        let sent = self.asked.len().checked_add(more)?.checked_mul(8)?;
+        let way = self.way.now.len().checked_add(self.way.later.len())?;
+        way.checked_add(self.slots.spill.len())?.checked_add(sent)
     }
 
     /// The place of a request that may be issued, if there is one.
@@ -103,7 +129,8 @@ impl<'w> Flow<'w> {
         None
     }
 
-    fn may_issue(&self, program: &Program<'_>, asked: Asked) -> bool
+    /// Whether a request may be issued, where the chain isn't stopped.
+    pub fn may_issue(&self, program: &Program<'_>, asked: Asked) -> bool
         requires { ProgramIs program.now }
         ensures { result ≡ may_flag (image_of program.now)
             (chain_of self.now.chain) asked.wave asked.instr asked.operands.first }
@@ -118,35 +145,34 @@ impl<'w> Flow<'w> {
     }
 
     /// Issues a request that may be issued; one past the end stops the chain.
-    pub fn issue(&mut self, program: &Program<'_>, place: usize) -> Result<(), NoMemory>
+    pub fn issue(&mut self, program: &Program<'_>, place: usize)
         requires program { ProgramIs program.now }
         requires going { Going (image_of program.now) [] self.old }
         requires place { place < length self.old.asked.items }
         requires running { is_some self.old.fault ≡ false }
         requires may { MayAt (image_of program.now) self.old place }
-        requires room { Room self.old }
-        requires wave { self.old.chain.wave + 2 < 2 ^ 64 }
-        ensures leads { OnOk result (Leads (image_of program.now)
-            (Issue (asked_at self.old place).wave (asked_at self.old place).instr) [] self.old
-            self.new) }
-        ensures unchanged { OnErr result (self.new ≡ self.old) }
+        requires room { Room self.old 0 0 }
+        requires fired { self.old.fired < 2 ^ 64 }
+        ensures leads { Leads (image_of program.now)
+            (Issue (asked_at self.old place).wave (asked_at self.old place).instr)
+            [] self.old self.new }
+        ensures room { (n : ℕ) → Room self.old 0 n → Room self.new 0 n }
         ensures count { self.new.fired ≡ self.old.fired }
-        ensures weight { OnOk result (weight self.new < weight self.old) }
+        ensures weight { weight self.new < weight self.old }
     {
         let asked = self.asked[place];
         let op = program.op(asked.instr);
         if program.is_past(op, asked.operands.first) {
             self.fault = Some(array_of(op));
-            return Ok(());
+            return;
         }
         let word = self
             .memory
-            .run(op, asked.operands.first, asked.operands.second)?;
+            .run(op, asked.operands.first, asked.operands.second);
         self.asked.remove(place);
         self.chain = pass_on(program, self.chain, &mut self.early, asked.instr);
         let dests = program.destinations(asked.instr, selector(op, asked.operands));
         self.way.send(dests, asked.wave, word);
-        Ok(())
     }
 
     // An instance fires: its request waits, or its result is on the way.
@@ -164,6 +190,7 @@ impl<'w> Flow<'w> {
         ensures chain { self.new.chain ≡ self.old.chain }
         ensures fault { self.new.fault ≡ self.old.fault }
         ensures memory { self.new.memory ≡ self.old.memory }
+        ensures room { (n : ℕ) → Room self.old 0 (suc n) → Room self.new 0 n }
         ensures weight { weight self.new ≤ weight self.old + 9 }
         ensures asked { is_memory_op op ≡ true →
             self.new.asked.items

@@ -11,7 +11,6 @@ mod open;
 mod order;
 mod program;
 mod slots;
-mod tape;
 mod token;
 mod way;
 mod whole;

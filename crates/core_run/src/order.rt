@@ -14,7 +14,7 @@ use ws_isa::Note;
 /// The chain behind an issued operation. One that isn't next is kept.
 pub fn pass_on(program: &Program<'_>, chain: Chain, early: &mut Vec<u32>, instr: u32) -> Chain
     requires program { ProgramIs program.now }
-    requires wave { chain.wave + 2 < 2 ^ 64 }
+    requires wave { chain.wave + 1 < 2 ^ 64 }
     requires room { vec_len early.old < vec_capacity early.old }
     ensures passed { PassedOn (image_of program.now)
         (chain_of chain) instr early.old.items (chain_of result) early.new.items }
@@ -22,13 +22,16 @@ pub fn pass_on(program: &Program<'_>, chain: Chain, early: &mut Vec<u32>, instr:
     ensures room { vec_capacity early.new ≡ vec_capacity early.old }
 {
     let note = program.note(instr);
-    if chain.is_next(note) {
-        forget(note, early);
-        settle(program, chain.pass(note), early)
-    } else {
+    if !chain.is_next(note) {
         early.push_reserved(instr);
-        chain
+        return chain;
     }
+    let next = chain.pass(note);
+    if is_nothing(note.succ) {
+        early.clear();
+        return next;
+    }
+    settle(program, next, early)
 }
 
 /// The chain behind those of these operations that are next, until none is. They are taken out.

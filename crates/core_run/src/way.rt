@@ -48,10 +48,8 @@ impl Way {
     pub fn take(&mut self) -> Option<Token>
         ensures taken { MatchOption result ((way_of self.old ≡ []) × (way_of self.new ≡ []))
             (TakenFrom self.old self.new) }
-        ensures room { vec_len self.old.now + 8 ≤ vec_capacity self.old.now →
-            vec_len self.old.later + 8 ≤ vec_capacity self.old.later →
-            (vec_len self.new.now + 8 ≤ vec_capacity self.new.now)
-            × (vec_len self.new.later + 8 ≤ vec_capacity self.new.later) }
+        ensures room { (n : ℕ) → n ≤ vec_capacity self.old.now → n ≤ vec_capacity self.old.later →
+            (n ≤ vec_capacity self.new.now) × (n ≤ vec_capacity self.new.later) }
         ensures fewer { MatchOption result (vec_len self.old.now + vec_len self.old.later ≡ 0)
             (λ token. vec_len self.new.now + vec_len self.new.later + 1
             ≡ vec_len self.old.now + vec_len self.old.later) }

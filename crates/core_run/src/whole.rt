@@ -5,7 +5,7 @@ ghost use Rattle.ws_words.specs.Plain.{world_of};
 ghost use Rattle.core_run.specs.Answer.{RunSo};
 
 use crate::answer::{Run, run_of};
-use crate::drive::run;
+use crate::drive::run_on;
 use crate::open::open;
 use crate::program::Program;
 use image_walk::Checked;
@@ -24,6 +24,6 @@ pub fn run_checked(
 {
     let program = Program::of(alloc, image.image())?;
     let mut flow = open(alloc, &program, world)?;
-    let finish = run(&program, &mut flow, budget)?;
-    Ok(run_of(finish, flow))
+    let finish = run_on(&program, &mut flow, budget)?;
+    run_of(alloc, finish, flow)
 }

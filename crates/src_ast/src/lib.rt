@@ -31,4 +31,3 @@ pub use make::{if_stmt, while_stmt};
 pub use operator::level;
 pub use print::print_program;
 pub use tree::{Ending, Expr, Exprs, Form, Item, Items, Names, Program, Stmt, Stmts, Unary};
-

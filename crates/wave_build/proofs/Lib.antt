@@ -1,1 +1,10 @@
+pub mod CompilingGraphs
+pub mod CompilingRuns
+pub mod CompilingShown
+pub mod CompilingWalks
+pub mod CompilingWords
 pub mod Fitting
+pub mod Sizing
+pub mod Forming
+pub mod RoomSteps
+pub mod RoomParts

@@ -1,1 +1,5 @@
+pub mod Compiled
 pub mod Passed
+pub mod Prepared
+pub mod Small
+pub mod Wordy

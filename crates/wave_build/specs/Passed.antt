@@ -6,9 +6,11 @@ use Rattle.cfg_core.specs.Graph.{Graph, block_at}
 use Rattle.cfg_core.specs.Rules.{IsGraph}
 use Rattle.cfg_core.specs.Shape.{IsShaped, ArmsAlone}
 use Rattle.cfg_core.specs.Weights.{first_block, TwoBlocksATurn, TurnsPayWork}
+use Rattle.cfg_build.specs.Keeps.{IsFirstForm}
 use Rattle.cfg_build.specs.Sizes.{IsSmall}
 use Rattle.live_vars.specs.Marks.{AreLive}
 use Rattle.wave_cut.specs.Cut.{Cut, IsCut, AreWaves}
+use Rattle.phi_conv.specs.Joined as phi
 use Rattle.phi_conv.specs.Keeps.{NoCopyLive, ShortJoined, SizesKept}
 use Rattle.call_gen.specs.Keeps.{HasNoCall, NoneLiveAcross, ParamsAtMost, SendsAtMost}
 use Rattle.call_gen.specs.Sizes.{Sizes, IsWithin, spelled_sizes}
@@ -21,9 +23,12 @@ pub record Lowered (parts : List Part) (lowered : Graph) : Type 0 where
   pub turns : TwoBlocksATurn lowered
   pub work : TurnsPayWork lowered (widest parts)
   pub small : IsSmall parts lowered
+  pub form : IsFirstForm lowered
 
--- the graph with its short branches joined, as `join_short` gives it
+-- the graph with its short branches joined, by sets of live variables, as `join_short` gives it
 pub record Joined (given joined : Graph) : Type 0 where
+  pub sets : List (List ℕ)
+  pub is : joined ≡ phi.joined given sets
   pub rules : IsGraph joined
   pub short : ShortJoined given joined
   pub sizes : SizesKept given joined

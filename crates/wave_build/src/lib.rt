@@ -1,8 +1,14 @@
-//! From an accepted program to an image: what follows from the contracts of the passes together.
+//! From an accepted program to an image, and what follows from the contracts of the passes together.
 //!
-//! specs/Passed.antt gathers what the contracts of the passes over graphs say, in their order.
+//! The definitions stand in specs/: what an image does of its program (Compiled.antt), what the
+//! contracts of the passes over graphs say, in their order (Passed.antt), and how large the graphs
+//! become (Small.antt).
 #![tactic(auto)]
 
+mod compiler;
 mod laws;
+mod room;
+mod words;
 
-pub use laws::passed_graphs_fit;
+pub use compiler::compile;
+pub use laws::{joined_graphs_send_nothing, passed_drafts_fit, passed_graphs_fit};

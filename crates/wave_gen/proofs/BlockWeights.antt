@@ -5,7 +5,7 @@ use Rattle.ws_isa.specs.declared.instr.Op.{Op}
 use Rattle.ws_isa.specs.declared.instr.Op.TheVariants.{Merge, Advance, Send, Halt}
 use Rattle.ws_isa.specs.Image.{ports_of}
 use Rattle.wave_gen.specs.Wire.{Front, Wants, Made, with_wants, emit, gather}
-use Rattle.wave_gen.specs.Plans.{Tail, Leaves, Onto, Either, Lands, Halts, Plan, pulse, operands_of, hung, hang, more, chain, tails_of, end_wants, behind_source, exit_made, body_made, has_front, renew, advances, fronts, operands_needed, plan_at, made_at, starts_at}
+use Rattle.wave_gen.specs.Plans.{merges, Tail, Leaves, Onto, Either, Lands, Halts, Plan, pulse, operands_of, hung, hang, more, chain, tails_of, end_wants, behind_source, exit_made, body_made, has_front, renew, advances, fronts, operands_needed, plan_at, made_at, starts_at}
 use Rattle.wave_gen.proofs.Planned.{SourceIs, PlansAre}
 use Rattle.wave_gen.proofs.Weights.{total, charge, weights, ItemsBelow}
 use Rattle.wave_gen.proofs.Weighs.{set_out, set_total, emit_charge, rest_charge, gather_charge, make_charge, wire_charge}
@@ -124,7 +124,7 @@ module _ (width : ℕ) (ps : List Plan) (Live : ℕ → ℕ → Type 0) (plans :
 
   -- the instructions of a block, and what is wanted at its start
   pub block_charge : 4 * length (made_at width ps b).code + total (starts_at width ps b) n ≤ taken + 11 * length (plan_at ps b).entries + 5
-  block_charge = elim (cases_Bool (plan_at ps b).first) [ inl f ↦ outer f | inr f ↦ inner f (plan_at ps b).joined refl ]
+  block_charge = elim (cases_Bool (plan_at ps b).first) [ inl f ↦ outer f | inr f ↦ inner f (merges (plan_at ps b) (body_made width (starts_at width ps) b (plan_at ps b))) refl ]
     where
       outer : (plan_at ps b).first ≡ true → 4 * length (made_at width ps b).code + total (starts_at width ps b) n ≤ taken + 11 * length (plan_at ps b).entries + 5
       outer f =
@@ -139,10 +139,10 @@ module _ (width : ℕ) (ps : List Plan) (Live : ℕ → ℕ → Type 0) (plans :
           let g : charge n body ≤ taken = body_charge in
           omega (arith, c, t, a, r, u, g)
 
-      inner : (plan_at ps b).first ≡ false → (j : Bool) → (plan_at ps b).joined ≡ j → 4 * length (made_at width ps b).code + total (starts_at width ps b) n ≤ taken + 11 * length (plan_at ps b).entries + 5
+      inner : (plan_at ps b).first ≡ false → (j : Bool) → merges (plan_at ps b) (body_made width (starts_at width ps) b (plan_at ps b)) ≡ j → 4 * length (made_at width ps b).code + total (starts_at width ps b) n ≤ taken + 11 * length (plan_at ps b).entries + 5
       inner f true j =
           let body : Made = body_made width (starts_at width ps) b (plan_at ps b) in
-          let m : made_at width ps b ≡ emit b pulse Merge (pulse ∷ []) body = made_is width ps b h (plans.each b h).edges ∙ cond-false (plan_at ps b).first _ _ f ∙ cond-true (plan_at ps b).joined _ _ j in
+          let m : made_at width ps b ≡ emit b pulse Merge (pulse ∷ []) body = made_is width ps b h (plans.each b h).edges ∙ cond-false (plan_at ps b).first _ _ f ∙ cond-true (merges (plan_at ps b) body) _ _ j in
           let c : charge n (made_at width ps b) ≡ charge n (emit b pulse Merge (pulse ∷ []) body) = ap (charge n) m in
           let t : total (starts_at width ps b) n ≡ total (made_at width ps b).wants n = ap (λ (w : Wants). total w n) (starts_inner width ps b f) in
           let a : charge n (emit b pulse Merge (pulse ∷ []) body) ≤ charge n body + 5 = emit_charge n b pulse Merge (pulse ∷ []) body in
@@ -150,7 +150,7 @@ module _ (width : ℕ) (ps : List Plan) (Live : ℕ → ℕ → Type 0) (plans :
           omega (arith, c, t, a, g)
       inner f false j =
           let body : Made = body_made width (starts_at width ps) b (plan_at ps b) in
-          let m : made_at width ps b ≡ body = made_is width ps b h (plans.each b h).edges ∙ cond-false (plan_at ps b).first _ _ f ∙ cond-false (plan_at ps b).joined _ _ j in
+          let m : made_at width ps b ≡ body = made_is width ps b h (plans.each b h).edges ∙ cond-false (plan_at ps b).first _ _ f ∙ cond-false (merges (plan_at ps b) body) _ _ j in
           let c : charge n (made_at width ps b) ≡ charge n body = ap (charge n) m in
           let t : total (starts_at width ps b) n ≡ total (made_at width ps b).wants n = ap (λ (w : Wants). total w n) (starts_inner width ps b f) in
           let g : charge n body ≤ taken = body_charge in

@@ -6,9 +6,10 @@ use Rattle.ws_isa.specs.Image.{In, nth, or_else}
 use Rattle.image_walk.specs.Sound.{HasDest}
 use Rattle.wave_gen.specs.Waits.{Owner}
 use Rattle.wave_gen.specs.Wire.{Spot, Back, Front, dests_of, Line, Wants, no_wants, Made, emit, wire}
-use Rattle.wave_gen.specs.Plans.{Leaves, Onto, Either, Lands, Halts, Plan, pulse, same_spot, same_spots, differing, steered, is_among, past, Tail, steers, sends, selected, tails_of, end_wants, behind_source, exit_made, body_made, block_made, has_front, renew, advances, fronts, no_plan, no_made, plan_at, start_of, blocks_from, mades, made_at, starts_at, numbers, begins, owner_of}
+use Rattle.wave_gen.specs.Plans.{merges, Leaves, Onto, Either, Lands, Halts, Plan, pulse, same_spot, same_spots, differing, steered, is_among, past, Tail, steers, sends, selected, tails_of, end_wants, behind_source, exit_made, body_made, block_made, has_front, renew, advances, fronts, no_plan, no_made, plan_at, start_of, blocks_from, mades, made_at, starts_at, numbers, begins, owner_of}
 use Rattle.wave_gen.proofs.Planned.{Needs, Apart, Inner, Outer, EdgesAre, PlanIs}
 use Rattle.wave_gen.proofs.Steps.{first_le}
+use Rattle.wave_gen.proofs.SteeredNames.{or_in}
 use Rattle.wave_gen.proofs.Wiring.{Ahead, Inv, Good, emit_inv}
 use Rattle.wave_gen.proofs.Flow.{Wanted, wire_wanted, make_wanted, gather_wanted, with_uses_wanted, selected_wanted, reads_more, helds}
 use Rattle.wave_gen.proofs.Ends.{Clean, body_good, renew_good, merge_good}
@@ -120,7 +121,7 @@ module _ (width : ℕ) (ps : List Plan) where
 
   block_same : (s t : ℕ → Wants) (b : ℕ) (p : Plan) → targets_agree s t p.exit → block_made width s b p ≡ block_made width t b p
   block_same s t b p a = let e : exit_made width s b p p.exit ≡ exit_made width t b p p.exit = exit_same s t b p p.exit (behind_same s t b p a) in
-      ap (λ (m : Made). cond p.first (advances b p.entries (renew b p.entries (wire b p.items m))) (cond p.joined (emit b pulse Merge (pulse ∷ []) (wire b p.items m)) (wire b p.items m))) e
+      ap (λ (m : Made). cond p.first (advances b p.entries (renew b p.entries (wire b p.items m))) (cond (merges p (wire b p.items m)) (emit b pulse Merge (pulse ∷ []) (wire b p.items m)) (wire b p.items m))) e
 
   laid_agree : (b : ℕ) (l : Laid b) (x : Leaves) → EdgesAre ps b x → targets_agree (start_of ps (suc b) l.later) (starts_at width ps) x
   unfolding targets_agree
@@ -185,12 +186,14 @@ module _ (width : ℕ) (ps : List Plan) where
 
   -- a name that is steered is the pulse or wanted in an arm
   pub steered_wanted : (w v : Wants) (y : ℕ) → In y (steered width w v) → (y ≡ pulse) ⊎ (Wanted w y ⊎ Wanted v y)
-  steered_wanted w v y (inl e) = inl e
-  steered_wanted w v y (inr h) = elim (nil_or (w y)) [
-    | inr n ↦ inr (inl n)
-    | inl e ↦ elim (nil_or (v y)) [
-      | inr n ↦ inr (inr n)
-      | inl f ↦ absurd (both_ways (same_spots (w y) (v y)) (differing_in w v 1 (width - 1) y h).0 (rw (e, f) refl))
+  steered_wanted w v y i = elim (or_in (differing w v 0 width) y i) [
+    | inl e ↦ inl e
+    | inr h ↦ elim (nil_or (w y)) [
+      | inr n ↦ inr (inl n)
+      | inl e ↦ elim (nil_or (v y)) [
+        | inr n ↦ inr (inr n)
+        | inl f ↦ absurd (both_ways (same_spots (w y) (v y)) (differing_in w v 0 width y h).0 (rw (e, f) refl))
+      ]
     ]
   ]
 
@@ -359,7 +362,7 @@ module _ (width : ℕ) (ps : List Plan) where
         body_ok : Good F b (O b) Fine (F b) clear (body_made width S b (plan_at ps b))
         body_ok = body_good F b width Fine (F b) clear (E b) end_clean S (plan_at ps b) refl (plans b h).items (plans b h).source
 
-        made_inner : made_at width ps b ≡ cond (plan_at ps b).joined (emit b pulse Merge (pulse ∷ []) body) body
+        made_inner : made_at width ps b ≡ cond (merges (plan_at ps b) body) (emit b pulse Merge (pulse ∷ []) body) body
         unfolding body
         made_inner = made_is b h (plans b h).edges ∙ cond-false (plan_at ps b).first _ _ not_first
 
@@ -369,7 +372,7 @@ module _ (width : ℕ) (ps : List Plan) where
         inner_good false = body_ok
 
         good_made : Good F b (O b) Fine (F b) clear (made_at width ps b)
-        good_made = subst (λ (m : Made). Good F b (O b) Fine (F b) clear m) (sym made_inner) (inner_good (plan_at ps b).joined)
+        good_made = subst (λ (m : Made). Good F b (O b) Fine (F b) clear m) (sym made_inner) (inner_good (merges (plan_at ps b) body))
 
         inv_inner : Inv F b (O b) Fine (F b) (made_at width ps b)
         inv_inner =
@@ -386,7 +389,7 @@ module _ (width : ℕ) (ps : List Plan) where
         ]
 
         live_inner : (x : ℕ) → Wanted (S b) x → Live b x
-        live_inner x w = inner_live (plan_at ps b).joined x (λ e. w (ap (λ (v : Wants). v x) (starts_inner b not_first) ∙ ap (λ (m : Made). m.wants x) made_inner ∙ e))
+        live_inner x w = inner_live (merges (plan_at ps b) body) x (λ e. w (ap (λ (v : Wants). v x) (starts_inner b not_first) ∙ ap (λ (m : Made). m.wants x) made_inner ∙ e))
 
         clean_inner : (k : ℕ) → k ≤ F b → Clean F Fine k width (S b)
         clean_inner k l = subst (λ (w : Wants). Clean F Fine k width w) (sym (starts_inner b not_first)) (record {

@@ -1,12 +1,11 @@
 -- Small graphs of which a draft is made.
-use Rattle.std.proofs.Common.{ℕ, zero, suc, ◌≡◌, ◌≢◌, ◌<◌, List, [], ◌∷◌, refl, sym, ap, ◌∙◌, subst, inl, inr, arith}
-use Rattle.cfg_core.specs.Graph as graph
+use Rattle.std.proofs.Common.{ℕ, zero, suc, ◌≡◌, ◌<◌, refl, sym, subst, arith}
 use Rattle.cfg_core.specs.Graph.{Term, Var, Branch, Spot, spots, spot_at, block_at, no_spot}
-use Rattle.cfg_core.specs.Edges.{Edge}
 use Rattle.cfg_core.specs.Shape.{OnlyFrom, BranchesApart}
 use Rattle.cfg_core.specs.Samples.{counts, calls_twice}
 use Rattle.cfg_core.proofs.Total.{each_at}
-use Rattle.call_gen.specs.Keeps.{NoSend, HasNoSend, ArmsAlone}
+use Rattle.call_gen.specs.Keeps.{NoSend, HasNoSend}
+use Rattle.cfg_core.specs.Shape.{ArmsAlone}
 
 pub counts_sends_nothing : HasNoSend counts
 unfolding spot_at no_spot

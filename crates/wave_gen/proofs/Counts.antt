@@ -1,26 +1,25 @@
 -- How many instructions the draft of a graph has.
 use Rattle.std.proofs.Common.{ℕ, zero, suc, ◌+◌, ◌-◌, ◌*◌, ◌≡◌, ◌<◌, ◌≤◌, ◌⊎◌, Bool, true, false, cond, List, [], ◌∷◌, ◌++◌, length, map, Option, Some, None, refl, sym, ap, ◌∙◌, subst, inl, inr, arith, eq-eqb, ne_eqb}
-use Rattle.std.proofs.lemmas.Bool.{cases_Bool, cases_eq, cases_lt}
+use Rattle.std.proofs.lemmas.Bool.{cases_eq, cases_lt}
 use Rattle.std.proofs.lemmas.List.{length-map}
 use Rattle.std.specs.List.{sum_by}
 use Rattle.std.proofs.lemmas.List.Sums.{sum_by-cons, sum_by-append}
-use Rattle.ws_isa.specs.Image.{Image, Array, nth, flat}
+use Rattle.ws_isa.specs.Image.{nth, flat}
 use Rattle.cfg_core.specs.Graph as graph
 use Rattle.cfg_core.specs.Graph.{Graph, Spot, no_spot, spots, spot_at, block_at}
 use Rattle.cfg_core.specs.Rules.{ExitIn}
 use Rattle.wave_cut.specs.Cut.{Cut}
 use Rattle.wave_gen.specs.Wire.{Wants}
-use Rattle.wave_gen.specs.Plans.{Plan, Leaves, past, steered, end_wants, plan_at, made_at, starts_at, begins, instr_of, blocks_of, draft_of}
+use Rattle.wave_gen.specs.Plans.{Plan, past, steered, end_wants, plan_at, made_at, starts_at, begins, instr_of, blocks_of, draft_of}
 use Rattle.wave_gen.specs.Gen.{gen_ops}
-use Rattle.wave_gen.specs.Listing.{gen_exit, of_wave, waves_from, turned, listing, index_of, place_of, width_of, plans_of, needed, arrays_of, graph_draft}
+use Rattle.wave_gen.specs.Listing.{gen_exit, of_wave, waves_from, turned, listing, place_of, width_of, plans_of, needed, arrays_of}
 use Rattle.wave_gen.specs.Fitting.{Fits}
-use Rattle.wave_gen.specs.Cost.{quarters, most_quarters}
-use Rattle.wave_gen.proofs.Planned.{PlansAre}
+use Rattle.wave_gen.specs.Cost.{most_quarters}
 use Rattle.wave_gen.proofs.Weights.{total}
 use Rattle.wave_gen.proofs.Blocks.{past_is}
 use Rattle.wave_gen.proofs.EdgeWeights.{total_least, total_none}
 use Rattle.wave_gen.proofs.ShortLists.{starts_few}
-use Rattle.wave_gen.proofs.Chains.{listed_once, listed_there}
+use Rattle.wave_gen.proofs.Chains.{listed_there}
 use Rattle.wave_gen.proofs.Turned.{waving}
 use Rattle.wave_gen.proofs.PlanFacts.{at_place, place_there, place_is, as_many, numbers}
 use Rattle.wave_gen.proofs.PlansMade.{plans_are}

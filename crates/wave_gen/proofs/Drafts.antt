@@ -8,7 +8,7 @@ use Rattle.ws_isa.specs.Image.{Image, Instr, Array, nth, instr_at, first_number,
 use Rattle.image_walk.specs.Sound.{HasDest}
 use Rattle.wave_gen.specs.Waits.{Distinct, Owner, Step, Fires, Rests, Skips, Copies, Stands}
 use Rattle.wave_gen.specs.Wire.{Spot, Back, Front, dest_of, dests_of, Line, Wants, Made, emit, rest, with_rooms, make, Item, Make, Act, Same}
-use Rattle.wave_gen.specs.Plans.{Leaves, Onto, Either, Lands, Halts, Plan, pulse, Tail, TailAt, steers, sends, steered, hang, selected, tails_of, end_wants, behind_source, exit_made, body_made, renew, advances, plan_at, made_at, starts_at, begins, owner_of, instr_of, draft_of, source_of, operands_needed, chooses, KeptOf}
+use Rattle.wave_gen.specs.Plans.{merges, Leaves, Onto, Either, Lands, Halts, Plan, pulse, Tail, TailAt, steers, sends, steered, hang, selected, tails_of, end_wants, behind_source, exit_made, body_made, renew, advances, plan_at, made_at, starts_at, begins, owner_of, instr_of, draft_of, source_of, operands_needed, chooses, KeptOf}
 use Rattle.wave_gen.proofs.Planned.{is_act_op, ItemsAre, SourceIs, PlanIs}
 use Rattle.wave_gen.proofs.Wiring.{Ahead, CodeOk, spot_of}
 use Rattle.wave_gen.proofs.Keeping.{KeptOk, KeptAt, Body, wire_body, renew_body, advances_body, merge_body, act_body, AllHold, hang_count, from_src, rooms_chain, selected_chain, source_body}
@@ -181,7 +181,7 @@ module _ (arrays : List Array) (width : ℕ) (ps : List Plan) (Live : ℕ → �
       pub kind : P l.op
 
     pub inner_line : (P : Op → Type 0) → P Merge → Kind P (plan_at ps b).exit → Items P (plan_at ps b).items → (plan_at ps b).first ≡ false → (i : ℕ) (l : Line) → nth (made_at width ps b).code i ≡ Some l → P l.op
-    inner_line P m k is f i l e = line_at P (made_at width ps b).code i l (subst (λ (s : Made). Lines P s.code) (sym (made_is width ps b h (plans b h).edges ∙ cond-false (plan_at ps b).first _ _ f)) (go (plan_at ps b).joined)) e
+    inner_line P m k is f i l e = line_at P (made_at width ps b).code i l (subst (λ (s : Made). Lines P s.code) (sym (made_is width ps b h (plans b h).edges ∙ cond-false (plan_at ps b).first _ _ f)) (go (merges (plan_at ps b) (body_made width S b (plan_at ps b))))) e
       where
         go : (j : Bool) → Lines P (cond j (emit b pulse Merge (pulse ∷ []) (body_made width S b (plan_at ps b))) (body_made width S b (plan_at ps b))).code
         go true = (m, block_lines P m k is)
@@ -301,7 +301,7 @@ module _ (arrays : List Array) (width : ℕ) (ps : List Plan) (Live : ℕ → �
             let c : length (advances b (plan_at ps b).entries (renew b (plan_at ps b).entries (body_made width S b (plan_at ps b)))).code ≡ length (plan_at ps b).entries + length (renew b (plan_at ps b).entries (body_made width S b (plan_at ps b))).code = advances_count b (plan_at ps b).entries (renew b (plan_at ps b).entries (body_made width S b (plan_at ps b))) in
             let m : length (body_made width S b (plan_at ps b)).code ≤ length (renew b (plan_at ps b).entries (body_made width S b (plan_at ps b))).code = (renew_more Any tt b (plan_at ps b).entries (body_made width S b (plan_at ps b))).long in
             omega arith
-        go (inr f) = rw (made_is width ps b h (plans b h).edges ∙ cond-false (plan_at ps b).first _ _ f) (inner (plan_at ps b).joined)
+        go (inr f) = rw (made_is width ps b h (plans b h).edges ∙ cond-false (plan_at ps b).first _ _ f) (inner (merges (plan_at ps b) (body_made width S b (plan_at ps b))))
 
     -- a block that chooses
     module _ (op : Op) (from : List ℕ) (needs : operands_needed (plan_at ps b).exit ≡ from) (chose : chooses (plan_at ps b).exit ≡ true)
@@ -374,7 +374,7 @@ module _ (arrays : List Array) (width : ℕ) (ps : List Plan) (Live : ℕ → �
 
         go : ((plan_at ps b).first ≡ true) ⊎ ((plan_at ps b).first ≡ false) → Body K (F (suc b)) src low (made_at width ps b)
         go (inl f) = subst (λ (s : Made). Body K (F (suc b)) src low s) (sym (made_first f)) (advances_body K (F (suc b)) src low b (plan_at ps b).entries (renew b (plan_at ps b).entries (body_made width S b (plan_at ps b))) (renew_body K (F (suc b)) src low b (plan_at ps b).entries (body_made width S b (plan_at ps b)) body))
-        go (inr f) = subst (λ (s : Made). Body K (F (suc b)) src low s) (sym (made_is width ps b h (plans b h).edges ∙ cond-false (plan_at ps b).first _ _ f)) (inner (plan_at ps b).joined)
+        go (inr f) = subst (λ (s : Made). Body K (F (suc b)) src low s) (sym (made_is width ps b h (plans b h).edges ∙ cond-false (plan_at ps b).first _ _ f)) (inner (merges (plan_at ps b) (body_made width S b (plan_at ps b))))
 
     -- nothing is read where nothing is chosen
     none_read : chooses (plan_at ps b).exit ≡ false → tails_of width S (plan_at ps b).exit ≡ [] → (m i : ℕ) → K m i → ⊥

@@ -3,7 +3,8 @@ use Rattle.std.proofs.Common.{ℕ, zero, suc, ◌+◌, ◌-◌, ◌≡◌, ◌<�
 use Rattle.std.proofs.lemmas.Bool.{cases_Bool, cases_lt, cases_eq, both_ways, cond-true, cond-false}
 use Rattle.ws_isa.specs.Image.{Image, Array, is_stop, stops, target}
 use Rattle.wave_gen.specs.Wire.{Spot, Wants}
-use Rattle.wave_gen.specs.Plans.{Leaves, Onto, Either, Lands, Halts, Plan, pulse, same_spot, same_spots, differing, steered, is_among, past, steers, sends, end_wants, plan_at, starts_at, exit_of, source_of, draft_of}
+use Rattle.wave_gen.specs.Plans.{Leaves, Onto, Either, Lands, Halts, Plan, same_spot, same_spots, differing, steered, is_among, past, steers, sends, end_wants, plan_at, starts_at, exit_of, source_of, draft_of}
+use Rattle.wave_gen.proofs.SteeredNames.{or_count, or_among}
 use Rattle.wave_gen.proofs.Planned.{PlansAre, EdgesAre, Inner}
 use Rattle.wave_gen.proofs.Weights.{total}
 use Rattle.wave_gen.proofs.Ends.{and_both}
@@ -31,7 +32,7 @@ differing_few w v high none x (suc n) =
     go false i l = omega (arith, i, l)
 
 pub steered_few : (width high : ℕ) (w v : Wants) → 1 ≤ high → ((y : ℕ) → high ≤ y → (w y ≡ []) × (v y ≡ [])) → length (steered width w v) ≤ high
-steered_few width high w v l none = let i : length (differing w v 1 (width - 1)) ≤ high - 1 = differing_few w v high none 1 (width - 1) in omega (arith, i, l)
+steered_few width high w v l none = or_count (differing w v 0 width) high l (let i : length (differing w v 0 width) ≤ high - 0 = differing_few w v high none 0 width in omega (arith, i))
 
 pub steers_count : (w v : Wants) (xs : List ℕ) → length (steers w v xs) ≡ length xs
 steers_count w v [] = refl
@@ -87,14 +88,12 @@ past_one xs w x = go (is_among x xs)
     go false = omega arith
 
 past_other : (width : ℕ) (w v : Wants) → ((y : ℕ) → width ≤ y → w y ≡ []) → (x : ℕ) → length (past (steered width w v) w x) ≤ length (v x)
-past_other width w v none zero = let e : is_among 0 (steered width w v) ≡ true = among_here 0 (differing w v 1 (width - 1)) in
-    let c : length (past (steered width w v) w 0) ≡ 0 = ap length (cond-true (is_among 0 (steered width w v)) [] (w 0) e) in omega (arith, c)
-past_other width w v none (suc x) = elim (cases_Bool (same_spots (w (suc x)) (v (suc x)))) [
-  | inl e ↦ (let a : length (w (suc x)) ≡ length (v (suc x)) = same_count (w (suc x)) (v (suc x)) e in let b : length (past (steered width w v) w (suc x)) ≤ length (w (suc x)) = past_one (steered width w v) w (suc x) in omega (arith, a, b))
-  | inr e ↦ elim (cases_lt (suc x) width) [
-    | inl l ↦ (let i : is_among (suc x) (steered width w v) ≡ true = among_later (suc x) pulse (differing w v 1 (width - 1)) (differing_has w v (suc x) 1 (width - 1) (omega arith) (omega (arith, l)) e) in
-        let c : length (past (steered width w v) w (suc x)) ≡ 0 = ap length (cond-true (is_among (suc x) (steered width w v)) [] (w (suc x)) i) in omega (arith, c))
-    | inr l ↦ (let a : length (w (suc x)) ≡ 0 = ap length (none (suc x) l) in let b : length (past (steered width w v) w (suc x)) ≤ length (w (suc x)) = past_one (steered width w v) w (suc x) in omega (arith, a, b))
+past_other width w v none x = elim (cases_Bool (same_spots (w x) (v x))) [
+  | inl e ↦ (let a : length (w x) ≡ length (v x) = same_count (w x) (v x) e in let b : length (past (steered width w v) w x) ≤ length (w x) = past_one (steered width w v) w x in omega (arith, a, b))
+  | inr e ↦ elim (cases_lt x width) [
+    | inl l ↦ (let i : is_among x (steered width w v) ≡ true = or_among (differing w v 0 width) x (differing_has w v x 0 width (omega arith) (omega (arith, l)) e) in
+        let c : length (past (steered width w v) w x) ≡ 0 = ap length (cond-true (is_among x (steered width w v)) [] (w x) i) in omega (arith, c))
+    | inr l ↦ (let a : length (w x) ≡ 0 = ap length (none x l) in let b : length (past (steered width w v) w x) ≤ length (w x) = past_one (steered width w v) w x in omega (arith, a, b))
   ]
 ]
 

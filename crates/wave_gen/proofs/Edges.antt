@@ -1,5 +1,5 @@
 -- What is open behind an edge of a draft is what the target wants.
-use Rattle.std.proofs.Common.{ℕ, zero, suc, ◌+◌, ◌-◌, ◌≡◌, ◌<◌, ◌≤◌, ◌⊎◌, ◌&&◌, ◌||◌, eqb, Bool, true, false, cond, List, [], ◌∷◌, ◌++◌, length, Some, None, refl, sym, ap, ◌∙◌, subst, inl, inr, arith, eq-eqb, ne_eqb}
+use Rattle.std.proofs.Common.{ℕ, zero, suc, ◌+◌, ◌≡◌, ◌<◌, ◌≤◌, ◌⊎◌, ◌&&◌, ◌||◌, eqb, Bool, true, false, cond, List, [], ◌∷◌, ◌++◌, length, Some, None, refl, sym, ap, ◌∙◌, subst, inl, inr, arith, eq-eqb, ne_eqb}
 use Rattle.std.proofs.lemmas.Bool.{cases_Bool, cases_eq, both_ways}
 use Rattle.ws_isa.specs.declared.instr.Op.{Op}
 use Rattle.ws_isa.specs.declared.instr.Op.TheVariants.{Steer, Send}
@@ -9,7 +9,8 @@ use Rattle.ws_isa.specs.Image.{Image, Instr, Pad, Array, In, nth, or_else, instr
 use Rattle.image_walk.specs.Sound.{HasDest, edge_all, opens_at}
 use Rattle.wave_gen.specs.Waits.{Distinct, Code, starts, Arrives, went_past, was_sent}
 use Rattle.wave_gen.specs.Wire.{Spot, Back, Front, dests_of, Line, Wants}
-use Rattle.wave_gen.specs.Plans.{Leaves, Onto, Either, Lands, Plan, pulse, same_spot, same_spots, differing, steered, is_among, past, Tail, TailAt, steer_of, steers, sends, fronts, plan_at, starts_at, begins, tails_of, end_wants, pads_of, draft_of, code_of, exit_of, source_of, filled, next_of, instr_of}
+use Rattle.wave_gen.specs.Plans.{Leaves, Onto, Either, Lands, Plan, same_spot, same_spots, differing, steered, is_among, past, Tail, TailAt, steer_of, steers, sends, fronts, plan_at, starts_at, begins, tails_of, end_wants, pads_of, draft_of, code_of, exit_of, source_of, filled, next_of, instr_of}
+use Rattle.wave_gen.proofs.SteeredNames.{or_apart, in_or}
 use Rattle.wave_gen.proofs.Planned.{Apart, AllIn, PadsFit, PlansAre, Outer}
 use Rattle.wave_gen.proofs.Slots.{has_append_cases, has_append_left, has_append_right}
 use Rattle.wave_gen.proofs.Ends.{Clean, owner_has, owner_from, or_cases, and_both, eqb_is}
@@ -105,7 +106,7 @@ differing_apart w v x (suc n) = go (cases_Bool (same_spots (w x) (v x))) (differ
     go (inr f) ih = rw f ((λ h. (let l : suc x ≤ x = differing_low w v (suc x) n x h in omega arith)), ih)
 
 pub steered_apart : (width : ℕ) (w v : Wants) → Apart (steered width w v)
-steered_apart width w v = ((λ h. (let l : 1 ≤ pulse = differing_low w v 1 (width - 1) pulse h in omega arith)), differing_apart w v 1 (width - 1))
+steered_apart width w v = or_apart (differing w v 0 width) (differing_apart w v 0 width)
 
 steers_nth : (w v : Wants) (xs : List ℕ) (i x : ℕ) → nth xs i ≡ Some x → nth (steers w v xs) i ≡ Some (steer_of w v x)
 steers_nth w v [] i x e = absurd (let a : None ≡ Some x = e in cc)
@@ -267,13 +268,10 @@ module _ (arrays : List Array) (width : ℕ) (ps : List Plan) (Live : ℕ → �
       alike : (x : ℕ) → (In x (steered width (S c) (S d)) → ⊥) → Wanted (S c) x ⊎ Wanted (S d) x → S c x ≡ S d x
       alike x n w = elim (cases_Bool (same_spots (S c x) (S d x))) [
         | inl e ↦ spots_eq (S c x) (S d x) e
-        | inr e ↦ absurd (n (inr (differing_has (S c) (S d) 1 (width - 1) x (positive x (λ z. n (inl z))) (few x w) e)))
+        | inr e ↦ absurd (n (in_or (differing (S c) (S d) 0 width) x (differing_has (S c) (S d) 0 width x (omega arith) (few x w) e)))
       ]
         where
-          positive : (x : ℕ) → (x ≡ pulse → ⊥) → 1 ≤ x
-          positive x n = omega arith
-
-          few : (x : ℕ) → Wanted (S c) x ⊎ Wanted (S d) x → x < 1 + (width - 1)
+          few : (x : ℕ) → Wanted (S c) x ⊎ Wanted (S d) x → x < 0 + width
           few x (inl w) = let l : x < width = ((facts width ps Live plans.each c hc).clean 0 (omega arith)).few x w in omega arith
           few x (inr w) = let l : x < width = ((facts width ps Live plans.each d hd).clean 0 (omega arith)).few x w in omega arith
 

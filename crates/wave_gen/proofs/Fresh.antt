@@ -1,5 +1,5 @@
 -- The items of a block write each free name once.
-use Rattle.std.proofs.Common.{ℕ, zero, suc, ◌+◌, ◌≡◌, ◌<◌, ◌≤◌, List, [], ◌∷◌, ◌++◌, refl, sym, ap, ◌∙◌, subst, arith}
+use Rattle.std.proofs.Common.{ℕ, zero, suc, ◌≡◌, ◌<◌, ◌≤◌, List, [], ◌∷◌, ◌++◌, arith}
 use Rattle.std.specs.List.{AllByRecursion}
 use Rattle.ws_words.specs.declared.alu.Alu.TheVariants.{Sub, Eq}
 use Rattle.ws_isa.specs.declared.instr.Op.{Op}

@@ -1,5 +1,5 @@
 -- What holds of the draft that is made of a graph.
-use Rattle.std.proofs.Common.{ℕ, ◌≡◌, ◌<◌, ◌↔◌, Bool, true, false, List, length, refl, sym, subst}
+use Rattle.std.proofs.Common.{ℕ, ◌≡◌, Bool, true, false, List, refl, sym, subst}
 use Rattle.ws_words.specs.Outside.{World}
 use Rattle.ws_isa.specs.Image.{Image}
 use Rattle.image_walk.specs.Open.{OpenToNotes}
@@ -10,7 +10,8 @@ use Rattle.cfg_core.specs.Rules.{IsGraph, calls}
 use Rattle.live_vars.specs.Live.{Live}
 use Rattle.live_vars.specs.Marks.{AreLive, has}
 use Rattle.wave_cut.specs.Cut.{Cut, IsCut, AreWaves}
-use Rattle.call_gen.specs.Keeps.{NoCall, HasNoCall, NoneAcross, NoneLiveAcross, ArmsAlone}
+use Rattle.call_gen.specs.Keeps.{NoCall, HasNoCall, NoneAcross, NoneLiveAcross}
+use Rattle.cfg_core.specs.Shape.{ArmsAlone}
 use Rattle.wave_gen.specs.Plans.{Plan, plan_at, draft_of}
 use Rattle.wave_gen.specs.Kept.{LeadsAhead}
 use Rattle.wave_gen.specs.Lists.{ListsFit}

@@ -1,7 +1,7 @@
 -- What is kept of a table is what the table wants, and which names are steered.
 use Rattle.std.proofs.Common.{ℕ, zero, suc, ◌+◌, ◌-◌, ◌≡◌, ◌<◌, ◌≤◌, ◌||◌, ◌&&◌, Bool, true, false, cond, eqb, List, [], ◌∷◌, ◌++◌, length, map, reverse, drop, get_or, refl, sym, ap, ◌∙◌, subst, inl, inr, arith, eq-eqb, ne_eqb}
 use Rattle.std.proofs.lemmas.Bool.{cases_eq, cases_lt}
-use Rattle.std.proofs.lemmas.List.{drop_more, append-nil, map_push, map-append, reverse-append}
+use Rattle.std.proofs.lemmas.List.{length-map, length-reverse, drop_more, append-nil, map_push, map-append, reverse-append}
 use Rattle.ws_isa.specs.declared.instr.Op.TheVariants.{Steer}
 use Rattle.wave_gen.specs.declared.spot.Line.{Line}
 use Rattle.wave_gen.specs.declared.kept.Want.{Want}
@@ -9,7 +9,7 @@ use Rattle.wave_gen.specs.declared.tails.Tail.{Tail}
 use Rattle.wave_gen.specs.declared.fork.Arms.{Arms}
 use Rattle.wave_gen.specs.Wire.{Spot, Wants, with_wants}
 use Rattle.wave_gen.specs.Plans as plans
-use Rattle.wave_gen.specs.Plans.{same_spot, same_spots, differing, is_among, past, steer_of, steers}
+use Rattle.wave_gen.specs.Plans.{pulse, or_pulse, same_spot, same_spots, differing, is_among, past, steer_of, steers}
 use Rattle.wave_gen.specs.Tables.{listed, tail_of}
 use Rattle.wave_gen.specs.Kept.{wanted, wants_of, wants_below, Forked}
 use Rattle.wave_gen.proofs.Listed.{Lists, list_past}
@@ -124,8 +124,27 @@ forked_next w v width k j f ek le was =
     let more : width - j ≡ suc (width - k) = omega arith in
     subst (λ n. Forked w v (differing w v j n) f) (sym more) (subst (λ i. Forked w v (cond (same_spots (w j) (v j)) (differing w v i (width - k)) (j ∷ differing w v i (width - k))) f) ek was)
 
-pub last_name : (w v : Wants) (n k : ℕ) (f : Arms) → 1 ≤ k → k ≤ 1 → Forked w v (differing w v k (n - k)) f → Forked w v (differing w v 1 (n - 1)) f
-last_name w v n k f lo hi was = let one : k ≡ 1 = omega arith in subst (λ i. Forked w v (differing w v i (n - i)) f) one was
+steers_count : (w v : Wants) (xs : List ℕ) → length (steers w v xs) ≡ length xs
+steers_count w v [] = refl
+steers_count w v (x ∷ xs) = ap suc (steers_count w v xs)
+
+tails_count : (w v : Wants) (xs : List ℕ) (f : Arms) → Forked w v xs f → length f.tails.items ≡ length xs
+tails_count w v xs f was =
+    sym (length-map f.tails.items tail_of) ∙ sym (length-reverse (map tail_of f.tails.items)) ∙ ap (λ (ts : List plans.Tail). length ts) was.tails ∙ steers_count w v xs
+
+pub last_name : (w v : Wants) (n k : ℕ) (f : Arms) → k ≤ 0 → Forked w v (differing w v k (n - k)) f → Forked w v (differing w v 0 n) f
+last_name w v n k f hi was =
+    let none : k ≡ 0 = omega arith in let all : n - 0 ≡ n = omega arith in
+    subst (λ i. Forked w v (differing w v 0 i) f) all (subst (λ i. Forked w v (differing w v i (n - i)) f) none was)
+
+-- some name is steered, where there are tails
+pub steered_some : (w v : Wants) (xs : List ℕ) (f : Arms) (n : ℕ) → length f.tails.items ≡ suc n → Forked w v xs f → Forked w v (or_pulse xs) f
+steered_some w v [] f n e was = absurd (omega (arith, tails_count w v [] f was))
+steered_some w v (x ∷ xs) f n e was = was
+
+pub steered_none : (w v : Wants) (xs : List ℕ) (f g : Arms) → length f.tails.items ≡ 0 → Forked w v xs f → (is_among pulse [] ≡ false → Forked w v [] f → Forked w v (pulse ∷ []) g) → Forked w v (or_pulse xs) g
+steered_none w v [] f g e was step = step refl was
+steered_none w v (x ∷ xs) f g e was step = absurd (omega (arith, tails_count w v (x ∷ xs) f was))
 
 pub map_reverse : (ts : List Tail) → map tail_of (reverse ts) ≡ reverse (map tail_of ts)
 map_reverse ts = mapped ts []

@@ -38,6 +38,7 @@ mod SampleDrawn
 mod Few
 mod ShortLists
 mod Weighs
+mod SteeredNames
 mod OpenArms
 mod Valid
 mod MoreShapes
@@ -86,5 +87,6 @@ mod Keepings
 mod Framed
 mod Numberings
 pub mod LeadingAhead
+mod SampleLeads
 mod Generated
 mod Counting

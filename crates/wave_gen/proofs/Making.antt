@@ -8,7 +8,7 @@ use Rattle.wave_gen.specs.declared.spot.Line.{Line}
 use Rattle.wave_gen.specs.declared.maker.Maker.{Maker}
 use Rattle.wave_gen.specs.Wire as plain
 use Rattle.wave_gen.specs.Wire.{Spot, Wants, Made, with_wants, with_uses, most, emit, rest, gather, with_room, with_rooms, make, alias, copy, is_nil, Make, wire_item}
-use Rattle.wave_gen.specs.Plans.{Plan, pulse, has_front, renew, advances}
+use Rattle.wave_gen.specs.Plans.{Plan, pulse, has_front, renew, advances, gives, merges}
 use Rattle.wave_gen.specs.Tables.{listed, line_of, Stands, begun}
 
 code_push : (ls : List Line) (l : Line) → reverse (map line_of (ls ++ l ∷ [])) ≡ line_of l ∷ reverse (map line_of ls)
@@ -99,12 +99,14 @@ renew_push b [] x s = refl
 renew_push b (y ∷ xs) x s = renew_push b xs x (cond (has_front b (s.wants y)) (gather b y s) s)
 
 pub begun_first : (b : ℕ) (p : Plan) (n : Maker) (s : Made) → p.first ≡ true → Stands b n (advances b p.entries (renew b p.entries s)) → Stands b n (begun b p s)
-begun_first b p n s e st = subst (λ z. Stands b n (cond z (advances b p.entries (renew b p.entries s)) (cond p.joined (emit b pulse Merge (pulse ∷ []) s) s))) (sym e) st
+begun_first b p n s e st = subst (λ z. Stands b n (cond z (advances b p.entries (renew b p.entries s)) (cond (merges p s) (emit b pulse Merge (pulse ∷ []) s) s))) (sym e) st
 
-pub begun_other : (b : ℕ) (p : Plan) (n : Maker) (s : Made) (r : Bool) → p.first ≡ false → p.joined ≡ r → Stands b n (cond r (emit b pulse Merge (pulse ∷ []) s) s) → Stands b n (begun b p s)
-begun_other b p n s r e f st =
-    subst (λ z. Stands b n (cond z (advances b p.entries (renew b p.entries s)) (cond p.joined (emit b pulse Merge (pulse ∷ []) s) s))) (sym e)
-    (subst (λ z. Stands b n (cond z (emit b pulse Merge (pulse ∷ []) s) s)) (sym f) st)
+pub begun_other : (b : ℕ) (p : Plan) (m n : Maker) (s : Made) (r : Bool) → p.first ≡ false → r ≡ (p.joined && not (gives (reverse (map line_of m.code.items)))) → Stands b m s
+    → Stands b n (cond r (emit b pulse Merge (pulse ∷ []) s) s) → Stands b n (begun b p s)
+begun_other b p m n s r e er st end =
+    let is : r ≡ merges p s = er ∙ ap (λ (ls : List plain.Line). p.joined && not (gives ls)) st.code in
+    subst (λ z. Stands b n (cond z (advances b p.entries (renew b p.entries s)) (cond (merges p s) (emit b pulse Merge (pulse ∷ []) s) s))) (sym e)
+    (subst (λ z. Stands b n (cond z (emit b pulse Merge (pulse ∷ []) s) s)) is end)
 
 pub back_number : (xs : List ℕ) (k : ℕ) → 0 < k → k ≤ length xs → drop (k - 1) xs ≡ get_or xs (k - 1) 0 ∷ drop k xs
 back_number xs k pos le =

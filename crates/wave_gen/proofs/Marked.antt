@@ -1,13 +1,12 @@
 -- What is said of each block by all exits.
-use Rattle.std.proofs.Common.{ℕ, zero, suc, ◌+◌, ◌-◌, ◌≡◌, ◌<◌, ◌≤◌, ◌||◌, cond, ltb, true, false, Bool, List, [], ◌∷◌, ◌++◌, length, map, drop, get_or, replicate, refl, sym, ap, ◌∙◌, subst, arith}
-use Rattle.std.proofs.lemmas.List.{length-map, get_or-replicate, get_or_past, length-replicate}
+use Rattle.std.proofs.Common.{ℕ, zero, suc, ◌-◌, ◌≡◌, ◌<◌, ◌≤◌, ◌||◌, cond, ltb, true, false, Bool, List, [], ◌∷◌, length, drop, replicate, refl, sym, ap, ◌∙◌, arith}
+use Rattle.std.proofs.lemmas.List.{length-map}
 use Rattle.std.proofs.lemmas.Bool.{lt-ltb, le-ltb}
 use Rattle.cfg_core.specs.Graph as graph
 use Rattle.cfg_core.specs.Graph.{Block, Graph, Spot, no_spot, nth, or_else, spots, spot_at, block_at}
 use Rattle.cfg_core.specs.View as view
 use Rattle.cfg_core.specs.Shows.{TableIs, spot_in_code, spot_in_graph}
 use Rattle.cfg_core.specs.declared.table.Table.{Table}
-use Rattle.cfg_core.specs.declared.table.Spot as code
 use Rattle.wave_gen.specs.Plans.{is_among}
 use Rattle.wave_gen.specs.Listing.{in_some, most_vars}
 use Rattle.wave_gen.specs.Placed.{flag}

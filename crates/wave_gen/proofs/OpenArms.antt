@@ -1,6 +1,6 @@
 -- Arms, givers, and no notes: parts of what makes a draft open to notes.
-use Rattle.std.proofs.Common.{ℕ, zero, suc, ◌+◌, ◌≡◌, ◌<◌, ◌≤◌, ◌⊎◌, true, false, List, [], ◌∷◌, ◌++◌, length, map, Some, None, refl, sym, ap, ◌∙◌, subst, inl, inr, arith}
-use Rattle.std.proofs.lemmas.Bool.{cases_Bool, cond-true, cond-false}
+use Rattle.std.proofs.Common.{ℕ, zero, suc, ◌+◌, ◌≡◌, ◌<◌, ◌≤◌, ◌⊎◌, ◌||◌, true, false, List, [], ◌∷◌, ◌++◌, length, map, Some, None, refl, sym, ap, ◌∙◌, subst, inl, inr, arith}
+use Rattle.std.proofs.lemmas.Bool.{false≢true, cases_Bool, cond-true, cond-false}
 use Rattle.std.specs.List.{AllByRecursion}
 use Rattle.ws_isa.specs.declared.instr.Op.TheVariants.{Merge}
 use Rattle.ws_isa.specs.Image as image
@@ -8,7 +8,8 @@ use Rattle.ws_isa.specs.Image.{Image, Instr, Block, Array, In, nth, flat, instr_
 use Rattle.ws_isa.specs.Formed.{NoNotes}
 use Rattle.image_walk.specs.Open.{OnlyEdge, IsArm, HasGiver, EnteredBySteer}
 use Rattle.wave_gen.specs.Wire.{Line, Made, emit}
-use Rattle.wave_gen.specs.Plans.{Leaves, Onto, Either, Lands, Halts, Plan, pulse, steer_of, tails_of, body_made, renew, plan_at, made_at, starts_at, begins, instr_of, blocks_of, draft_of, exit_of, source_of}
+use Rattle.wave_gen.specs.Plans.{gives, merges, differing, Leaves, Onto, Either, Lands, Halts, Plan, pulse, steer_of, tails_of, body_made, renew, plan_at, made_at, starts_at, begins, instr_of, blocks_of, draft_of, exit_of, source_of}
+use Rattle.wave_gen.proofs.SteeredNames.{or_first}
 use Rattle.wave_gen.proofs.Planned.{PlansAre, EdgesAre, Inner}
 use Rattle.wave_gen.proofs.Opening.{OnlyEdgeOf, PlansOpen}
 use Rattle.wave_gen.proofs.Blocks.{made_is, begins_next}
@@ -35,6 +36,24 @@ no_notes_from width ps b (suc n) = all_append (λ i. i.note ≡ None) (map (inst
 pub draft_bare : (arrays : List Array) (width : ℕ) (ps : List Plan) → NoNotes (draft_of arrays width ps)
 unfolding draft_of
 draft_bare arrays width ps = no_notes_from width ps 1 (length ps)
+
+nth_inside : {A : Type 0} (xs : List A) (i : ℕ) (x : A) → nth xs i ≡ Some x → i < length xs
+nth_inside [] i x e = absurd (let a : None ≡ Some x = e in cc)
+nth_inside (y ∷ xs) zero x e = omega arith
+nth_inside (y ∷ xs) (suc i) x e = let l : i < length xs = nth_inside xs i x e in omega arith
+
+record GiverIn (ls : List Line) : Type 0 where
+  pub place : ℕ
+  pub line : Line
+  pub at : nth ls place ≡ Some line
+  pub giving : is_giving_op line.op ≡ true
+
+giver_in : (ls : List Line) → gives ls ≡ true → GiverIn ls
+giver_in [] e = absurd (false≢true e)
+giver_in (l ∷ ls) e = elim (cases_Bool (is_giving_op l.op)) [
+  | inl t ↦ record { place = 0; line = l; at = refl; giving = t }
+  | inr f ↦ (let r = giver_in ls (sym (ap (λ b. b || gives ls) f) ∙ e) in record { place = suc r.place; line = r.line; at = r.at; giving = r.giving })
+]
 
 module _ (arrays : List Array) (width : ℕ) (ps : List Plan) (Live : ℕ → ℕ → Type 0) (plans : PlansAre ps width Live) (opens : PlansOpen ps) where
   abbrev I : Image
@@ -100,6 +119,24 @@ module _ (arrays : List Array) (width : ℕ) (ps : List Plan) (Live : ℕ → �
         gives = ap (λ (i : Instr). is_giving_op i.op) l.is ∙ gives l.line (ap (nth (made_at width ps b).code) (sym z) ∙ l.found);
       }
 
+  -- an instruction of a block
+  giver_from : (b : ℕ) → Is b → (i : ℕ) (x : Line) → nth (made_at width ps b).code i ≡ Some x → is_giving_op x.op ≡ true → HasGiver I b
+  unfolding is_giving
+  giver_from b h i x e gives =
+      let n : begins width ps (suc b) ≡ begins width ps b + length (made_at width ps b).code = begins_next width ps b h in
+      let lt : i < length (made_at width ps b).code = nth_inside (made_at width ps b).code i x e in
+      let l = line_of arrays width ps Live plans.each b h (begins width ps b + i) (omega arith) (omega arith) in
+      let p : begins width ps b + i ≡ begins width ps b + l.place = l.number in
+      let z : l.place ≡ i = omega arith in
+      let y : first_number I b ≡ begins width ps b = number_is arrays width ps b in let w : first_number I (suc b) ≡ begins width ps (suc b) = number_is arrays width ps (suc b) in
+      let found : Some l.line ≡ Some x = sym (ap (nth (made_at width ps b).code) (sym z) ∙ l.found) ∙ e in
+      let same : l.line ≡ x = cc in
+      record {
+        instr = begins width ps b + i;
+        inside = (omega arith, omega arith);
+        gives = ap (λ (k : Instr). is_giving_op k.op) l.is ∙ ap (λ (k : Line). is_giving_op k.op) same ∙ gives;
+      }
+
   some_entry : (xs : List ℕ) (x : ℕ) → In x xs → 1 ≤ length xs
   some_entry [] x i = absurd i
   some_entry (y ∷ xs) x i = omega arith
@@ -116,17 +153,29 @@ module _ (arrays : List Array) (width : ℕ) (ps : List Plan) (Live : ℕ → �
           let m : length (made_at width ps b).code ≡ length (plan_at ps b).entries + length (renew b (plan_at ps b).entries (body_made width (starts_at width ps) b (plan_at ps b))).code =
           ap (λ (x : Made). length x.code) (made_is width ps b h (plans.each b h).edges ∙ cond-true (plan_at ps b).first _ _ f) ∙ advances_count b (plan_at ps b).entries (renew b (plan_at ps b).entries (body_made width (starts_at width ps) b (plan_at ps b))) in
           inl (giver_at b h (omega arith) (λ l e. ap is_giving_op (front_line arrays width ps Live plans.each b h f 0 l s e)))
-      go (inr f) (inl j) =
-          let m : made_at width ps b ≡ emit b pulse Merge (pulse ∷ []) (body_made width (starts_at width ps) b (plan_at ps b)) = made_is width ps b h (plans.each b h).edges ∙ cond-false (plan_at ps b).first _ _ f ∙ cond-true (plan_at ps b).joined _ _ j in
-          inl (giver_at b h (rw m (omega arith)) (λ l e. merge_gives l (ap (λ (x : Made). nth x.code 0) (sym m) ∙ e)))
+      go (inr f) (inl j) = inl (elim (cases_Bool (gives (body_made width (starts_at width ps) b (plan_at ps b)).code)) [ inl g ↦ given g | inr g ↦ merged g ])
         where
           merge_gives : (l : Line) → Some (record { op = Merge; dests = (body_made width (starts_at width ps) b (plan_at ps b)).wants pulse; others = [] }) ≡ Some l → is_giving_op l.op ≡ true
           merge_gives l e = let g : record { op = Merge; dests = (body_made width (starts_at width ps) b (plan_at ps b)).wants pulse; others = [] } ≡ l = cc in ap (λ (x : Line). is_giving_op x.op) (sym g)
+
+          given : gives (body_made width (starts_at width ps) b (plan_at ps b)).code ≡ true → HasGiver I b
+          given g =
+              let k : merges (plan_at ps b) (body_made width (starts_at width ps) b (plan_at ps b)) ≡ false = rw (j, g) refl in
+              let m : made_at width ps b ≡ body_made width (starts_at width ps) b (plan_at ps b) = made_is width ps b h (plans.each b h).edges ∙ cond-false (plan_at ps b).first _ _ f ∙ cond-false (merges (plan_at ps b) (body_made width (starts_at width ps) b (plan_at ps b))) _ _ k in
+              let x = giver_in (body_made width (starts_at width ps) b (plan_at ps b)).code g in
+              giver_from b h x.place x.line (ap (λ (s : Made). nth s.code x.place) m ∙ x.at) x.giving
+
+          merged : gives (body_made width (starts_at width ps) b (plan_at ps b)).code ≡ false → HasGiver I b
+          merged g =
+              let k : merges (plan_at ps b) (body_made width (starts_at width ps) b (plan_at ps b)) ≡ true = rw (j, g) refl in
+              let m : made_at width ps b ≡ emit b pulse Merge (pulse ∷ []) (body_made width (starts_at width ps) b (plan_at ps b)) = made_is width ps b h (plans.each b h).edges ∙ cond-false (plan_at ps b).first _ _ f ∙ cond-true (merges (plan_at ps b) (body_made width (starts_at width ps) b (plan_at ps b))) _ _ k in
+              giver_at b h (rw m (omega arith)) (λ l e. merge_gives l (ap (λ (x : Made). nth x.code 0) (sym m) ∙ e))
       go (inr f) (inr j) =
           let a = opens.bare b h f j in
           let S = starts_at width ps in
-          let t : nth (tails_of width (starts_at width ps) (plan_at ps a.before).exit) 0 ≡ Some (steer_of (starts_at width ps a.one) (starts_at width ps a.other) pulse) = ap (λ (l : Leaves). nth (tails_of width (starts_at width ps) l) 0) a.exit in
-          let i = tail_instr arrays width ps Live plans.each a.before a.there 0 (steer_of (starts_at width ps a.one) (starts_at width ps a.other) pulse) t in
+          let u = or_first (differing (S a.one) (S a.other) 0 width) in
+          let t : nth (tails_of width (starts_at width ps) (plan_at ps a.before).exit) 0 ≡ Some (steer_of (S a.one) (S a.other) u.name) = ap (λ (l : Leaves). nth (tails_of width (starts_at width ps) l) 0) a.exit ∙ u.is (S a.one) (S a.other) in
+          let i = tail_instr arrays width ps Live plans.each a.before a.there 0 (steer_of (S a.one) (S a.other) u.name) t in
           inr (record {
             before = a.before;
             place = a.place;

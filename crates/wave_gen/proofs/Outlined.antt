@@ -1,21 +1,20 @@
 -- The plan of a block, by the outline of its graph.
-use Rattle.std.proofs.Common.{ℕ, zero, suc, ◌+◌, ◌-◌, ◌≡◌, ◌<◌, ◌≤◌, ◌||◌, cond, not, eqb, true, false, Bool, List, [], ◌∷◌, ◌++◌, length, map, get_or, refl, sym, ap, ◌∙◌, subst, append_assoc, arith}
-use Rattle.cfg_core.specs.Graph as graph
-use Rattle.cfg_core.specs.Graph.{Block, Graph, spots, spot_at, block_at}
+use Rattle.std.proofs.Common.{ℕ, suc, ◌+◌, ◌-◌, ◌≡◌, ◌<◌, ◌||◌, cond, not, eqb, true, false, Bool, List, [], ◌∷◌, ◌++◌, length, map, get_or, refl, sym, ap, ◌∙◌, append_assoc, arith}
+use Rattle.cfg_core.specs.Graph.{Block, spots, spot_at, block_at}
 use Rattle.cfg_core.specs.View as view
 use Rattle.cfg_core.specs.Shows.{SpotIs, TableIs}
 use Rattle.cfg_core.specs.declared.table.Spot as code
 use Rattle.cfg_core.specs.declared.table.Table.{Table}
 use Rattle.cfg_core.proofs.Tables.{spot_in}
 use Rattle.live_vars.specs.Marks.{has}
-use Rattle.wave_cut.specs.Cut.{Cut, is_first}
+use Rattle.wave_cut.specs.Cut.{is_first}
 use Rattle.wave_gen.specs.Wire.{Item}
 use Rattle.wave_gen.specs.Plans as plans
 use Rattle.wave_gen.specs.Plans.{Leaves, pulse}
 use Rattle.wave_gen.specs.Gen.{gen_ops}
 use Rattle.wave_gen.specs.Shared.{shared, none_known}
 use Rattle.wave_gen.specs.Drawn.{exit_next}
-use Rattle.wave_gen.specs.Listing.{gen_exit, live_from, in_some, arms_of, landings_of, start_block, plan_of, turned, place_of, width_of}
+use Rattle.wave_gen.specs.Listing.{gen_exit, live_from, in_some, landings_of, start_block, plan_of, turned, place_of, width_of}
 use Rattle.wave_gen.specs.View as shown
 use Rattle.wave_gen.specs.Placed.{OutlineIs, flag, place, turned_at}
 use Rattle.wave_gen.specs.declared.plan.Plan.{Plan}

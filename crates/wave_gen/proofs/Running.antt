@@ -7,7 +7,7 @@ use Rattle.ws_isa.specs.declared.instr.Op.TheVariants.{Merge}
 use Rattle.ws_isa.specs.Image.{is_memory_op, after_op, result_of_op}
 use Rattle.wave_gen.specs.Waits.{Names, set, effect, run_steps}
 use Rattle.wave_gen.specs.Wire.{Wants, Made, emit, skip, gather, with_room, with_rooms, Item, Make, Act, Same, is_nil, make, alias, wire, most}
-use Rattle.wave_gen.specs.Plans.{Leaves, Onto, Either, Lands, Halts, Plan, pulse, Tail, steers, sends, operands_of, hung, hang, more, chain, selected, tails_of, end_wants, behind_source, exit_made, body_made, block_made, renew, advances, has_front}
+use Rattle.wave_gen.specs.Plans.{merges, Leaves, Onto, Either, Lands, Halts, Plan, pulse, Tail, steers, sends, operands_of, hung, hang, more, chain, selected, tails_of, end_wants, behind_source, exit_made, body_made, block_made, renew, advances, has_front}
 use Rattle.wave_gen.proofs.Runs.{run_item, run_items, run_choice}
 
 set_same : (f : ℕ → ℕ) (x : ℕ) → ◌≡◌ {A = ℕ → ℕ} (set f x (f x)) f
@@ -140,6 +140,6 @@ module _ (width : ℕ) (starts : ℕ → Wants) (b : ℕ) (p : Plan) where
       inner true = rw (gather_runs b pulse (body_made width starts b p) n) (body_runs n)
       inner false = body_runs n
 
-      go : (f : Bool) → Chained p.test (run_choice p.test p.exit (run_items p.items n)) (run_steps (cond f (advances b p.entries (renew b p.entries (body_made width starts b p))) (cond p.joined (emit b pulse Merge (pulse ∷ []) (body_made width starts b p)) (body_made width starts b p))).steps n)
+      go : (f : Bool) → Chained p.test (run_choice p.test p.exit (run_items p.items n)) (run_steps (cond f (advances b p.entries (renew b p.entries (body_made width starts b p))) (cond (merges p (body_made width starts b p)) (emit b pulse Merge (pulse ∷ []) (body_made width starts b p)) (body_made width starts b p))).steps n)
       go true = rw (advances_runs b p.entries (renew b p.entries (body_made width starts b p)) n ∙ renew_runs b p.entries (body_made width starts b p) n) (body_runs n)
-      go false = inner p.joined
+      go false = inner (merges p (body_made width starts b p))

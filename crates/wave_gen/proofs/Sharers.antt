@@ -1,5 +1,5 @@
 -- One item more is shared.
-use Rattle.std.proofs.Common.{ℕ, zero, suc, ◌+◌, ◌≡◌, ◌<◌, List, [], ◌∷◌, ◌++◌, length, map, take, drop, set, slice_index_or, refl, sym, ap, ◌∙◌, subst, arith}
+use Rattle.std.proofs.Common.{ℕ, zero, suc, ◌≡◌, ◌<◌, List, [], ◌∷◌, ◌++◌, length, map, take, drop, set, slice_index_or, ap, ◌∙◌, arith}
 use Rattle.wave_gen.specs.Wire as wire
 use Rattle.wave_gen.specs.Shared.{share, learn, shared}
 use Rattle.wave_gen.specs.View as shown

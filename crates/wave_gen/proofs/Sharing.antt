@@ -1,13 +1,13 @@
 -- What holds of items holds of them with equal constants made once.
-use Rattle.std.proofs.Common.{ℕ, zero, suc, ◌+◌, ◌≡◌, ◌<◌, ◌≤◌, ◌⊎◌, Bool, true, false, cond, eqb, List, [], ◌∷◌, ◌++◌, length, map, Option, Some, None, refl, sym, ap, ◌∙◌, subst, inl, inr, arith, eq-eqb, ne_eqb}
+use Rattle.std.proofs.Common.{ℕ, ◌+◌, ◌≡◌, ◌≤◌, ◌⊎◌, true, false, cond, List, [], ◌∷◌, Option, Some, None, refl, sym, ap, ◌∙◌, subst, inl, inr, arith, eq-eqb, ne_eqb}
 use Rattle.std.proofs.lemmas.Bool.{cases_eq}
 use Rattle.ws_isa.specs.declared.instr.Op.{Op}
 use Rattle.ws_isa.specs.declared.instr.Op.TheVariants.{Const, Alu, Merge, Advance, Steer, Phi, Send, Load, Store, Input, Output, Give, Take, Nop, Halt}
-use Rattle.ws_isa.specs.Image.{In, is_giving_op}
+use Rattle.ws_isa.specs.Image.{is_giving_op}
 use Rattle.wave_gen.specs.Waits.{Names, set}
 use Rattle.wave_gen.specs.Wire.{Item, Make, Act, Same}
 use Rattle.wave_gen.specs.Plans.{pulse}
-use Rattle.wave_gen.specs.Shared.{number_of, is_pulse, for_pulse, const_of, share, share_as, learn, learn_of, shared, none_known}
+use Rattle.wave_gen.specs.Shared.{is_pulse, const_of, share, share_as, learn, learn_of, shared, none_known}
 use Rattle.wave_gen.proofs.Planned.{Reads, ItemIs, ItemsAre}
 use Rattle.wave_gen.proofs.More.{ItemsGive}
 use Rattle.wave_gen.proofs.Lines.{Items}

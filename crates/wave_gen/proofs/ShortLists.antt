@@ -5,7 +5,7 @@ use Rattle.ws_isa.specs.declared.instr.Op.TheVariants.{Merge, Halt}
 use Rattle.ws_isa.specs.Image as image
 use Rattle.ws_isa.specs.Image.{Image, Instr, Pad, Array, In, nth, instr_at, block_at, IsIn, IsBlock}
 use Rattle.wave_gen.specs.Wire.{Spot, dests_of, Line, Wants, no_wants, emit}
-use Rattle.wave_gen.specs.Plans.{Leaves, Onto, Either, Lands, Halts, Plan, pulse, steers, sends, steered, past, hang, more, chain, selected, tails_of, end_wants, behind_source, exit_made, body_made, renew, advances, fronts, plan_at, made_at, starts_at, begins, pads_of, draft_of}
+use Rattle.wave_gen.specs.Plans.{merges, Leaves, Onto, Either, Lands, Halts, Plan, pulse, steers, sends, steered, past, hang, more, chain, selected, tails_of, end_wants, behind_source, exit_made, body_made, renew, advances, fronts, plan_at, made_at, starts_at, begins, pads_of, draft_of}
 use Rattle.wave_gen.proofs.Planned.{Apart, AllBelow, ValuesApart, PlansAre, EdgesAre, SourceIs, Inner, Outer}
 use Rattle.wave_gen.specs.Lists.{ListsFit}
 use Rattle.wave_gen.proofs.Fronts.{fronts_one}
@@ -118,9 +118,9 @@ module _ (arrays : List Array) (width : ℕ) (ps : List Plan) (Live : ℕ → �
         inner true = merge_few b pulse (body_made width S b (plan_at ps b)) body
         inner false = body
 
-        go : (f : Bool) → Few (cond f (advances b (plan_at ps b).entries (renew b (plan_at ps b).entries (body_made width S b (plan_at ps b)))) (cond (plan_at ps b).joined (emit b pulse Merge (pulse ∷ []) (body_made width S b (plan_at ps b))) (body_made width S b (plan_at ps b))))
+        go : (f : Bool) → Few (cond f (advances b (plan_at ps b).entries (renew b (plan_at ps b).entries (body_made width S b (plan_at ps b)))) (cond (merges (plan_at ps b) (body_made width S b (plan_at ps b))) (emit b pulse Merge (pulse ∷ []) (body_made width S b (plan_at ps b))) (body_made width S b (plan_at ps b))))
         go true = advances_few b (plan_at ps b).entries (renew b (plan_at ps b).entries (body_made width S b (plan_at ps b))) (renew_few b (plan_at ps b).entries (body_made width S b (plan_at ps b)) body)
-        go false = inner (plan_at ps b).joined
+        go false = inner (merges (plan_at ps b) (body_made width S b (plan_at ps b)))
 
   few_from : (n b : ℕ) → Is b → length ps < b + n → Few (made_at width ps b)
   few_from zero b h l = absurd (omega (arith, h.1))

@@ -5,7 +5,7 @@ use Rattle.ws_isa.specs.declared.instr.Op.{Op}
 use Rattle.ws_isa.specs.declared.instr.Op.TheVariants.{Merge, Advance, Steer, Send, Halt}
 use Rattle.ws_isa.specs.Image.{nth, is_memory_op, is_giving_op}
 use Rattle.wave_gen.specs.Wire.{Line, Wants, Made, emit, gather, with_room, with_rooms, Item, Make, Act, Same, is_nil, skip, make, alias, wire, most}
-use Rattle.wave_gen.specs.Plans.{Tail, Leaves, Onto, Either, Lands, Halts, Plan, pulse, steers, sends, steered, hang, more, chain, tails_of, end_wants, behind_source, exit_made, body_made, renew, advances, has_front, plan_at, made_at, starts_at}
+use Rattle.wave_gen.specs.Plans.{merges, Tail, Leaves, Onto, Either, Lands, Halts, Plan, pulse, steers, sends, steered, hang, more, chain, tails_of, end_wants, behind_source, exit_made, body_made, renew, advances, has_front, plan_at, made_at, starts_at}
 use Rattle.wave_gen.proofs.Planned.{PlansAre}
 use Rattle.wave_gen.proofs.More.{ItemsGive, SourceGives, PlansGive}
 use Rattle.wave_gen.proofs.Blocks.{made_is}
@@ -130,6 +130,6 @@ lines_suit width ps Live plans gives b h = subst (λ (s : Made). SuitAll s.code)
     inner true = emit_suits b pulse Merge (pulse ∷ []) (body_made width (starts_at width ps) b (plan_at ps b)) refl body
     inner false = body
 
-    go : (f : Bool) → SuitAll (cond f (advances b (plan_at ps b).entries (renew b (plan_at ps b).entries (body_made width (starts_at width ps) b (plan_at ps b)))) (cond (plan_at ps b).joined (emit b pulse Merge (pulse ∷ []) (body_made width (starts_at width ps) b (plan_at ps b))) (body_made width (starts_at width ps) b (plan_at ps b)))).code
+    go : (f : Bool) → SuitAll (cond f (advances b (plan_at ps b).entries (renew b (plan_at ps b).entries (body_made width (starts_at width ps) b (plan_at ps b)))) (cond (merges (plan_at ps b) (body_made width (starts_at width ps) b (plan_at ps b))) (emit b pulse Merge (pulse ∷ []) (body_made width (starts_at width ps) b (plan_at ps b))) (body_made width (starts_at width ps) b (plan_at ps b)))).code
     go true = advances_suit b (plan_at ps b).entries (renew b (plan_at ps b).entries (body_made width (starts_at width ps) b (plan_at ps b))) (renew_suits b (plan_at ps b).entries (body_made width (starts_at width ps) b (plan_at ps b)) body)
-    go false = inner (plan_at ps b).joined
+    go false = inner (merges (plan_at ps b) (body_made width (starts_at width ps) b (plan_at ps b)))

@@ -6,7 +6,7 @@ use Rattle.ws_isa.specs.declared.instr.Op.TheVariants.{Merge, Halt, Advance, Ste
 use Rattle.ws_isa.specs.declared.instr.Dest.{Dest}
 use Rattle.ws_isa.specs.Image.{Image, Instr, Array, nth, instr_at, now_of, first_number, IsIn}
 use Rattle.wave_gen.specs.Wire.{Line, Wants, Made, emit, Item, Make, Act, Same}
-use Rattle.wave_gen.specs.Plans.{Leaves, Onto, Either, Lands, Halts, Plan, pulse, Tail, TailAt, hang, tails_of, end_wants, behind_source, exit_made, body_made, renew, advances, plan_at, made_at, starts_at, begins, instr_of, draft_of}
+use Rattle.wave_gen.specs.Plans.{merges, Leaves, Onto, Either, Lands, Halts, Plan, pulse, Tail, TailAt, hang, tails_of, end_wants, behind_source, exit_made, body_made, renew, advances, plan_at, made_at, starts_at, begins, instr_of, draft_of}
 use Rattle.wave_gen.proofs.Planned.{is_act_op, ItemsAre, SourceIs, PlanIs}
 use Rattle.wave_gen.proofs.Keeping.{hang_count}
 use Rattle.wave_gen.proofs.Lines.{line_at, Items, More, then_more, same_more, emit_more, rest_more, make_more, wire_more, renew_more, advances_more, selected_more, hang_nth}
@@ -80,11 +80,11 @@ module _ (arrays : List Array) (width : ℕ) (ps : List Plan) (Live : ℕ → �
       inner true = then_more P m E B (emit b pulse Merge (pulse ∷ []) B) body (emit_more P m b pulse Merge (pulse ∷ []) B m)
       inner false = body
 
-      go : (f : Bool) → More P m E (cond f (advances b (plan_at ps b).entries (renew b (plan_at ps b).entries B)) (cond (plan_at ps b).joined (emit b pulse Merge (pulse ∷ []) B) B))
+      go : (f : Bool) → More P m E (cond f (advances b (plan_at ps b).entries (renew b (plan_at ps b).entries B)) (cond (merges (plan_at ps b) B) (emit b pulse Merge (pulse ∷ []) B) B))
       go true = then_more P m E (renew b (plan_at ps b).entries B) (advances b (plan_at ps b).entries (renew b (plan_at ps b).entries B))
           (then_more P m E B (renew b (plan_at ps b).entries B) body (renew_more P m b (plan_at ps b).entries B))
           (advances_more P m b (plan_at ps b).entries (renew b (plan_at ps b).entries B) a)
-      go false = inner (plan_at ps b).joined
+      go false = inner (merges (plan_at ps b) B)
 
   pub made_exit : More NoTail refl (exit_made width S b (plan_at ps b) (plan_at ps b).exit) (made_at width ps b)
   made_exit = made_past NoTail refl refl (items_no_tail (plan_at ps b).items (plans b h).items)

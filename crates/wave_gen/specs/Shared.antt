@@ -1,5 +1,5 @@
 -- Equal constants of a block are made once: where a number was made before, its name is taken.
-use Rattle.std.specs.Prelude.{ℕ, zero, suc, Bool, true, false, cond, eqb, List, [], ◌∷◌, Option, Some, None}
+use Rattle.std.specs.Prelude.{ℕ, Bool, false, cond, eqb, List, [], ◌∷◌, Option, Some, None}
 use Rattle.ws_isa.specs.declared.instr.Op.{Op}
 use Rattle.ws_isa.specs.declared.instr.Op.TheVariants.{Const}
 use Rattle.wave_gen.specs.Waits.{set}

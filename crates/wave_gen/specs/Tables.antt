@@ -10,7 +10,7 @@ use Rattle.ws_isa.specs.declared.instr.Op.TheVariants.{Merge, Halt}
 use Rattle.wave_gen.specs.declared.tails.Tail.{Tail}
 use Rattle.wave_gen.specs.Plans as plans
 use Rattle.wave_gen.specs.Plans.{Leaves, Onto, Either, Lands, Halts, Plan, pulse, hung}
-use Rattle.wave_gen.specs.Plans.{operands_needed, advances, renew}
+use Rattle.wave_gen.specs.Plans.{operands_needed, advances, renew, merges}
 
 -- the lists of the first names; those beyond want nothing
 abbrev pub listed : List (Vec Spot Global) → Wants
@@ -54,4 +54,4 @@ behind_of b exit s =
 -- the front of a block, before s
 abbrev pub begun : ℕ → Plan → Made → Made
 begun b p s = cond p.first (advances b p.entries (renew b p.entries s))
-    (cond p.joined (emit b pulse Merge (pulse ∷ []) s) s)
+    (cond (merges p s) (emit b pulse Merge (pulse ∷ []) s) s)

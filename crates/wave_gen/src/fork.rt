@@ -3,6 +3,7 @@
 ghost use Rattle.std.specs.Prelude.{◌≡◌, ◌∷◌, ◌<◌, ℕ, OnOk, IfOk, true, false, cond, List, map};
 ghost use Rattle.wave_gen.specs.Wire.{Wants};
 ghost use Rattle.wave_gen.specs.Plans.{same_spot, same_spots, is_among, steers, steered, past, sends};
+ghost use Rattle.wave_gen.specs.Plans.{or_pulse};
 ghost use Rattle.wave_gen.specs.Tables.{listed, tail_of};
 ghost use Rattle.wave_gen.specs.Kept.{Forked};
 
@@ -43,6 +44,18 @@ impl Arms {
         Ok(())
     }
 
+    // The pulse is steered where no other name is.
+    fn steer_some(&mut self, alloc: Global) -> Result<(), NoMemory>
+        ensures { OnOk result ((w v : Wants) (xs : List ℕ) → Forked w v xs self.old →
+            Forked w v (or_pulse xs) self.new) }
+    {
+        if self.tails.is_empty() {
+            self.steer(alloc, PULSE)
+        } else {
+            Ok(())
+        }
+    }
+
     // A name is steered where the two arms want it in different places.
     fn compare(&mut self, alloc: Global, name: usize) -> Result<(), NoMemory>
         ensures { OnOk result ((w v : Wants) (xs : List ℕ) → is_among name xs ≡ false →
@@ -73,12 +86,12 @@ pub(crate) fn fork(
 {
     let tails = Vec::new(alloc);
     let mut arms = Arms { some, none, tails };
-    let mut name = width.max(1);
-    while name > 1 {
+    let mut name = width;
+    while name > 0 {
         name -= 1;
         arms.compare(alloc, name)?;
     }
-    arms.steer(alloc, PULSE)?;
+    arms.steer_some(alloc)?;
     let Arms {
         some,
         none: _,

@@ -1,10 +1,11 @@
 //! What stands around the items of a block: the choice of its edge, and its front.
 
-ghost use Rattle.std.specs.Prelude.{◌≡◌, ◌∷◌, ◌-◌, ◌/◌, [], ℕ, OnOk, IfOk, length};
+ghost use Rattle.std.specs.Prelude.{◌≡◌, ◌∷◌, ◌-◌, ◌/◌, [], ℕ, OnOk, IfOk, length, ◌&&◌, not, map, reverse};
 ghost use Rattle.wave_gen.specs.Wire.{Made, Spot, make, with_rooms};
-ghost use Rattle.wave_gen.specs.Plans.{has_front, renew, advances};
+ghost use Rattle.ws_isa.specs.Image.{is_giving_op};
+ghost use Rattle.wave_gen.specs.Plans.{has_front, renew, advances, gives};
 ghost use Rattle.wave_gen.specs.View as view;
-ghost use Rattle.wave_gen.specs.Tables.{Stands, leaves_made, behind_of, begun};
+ghost use Rattle.wave_gen.specs.Tables.{Stands, line_of, leaves_made, behind_of, begun};
 
 use crate::maker::Maker;
 use crate::plan::{Leaves, Plan};
@@ -80,11 +81,19 @@ impl Maker {
         if plan.first {
             self.renew(alloc, &plan.entries)?;
             self.advance(alloc, &plan.entries)
-        } else if plan.joined {
+        } else if self.merges(plan) {
             self.emit(alloc, PULSE, Op::Merge, &[PULSE])
         } else {
             Ok(())
         }
+    }
+
+    // Whether nothing else gives in a block where something has to.
+    fn merges(&self, plan: &Plan) -> bool
+        ensures { result ≡ (plan.now.joined
+            && not (gives (reverse (map line_of self.now.code.items)))) }
+    {
+        plan.joined && !gives(&self.code)
     }
 
     // An advance that would send to one of its own block sends to a merge.
@@ -139,5 +148,29 @@ fn fronts(spot: Spot, block: usize) -> bool
     match spot {
         Spot::Front(front, _) => front == block,
         Spot::Back(..) => false,
+    }
+}
+
+// Whether some instruction has a result, and sends it on at its turn.
+fn gives(code: &[Line]) -> bool
+    ensures { result ≡ gives (reverse (map line_of code.now)) }
+{
+    let mut left = code.len();
+    while left > 0 {
+        left -= 1;
+        if is_giving(code[left].op) {
+            return true;
+        }
+    }
+    false
+}
+
+fn is_giving(op: Op) -> bool
+    ensures { result ≡ is_giving_op op }
+{
+    match op {
+        Op::Steer | Op::Send(_) => false,
+        Op::Store(_) | Op::Output | Op::Take(_) | Op::Nop | Op::Halt => false,
+        _ => true,
     }
 }

@@ -32,4 +32,6 @@ pub use laws::graph_drafts_keep;
 pub use make::generate;
 
 #[cfg(test)]
+mod draft_tests;
+#[cfg(test)]
 mod tests;

@@ -127,8 +127,9 @@ impl<'a> Outline<'a> {
         requires outline { OutlineIs self.now }
         requires there { b < length (spots (view.graph self.now.table.graph.now)) }
         ensures { let g = view.graph self.now.table.graph.now in IfOk result (λ made.
-            plans.plan made ≡ plan_of g (has self.now.live.now) (listing.turned g self.now.waves.now)
-            (is_first self.now.waves.now) (place_of g self.now.waves.now) (width_of g) b) }
+            plans.plan made ≡ plan_of g (has self.now.live.now)
+            (listing.turned g self.now.waves.now) (is_first self.now.waves.now)
+            (place_of g self.now.waves.now) (width_of g) b) }
     {
         let spot = self.table.spots[b as usize];
         let code = code_of(alloc, &self.order, self.width, spot.block)?;

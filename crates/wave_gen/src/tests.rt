@@ -6,7 +6,8 @@ ghost use Rattle.image_walk.specs.Open.{Walkable};
 ghost use Rattle.cfg_core.specs.Rules.{IsGraph};
 ghost use Rattle.cfg_core.specs.Samples as samples;
 ghost use Rattle.cfg_core.specs.View as view;
-ghost use Rattle.call_gen.specs.Keeps.{HasNoSend, ArmsAlone};
+ghost use Rattle.call_gen.specs.Keeps.{HasNoSend};
+ghost use Rattle.cfg_core.specs.Shape.{ArmsAlone};
 
 use super::*;
 use call_gen::spell_calls;

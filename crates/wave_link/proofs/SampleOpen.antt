@@ -1,9 +1,9 @@
 -- The draft that prints 7 is open to notes.
-use Rattle.std.proofs.Common.{ℕ, zero, suc, ◌≡◌, ◌<◌, ◌≤◌, refl, sym, ◌∙◌, subst, inl, inr, arith}
-use Rattle.ws_isa.specs.Image.{Branch, Stop, instr_at, block_at, block_of, no_instr, no_block, first_number, ports, is_giving, IsIn, IsBlock}
+use Rattle.std.proofs.Common.{ℕ, zero, suc, ◌≡◌, ◌<◌, ◌≤◌, refl, sym, subst, inl, arith}
+use Rattle.ws_isa.specs.Image.{Branch, Stop, instr_at, block_at, block_of, no_instr, no_block, first_number, ports, is_giving, IsBlock}
 use Rattle.ws_isa.specs.Formed.{Suited, DestIn}
 use Rattle.ws_isa.specs.Samples.{image_a, dest}
-use Rattle.image_walk.specs.Open.{Walkable, HasGiver, OpenToNotes}
+use Rattle.image_walk.specs.Open.{HasGiver, OpenToNotes}
 use Rattle.image_walk.proofs.SampleALinks.{walkable_a}
 use Rattle.wave_link.specs.Samples.{draft_a}
 use Rattle.wave_link.proofs.Unnoted.{SameShape, shape_on, more_on, slots_on}

@@ -1,6 +1,5 @@
 -- The rules on shape and slots read no notes.
-use Rattle.std.proofs.Common.{ℕ, zero, suc, ◌+◌, ◌-◌, ◌≡◌, ◌<◌, ◌≤◌, Bool, cond, inl, inr, true, false, not, eqb, List, [], ◌++◌, length, Some, refl, sym, ap, ap₂, ◌∙◌, subst}
-use Rattle.ws_isa.specs.declared.instr.Op.{Op}
+use Rattle.std.proofs.Common.{ℕ, zero, suc, ◌-◌, ◌≡◌, ◌<◌, ◌≤◌, cond, inl, inr, true, false, not, eqb, List, ◌++◌, length, refl, sym, ap, ap₂, ◌∙◌, subst}
 use Rattle.ws_isa.specs.declared.instr.Dest.{Dest}
 use Rattle.ws_isa.specs.Image.{Exit, Pad, Image, In, nth, instr_at, block_at, block_of, first_number, size_of, ports, ports_of, is_memory, is_memory_op, is_advance, is_advance_op, is_giving, is_giving_op, stops, is_stop, target, leave_to, is_first, pad_of, now_of, now_dests, edge_of, edge_dests, start_dests, IsIn, IsBlock}
 use Rattle.ws_isa.specs.Formed.{WavesInOrder}

@@ -8,7 +8,8 @@ ghost use Rattle.wave_link.specs.Samples.{draft_a};
 
 use crate::annotator::{annotate, notes_are_good, samples_are_annotated};
 use crate::note_laws::{
-    links_and_ripples_are_sound, nops_are_needed, ripples_are_exact, unlinkable_is_unsound,
+    links_and_ripples_are_sound, nops_are_needed, operations_are_numbered, ripples_are_exact,
+    samples_come_back, unlinkable_is_unsound,
 };
 use std::alloc::Global;
 use std::rt::HostRuntime;
@@ -105,9 +106,11 @@ fn a_draft_gets_notes(rt: HostRuntime) -> Result<(), Fail> {
 #[test]
 fn laws_hold() {
     links_and_ripples_are_sound();
+    operations_are_numbered();
     ripples_are_exact();
     unlinkable_is_unsound();
     nops_are_needed();
+    samples_come_back();
     samples_are_annotated();
     notes_are_good();
 }

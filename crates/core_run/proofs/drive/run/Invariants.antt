@@ -1,13 +1,15 @@
-use Rattle.std.proofs.Common.{◌≤◌, ◌+◌, ◌-◌, ◌*◌}
+use Rattle.std.proofs.Common.{◌≡◌, ◌≤◌, ◌+◌, ◌-◌, ◌*◌, ◌⊎◌, is_some, true}
 use Rattle.core_run.specs.Places.{image_of}
-use Rattle.core_run.specs.Flows.{Follows, weight}
+use Rattle.core_run.specs.Flows.{Follows, NoneMay, Room, weight}
 use Rattle.core_run.proofs.drive.run.Given as goal
 
-abbrev pub invariant-loop-array : goal.invariant-loop-array
-invariant-loop-array l = record {
-  follows : Follows (image_of l.program) l.initial.flow l.flow;
+abbrev pub invariant-loop-flow : goal.invariant-loop-flow
+invariant-loop-flow l = record {
+  follows : Follows (image_of l.program) l.fn.flow l.flow;
+  none : (is_some l.flow.fault ≡ true) ⊎ NoneMay (image_of l.program) l.flow;
+  room : Room l.flow 0 (l.budget - l.flow.fired);
   within : l.flow.fired ≤ l.budget;
 }
 
-abbrev pub decreases-loop-array : goal.decreases-loop-array
-decreases-loop-array l = 10 * (l.budget - l.flow.fired) + weight l.flow
+abbrev pub decreases-loop-flow : goal.decreases-loop-flow
+decreases-loop-flow l = 10 * (l.budget - l.flow.fired) + weight l.flow

@@ -1,8 +1,7 @@
-use Rattle.std.proofs.Common.{ap, ◌∙◌, map, ℕ, List, Bool, ◌≡◌}
+use Rattle.std.proofs.Common.{ap, ◌∙◌, map, ℕ, List, ◌≡◌}
 use Rattle.ws_isa.specs.View as image
 use Rattle.ws_isa.specs.Image.{Array}
 use Rattle.cfg_core.specs.Graph.{Graph}
-use Rattle.cfg_core.specs.declared.blocks.Graph as code
 use Rattle.cfg_core.specs.View as view
 use Rattle.live_vars.specs.Marks.{has}
 use Rattle.wave_cut.specs.Cut.{Cut}
@@ -10,7 +9,6 @@ use Rattle.wave_gen.specs.Plans.{Plan, draft_of}
 use Rattle.wave_gen.specs.View as shown
 use Rattle.wave_gen.specs.declared.plan.Plan as declared
 use Rattle.wave_gen.specs.Listing.{arrays_of, width_of, plans_of}
-use Rattle.wave_gen.specs.Kept.{LeadsAhead}
 use Rattle.wave_gen.proofs.Generated.{fits, kept, leads}
 use Rattle.wave_gen.proofs.make.generate.Goals as goal
 

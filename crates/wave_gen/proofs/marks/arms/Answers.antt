@@ -1,5 +1,4 @@
-use Rattle.std.proofs.Common.{◌≡◌, ◌<◌, ◌≤◌, ◌∙◌, length, arith}
-use Rattle.cfg_core.specs.Graph.{spots}
+use Rattle.std.proofs.Common.{◌<◌, ◌∙◌, length, arith}
 use Rattle.cfg_core.specs.View as view
 use Rattle.wave_gen.specs.Listing.{arms_of}
 use Rattle.wave_gen.specs.Placed.{flag}

@@ -1,4 +1,4 @@
-use Rattle.std.proofs.Common.{◌≡◌, sym, subst}
+use Rattle.std.proofs.Common.{sym, subst}
 use Rattle.image_walk.specs.Open.{OpenToNotes}
 use Rattle.wave_link.proofs.SampleOpen.{open_a}
 use Rattle.wave_link.proofs.tests.annotated.Goals as goal

@@ -1,10 +1,12 @@
-use Rattle.std.proofs.Common.{◌≡◌, refl, sym, ap, ◌∙◌, subst, true, false}
+use Rattle.std.proofs.Common.{suc, ◌≤◌, arith, ◌≡◌, refl, sym, ap, ◌∙◌, subst, true, false}
 use Rattle.ws_isa.specs.Image.{ports, ports_of}
 use Rattle.image_walk.specs.Walk.{gather}
 use Rattle.core_law.specs.Core.{is_full}
 use Rattle.core_run.specs.Places.{image_of}
 use Rattle.core_run.specs.Partial.{partial_of, listed}
 use Rattle.core_run.proofs.Arriving.{arrived_waits, arrived_fires, arrival_below, arrival_free, single_fires, ports_is_op}
+use Rattle.core_run.proofs.Bounds.{arrival_wave}
+use Rattle.core_run.proofs.Rooms.{room_put, asked_more}
 use Rattle.core_run.proofs.flow.Flow.arrive.Goals as goal
 
 pub returns-then-ports-eq1-clause-leads : goal.returns-then-ports-eq1-clause-leads
@@ -40,3 +42,27 @@ returns-else-is_full-clause-leads c = λ world s formed sound h.
     let n : c.ports_of-ports.result ≡ ports image c.args.token.instr = c.ports_of-ports.ensures ∙ ap ports_of c.op-op.ensures ∙ sym (ports_is_op image c.args.token.instr) in
     arrived_waits image world formed sound c.args.token c.args.self.now _ s h c.put.ensures.partial
     (subst (λ m. is_full (partial_of p.slots.items p.spill.items) c.args.token.wave c.args.token.instr m ≡ false) n (sym c.is_full.ensures ∙ c.if-is_full.false)) refl refl refl refl refl refl refl
+
+pub fire-requires-clause-wave : goal.fire-requires-clause-wave
+fire-requires-clause-wave c =
+    let l : c.args.token.wave ≤ c.args.self.now.fired = arrival_wave (image_of c.args.program.now) c.args.token c.args.self.now c.requires.going in
+    omega (arith, c.requires.fired)
+
+pub fire-requires-then-is_full-clause-wave : goal.fire-requires-then-is_full-clause-wave
+fire-requires-then-is_full-clause-wave c =
+    let l : c.args.token.wave ≤ c.args.self.now.fired = arrival_wave (image_of c.args.program.now) c.args.token c.args.self.now c.requires.going in
+    omega (arith, c.requires.fired)
+
+pub returns-then-ports-eq1-clause-room : goal.returns-then-ports-eq1-clause-room
+returns-then-ports-eq1-clause-room c = λ n m e r.
+    c.fire.ensures.room m (room_put c.args.self.now c.args.self.now n (suc m) (omega (arith, c.fire.ensures.fired)) (omega arith) refl refl refl refl refl r)
+
+pub returns-then-ports-eq1-clause-asked : goal.returns-then-ports-eq1-clause-asked
+returns-then-ports-eq1-clause-asked c = asked_more c.args.self.now c.fire.new.self c.op-op.result _ c.fire.ensures.asked c.fire.ensures.not_asked
+
+pub returns-then-is_full-clause-room : goal.returns-then-is_full-clause-room
+returns-then-is_full-clause-room c = λ n m e r.
+    c.fire-then-is_full.ensures.room m (room_put c.args.self.now _ n (suc m) (omega (arith, c.fire-then-is_full.ensures.fired)) (omega (arith, c.put.ensures.spill, c.clear.ensures.spill)) (c.clear.ensures.room ∙ c.put.ensures.room) refl refl refl refl r)
+
+pub returns-then-is_full-clause-asked : goal.returns-then-is_full-clause-asked
+returns-then-is_full-clause-asked c = asked_more c.args.self.now c.fire-then-is_full.new.self c.op-op.result _ c.fire-then-is_full.ensures.asked c.fire-then-is_full.ensures.not_asked

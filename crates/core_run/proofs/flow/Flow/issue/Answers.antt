@@ -1,4 +1,4 @@
-use Rattle.std.proofs.Common.{◌≡◌, ◌≤◌, length, List, [], true, Some, refl, ap, ◌∙◌, subst, sym, arith}
+use Rattle.std.proofs.Common.{◌≡◌, ◌≤◌, ◌<◌, length, List, [], true, Some, refl, ap, ◌∙◌, subst, sym, arith}
 use Rattle.ws_isa.specs.declared.instr.Dest.{Dest}
 use Rattle.core_run.specs.Places.{image_of}
 use Rattle.core_law.specs.Core.{State, Step, Issue}
@@ -10,6 +10,8 @@ use Rattle.core_run.specs.Ways.{SentTo}
 use Rattle.core_run.specs.Flows.{Holds, all_of, asked_at, no_asked}
 use Rattle.core_run.proofs.Few.{few}
 use Rattle.core_run.proofs.Issuing as I
+use Rattle.core_run.proofs.Bounds.{issue_wave}
+use Rattle.core_run.proofs.Rooms.{room_issued}
 use Rattle.core_run.proofs.flow.Flow.issue.Goals as goal
 
 pub returns-then-is_past-clause-leads : goal.returns-then-is_past-clause-leads
@@ -40,14 +42,25 @@ returns-clause-leads c = λ world s formed sound h.
     let a = c.index-asked.result.now in
     let image = image_of c.args.program.now in
     let a_is : a ≡ asked_at old c.args.place = I.or_any old.asked.items c.args.place a no_asked c.requires.place c.index-asked.ensures in
-    let new : Flow = record { slots = old.slots; way = c.send.new.self; asked = c.remove.new.self; early = c.pass_on-self.new.early; chain = c.pass_on-self.result; fault = old.fault; memory = c.run.new.self; fired = old.fired } in
+    let new : Flow = record { slots = old.slots; way = c.send.new.self; asked = c.remove.new.self; early = c.pass_on-self.new.early; chain = c.pass_on-self.result; fault = old.fault; memory = c.run-word.new.self; fired = old.fired } in
     let to : c.destinations-dests.result.now ≡ destinations image a.instr (selector_of c.op-op.result (all_of a.operands)) = c.destinations-dests.ensures ∙ ap (destinations image a.instr) c.selector.ensures in
     subst (λ b. (t : State) × Step image s (Issue b.wave b.instr) t × Holds image world [] new t) a_is
     (I.issue_goes image world formed sound old s h c.args.place a c.requires.place c.index-asked.ensures c.requires.running
     (subst (λ b. may_flag image (chain_of old.chain) b.wave b.instr b.operands.first ≡ true) (sym a_is) c.requires.may)
-    c.op-op.result c.op-op.ensures (sym c.is_past.ensures ∙ c.if-is_past.false) c.in_ok-word.word new c.in_ok-word.ensures.answer refl c.remove.ensures.items refl refl c.pass_on-self.ensures.passed (subst (λ ds. SentTo old.way c.send.new.self (tokens_to a.wave c.in_ok-word.word ds)) to c.send.ensures.sent))
+    c.op-op.result c.op-op.ensures (sym c.is_past.ensures ∙ c.if-is_past.false) c.run-word.result new c.run-word.ensures.answer refl c.remove.ensures.items refl refl c.pass_on-self.ensures.passed (subst (λ ds. SentTo old.way c.send.new.self (tokens_to a.wave c.run-word.result ds)) to c.send.ensures.sent))
 
 pub returns-clause-weight : goal.returns-clause-weight
 returns-clause-weight c =
     let f : length c.destinations-dests.result.now ≤ 8 = subst (λ (ds : List Dest). length ds ≤ 8) (sym c.destinations-dests.ensures) (few (image_of c.args.program.now) c.requires.going.formed c.index-asked.result.now.instr c.selector.result) in
     omega (arith, f, c.send.ensures.both, c.remove.ensures.len)
+
+pub pass_on-self-requires-clause-wave : goal.pass_on-self-requires-clause-wave
+pass_on-self-requires-clause-wave c =
+    let l : c.args.self.now.chain.wave < c.args.self.now.fired = issue_wave (image_of c.args.program.now) c.args.self.now c.args.place c.requires.going c.requires.place c.requires.may in
+    omega (arith, c.requires.fired)
+
+pub returns-clause-room : goal.returns-clause-room
+returns-clause-room c = λ n r.
+    let f : length c.destinations-dests.result.now ≤ 8 = subst (λ (ds : List Dest). length ds ≤ 8) (sym c.destinations-dests.ensures) (few (image_of c.args.program.now) c.requires.going.formed c.index-asked.result.now.instr c.selector.result) in
+    room_issued c.args.self.now _ (length c.destinations-dests.result.now) n f refl (omega (arith, c.remove.ensures.len)) c.remove.ensures.capacity c.pass_on-self.ensures.fewer c.pass_on-self.ensures.room c.run-word.ensures.space
+    c.send.ensures.both c.send.ensures.now_room c.send.ensures.later_room r

@@ -1,4 +1,4 @@
-use Rattle.std.proofs.Common.{ℕ, List, subst}
+use Rattle.std.proofs.Common.{true, false, sym, ◌∙◌, ℕ, List, subst}
 use Rattle.std.proofs.lemmas.Result.{on_ok_weaker}
 use Rattle.wave_gen.specs.View as view
 use Rattle.wave_gen.specs.Plans.{advances, renew}
@@ -14,6 +14,9 @@ returns-in_ok-renew c =
     (e b (renew b c.args.plan.now.entries.items s)
     (subst (λ (xs : List ℕ). Stands b c.renew.new.self (renew b xs s)) c.deref.ensures.value (c.in_ok-renew.ensures b s st))))) c.advance.ensures
 
-pub returns-then-plan-2 : goal.returns-then-plan-2
-returns-then-plan-2 c =
-    on_ok_weaker c.emit.result (λ e b s st. begun_other b (view.plan c.args.plan.now) c.emit.new.self s _ c.if-plan.false c.if-plan-2.true (e b s st)) c.emit.ensures
+pub returns-then-merges : goal.returns-then-merges
+returns-then-merges c =
+    on_ok_weaker c.emit.result (λ e b s st. begun_other b (view.plan c.args.plan.now) c.args.self.now c.emit.new.self s true c.if-plan.false (sym c.if-merges.true ∙ c.merges.ensures) st (e b s st)) c.emit.ensures
+
+pub returns-else-merges : goal.returns-else-merges
+returns-else-merges c b s st = begun_other b (view.plan c.args.plan.now) c.args.self.now c.args.self.now s false c.if-plan.false (sym c.if-merges.false ∙ c.merges.ensures) st st

@@ -1,7 +1,7 @@
 use Rattle.live_vars.specs.Marks.{has}
 use Rattle.wave_gen.proofs.Outlined.{entries_next}
 use Rattle.wave_gen.proofs.plans.Outline.entries.Goals as goal
-use Rattle.std.proofs.Common.{◌∙◌, ◌++◌, ◌∷◌, [], ap, cond, suc, List, ℕ, Bool}
+use Rattle.std.proofs.Common.{◌∙◌, ◌++◌, ◌∷◌, [], ap, cond, suc, Bool}
 
 pub loop-x-preserved : goal.loop-x-preserved
 loop-x-preserved c =

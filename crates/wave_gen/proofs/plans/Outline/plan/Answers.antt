@@ -1,5 +1,4 @@
-use Rattle.std.proofs.Common.{◌≡◌, ◌∙◌, ap, List, ℕ, Bool, arith, cond, map, suc, ◌∷◌, [], ◌||◌, eqb}
-use Rattle.cfg_core.specs.View as view
+use Rattle.std.proofs.Common.{◌∙◌, ap, List, ℕ, arith, cond, map, suc, ◌∷◌, [], ◌||◌, eqb}
 use Rattle.wave_gen.specs.Plans.{pulse}
 use Rattle.wave_gen.specs.Placed.{flag}
 use Rattle.wave_gen.specs.declared.plan.Plan.{Plan}

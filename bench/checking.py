@@ -1,0 +1,131 @@
+#!/usr/bin/env python3
+"""Times `wsc check` on images that cost the checker most, and on such of half their size.
+
+    bench/checking.py        at the top of the repository, over the program that ./wsc builds
+
+Each image is sound. The table has the seconds of one run and the memory at its peak.
+"""
+
+import os
+import pathlib
+import subprocess
+import sys
+import tempfile
+import time
+
+ROOT = pathlib.Path(__file__).resolve().parent.parent
+PROGRAM = ROOT / "crates" / "wsc" / "out" / "wsc"
+
+
+def dests(places):
+    return "".join(f" {instr}.{port}" for instr, port in places)
+
+
+def spread(first, targets):
+    """Instructions from number `first` on that bring a value to many places, eight from each: the
+    destinations of each instruction."""
+    inner = 1
+    while 1 + 7 * inner < len(targets):
+        inner += 1
+    places = [(first + k, 0) for k in range(1, inner)] + targets
+    return [places[8 * k : 8 * k + 8] for k in range(inner)]
+
+
+def open_slots(count):
+    """As many slots open across as many blocks: block 1 opens all, and each further one closes one."""
+    leaf = (count + 2 + 5) // 7 + 1
+    while True:
+        lists = spread(1, [(leaf + k, 0) for k in range(count + 2)])
+        if len(lists) + 1 == leaf:
+            break
+        leaf = len(lists) + 1
+    yield "wavescalar 2\nwave 1\nblock 1\npad 0 1.0\n"
+    for number, places in enumerate(lists, 1):
+        yield f"{number}: {'advance' if number == 1 else 'merge'} ->{dests(places)}\n"
+    yield "go 2\n"
+    for k in range(count):
+        yield f"block {k + 2}\n{leaf + k}: merge ->\ngo {k + 3}\n"
+    last = leaf + count
+    yield f"block {count + 2}\n{last}: out <., 1, 2>.1\n{last + 1}: halt <1, 2, .>.2\nstop\nend\n"
+
+
+def landings(count):
+    """A block with 16 sends to as many landings."""
+    value, address = 2, 6
+    sends = [address + 3 + k for k in range(16)]
+    yield "wavescalar 2\nwave 1\nblock 1\npad 0 1.0\n"
+    out = sends[-1] + 1
+    yield f"1: advance ->{dests([(value + k, 0) for k in range(4)] + [(address, 0), (out, 0)])}\n"
+    for k in range(4):
+        yield f"{value + k}: merge ->{dests([(s, 1) for s in sends[4 * k : 4 * k + 4]])}\n"
+    yield f"{address}: const 0 ->{dests([(address + 1, 0), (address + 2, 0)])}\n"
+    for k in range(2):
+        yield f"{address + 1 + k}: merge ->{dests([(s, 0) for s in sends[8 * k : 8 * k + 8]])}\n"
+    for k, send in enumerate(sends):
+        yield f"{send}: send {k}\n"
+    yield f"{out}: out <., 1, .>.1\nsend {address}" + "".join(f" {k + 2}" for k in range(count)) + "\n"
+    number = out + 1
+    for k in range(count):
+        yield f"wave {k + 2}\nblock {k + 2}\n"
+        yield "".join(f"pad {p} {number + p}.0\n" for p in range(16))
+        yield f"{number}: advance -> {number + 16}.0\n"
+        yield "".join(f"{number + p}: advance ->\n" for p in range(1, 16))
+        yield f"{number + 16}: halt <., 1, .>.1\nstop\n"
+        number += 17
+    yield "end\n"
+
+
+def waves(count):
+    yield "wavescalar 2\n"
+    for k in range(1, count + 1):
+        number = 2 * k - 1
+        pad = f"pad 0 {number}.0\n" if k == 1 else ""
+        more = "" if k == count else f" {number + 2}.0"
+        yield f"wave {k}\nblock {k}\n{pad}{number}: advance -> {number + 1}.0{more}\n"
+        yield f"{number + 1}: {'halt' if k == count else 'out'} <., 1, .>.1\n"
+        yield "stop\nend\n" if k == count else f"go {k + 1}\n"
+
+
+def long_block(count):
+    """One block of so many instructions, most of which pass a value on to the next."""
+    yield f"wavescalar 2\nwave 1\nblock 1\npad 0 1.0\n1: advance -> 2.0 {count}.0\n"
+    for k in range(2, count - 1):
+        yield f"{k}: merge -> {k + 1}.0\n"
+    yield f"{count - 1}: out <., 1, 2>.1\n{count}: halt <1, 2, .>.2\nstop\nend\n"
+
+
+def check(file):
+    before = time.time()
+    with open(file, "rb") as text:
+        process = subprocess.Popen([PROGRAM, "check"], stdin=text, stdout=subprocess.PIPE)
+        answer = process.stdout.read().decode()
+        _, _, usage = os.wait4(process.pid, 0)
+    return answer.strip(), time.time() - before, usage.ru_maxrss / 1024
+
+
+def main():
+    if not PROGRAM.exists():
+        subprocess.run([ROOT / "wsc"], stdout=subprocess.DEVNULL, check=False)
+    print("| Image | Text | Time | Memory |\n|---|---|---|---|")
+    for name, make, sizes in (
+        ("{} slots open across {} blocks", open_slots, (10_000, 20_000)),
+        ("16 sends to {} landings", landings, (1_024, 2_048)),
+        ("{} waves", waves, (30_000, 60_000)),
+        ("one block of {} instructions", long_block, (2_000_000, 4_000_000)),
+    ):
+        for size in sizes:
+            with tempfile.NamedTemporaryFile("w", suffix=".txt") as file:
+                file.writelines(make(size))
+                file.flush()
+                answer, took, memory = check(file.name)
+                text = pathlib.Path(file.name).stat().st_size / 1048576
+            named = name.format(f"{size:,}", f"{size:,}")
+            print(f"| {named} | {text:.1f} MiB | {took:.2f} s | {memory:.0f} MB |", flush=True)
+            if answer != "sound":
+                print(f"not sound: {answer}")
+                return 1
+    return 0
+
+
+if __name__ == "__main__":
+    sys.exit(main())

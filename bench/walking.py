@@ -1,0 +1,127 @@
+#!/usr/bin/env python3
+"""Times the walk of an image: a loop of seven instructions a turn, where nothing else is done.
+
+A small program that reads an assembly, checks it and walks so many instances of it is proved and built in
+a temporary folder, over the libraries of the repository. The processor time of a process counts, the
+fastest of three, less that of a walk of no instance.
+"""
+
+import pathlib
+import tempfile
+
+from assembly import RUNS, build, once
+
+USES = "ws_words ws_io ws_isa image_walk asm_text annot_check"
+
+MAIN = """//! Reads an assembly, checks it, and walks it.
+#![tactic(auto)]
+
+ghost use Rattle.std.specs.Prelude.{◌<◌, ◌^◌, ◌-◌, length};
+
+use annot_check::check_image;
+use asm_text::read_asm;
+use image_walk::walk_image;
+use std::alloc::{AllocError, Global};
+use std::env;
+use std::env::Env;
+use std::process::ExitCode;
+use ws_io::{StdSource, decimal, read_all};
+use ws_words::{Cells, Words, World};
+
+// How many instances of the walk have fired, of so many at most.
+#[tactic(auto, using(asm_text::proofs::Cutting::few_feeds))]
+fn answer(alloc: Global, text: &[u8], firings: u64) -> Result<String, AllocError>
+    requires { length text.now < 2 ^ 32 - 1 }
+{
+    let Ok(image) = read_asm(alloc, text) else {
+        return format!(in alloc; "not read");
+    };
+    let Ok(checked) = check_image(alloc, image) else {
+        return format!(in alloc; "not sound");
+    };
+    let world = World {
+        input: Words::empty(alloc),
+        left: Cells::empty(alloc),
+    };
+    match walk_image(alloc, &checked, &world, firings) {
+        Ok(walked) => {
+            let fired = walked.fired;
+            format!(in alloc; "{fired}")
+        }
+        Err(_) => format!(in alloc; "no memory"),
+    }
+}
+
+fn number<R: Env + AllocGlobal>(rt: &R) -> u64 {
+    match env::args(rt) {
+        Ok(words) => {
+            for word in words.skip(1) {
+                return decimal(word.as_bytes()).unwrap_or(0);
+            }
+            0
+        }
+        Err(_) => 0,
+    }
+}
+
+fn main(rt: HostRuntime) -> ExitCode {
+    let alloc = rt.alloc();
+    let mut source = StdSource::new(rt.stdin());
+    let Ok(text) = read_all(alloc, &mut source, 134_217_728) else {
+        return ExitCode::FAILURE;
+    };
+    let firings = number(&rt);
+    let Ok(said) = answer(alloc, text.as_slice(), firings) else {
+        return ExitCode::FAILURE;
+    };
+    match println!(rt; "{said}") {
+        Ok(()) => ExitCode::SUCCESS,
+        Err(_) => ExitCode::FAILURE,
+    }
+}
+"""
+
+LOOP = """wavescalar 1
+wave 1
+block 1
+pad 0 1.0
+1: advance -> 2.0 3.0
+2: nop <., 1, .>.0
+3: const 0 -> 4.0
+go 2
+wave 2
+block 2
+4: advance -> 5.0 6.0 7.0 9.0
+5: const 1 -> 7.1
+6: const 1000000000000 -> 8.1
+7: add -> 8.0 10.0
+8: lt -> 10.1
+9: nop <., 1, .>.0
+10: steer -> 4.0 | 11.0
+if 8 2 3
+wave 3
+block 3
+11: advance -> 12.0 13.0
+12: out <., 1, 2>.1
+13: halt <1, 2, .>.2
+stop
+end
+"""
+
+
+def main():
+    with tempfile.TemporaryDirectory() as name:
+        folder = pathlib.Path(name)
+        program = build(folder, "walking", MAIN, USES)
+        file = folder / "loop.txt"
+        file.write_text(LOOP)
+        firings = 1_000_000_000
+        idle = min(once([program, "0"], file)[0] for _ in range(RUNS))
+        took, _, said = min(once([program, str(firings)], file) for _ in range(RUNS))
+        if said != str(firings):
+            raise SystemExit(f"walked {said}")
+        print(f"{firings:,} instances in {took - idle:.2f} s, {firings / (took - idle) / 1e6:.0f} million a second")
+
+
+if __name__ == "__main__":
+    main()

@@ -1,0 +1,5 @@
+use Rattle.asm_text.proofs.Completes.{spelled_read}
+use Rattle.asm_text.proofs.laws.spelled_texts_are_read.Goals as goal
+
+pub returns : goal.returns
+returns c = spelled_read

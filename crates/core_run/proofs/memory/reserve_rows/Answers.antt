@@ -1,0 +1,26 @@
+use Rattle.std.proofs.Common.{ℕ, ◌<◌, ◌≤◌, ◌+◌, ◌∙◌, sym, subst, length, Vec, Global, vec_len, vec_capacity, inl, inr, arith}
+use Rattle.std.proofs.lemmas.Bool.{cases_lt}
+use Rattle.core_run.proofs.Trays.{kept_rows, length_set, nth_set, nth_below}
+use Rattle.core_run.proofs.memory.reserve_rows.Goals as goal
+
+pub returns-in_err-reserve-clause-same : goal.returns-in_err-reserve-clause-same
+returns-in_err-reserve-clause-same c =
+    kept_rows c.loop-place.rows.items c.loop-place.place c.index_mut.result.now c.reserve.new.self (omega (arith, c.loop-place.invariant.size, c.loop-place-test.true)) c.index_mut.ensures.value c.reserve.ensures.items ∙ c.loop-place.invariant.same
+
+pub loop-place-preserved : goal.loop-place-preserved
+loop-place-preserved c = record {
+  same = kept_rows c.loop-place.rows.items c.loop-place.place c.index_mut.result.now c.reserve.new.self (omega (arith, c.loop-place.invariant.size, c.loop-place-test.true)) c.index_mut.ensures.value c.reserve.ensures.items ∙ c.loop-place.invariant.same;
+  size = length_set c.loop-place.rows.items c.loop-place.place c.reserve.new.self ∙ c.loop-place.invariant.size;
+  done = λ p row l e. elim (nth_set c.loop-place.rows.items c.loop-place.place c.reserve.new.self p row e) [
+    | inl h ↦ subst (λ (v : Vec ℕ Global). vec_len v + c.args.more ≤ vec_capacity v) (sym h.1) (omega (arith, c.in_ok-reserve.ensures.ok))
+    | inr h ↦ elim (cases_lt p c.loop-place.place) [
+      | inl k ↦ c.loop-place.invariant.done p row k h.1
+      | inr k ↦ absurd (h.0 (omega arith))
+    ]
+  ];
+}
+
+pub returns-clause-space : goal.returns-clause-space
+returns-clause-space c = λ p row e.
+    let l : p < length c.loop-place.rows.items = nth_below c.loop-place.rows.items p row e in
+    c.loop-place.invariant.done p row (omega (arith, c.loop-place.invariant.size, c.loop-place-test.false)) e

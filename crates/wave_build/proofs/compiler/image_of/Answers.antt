@@ -1,0 +1,47 @@
+use Rattle.std.proofs.Common.{◌≡◌, List, map, sym, ap, ◌∙◌}
+use Rattle.ws_isa.specs.Image.{Array}
+use Rattle.ws_isa.specs.Shown.{shown_arrays}
+use Rattle.ws_isa.specs.View as image
+use Rattle.src_ast.specs.View as ast
+use Rattle.cfg_core.specs.Graph.{GraphArray}
+use Rattle.cfg_core.specs.View as view
+use Rattle.wave_gen.specs.Listing.{array_of}
+use Rattle.wave_build.proofs.CompilingRuns.{arms_alone}
+use Rattle.wave_build.proofs.CompilingShown.{same_shown}
+use Rattle.wave_build.proofs.CompilingWalks.{walks_as_run}
+use Rattle.wave_build.proofs.compiler.image_of.Goals as goal
+
+pub generate-requires-clause-arms : goal.generate-requires-clause-arms
+generate-requires-clause-arms c = arms_alone (ast.parts c.args.accepted.now.program.items.items) (view.graph c.in_ok-graph.graph) c.in_ok-graph.ensures
+
+pub returns-clause-arrays : goal.returns-clause-arrays
+returns-clause-arrays c =
+    let g = view.graph c.in_ok-graph.graph in
+    ap shown_arrays (c.in_ok-made.ensures.blocks.arrays ∙ c.in_ok-draft.ensures.arrays)
+    ∙ same_shown g.arrays
+    ∙ ap (λ (xs : List GraphArray). map array_of xs) c.in_ok-graph.ensures.shows.arrays
+
+pub returns-clause-walk : goal.returns-clause-walk
+returns-clause-walk c =
+    let parts = ast.parts c.args.accepted.now.program.items.items in
+    let g = view.graph c.in_ok-graph.graph in
+    let draft = image.draft c.in_ok-draft.draft in
+    let made = image.image c.in_ok-made.made in
+    let p = c.in_ok-graph.ensures in
+    let d = c.in_ok-draft.ensures in
+    let m = c.in_ok-made.ensures in
+    let words = c.see_words.ensures in
+    λ world w. walks_as_run parts g draft made world c.walks_answer.ensures p.spelling.rules p.shows
+        (d.walk words world w) (d.endless words world w) (m.walk world) d.arrays m.blocks.arrays
+
+pub returns-clause-draft : goal.returns-clause-draft
+returns-clause-draft c =
+    let m = c.in_ok-made.ensures in
+    record {
+      draft = image.draft c.in_ok-draft.draft;
+      open_to_notes = c.in_ok-draft.ensures.open_to_notes;
+      blocks = m.blocks;
+      needed = m.needed;
+      never_linked = m.never_linked;
+      triggers = m.triggers;
+    }

@@ -1,0 +1,80 @@
+-- What the image of a program does and shows.
+use Rattle.std.specs.Prelude.{◌≡◌, ℕ, true, List, ◌++◌, map}
+use Rattle.ws_words.specs.Outside.{Act, Outside, World}
+use Rattle.src_ast.specs.Syntax.{Part}
+use Rattle.src_ast.specs.Meaning.{Passes, Flows}
+use Rattle.src_ast.specs.Runs.{acts_in}
+use Rattle.ws_isa.specs.Image.{Array, Image}
+use Rattle.ws_isa.specs.Shown.{shown_arrays, shown_cells}
+use Rattle.image_walk.specs.Walk.{mem, has_ended, CostAtMost}
+use Rattle.image_walk.specs.Open.{OpenToNotes}
+use Rattle.cfg_core.specs.Graph.{GraphArray}
+use Rattle.cfg_core.specs.Shown.{shown_acts, AllInside}
+use Rattle.cfg_build.specs.Keeps as program
+use Rattle.wave_gen.specs.Listing.{array_of}
+use Rattle.wave_gen.specs.Words.{WorldOfWords}
+use Rattle.wave_link.specs.Kept.{KeepsBlocks}
+use Rattle.wave_link.specs.Triggers.{TriggeredNear}
+use Rattle.wave_link.specs.Vain.{NoneInVain}
+use Rattle.wave_link.specs.Renoted.{NeverLinked}
+
+-- an array of an image as a graph has it, under its name
+abbrev pub in_graph : Array → GraphArray
+in_graph a = record { name = a.name; length = a.length }
+
+-- what acts on an image's arrays show: all but those on hidden ones, with the shown arrays numbered
+-- anew
+abbrev pub shown : Image → List Act → List Act
+shown image acts = shown_acts (map in_graph image.arrays) acts
+
+-- the image's shown arrays are the program's, with names and lengths, in order of declaration
+abbrev pub ShowsArrays : List Part → Image → Type 0
+ShowsArrays parts image = shown_arrays image.arrays ≡ map array_of (program.arrays_of parts)
+
+-- what is outside in a walk of an image shows this
+pub record Shows (image : Image) (now o : Outside) : Type 0 where
+  pub acts : shown image now.acts ≡ o.acts
+  pub cells : shown_cells image.arrays now.cells ≡ o.cells
+  pub input : now.input ≡ o.input
+  pub left : now.left ≡ o.left
+
+-- acts are the first of others
+abbrev pub Begins : List Act → List Act → Type 0
+Begins front acts = (more : List Act) × (acts ≡ front ++ more)
+
+-- The walk of an image is, as far as it shows, the run of a program that passes loads and stores
+-- past the end.
+pub record WalksAsRun (parts : List Part) (image : Image) (world : World) : Type 0 where
+  -- one ends where the other does, and leaves the same
+  pub ends : (n : ℕ) (o : Outside) → Passes parts world n o →
+      (t : ℕ) × (has_ended image world t ≡ true) × Shows image (mem image world t) o
+  pub ends_only : (t : ℕ) → has_ended image world t ≡ true →
+      (n : ℕ) × (o : Outside) × Passes parts world n o × Shows image (mem image world t) o
+
+  -- where it hasn't ended, each does first what the other has done
+  pub goes : (n : ℕ) (o : Outside) → Flows parts world n o →
+      (t : ℕ) × Begins o.acts (shown image (mem image world t).acts)
+  pub goes_only : (t : ℕ) →
+      (n : ℕ) × Begins (shown image (mem image world t).acts) (acts_in parts world n)
+
+  -- the walk's cost is bounded exactly where the run ends
+  pub endless : ((n : ℕ) → (o : Outside) × Flows parts world n o) →
+      (k : ℕ) → CostAtMost image world k → ⊥
+  pub bounded : (k : ℕ) → CostAtMost image world k → (n : ℕ) × (o : Outside) × Passes parts world n o
+
+  -- no hidden array is ever loaded or stored past its end
+  pub inside : (t : ℕ) → AllInside (map in_graph image.arrays) (mem image world t).acts
+
+-- in each world of words
+abbrev pub DoesAs : List Part → Image → Type 0
+DoesAs parts image = (world : World) → WorldOfWords world → WalksAsRun parts image world
+
+-- There is a draft without notes of which this is an image: its blocks are kept but for what is
+-- added, each no-op that is added is needed, since no notes do without it, and gets its token nearby.
+pub record HasDraft (image : Image) : Type 0 where
+  pub draft : Image
+  pub open_to_notes : OpenToNotes draft
+  pub blocks : KeepsBlocks draft image
+  pub needed : NoneInVain draft image
+  pub never_linked : NeverLinked draft image
+  pub triggers : TriggeredNear draft image

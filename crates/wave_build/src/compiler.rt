@@ -1,0 +1,95 @@
+//! From an accepted program to its image.
+
+ghost use Rattle.std.specs.Prelude.{◌≡◌, IfOk};
+ghost use Rattle.ws_isa.specs.Formed.{Formed};
+ghost use Rattle.ws_isa.specs.View as image;
+ghost use Rattle.src_ast.specs.View as ast;
+ghost use Rattle.image_walk.specs.Sound.{Sound};
+ghost use Rattle.cfg_core.specs.View as view;
+ghost use Rattle.wave_link.specs.Numbered.{NumberedInOrder};
+ghost use Rattle.wave_link.specs.Ripples.{ExactRipples};
+ghost use Rattle.wave_build.specs.Compiled.{ShowsArrays, DoesAs, HasDraft};
+ghost use Rattle.wave_build.specs.Prepared.{Begun, Prepared};
+
+use crate::room::leaves_room;
+use crate::words::see_words;
+use call_gen::{reached, spell_calls};
+use cfg_build::lower;
+use cfg_core::{Graph, walks_answer};
+use image_walk::Checked;
+use live_vars::live;
+use phi_conv::join_short;
+use src_check::Accepted;
+use std::alloc::Global;
+use wave_cut::cut;
+use wave_gen::generate;
+use wave_link::annotate;
+use ws_isa::Image;
+use ws_words::NoMemory;
+
+// The graph with its short branches joined.
+fn begin(alloc: Global, accepted: &Accepted) -> Result<Graph, NoMemory>
+    ensures { let parts = ast.parts accepted.now.program.items.items in
+        IfOk result (λ graph. Begun parts (view.graph graph)) }
+{
+    let lowered = lower(alloc, accepted)?;
+    let live = live(alloc, &lowered)?;
+    let joined = join_short(alloc, &lowered, &live)?;
+    Ok(joined)
+}
+
+// The graph of which the draft is made.
+fn prepare(alloc: Global, accepted: &Accepted) -> Result<Graph, NoMemory>
+    ensures { let parts = ast.parts accepted.now.program.items.items in
+        IfOk result (λ graph. Prepared parts (view.graph graph)) }
+{
+    let joined = begin(alloc, accepted)?;
+    let kept = reached(alloc, &joined)?;
+    let needed = live(alloc, &kept)?;
+    let spelled = spell_calls(alloc, &kept, &needed)?;
+    Ok(spelled)
+}
+
+// The image, where the draft is within the limits.
+fn image_of(alloc: Global, accepted: &Accepted) -> Result<Image, NoMemory>
+    ensures formed { IfOk result (λ made. Formed (image.image made)) }
+    ensures sound { IfOk result (λ made. Sound (image.image made)) }
+    ensures arrays { let parts = ast.parts accepted.now.program.items.items in
+        IfOk result (λ made. ShowsArrays parts (image.image made)) }
+    ensures walk { let parts = ast.parts accepted.now.program.items.items in
+        IfOk result (λ made. DoesAs parts (image.image made)) }
+    ensures numbers { IfOk result (λ made. NumberedInOrder (image.image made)) }
+    ensures ripples { IfOk result (λ made. ExactRipples (image.image made)) }
+    ensures draft { IfOk result (λ made. HasDraft (image.image made)) }
+{
+    walks_answer();
+    let graph = prepare(alloc, accepted)?;
+    see_words(&graph);
+    let live = live(alloc, &graph)?;
+    let waves = cut(alloc, &graph)?;
+    let draft = generate(alloc, &graph, &waves, &live)?;
+    if !leaves_room(&draft) {
+        return Err(NoMemory);
+    }
+    let made = annotate(alloc, &draft)?;
+    Ok(made)
+}
+
+/// The image of an accepted program. One that doesn't fit the limits of images is answered as want
+/// of memory.
+pub fn compile(alloc: Global, accepted: &Accepted) -> Result<Checked, NoMemory>
+    // it shows the program's arrays, and does what the run does that passes loads and stores past
+    // the end, in every world of words
+    ensures arrays { let parts = ast.parts accepted.now.program.items.items in
+        IfOk result (λ made. ShowsArrays parts made) }
+    ensures walk { let parts = ast.parts accepted.now.program.items.items in
+        IfOk result (λ made. DoesAs parts made) }
+
+    // its notes, and what was added to its draft for them
+    ensures numbers { IfOk result (λ made. NumberedInOrder made) }
+    ensures ripples { IfOk result (λ made. ExactRipples made) }
+    ensures draft { IfOk result (λ made. HasDraft made) }
+{
+    let made = image_of(alloc, accepted)?;
+    Ok(Checked::from_sound(made))
+}
