@@ -12,13 +12,13 @@ use Rattle.src_ast.specs.Written.{ReadsTheSame}
 use Rattle.src_ast.specs.Once.{ExactlyOne}
 use Rattle.seq_run.specs.Laws.{HasAnswer}
 use Rattle.wsc_top.specs.declared.task.JobTask.{JobTask}
-use Rattle.wsc_top.specs.declared.task.JobTask.TheVariants.{Run, Format, Plain}
+use Rattle.wsc_top.specs.declared.task.JobTask.TheVariants.{Run, Format, Compile, Plain}
 use Rattle.wsc_top.specs.declared.task.PlainOptions.{PlainOptions}
 use Rattle.wsc_top.specs.declared.status.Status.{Status}
 use Rattle.wsc_top.specs.declared.status.Status.TheVariants.{Done, Refused, Budget, Fault}
 use Rattle.wsc_top.specs.Texts.{done_text, ended_text, faulted_text, going_text, turns_line, names_of, array_name, refusal_text}
 use Rattle.wsc_top.specs.Job.{IsJob, Refuses, IsTextAnswer, world_of}
-use Rattle.wsc_top.specs.Answers.{unfit_for, Yields, ran, formatted, ended, faulted, going, Answered, refused, done, IsAnswer}
+use Rattle.wsc_top.specs.Answers.{unfit_for, Yields, ran, formatted, compiled, ended, faulted, going, Answered, refused, done, IsFixed, IsAnswer}
 use Rattle.wsc_top.proofs.Mains.{one_main}
 use Rattle.wsc_top.proofs.Printing.{numbers_run}
 
@@ -43,6 +43,7 @@ same_reply s t a b e f = ap (λ x. (x, a)) e ∙ ap (λ x. (t, x)) f
 abbrev Comes : JobTask → List Part → List ℕ → Status → List ℕ → Type 0
 Comes Run parts input status out = (n : ℕ) × (end : Outside) × Runs parts (world_of input) n end × (status ≡ Done) × (out ≡ done_text (printed_words end.acts))
 Comes Format parts input status out = (status ≡ Done) × (out ≡ printed_form parts)
+Comes Compile parts input status out = status ≡ Done
 Comes (Plain options) parts input status out =
     ((n : ℕ) × (end : Outside) × Runs parts (world_of input) n end × (n ≤ options.turns) × (status ≡ Done)
     × (out ≡ ended_text options.memory options.stats (names_of parts) (printed_words end.acts) end.cells (turns_line n)))
@@ -53,6 +54,7 @@ Comes (Plain options) parts input status out =
 comes : (task : JobTask) (parts : List Part) (input : List ℕ) (status : Status) (out : List ℕ) → Yields task parts input status out → Comes task parts input status out
 comes task parts input status out (ran n end r) = (n, end, r, refl, refl)
 comes task parts input status out (formatted r) = (refl, refl)
+comes task parts input status out (compiled image h) = refl
 comes task parts input status out (ended n end r w) = inl (n, end, r, w, refl, refl)
 comes task parts input status out (faulted n array state f w) = inr (inl (n, array, state, f, w, refl, refl))
 comes task parts input status out (going now g) = inr (inr (now, g, refl, refl))
@@ -150,10 +152,11 @@ module _ (law : RunsOnce) (parts : List Part) (input : List ℕ) where
     plain_once (inr (inr g)) = going_once g.now g.goes
 
   -- one thing alone comes of a task to a program that it takes
-  yields_once : (task : JobTask) (finish : Place) → IsAccepted parts finish → unfit_for task parts ≡ [] → ReadsTheSame parts → ExactlyOne (IsYield task parts input)
-  yields_once Run finish accepted fit same = let run = numbers_run parts (world_of input) (one_main parts finish accepted fit) in run_once run.turns run.end run.runs
-  yields_once Format finish accepted fit same = format_once same
-  yields_once (Plain options) finish accepted fit same = plain_once options (law.some parts (world_of input) options.turns)
+  yields_once : (task : JobTask) → IsFixed task → (finish : Place) → IsAccepted parts finish → unfit_for task parts ≡ [] → ReadsTheSame parts → ExactlyOne (IsYield task parts input)
+  yields_once Run one finish accepted fit same = let run = numbers_run parts (world_of input) (one_main parts finish accepted fit) in run_once run.turns run.end run.runs
+  yields_once Format one finish accepted fit same = format_once same
+  yields_once Compile one finish accepted fit same = absurd one
+  yields_once (Plain options) one finish accepted fit same = plain_once options (law.some parts (world_of input) options.turns)
 
 -- a refused text
 module _ (task : JobTask) (text : List ℕ) (r : Refusal) (refusal : Refuses (unfit_for task) text r)
@@ -184,11 +187,11 @@ module _ (task : JobTask) (text : List ℕ) (parts : List Part) (input : List �
 
 -- each text has one answer alone, since it comes to one thing alone, and one thing comes of it
 pub answered_once : (law : RunsOnce) (same : (parts : List Part) (text : List ℕ) (input : List ℕ) (task : JobTask) → IsJob (unfit_for task) text parts input → ReadsTheSame parts)
-    → (task : JobTask) (text : List ℕ) → ExactlyOne (IsTextAnswer (unfit_for task) text) → ExactlyOne (IsAnswer task text)
-answered_once law same task text e = go e.answer e.holds e.only
+    → (task : JobTask) (text : List ℕ) → IsFixed task → ExactlyOne (IsTextAnswer (unfit_for task) text) → ExactlyOne (IsAnswer task text)
+answered_once law same task text one e = go e.answer e.holds e.only
   where
     go : (found : Result (List Part × List ℕ) Refusal) → IsTextAnswer (unfit_for task) text found
         → ((other : Result (List Part × List ℕ) Refusal) → IsTextAnswer (unfit_for task) text other → other ≡ found) → ExactlyOne (IsAnswer task text)
     go (Ok (parts, input)) job only =
-        job_once task text parts input job only (yields_once law parts input task job.reads.finish job.reads.accepted job.fit (same parts text input task job))
+        job_once task text parts input job only (yields_once law parts input task one job.reads.finish job.reads.accepted job.fit (same parts text input task job))
     go (Err r) h only = refusal_once task text r h only

@@ -23,7 +23,7 @@ use Rattle.ws_words.specs.Outside.{World}
 use Rattle.wsc_top.specs.Job.{IsJob, world_of}
 use Rattle.wsc_top.specs.Texts.{usage_text, unread_text, long_text, asm_refusal_text}
 use Rattle.wsc_top.specs.Executions.{Executes, rested, spent, stopped}
-use Rattle.wsc_top.specs.Answers.{job_limit, unfit_for, ran, formatted, ended, faulted, going, Answered, refused, done, IsReader, limit_of, AssemblyYields, checked, listed, executed, AssemblyEndsSo, AssemblyAnswered, Answers, usage, generated, unread, long, read, assembled, WereRead, IsToldJob, IsToldOther, IsToldAssembly, IsToldNoAssembly}
+use Rattle.wsc_top.specs.Answers.{job_limit, unfit_for, ran, formatted, compiled, ended, faulted, going, Answered, refused, done, IsReader, limit_of, AssemblyYields, checked, listed, executed, AssemblyEndsSo, AssemblyAnswered, Answers, usage, generated, unread, long, read, assembled, WereRead, IsToldJob, IsToldOther, IsToldAssembly, IsToldNoAssembly}
 
 -- the answer where the words are no line
 pub usage_answers : (words : List (List ℕ)) (left : Option (List ℕ)) (m n : ℕ) (out : List ℕ) → IsNoLine words → out ≡ usage_text → Answers words left left m n Usage out
@@ -137,6 +137,7 @@ text_status : (c : JobTask) (text : List ℕ) (status : Status) (out : List ℕ)
 text_status c text status out (refused x y) = tt
 text_status c text status out (done ps input a (ran n e r)) = tt
 text_status c text status out (done ps input a (formatted r)) = tt
+text_status c text status out (done ps input a (compiled i h)) = tt
 text_status c text status out (done ps input a (ended n e r w)) = tt
 text_status c text status out (done ps input a (faulted n x s f w)) = tt
 text_status c text status out (done ps input a (going now g)) = tt

@@ -1,5 +1,5 @@
 -- What comes of the commands.
-use Rattle.std.specs.Prelude.{◌≡◌, ℕ, zero, suc, ◌≤◌, ◌⊎◌, List, [], ◌∷◌, ◌++◌, refl}
+use Rattle.std.specs.Prelude.{◌≡◌, ℕ, zero, suc, ◌≤◌, ◌⊎◌, List, [], ◌∷◌, ◌++◌, Result, Ok, Err, IfOk, refl}
 use Rattle.std.proofs.Common.{sym, ap, ◌∙◌, subst, inl, inr}
 use Rattle.ws_words.specs.Outside.{Outside, World, printed_words}
 use Rattle.ws_words.specs.declared.plain.Plain.{Plain as Reply}
@@ -8,18 +8,20 @@ use Rattle.src_ast.specs.Syntax.{Part}
 use Rattle.src_ast.specs.Runs.{Runs, Goes, Faults}
 use Rattle.src_ast.specs.Written.{ReadsTheSame}
 use Rattle.src_ast.specs.Printed.{printed_form}
+use Rattle.ws_isa.specs.Image.{Image}
+use Rattle.asm_text.specs.Printed.{printed}
 use Rattle.df_core.specs.declared.piece.Piece.{Piece}
 use Rattle.df_core.specs.Built.{Prints}
 use Rattle.df_core.specs.Straight.{IsStraight, printed_by}
 use Rattle.seq_run.specs.Answer.{SaysEnded, SaysFault, SaysGoing, HasEnded, HasFaulted, IsGoing}
-use Rattle.wsc_top.specs.declared.task.JobTask.TheVariants.{Run, Format, Plain}
+use Rattle.wsc_top.specs.declared.task.JobTask.TheVariants.{Run, Format, Compile, Plain}
 use Rattle.wsc_top.specs.declared.task.PlainOptions.{PlainOptions}
 use Rattle.wsc_top.specs.declared.status.Status.TheVariants.{Done, Budget, Fault}
 use Rattle.wsc_top.specs.Straights.{words_of}
 use Rattle.wsc_top.specs.Texts.{done_text, ended_text, faulted_text, going_text, turns_line, names_of, array_name}
 use Rattle.wsc_top.specs.Straights.{ArePieces}
 use Rattle.wsc_top.specs.Job.{world_of}
-use Rattle.wsc_top.specs.Answers.{Yields, ran, formatted, ended, faulted, going, ComesToItsEnd, MeetsFault, WantsTurns, EndsSo}
+use Rattle.wsc_top.specs.Answers.{IsCompiled, Yields, ran, formatted, compiled, ended, faulted, going, ComesToItsEnd, MeetsFault, WantsTurns, EndsSo}
 use Rattle.wsc_top.proofs.Printing.{numbers_run}
 
 -- The words of the pieces of a program are what its sequential run prints.
@@ -44,6 +46,18 @@ run_so parts input = record { done = λ h. refl; fault = λ h. absurd h; budget 
 
 pub format_so : (parts : List Part) (input : List ℕ) → EndsSo Format parts input Done
 format_so parts input = record { done = λ h. refl; fault = λ h. absurd h; budget = λ h. absurd h }
+
+pub compile_so : (parts : List Part) (input : List ℕ) → EndsSo Compile parts input Done
+compile_so parts input = record { done = λ h. refl; fault = λ h. absurd h; budget = λ h. absurd h }
+
+-- the text of an image of the program
+pub compile_yields : (parts : List Part) (image : Image) (out : List ℕ) → IsCompiled parts image → out ≡ printed image → (ws : List ℕ) → Yields Compile parts ws Done out
+compile_yields parts image out h e ws = subst (λ o. Yields Compile parts ws Done o) (sym e) (compiled image h)
+
+pub compiled_yields : {E : Type 0} (parts : List Part) (image seen : Image) (result : Result (List ℕ) E) → IsCompiled parts image → seen ≡ image → IfOk result (λ text. text ≡ printed seen)
+    → IfOk result (λ out. (ws : List ℕ) → Yields Compile parts ws Done out)
+compiled_yields parts image seen (Ok text) h e is = compile_yields parts image text h (is ∙ ap printed e)
+compiled_yields parts image seen (Err f) h e is = tt
 
 -- so many empty lists
 abbrev pub empties : ℕ → List (List ℕ)

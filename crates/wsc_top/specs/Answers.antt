@@ -12,13 +12,19 @@ use Rattle.wsc_top.specs.declared.status.Status.TheVariants.{Done, Usage, Refuse
 use Rattle.wsc_top.specs.declared.task.Task.{Task}
 use Rattle.wsc_top.specs.declared.task.Task.TheVariants.{Job, Assembly, Generate}
 use Rattle.wsc_top.specs.declared.task.JobTask.{JobTask}
-use Rattle.wsc_top.specs.declared.task.JobTask.TheVariants.{Run, Format, Plain}
+use Rattle.wsc_top.specs.declared.task.JobTask.TheVariants.{Run, Format, Compile, Plain}
 use Rattle.wsc_top.specs.declared.task.AssemblyTask.{AssemblyTask}
 use Rattle.wsc_top.specs.declared.task.AssemblyTask.TheVariants.{Check, List as Listing, Exec}
 use Rattle.wsc_top.specs.declared.task.PlainOptions.{PlainOptions}
 use Rattle.wsc_top.specs.declared.task.RunOptions.{RunOptions}
 use Rattle.wsc_top.specs.declared.assembly.AsmRefusal.{AsmRefusal}
 use Rattle.ws_isa.specs.Image.{Image}
+use Rattle.ws_isa.specs.Formed.{Formed}
+use Rattle.image_walk.specs.Sound.{Sound}
+use Rattle.wave_link.specs.Numbered.{NumberedInOrder}
+use Rattle.wave_link.specs.Ripples.{ExactRipples}
+use Rattle.wave_build.specs.Compiled.{ShowsArrays, DoesAs, HasDraft}
+use Rattle.asm_text.specs.Printed.{printed}
 use Rattle.list_out.specs.Listing.{listing}
 use Rattle.wsc_top.specs.Assembly.{assembly_limit, IsAssembly, RefusesAssembly}
 use Rattle.work_gen.specs.Job.{job_text}
@@ -32,23 +38,38 @@ use Rattle.wsc_top.specs.Executions.{Executes, EndsRun}
 abbrev pub job_limit : ℕ
 job_limit = 1048576
 
--- what a task can't take: a run takes prints over numbers alone so far, the printed form and the
--- sequential run any program
+-- what a task can't take: a run takes prints over numbers alone so far, the other tasks any program
 abbrev pub unfit_for : JobTask → Unfit
 unfit_for Run = unbuilt_places
 unfit_for Format = λ _. []
+unfit_for Compile = λ _. []
 unfit_for (Plain options) = λ _. []
+
+-- an image of a program as the compiler gives it: a machine runs it, it does what the program does,
+-- its notes are numbered and have the ripples that can be had, and it is a draft of the program with
+-- no more than what these want
+pub record IsCompiled (parts : List Part) (image : Image) : Type 0 where
+  pub formed : Formed image
+  pub sound : Sound image
+  pub arrays : ShowsArrays parts image
+  pub walk : DoesAs parts image
+  pub numbers : NumberedInOrder image
+  pub ripples : ExactRipples image
+  pub draft : HasDraft image
 
 -- What comes of a task to a program and its input words: the status and the text. `run` prints
 -- the words that the sequential run prints in as many turns as it takes; `format` the printed form,
--- which reads as the same program; `plain` is the sequential run itself, in at most so many turns:
--- at its end, before its first index fault, or where it wants a further turn.
+-- which reads as the same program; `compile` an image of it; `plain` is the sequential run itself,
+-- in at most so many turns: at its end, before its first index fault, or where it wants a further
+-- turn.
 pub data Yields : JobTask → List Part → List ℕ → Status → List ℕ → Type 0 where
   ran : {parts : List Part} {input : List ℕ} (n : ℕ) (end : Outside)
       → Runs parts (world_of input) n end
       → Yields Run parts input Done (done_text (printed_words end.acts))
   formatted : {parts : List Part} {input : List ℕ} → ReadsTheSame parts
       → Yields Format parts input Done (printed_form parts)
+  compiled : {parts : List Part} {input : List ℕ} (image : Image) → IsCompiled parts image
+      → Yields Compile parts input Done (printed image)
   ended : {options : PlainOptions} {parts : List Part} {input : List ℕ} (n : ℕ) (end : Outside)
       → Runs parts (world_of input) n end → n ≤ options.turns
       → Yields (Plain options) parts input Done
@@ -68,6 +89,7 @@ pub data Yields : JobTask → List Part → List ℕ → Status → List ℕ →
 abbrev pub ComesToItsEnd : JobTask → List Part → List ℕ → Type 0
 ComesToItsEnd Run parts input = Unit {0}
 ComesToItsEnd Format parts input = Unit {0}
+ComesToItsEnd Compile parts input = Unit {0}
 ComesToItsEnd (Plain options) parts input =
     (n : ℕ) × (end : Outside) × Runs parts (world_of input) n end × (n ≤ options.turns)
 
@@ -75,6 +97,7 @@ ComesToItsEnd (Plain options) parts input =
 abbrev pub MeetsFault : JobTask → List Part → List ℕ → Type 0
 MeetsFault Run parts input = ⊥
 MeetsFault Format parts input = ⊥
+MeetsFault Compile parts input = ⊥
 MeetsFault (Plain options) parts input =
     (n array : ℕ) × (state : Outside)
     × Faults parts (world_of input) n array state × (n ≤ options.turns)
@@ -83,6 +106,7 @@ MeetsFault (Plain options) parts input =
 abbrev pub WantsTurns : JobTask → List Part → List ℕ → Type 0
 WantsTurns Run parts input = ⊥
 WantsTurns Format parts input = ⊥
+WantsTurns Compile parts input = ⊥
 WantsTurns (Plain options) parts input =
     (now : Outside) × Goes parts (world_of input) options.turns now
 
@@ -102,6 +126,12 @@ pub data Answered (task : JobTask) (text : List ℕ) : Status → List ℕ → T
   done : {status : Status} {out : List ℕ} (parts : List Part) (input : List ℕ)
       → IsJob (unfit_for task) text parts input → Yields task parts input status out
       → Answered task text status out
+
+-- a task of which one thing alone comes, by what is said of it here: any but `compile`, of which
+-- another image of the program could come
+abbrev pub IsFixed : JobTask → Type 0
+IsFixed Compile = ⊥
+IsFixed _ = Unit {0}
 
 -- a status and a text are an answer of a task to a text
 abbrev pub IsAnswer : JobTask → List ℕ → Status × List ℕ → Type 0

@@ -6,7 +6,7 @@ use Rattle.wsc_words.specs.declared.command.Command.{Command}
 use Rattle.wsc_words.specs.declared.command.Command.TheVariants as command
 use Rattle.wsc_top.specs.declared.task.Task.{Task}
 use Rattle.wsc_top.specs.declared.task.Task.TheVariants.{Job, Assembly, Generate}
-use Rattle.wsc_top.specs.declared.task.JobTask.TheVariants.{Run, Format, Plain}
+use Rattle.wsc_top.specs.declared.task.JobTask.TheVariants.{Run, Format, Compile, Plain}
 use Rattle.wsc_top.specs.declared.task.AssemblyTask.TheVariants as assembly
 
 -- no option of a run is built so far
@@ -22,6 +22,7 @@ task_by command.Plain line = Some (Job (Plain (record {
   stats = line.stats;
 })))
 task_by command.Format line = Some (Job Format)
+task_by command.Compile line = Some (Job Compile)
 task_by command.Check line = Some (Assembly assembly.Check)
 task_by command.Exec line = Some (Assembly (assembly.Exec (record {
   budget = line.budget;

@@ -25,6 +25,7 @@ fn unfit(task: JobTask, program: &Program) -> Option<Place>
     match task {
         JobTask::Run => first_unbuilt(program),
         JobTask::Format => None,
+        JobTask::Compile => None,
         JobTask::Plain(_) => None,
     }
 }

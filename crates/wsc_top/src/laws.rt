@@ -6,7 +6,7 @@ ghost use Rattle.src_ast.specs.Once.{ExactlyOne};
 ghost use Rattle.wsc_top.specs.declared.task.JobTask.{JobTask};
 ghost use Rattle.wsc_top.specs.Sections.{IsInputAnswer};
 ghost use Rattle.wsc_top.specs.Job.{IsTextAnswer};
-ghost use Rattle.wsc_top.specs.Answers.{unfit_for, IsAnswer};
+ghost use Rattle.wsc_top.specs.Answers.{unfit_for, IsFixed, IsAnswer};
 
 use seq_run::one_answer;
 use src_ast::{printed_reads_the_same, read_is_written};
@@ -30,9 +30,10 @@ pub fn each_text_is_a_job_or_refused()
     each_program_is_checked_once();
 }
 
-/// For each task each text has one answer alone, a status and a text.
+/// For each task but `compile` each text has one answer alone, a status and a text.
 pub fn every_text_is_answered_once()
-    ensures { (task : JobTask) (text : List ℕ) → ExactlyOne (IsAnswer task text) }
+    ensures { (task : JobTask) (text : List ℕ) → IsFixed task
+        → ExactlyOne (IsAnswer task text) }
 {
     each_text_is_a_job_or_refused();
     read_is_written();

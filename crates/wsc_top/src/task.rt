@@ -36,6 +36,8 @@ pub enum JobTask {
     Run,
     /// Its program is printed.
     Format,
+    /// The image of its program is printed.
+    Compile,
     /// It is run turn by turn, as the source says.
     Plain(PlainOptions),
 }
@@ -87,6 +89,7 @@ fn task_of(line: &Line) -> Option<Task>
             stats: line.stats,
         }))),
         Command::Format => Some(Task::Job(JobTask::Format)),
+        Command::Compile => Some(Task::Job(JobTask::Compile)),
         Command::Check => Some(Task::Assembly(AssemblyTask::Check)),
         Command::List => Some(Task::Assembly(AssemblyTask::List)),
         Command::Exec => Some(Task::Assembly(AssemblyTask::Exec(RunOptions {

@@ -14,6 +14,7 @@ use crate::straight::straight_image;
 use crate::task::{AssemblyTask, JobTask, PlainOptions};
 use crate::texts;
 use crate::world::world;
+use asm_text::print_asm;
 use df_core::{Core, built_is_straight};
 use image_walk::Checked;
 use list_out::list_image;
@@ -21,6 +22,7 @@ use seq_run::run_plain;
 use src_ast::{print_program, printed_reads_the_same};
 use src_check::Accepted;
 use std::alloc::Global;
+use wave_build::compile;
 use ws_words::{Bytes, NoMemory, Plain, Words};
 
 // What a run of this program prints: its words, a line each, and `halt`.
@@ -36,6 +38,15 @@ fn run(alloc: Global, accepted: &Accepted) -> Result<Bytes, NoMemory>
     let mut core = Core::begin(alloc, &straight)?;
     core.run();
     texts::done(alloc, core.printed())
+}
+
+// The text of the image of a program.
+fn compiled(alloc: Global, accepted: &Accepted) -> Result<Bytes, NoMemory>
+    ensures { IfOk result (λ out. (input : List ℕ) → Yields JobTask.Compile
+        (view.parts accepted.now.program.items.items) input Status.Done out) }
+{
+    let image = compile(alloc, accepted)?;
+    print_asm(alloc, image.image())
 }
 
 // What comes of the sequential run of this program on these words.
@@ -90,7 +101,7 @@ fn plainly(
 }
 
 /// The status and the text of what comes of a task to a program that it takes.
-#[tactic(auto, using(crate::proofs::Outcomes::format_yields, crate::proofs::Outcomes::run_so, crate::proofs::Outcomes::format_so))]
+#[tactic(auto, using(crate::proofs::Outcomes::format_yields, crate::proofs::Outcomes::run_so, crate::proofs::Outcomes::format_so, crate::proofs::Outcomes::compile_so))]
 pub fn yielded(
     alloc: Global,
     task: JobTask,
@@ -108,6 +119,7 @@ pub fn yielded(
     match task {
         JobTask::Run => Ok((Status::Done, run(alloc, accepted)?)),
         JobTask::Format => Ok((Status::Done, print_program(alloc, &accepted.program)?)),
+        JobTask::Compile => Ok((Status::Done, compiled(alloc, accepted)?)),
         JobTask::Plain(options) => plainly(alloc, options, accepted, input),
     }
 }

@@ -4,7 +4,7 @@ use Rattle.wsc_top.proofs.AnswersOnce.{answered_once}
 use Rattle.wsc_top.proofs.laws.every_text_is_answered_once.Goals as goal
 
 pub returns : goal.returns
-returns c task text =
+returns c task text one =
     let runs = c.one_answer.ensures in
     answered_once
     (record {
@@ -17,4 +17,4 @@ returns c task text =
       no_fault_on_the_way = runs.no_fault_on_the_way;
     })
     (λ parts bytes input asked job. c.printed_reads_the_same.ensures parts (job_written (unfit_for asked) bytes parts input c.read_is_written.ensures job))
-    task text (c.each_text_is_a_job_or_refused.ensures task text)
+    task text one (c.each_text_is_a_job_or_refused.ensures task text)
