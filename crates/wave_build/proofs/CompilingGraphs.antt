@@ -4,7 +4,7 @@ use Rattle.std.proofs.lemmas.List.{append-nil}
 use Rattle.ws_words.specs.Outside.{Act, Outside, State, World}
 use Rattle.cfg_core.specs.Graph.{Op, Assign, Store, Print, Read, Give, Take, Choose, Tick, TickBy, Exit, Goto, Branch, Call, Return, Send, Stop, Graph, block_at}
 use Rattle.cfg_core.specs.Rules.{IsGraph}
-use Rattle.cfg_core.specs.Walk.{value_of, values_of, Outcome, Done, Out, and_then, spend, run_op, run_ops, Config, At, Over, Going, Frame, IsOver, returned, leave, passed, step, walk, opening, starts, Ends, Goes}
+use Rattle.cfg_core.specs.Walk.{value_of, Outcome, Done, Out, and_then, spend, run_op, run_ops, Config, At, Over, Going, Frame, IsOver, returned, leave, passed, step, walk, opening, starts, Ends, Goes}
 use Rattle.cfg_core.proofs.Cost.{walk_over, fewer}
 use Rattle.cfg_core.proofs.Paired.{walk_add}
 use Rattle.wave_build.specs.Compiled.{Begins}

@@ -1,20 +1,15 @@
 -- The walk of each graph on the way shows the run of the program.
-use Rattle.std.proofs.Common.{◌≡◌, ◌⊎◌, ℕ, Some, List, [], ◌∷◌, refl, sym, ap, ◌∙◌, subst, inl, inr}
-use Rattle.std.specs.List.{filter}
-use Rattle.ws_words.specs.Outside.{Act, Outside, World}
+use Rattle.std.proofs.Common.{◌≡◌, Some, List, [], ◌∷◌, refl, sym, ap, ◌∙◌, subst, inl, inr}
+use Rattle.ws_words.specs.Outside.{Outside, World}
 use Rattle.src_ast.specs.Syntax.{Part, Array, Proc}
-use Rattle.src_ast.specs.Meaning.{Passes, Flows}
 use Rattle.cfg_core.specs.Graph.{Graph, GraphArray, Exit, Goto, Branch, Call, Return, Send, Stop, Spot, spots, spot_at, block_at, no_spot}
-use Rattle.cfg_core.specs.Walk.{Ends, Goes}
-use Rattle.cfg_core.specs.Rules.{IsGraph}
 use Rattle.cfg_core.specs.Shape.{ArmsAlone}
-use Rattle.cfg_core.specs.Shown.{shown_arrays, has_name, NoneHidden, SameShown, SameWalks, SameArrays, StaysInside, ShowsAll}
+use Rattle.cfg_core.specs.Shown.{shown_arrays, SameShown, SameWalks, SameArrays, StaysInside, ShowsAll}
 use Rattle.cfg_core.proofs.Total.{each_at}
 use Rattle.cfg_build.specs.Keeps.{KeepsRun, ShowsRun, IsFirstForm, IsFirstExit, arrays_of}
 use Rattle.phi_conv.specs.Keeps.{SameOrGoto, ExitsKept}
 use Rattle.call_gen.specs.Keeps.{NoSend, HasNoSend}
 use Rattle.call_gen.proofs.Arms.{shaped_alone}
-use Rattle.wave_build.specs.Passed.{Lowered, Joined, Kept, Spelled}
 use Rattle.wave_build.specs.Prepared.{Shown, ShowsProgram, Prepared}
 
 all_shown : (g : Graph) (o : Outside) → ShowsAll g o → Shown g o o

@@ -1,9 +1,9 @@
 -- The walk of an image shows the run of the program that its graph shows.
-use Rattle.std.proofs.Common.{◌≡◌, ◌⊎◌, ℕ, zero, suc, ◌+◌, ◌-◌, ◌*◌, ◌<◌, ◌≤◌, true, false, List, [], ◌∷◌, ◌++◌, length, map, refl, sym, ap, ◌∙◌, subst, inl, inr, arith}
+use Rattle.std.proofs.Common.{◌≡◌, ℕ, zero, suc, ◌+◌, ◌-◌, ◌*◌, ◌<◌, ◌≤◌, true, List, [], ◌++◌, length, map, sym, ap, ◌∙◌, subst, inl, inr, arith}
 use Rattle.std.proofs.lemmas.Bool.{cond-true, cases_lt}
 use Rattle.std.proofs.lemmas.List.{append-nil}
 use Rattle.std.proofs.lemmas.Nat.{mul-le}
-use Rattle.ws_words.specs.Outside.{Act, Outside, State, World}
+use Rattle.ws_words.specs.Outside.{Act, Outside, World}
 use Rattle.src_ast.specs.Syntax.{Part}
 use Rattle.src_ast.specs.Meaning.{Passes, Flows}
 use Rattle.src_ast.specs.Runs.{outside_of, acts_in}
@@ -16,8 +16,8 @@ use Rattle.image_walk.proofs.GoesOn.{acts_grow}
 use Rattle.image_walk.proofs.Ending.{walk_up, over_is_whole}
 use Rattle.cfg_core.specs.Graph.{Graph, GraphArray}
 use Rattle.cfg_core.specs.Rules.{IsGraph}
-use Rattle.cfg_core.specs.Walk.{Config, At, Over, Frame, walk, opening, Ends, Goes}
-use Rattle.cfg_core.specs.Shown.{shown_acts, shown_cells, IsInside, AllInside}
+use Rattle.cfg_core.specs.Walk.{Config, At, Over, walk, opening}
+use Rattle.cfg_core.specs.Shown.{shown_acts, IsInside, AllInside}
 use Rattle.wave_gen.specs.Listing.{array_of, arrays_of}
 use Rattle.wave_gen.specs.Keeps.{KeepsWalk, EndlessWith}
 use Rattle.wave_link.specs.Passed.{WalksFor}

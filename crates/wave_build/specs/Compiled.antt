@@ -61,7 +61,8 @@ pub record WalksAsRun (parts : List Part) (image : Image) (world : World) : Type
   -- the walk's cost is bounded exactly where the run ends
   pub endless : ((n : ℕ) → (o : Outside) × Flows parts world n o) →
       (k : ℕ) → CostAtMost image world k → ⊥
-  pub bounded : (k : ℕ) → CostAtMost image world k → (n : ℕ) × (o : Outside) × Passes parts world n o
+  pub bounded : (k : ℕ) → CostAtMost image world k →
+      (n : ℕ) × (o : Outside) × Passes parts world n o
 
   -- no hidden array is ever loaded or stored past its end
   pub inside : (t : ℕ) → AllInside (map in_graph image.arrays) (mem image world t).acts
@@ -76,7 +77,8 @@ KeepsBound parts image = (world : World) → WorldOfWords world → (n : ℕ) (o
     Passes parts world n o → CostAtMost image world (bound parts * suc n)
 
 -- There is a draft without notes of which this is an image: its blocks are kept but for what is
--- added, each no-op that is added is needed, since no notes do without it, and gets its token nearby.
+-- added, each no-op that is added is needed, since no notes do without it, and gets its token
+-- nearby.
 pub record HasDraft (image : Image) : Type 0 where
   pub draft : Image
   pub open_to_notes : OpenToNotes draft

@@ -1,6 +1,5 @@
 use Rattle.std.proofs.Common.{sym, subst}
 use Rattle.src_ast.specs.View as ast
-use Rattle.ws_isa.specs.Image.{Image}
 use Rattle.wave_link.specs.Numbered.{NumberedInOrder}
 use Rattle.wave_link.specs.Ripples.{ExactRipples}
 use Rattle.wave_build.specs.Compiled.{ShowsArrays, DoesAs, KeepsBound, HasDraft}

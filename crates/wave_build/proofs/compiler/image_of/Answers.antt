@@ -1,5 +1,4 @@
-use Rattle.std.proofs.Common.{◌≡◌, List, map, sym, ap, ◌∙◌}
-use Rattle.ws_isa.specs.Image.{Array}
+use Rattle.std.proofs.Common.{List, map, ap, ◌∙◌}
 use Rattle.ws_isa.specs.Shown.{shown_arrays}
 use Rattle.ws_isa.specs.View as image
 use Rattle.src_ast.specs.View as ast
