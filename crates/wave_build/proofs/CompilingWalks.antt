@@ -174,18 +174,24 @@ module _ (parts : List Part) (g : Graph) (draft image : Image) (world : World) (
   goes n o p =
       let r = program.goes world n o p in
       let w = (keeps n).out_of_turns r.1.0 r.0 r.1.1 in
-      let f = follow.follows w.0 in
-      (f.steps, (shown_acts g.arrays w.1,
+      let f = follow.follows w.0 in (
+        f.steps,
+        (
+          shown_acts g.arrays w.1,
           acts_same (mem image world f.steps).acts
-          ∙ ap (λ (x : Outside). shown_acts g.arrays x.acts) f.outside
-          ∙ ap (shown_acts g.arrays) w.2
-          ∙ shown_both g.arrays r.0.acts w.1
-          ∙ ap (λ (z : List Act). z ++ shown_acts g.arrays w.1) r.2.acts))
+              ∙ ap (λ (x : Outside). shown_acts g.arrays x.acts) f.outside
+              ∙ ap (shown_acts g.arrays) w.2
+              ∙ shown_both g.arrays r.0.acts w.1
+              ∙ ap (λ (z : List Act). z ++ shown_acts g.arrays w.1) r.2.acts,
+        ),
+      )
 
   shown_begins : (xs ys : List Act) (o : Outside) → Begins xs ys → shown_acts g.arrays ys ≡ o.acts → Begins (shown image xs) o.acts
-  shown_begins xs ys o b e = (shown_acts g.arrays b.0,
-      sym e ∙ ap (shown_acts g.arrays) b.1 ∙ shown_both g.arrays xs b.0
-      ∙ ap (λ (z : List Act). z ++ shown_acts g.arrays b.0) (sym (acts_same xs)))
+  shown_begins xs ys o b e = (
+    shown_acts g.arrays b.0,
+    sym e ∙ ap (shown_acts g.arrays) b.1 ∙ shown_both g.arrays xs b.0
+        ∙ ap (λ (z : List Act). z ++ shown_acts g.arrays b.0) (sym (acts_same xs)),
+  )
 
   goes_only : (t : ℕ) → (n : ℕ) × Begins (shown image (mem image world t).acts) (acts_in parts world n)
   goes_only t = go (image_covered t)

@@ -51,19 +51,16 @@ pub record WalksAsRun (parts : List Part) (image : Image) (world : World) : Type
       (t : ℕ) × (has_ended image world t ≡ true) × Shows image (mem image world t) o
   pub ends_only : (t : ℕ) → has_ended image world t ≡ true →
       (n : ℕ) × (o : Outside) × Passes parts world n o × Shows image (mem image world t) o
-
   -- where it hasn't ended, each does first what the other has done
   pub goes : (n : ℕ) (o : Outside) → Flows parts world n o →
       (t : ℕ) × Begins o.acts (shown image (mem image world t).acts)
   pub goes_only : (t : ℕ) →
       (n : ℕ) × Begins (shown image (mem image world t).acts) (acts_in parts world n)
-
   -- the walk's cost is bounded exactly where the run ends
   pub endless : ((n : ℕ) → (o : Outside) × Flows parts world n o) →
       (k : ℕ) → CostAtMost image world k → ⊥
   pub bounded : (k : ℕ) → CostAtMost image world k →
       (n : ℕ) × (o : Outside) × Passes parts world n o
-
   -- no hidden array is ever loaded or stored past its end
   pub inside : (t : ℕ) → AllInside (map in_graph image.arrays) (mem image world t).acts
 

@@ -68,7 +68,9 @@ fn see_exit(exit: &Leave)
         Leave::Call { values, .. } => see_terms(values),
         Leave::Return(t) => see_term(t),
         Leave::Send {
-            address, values, ..
+            address,
+            values,
+            ..
         } => {
             see_term(address);
             see_terms(values);

@@ -12,6 +12,7 @@ use ws_words::{Cells, Plain, Words, World};
 
 // The most turns and firings that a test takes.
 const TURNS: u64 = 150;
+
 const FIRINGS: u64 = 20_000;
 
 // Whether the first rows of some are those of others.

@@ -23,7 +23,7 @@ use Rattle.ws_isa.specs.Formed.{Formed}
 use Rattle.image_walk.specs.Sound.{Sound}
 use Rattle.wave_link.specs.Numbered.{NumberedInOrder}
 use Rattle.wave_link.specs.Ripples.{ExactRipples}
-use Rattle.wave_build.specs.Compiled.{ShowsArrays, DoesAs, HasDraft}
+use Rattle.wave_build.specs.Compiled.{ShowsArrays, DoesAs, KeepsBound, HasDraft}
 use Rattle.asm_text.specs.Printed.{printed}
 use Rattle.list_out.specs.Listing.{listing}
 use Rattle.wsc_top.specs.Assembly.{assembly_limit, IsAssembly, RefusesAssembly}
@@ -45,14 +45,15 @@ unfit_for Format = λ _. []
 unfit_for Compile = λ _. []
 unfit_for (Plain options) = λ _. []
 
--- an image of a program as the compiler gives it: a machine runs it, it does what the program does,
--- its notes are numbered and have the ripples that can be had, and it is a draft of the program with
+-- an image of a program as the compiler gives it: a machine runs it, it does what the program does
+-- within its bound, its notes are numbered and have the ripples that can be had, and it is a draft of the program with
 -- no more than what these want
 pub record IsCompiled (parts : List Part) (image : Image) : Type 0 where
   pub formed : Formed image
   pub sound : Sound image
   pub arrays : ShowsArrays parts image
   pub walk : DoesAs parts image
+  pub cost : KeepsBound parts image
   pub numbers : NumberedInOrder image
   pub ripples : ExactRipples image
   pub draft : HasDraft image

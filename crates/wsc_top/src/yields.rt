@@ -42,6 +42,7 @@ fn run(alloc: Global, accepted: &Accepted) -> Result<Bytes, NoMemory>
 
 // The text of the image of a program.
 fn compiled(alloc: Global, accepted: &Accepted) -> Result<Bytes, NoMemory>
+    requires written { IsWritten (view.parts accepted.now.program.items.items) }
     ensures { IfOk result (λ out. (input : List ℕ) → Yields JobTask.Compile
         (view.parts accepted.now.program.items.items) input Status.Done out) }
 {

@@ -32,7 +32,7 @@ returns-clause-walk c =
     let m = c.in_ok-made.ensures in
     let words = c.see_words.ensures in
     λ world w. walks_as_run parts g draft made world c.walks_answer.ensures p.spelling.rules p.shows
-        (d.walk words world w) (d.endless words world w) (m.walk world) d.arrays m.blocks.arrays
+    (d.walk words world w) (d.endless words world w) (m.walk world) d.arrays m.blocks.arrays
 
 pub returns-clause-draft : goal.returns-clause-draft
 returns-clause-draft c =
@@ -50,5 +50,5 @@ pub returns-clause-cost : goal.returns-clause-cost
 returns-clause-cost c =
     let parts = ast.parts c.args.accepted.now.program.items.items in
     λ w. keeps_bound parts (view.graph c.in_ok-graph.graph) c.in_ok-graph.ensures _ _ c.in_ok-live.ensures c.in_ok-waves.ensures.rule c.in_ok-waves.ensures.waves
-        (c.written_is_narrow.ensures parts w) (image.draft c.in_ok-draft.draft) (image.image c.in_ok-made.made)
-        (c.in_ok-draft.ensures.cost c.see_words.ensures) c.in_ok-made.ensures.walk
+    (c.written_is_narrow.ensures parts w) (image.draft c.in_ok-draft.draft) (image.image c.in_ok-made.made)
+    (c.in_ok-draft.ensures.cost c.see_words.ensures) c.in_ok-made.ensures.walk

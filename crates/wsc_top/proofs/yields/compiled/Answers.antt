@@ -11,6 +11,7 @@ returns c =
       sound = c.image-2.ensures.sound;
       arrays = made.arrays;
       walk = made.walk;
+      cost = made.cost c.requires.written;
       numbers = made.numbers;
       ripples = made.ripples;
       draft = made.draft;
