@@ -84,8 +84,8 @@ const ROWS: &[Row] = &[
     Row {
         line: "run",
         job: b"proc main() { var x; x = 1; }",
-        answer: "refused 1:22 unbuilt\n",
-        code: 2,
+        answer: "halt\n",
+        code: 0,
     },
     Row {
         line: "plain --memory --stats",
@@ -104,6 +104,18 @@ const ROWS: &[Row] = &[
         job: b"array e[0]; array a[2]; proc main() { print 1; a[1] = 5; a[2] = 9; print 3; }",
         answer: "1\nfault a\ne = []\na = [0, 5]\n",
         code: 8,
+    },
+    Row {
+        line: "run --memory --budget 1000",
+        job: b"array e[0]; array a[2]; proc main() { print 1; a[1] = 5; a[2] = 9; print 3; }",
+        answer: "1\nfault a\ne = []\na = [0, 5]\n",
+        code: 8,
+    },
+    Row {
+        line: "run --stats --budget 0",
+        job: b"proc main() { while (1) { print 1; } }",
+        answer: "budget\nfirings 0\n",
+        code: 3,
     },
     Row {
         line: "plain --turns 5",

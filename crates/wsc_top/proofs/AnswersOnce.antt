@@ -16,11 +16,9 @@ use Rattle.wsc_top.specs.declared.task.JobTask.TheVariants.{Run, Format, Compile
 use Rattle.wsc_top.specs.declared.task.PlainOptions.{PlainOptions}
 use Rattle.wsc_top.specs.declared.status.Status.{Status}
 use Rattle.wsc_top.specs.declared.status.Status.TheVariants.{Done, Refused, Budget, Fault}
-use Rattle.wsc_top.specs.Texts.{done_text, ended_text, faulted_text, going_text, turns_line, names_of, array_name, refusal_text}
+use Rattle.wsc_top.specs.Texts.{ended_text, faulted_text, going_text, turns_line, names_of, array_name, refusal_text}
 use Rattle.wsc_top.specs.Job.{IsJob, Refuses, IsTextAnswer, world_of}
-use Rattle.wsc_top.specs.Answers.{unfit_for, Yields, ran, formatted, compiled, ended, faulted, going, Answered, refused, done, IsFixed, IsAnswer}
-use Rattle.wsc_top.proofs.Mains.{one_main}
-use Rattle.wsc_top.proofs.Printing.{numbers_run}
+use Rattle.wsc_top.specs.Answers.{Yields, ran, formatted, compiled, ended, faulted, going, Answered, refused, done, IsFixed, IsAnswer}
 
 -- a run has one answer with each number of turns
 pub record RunsOnce : Type 0 where
@@ -41,7 +39,7 @@ same_reply s t a b e f = ap (λ x. (x, a)) e ∙ ap (λ x. (t, x)) f
 
 -- what comes of a task, by its causes
 abbrev Comes : JobTask → List Part → List ℕ → Status → List ℕ → Type 0
-Comes Run parts input status out = (n : ℕ) × (end : Outside) × Runs parts (world_of input) n end × (status ≡ Done) × (out ≡ done_text (printed_words end.acts))
+Comes (Run options) parts input status out = Unit {0}
 Comes Format parts input status out = (status ≡ Done) × (out ≡ printed_form parts)
 Comes Compile parts input status out = status ≡ Done
 Comes (Plain options) parts input status out =
@@ -52,7 +50,7 @@ Comes (Plain options) parts input status out =
     ⊎ ((now : Outside) × Goes parts (world_of input) options.turns now × (status ≡ Budget) × (out ≡ going_text (printed_words now.acts))))
 
 comes : (task : JobTask) (parts : List Part) (input : List ℕ) (status : Status) (out : List ℕ) → Yields task parts input status out → Comes task parts input status out
-comes task parts input status out (ran n end r) = (n, end, r, refl, refl)
+comes task parts input status out (ran image c x e t) = tt
 comes task parts input status out (formatted r) = (refl, refl)
 comes task parts input status out (compiled image h) = refl
 comes task parts input status out (ended n end r w) = inl (n, end, r, w, refl, refl)
@@ -64,17 +62,6 @@ abbrev IsYield : JobTask → List Part → List ℕ → Reply → Type 0
 IsYield task parts input reply = Yields task parts input reply.0 reply.1
 
 module _ (law : RunsOnce) (parts : List Part) (input : List ℕ) where
-  -- a run of a program that ends
-  run_once : (n : ℕ) (end : Outside) → Runs parts (world_of input) n end → ExactlyOne (IsYield Run parts input)
-  run_once n end r = record {
-    answer = (Done, done_text (printed_words end.acts));
-    holds = ran n end r;
-    only = λ other y.
-        let c = comes Run parts input other.0 other.1 y in
-        let same = law.one_end parts (world_of input) c.0 n c.1 end c.2 r in
-        same_reply other.0 Done other.1 (done_text (printed_words end.acts)) c.3 (c.4 ∙ ap (λ (o : Outside). done_text (printed_words o.acts)) same.1);
-  }
-
   format_once : ReadsTheSame parts → ExactlyOne (IsYield Format parts input)
   format_once r = record {
     answer = (Done, printed_form parts);
@@ -152,15 +139,15 @@ module _ (law : RunsOnce) (parts : List Part) (input : List ℕ) where
     plain_once (inr (inr g)) = going_once g.now g.goes
 
   -- one thing alone comes of a task to a program that it takes
-  yields_once : (task : JobTask) → IsFixed task → (finish : Place) → IsAccepted parts finish → unfit_for task parts ≡ [] → ReadsTheSame parts → ExactlyOne (IsYield task parts input)
-  yields_once Run one finish accepted fit same = let run = numbers_run parts (world_of input) (one_main parts finish accepted fit) in run_once run.turns run.end run.runs
-  yields_once Format one finish accepted fit same = format_once same
-  yields_once Compile one finish accepted fit same = absurd one
-  yields_once (Plain options) one finish accepted fit same = plain_once options (law.some parts (world_of input) options.turns)
+  yields_once : (task : JobTask) → IsFixed task → ReadsTheSame parts → ExactlyOne (IsYield task parts input)
+  yields_once (Run options) one same = absurd one
+  yields_once Format one same = format_once same
+  yields_once Compile one same = absurd one
+  yields_once (Plain options) one same = plain_once options (law.some parts (world_of input) options.turns)
 
 -- a refused text
-module _ (task : JobTask) (text : List ℕ) (r : Refusal) (refusal : Refuses (unfit_for task) text r)
-    (only : (other : Result (List Part × List ℕ) Refusal) → IsTextAnswer (unfit_for task) text other → other ≡ Err r) where
+module _ (task : JobTask) (text : List ℕ) (r : Refusal) (refusal : Refuses text r)
+    (only : (other : Result (List Part × List ℕ) Refusal) → IsTextAnswer text other → other ≡ Err r) where
   only_refused : (status : Status) (out : List ℕ) → Answered task text status out → ◌≡◌ {A = Reply} (status, out) (Refused, refusal_text r)
   only_refused status out (refused q h) =
       let same = only (Err q) h in
@@ -172,9 +159,9 @@ module _ (task : JobTask) (text : List ℕ) (r : Refusal) (refusal : Refuses (un
   refusal_once = record { answer = (Refused, refusal_text r); holds = refused r refusal; only = λ other a. only_refused other.0 other.1 a }
 
 -- a job
-module _ (task : JobTask) (text : List ℕ) (parts : List Part) (input : List ℕ) (job : IsJob (unfit_for task) text parts input)
-    (only : (other : Result (List Part × List ℕ) Refusal) → IsTextAnswer (unfit_for task) text other → other ≡ Ok (parts, input)) (one : ExactlyOne (IsYield task parts input)) where
-  these : (others : List Part) (words : List ℕ) → IsJob (unfit_for task) text others words → ◌≡◌ {A = List Part × List ℕ} (others, words) (parts, input)
+module _ (task : JobTask) (text : List ℕ) (parts : List Part) (input : List ℕ) (job : IsJob text parts input)
+    (only : (other : Result (List Part × List ℕ) Refusal) → IsTextAnswer text other → other ≡ Ok (parts, input)) (one : ExactlyOne (IsYield task parts input)) where
+  these : (others : List Part) (words : List ℕ) → IsJob text others words → ◌≡◌ {A = List Part × List ℕ} (others, words) (parts, input)
   these others words j = let same = only (Ok (others, words)) j in cc
 
   only_done : (status : Status) (out : List ℕ) → Answered task text status out → ◌≡◌ {A = Reply} (status, out) one.answer
@@ -186,12 +173,12 @@ module _ (task : JobTask) (text : List ℕ) (parts : List Part) (input : List �
   job_once = record { answer = one.answer; holds = done parts input job one.holds; only = λ other a. only_done other.0 other.1 a }
 
 -- each text has one answer alone, since it comes to one thing alone, and one thing comes of it
-pub answered_once : (law : RunsOnce) (same : (parts : List Part) (text : List ℕ) (input : List ℕ) (task : JobTask) → IsJob (unfit_for task) text parts input → ReadsTheSame parts)
-    → (task : JobTask) (text : List ℕ) → IsFixed task → ExactlyOne (IsTextAnswer (unfit_for task) text) → ExactlyOne (IsAnswer task text)
+pub answered_once : (law : RunsOnce) (same : (parts : List Part) (text : List ℕ) (input : List ℕ) → IsJob text parts input → ReadsTheSame parts)
+    → (task : JobTask) (text : List ℕ) → IsFixed task → ExactlyOne (IsTextAnswer text) → ExactlyOne (IsAnswer task text)
 answered_once law same task text one e = go e.answer e.holds e.only
   where
-    go : (found : Result (List Part × List ℕ) Refusal) → IsTextAnswer (unfit_for task) text found
-        → ((other : Result (List Part × List ℕ) Refusal) → IsTextAnswer (unfit_for task) text other → other ≡ found) → ExactlyOne (IsAnswer task text)
+    go : (found : Result (List Part × List ℕ) Refusal) → IsTextAnswer text found
+        → ((other : Result (List Part × List ℕ) Refusal) → IsTextAnswer text other → other ≡ found) → ExactlyOne (IsAnswer task text)
     go (Ok (parts, input)) job only =
-        job_once task text parts input job only (yields_once law parts input task one job.reads.finish job.reads.accepted job.fit (same parts text input task job))
+        job_once task text parts input job only (yields_once law parts input task one (same parts text input job))
     go (Err r) h only = refusal_once task text r h only

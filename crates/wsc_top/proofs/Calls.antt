@@ -23,7 +23,7 @@ use Rattle.ws_words.specs.Outside.{World}
 use Rattle.wsc_top.specs.Job.{IsJob, world_of}
 use Rattle.wsc_top.specs.Texts.{usage_text, unread_text, long_text, asm_refusal_text}
 use Rattle.wsc_top.specs.Executions.{Executes, rested, spent, stopped}
-use Rattle.wsc_top.specs.Answers.{job_limit, unfit_for, ran, formatted, compiled, ended, faulted, going, Answered, refused, done, IsReader, limit_of, AssemblyYields, checked, listed, executed, AssemblyEndsSo, AssemblyAnswered, Answers, usage, generated, unread, long, read, assembled, WereRead, IsToldJob, IsToldOther, IsToldAssembly, IsToldNoAssembly}
+use Rattle.wsc_top.specs.Answers.{job_limit, TellsRun, Yields, ran, formatted, compiled, ended, faulted, going, Answered, refused, done, IsReader, limit_of, AssemblyYields, checked, listed, executed, AssemblyEndsSo, AssemblyAnswered, Answers, usage, generated, unread, long, read, assembled, WereRead, IsToldJob, IsToldOther, IsToldAssembly, IsToldNoAssembly}
 
 -- the answer where the words are no line
 pub usage_answers : (words : List (List ℕ)) (left : Option (List ℕ)) (m n : ℕ) (out : List ℕ) → IsNoLine words → out ≡ usage_text → Answers words left left m n Usage out
@@ -73,7 +73,7 @@ unsound_answers task text out f why is h e =
 
 -- any told text that is no job is refused
 other_refused : OneLine → (words : List (List ℕ)) (c : JobTask) (text : List ℕ) (after : Option (List ℕ)) (m n : ℕ) (status : Status) (out : List ℕ) → Answers words (Some text) after m n status out
-    → IsLine words (Job c) → (length text ≤ job_limit → (parts : List Part) (input : List ℕ) → IsJob (unfit_for c) text parts input → ⊥) → (status ≡ ReadFault → ⊥) → status ≡ Refused
+    → IsLine words (Job c) → (length text ≤ job_limit → (parts : List Part) (input : List ℕ) → IsJob text parts input → ⊥) → (status ≡ ReadFault → ⊥) → status ≡ Refused
 other_refused one words c text after m n status out (usage h e) r b f = absurd (h (Job c) r)
 other_refused one words c text after m n status out (generated k q e) r b f =
     let same : Generate k ≡ Job c = same_task_by one words (Generate k) (Job c) q r in absurd cc
@@ -83,7 +83,7 @@ other_refused one words c text after m n status out (read d other q k t (refused
 other_refused one words c text after m n status out (read d other q k t (done ps input a y)) r b f =
     let whole : Job d ≡ Job c = same_task_by one words (Job d) (Job c) q r in
     let same : d ≡ c = cc in
-    absurd (b (subst (λ x. length x ≤ job_limit) (sym t.0) k) ps input (subst (λ x. IsJob (unfit_for c) x ps input) (sym t.0) (subst (λ e. IsJob (unfit_for e) other ps input) same a)))
+    absurd (b (subst (λ x. length x ≤ job_limit) (sym t.0) k) ps input (subst (λ x. IsJob x ps input) (sym t.0) (subst (λ e. IsJob other ps input) same a)))
 other_refused one words c text after m n status out (assembled d other q k t a) r b f =
     let same : Assembly d ≡ Job c = same_task_by one words (Assembly d) (Job c) q r in absurd cc
 
@@ -132,10 +132,15 @@ IsOfText WriteFault = ⊥
 IsOfText NoMemory = ⊥
 IsOfText _ = Unit {0}
 
+tells_status : (options : RunOptions) (parts : List Part) (world : World) (status : Status) (out : List ℕ) → TellsRun options parts world status out → IsOfText status
+tells_status options parts world status out (answers.TellsRun.ended n fired end r w) = tt
+tells_status options parts world status out (answers.TellsRun.faulted n array state f) = tt
+tells_status options parts world status out (answers.TellsRun.spent n front more e) = tt
+
 -- an answer to a text has one of them
 text_status : (c : JobTask) (text : List ℕ) (status : Status) (out : List ℕ) → Answered c text status out → IsOfText status
 text_status c text status out (refused x y) = tt
-text_status c text status out (done ps input a (ran n e r)) = tt
+text_status c text status out (done ps input a (ran {options} image i x r tells)) = tells_status options ps (world_of input) status out tells
 text_status c text status out (done ps input a (formatted r)) = tt
 text_status c text status out (done ps input a (compiled i h)) = tt
 text_status c text status out (done ps input a (ended n e r w)) = tt
@@ -188,11 +193,11 @@ no_line words None h n = h
 no_line words (Some d) h n = absurd (n d refl)
 
 -- what is told is what is read
-pub told_is : (c : JobTask) (left after : Option (List ℕ)) (text same view : List ℕ) (parts : List Part)
-    (input : List ℕ) → left ≡ Some text → IsJob (unfit_for c) text parts input → TakesAll left same after
-    → view ≡ same → IsJob (unfit_for c) view parts input
-told_is c left after text same view parts input e job t v =
-    subst (λ x. IsJob (unfit_for c) x parts input) (sym (v ∙ told_text left text same after e t)) job
+pub told_is : (left after : Option (List ℕ)) (text same view : List ℕ) (parts : List Part)
+    (input : List ℕ) → left ≡ Some text → IsJob text parts input → TakesAll left same after
+    → view ≡ same → IsJob view parts input
+told_is left after text same view parts input e job t v =
+    subst (λ x. IsJob x parts input) (sym (v ∙ told_text left text same after e t)) job
 
 -- the same of an assembly
 pub assembly_is : (left after : Option (List ℕ)) (text same view : List ℕ) (image : Image) (input : List ℕ)

@@ -3,7 +3,6 @@ use Rattle.std.specs.Prelude.{◌≡◌, ℕ, List, [], ◌∷◌, Option, Some,
 use Rattle.std.proofs.Common.{sym, ap, ◌∙◌, subst}
 use Rattle.src_ast.specs.declared.lexeme.Place.{Place}
 use Rattle.src_ast.specs.declared.fault.Refusal.{Refusal}
-use Rattle.src_ast.specs.declared.fault.RefusalKind.TheVariants.{Unbuilt}
 use Rattle.src_ast.specs.declared.fault.TextFault.{TextFault}
 use Rattle.src_ast.specs.declared.fault.TextFault.TheVariants as fault
 use Rattle.src_ast.specs.Syntax.{Part}
@@ -17,69 +16,41 @@ use Rattle.wsc_top.specs.declared.status.Status.{Status}
 use Rattle.wsc_top.specs.declared.status.Status.TheVariants.{Refused}
 use Rattle.wsc_top.specs.Sections.{program_of, input_of, input_place, InputWords, IsInputFault, AnswersWords}
 use Rattle.wsc_top.specs.Texts.{refusal_text}
-use Rattle.wsc_top.specs.Job.{Unfit, first_of, ReadsAs, IsJob, Refuses, program, unbuilt, input, IsRefused, IsProgramFault, AnswersParts}
-use Rattle.wsc_top.specs.Answers.{unfit_for, Yields, EndsSo, Answered, refused, done}
+use Rattle.wsc_top.specs.Job.{ReadsAs, IsJob, Refuses, program, input, IsRefused, IsProgramFault, AnswersParts}
+use Rattle.wsc_top.specs.Answers.{Yields, EndsSo, Answered, refused, done}
 
 -- a program that is refused is no job
-pub program_only : (unfit : Unfit) (text : List ℕ) (e : TextFault) → ((parts : List Part) → ReadsAs text parts → AnswersParts (Err e) parts)
-    → (parts : List Part) (ws : List ℕ) → IsJob unfit text parts ws → e ≡ fault.NoMemory
-program_only unfit text fault.NoMemory h parts ws j = refl
-program_only unfit text (fault.Refused r) h parts ws j = absurd (h parts j.reads)
+pub program_only : (text : List ℕ) (e : TextFault) → ((parts : List Part) → ReadsAs text parts → AnswersParts (Err e) parts)
+    → (parts : List Part) (ws : List ℕ) → IsJob text parts ws → e ≡ fault.NoMemory
+program_only text fault.NoMemory h parts ws j = refl
+program_only text (fault.Refused r) h parts ws j = absurd (h parts j.reads)
 
-pub program_refused : (unfit : Unfit) (text : List ℕ) (e : TextFault) → IsProgramFault text e → IsRefused unfit text e
-program_refused unfit text fault.NoMemory h = tt
-program_refused unfit text (fault.Refused r) h = program r h
+pub program_refused : (text : List ℕ) (e : TextFault) → IsProgramFault text e → IsRefused text e
+program_refused text fault.NoMemory h = tt
+program_refused text (fault.Refused r) h = program r h
 
-record Begins (ps : List Place) (p : Place) : Type 0 where
-  pub more : List Place
-  pub is : ps ≡ p ∷ more
-
-begins : (ps : List Place) (p : Place) → first_of ps ≡ Some p → Begins ps p
-begins [] p e = cc
-begins (q ∷ ps) p e = record { more = ps; is = cc }
-
--- a program that a task can't take is no job of it
-pub unfit_only : (unfit : Unfit) (text : List ℕ) (found : List Part) (place : Place) → ((parts : List Part) → ReadsAs text parts → found ≡ parts) → first_of (unfit found) ≡ Some place
-    → (parts : List Part) (ws : List ℕ) → IsJob unfit text parts ws → ⊥
-unfit_only unfit text found place only e parts ws j =
-    let b = begins (unfit found) place e in
-    let none : unfit found ≡ [] = ap unfit (only parts j.reads) ∙ j.fit in
-    let bad : place ∷ b.more ≡ [] = sym b.is ∙ none in
-    cc
-
-pub unfit_refused : (unfit : Unfit) (text : List ℕ) (found : List Part) (place : Place) → ReadsAs text found → first_of (unfit found) ≡ Some place
-    → Refuses unfit text (record { kind = Unbuilt; place = place })
-unfit_refused unfit text found place r e = let b = begins (unfit found) place e in unbuilt found place b.more r b.is
-
-pub fits : (unfit : Unfit) (found : List Part) (first : Option Place) → first ≡ first_of (unfit found) → ((place : Place) → first ≡ Some place → ⊥) → unfit found ≡ []
-fits unfit found first e none = go (unfit found) (λ p h. none p (e ∙ h))
-  where
-    go : (ps : List Place) → ((p : Place) → first_of ps ≡ Some p → ⊥) → ps ≡ []
-    go [] h = refl
-    go (p ∷ ps) h = absurd (h p refl)
-
-pub words_only : (unfit : Unfit) (text : List ℕ) (e : TextFault)
+pub words_only : (text : List ℕ) (e : TextFault)
     → ((ws : List ℕ) → InputWords (input_place text) (input_of text) ws → AnswersWords (Err e) ws)
-    → (parts : List Part) (ws : List ℕ) → IsJob unfit text parts ws → e ≡ fault.NoMemory
-words_only unfit text fault.NoMemory h parts ws j = refl
-words_only unfit text (fault.Refused r) h parts ws j = absurd (h ws j.words)
+    → (parts : List Part) (ws : List ℕ) → IsJob text parts ws → e ≡ fault.NoMemory
+words_only text fault.NoMemory h parts ws j = refl
+words_only text (fault.Refused r) h parts ws j = absurd (h ws j.words)
 
-pub words_refused : (unfit : Unfit) (text : List ℕ) (found : List Part) (e : TextFault)
-    → ReadsAs text found → unfit found ≡ [] → IsInputFault (input_place text) (input_of text) e
-    → IsRefused unfit text e
-words_refused unfit text found fault.NoMemory r f h = tt
-words_refused unfit text found (fault.Refused x) r f h =
-    subst (λ kind. Refuses unfit text (record { kind = kind; place = x.place })) (sym h.0) (input found x.place r f h.1)
+pub words_refused : (text : List ℕ) (found : List Part) (e : TextFault)
+    → ReadsAs text found → IsInputFault (input_place text) (input_of text) e
+    → IsRefused text e
+words_refused text found fault.NoMemory r h = tt
+words_refused text found (fault.Refused x) r h =
+    subst (λ kind. Refuses text (record { kind = kind; place = x.place })) (sym h.0) (input found x.place r h.1)
 
-pub job_written : (unfit : Unfit) (text : List ℕ) (parts : List Part) (ws : List ℕ)
+pub job_written : (text : List ℕ) (parts : List Part) (ws : List ℕ)
     → ((bytes : List ℕ) (ls : List Lexeme) (finish : Place) (all : List Part) → Lex bytes ls finish → KeepLimits 0 0 ls → Tree ls all → IsAccepted all finish → IsWritten all)
-    → IsJob unfit text parts ws → IsWritten parts
-job_written unfit text parts ws law j = let r = j.reads in law (program_of text) r.ls r.finish parts r.lex r.kept r.tree r.accepted
+    → IsJob text parts ws → IsWritten parts
+job_written text parts ws law j = let r = j.reads in law (program_of text) r.ls r.finish parts r.lex r.kept r.tree r.accepted
 
-pub refused_answers : (task : JobTask) (text out : List ℕ) (r : Refusal) → Refuses (unfit_for task) text r → out ≡ refusal_text r → Answered task text Refused out
+pub refused_answers : (task : JobTask) (text out : List ℕ) (r : Refusal) → Refuses text r → out ≡ refusal_text r → Answered task text Refused out
 refused_answers task text out r h e = subst (λ o. Answered task text Refused o) (sym e) (refused r h)
 
-pub job_done : (task : JobTask) (text : List ℕ) (parts : List Part) (ws out : List ℕ) (status : Status) → IsJob (unfit_for task) text parts ws → Yields task parts ws status out
+pub job_done : (task : JobTask) (text : List ℕ) (parts : List Part) (ws out : List ℕ) (status : Status) → IsJob text parts ws → Yields task parts ws status out
     → Answered task text status out
 job_done task text parts ws out status j y = done parts ws j y
 

@@ -10,40 +10,18 @@ use Rattle.src_ast.specs.Written.{ReadsTheSame}
 use Rattle.src_ast.specs.Printed.{printed_form}
 use Rattle.ws_isa.specs.Image.{Image}
 use Rattle.asm_text.specs.Printed.{printed}
-use Rattle.df_core.specs.declared.piece.Piece.{Piece}
-use Rattle.df_core.specs.Built.{Prints}
-use Rattle.df_core.specs.Straight.{IsStraight, printed_by}
 use Rattle.seq_run.specs.Answer.{SaysEnded, SaysFault, SaysGoing, HasEnded, HasFaulted, IsGoing}
-use Rattle.wsc_top.specs.declared.task.JobTask.TheVariants.{Run, Format, Compile, Plain}
+use Rattle.wsc_top.specs.declared.task.JobTask.TheVariants.{Format, Compile, Plain}
 use Rattle.wsc_top.specs.declared.task.PlainOptions.{PlainOptions}
 use Rattle.wsc_top.specs.declared.status.Status.TheVariants.{Done, Budget, Fault}
-use Rattle.wsc_top.specs.Straights.{words_of}
-use Rattle.wsc_top.specs.Texts.{done_text, ended_text, faulted_text, going_text, turns_line, names_of, array_name}
-use Rattle.wsc_top.specs.Straights.{ArePieces}
+use Rattle.wsc_top.specs.Texts.{ended_text, faulted_text, going_text, turns_line, names_of, array_name}
 use Rattle.wsc_top.specs.Job.{world_of}
-use Rattle.wsc_top.specs.Answers.{IsCompiled, Yields, ran, formatted, compiled, ended, faulted, going, ComesToItsEnd, MeetsFault, WantsTurns, EndsSo}
-use Rattle.wsc_top.proofs.Printing.{numbers_run}
-
--- The words of the pieces of a program are what its sequential run prints.
-pub run_yields : (parts : List Part) (pieces : List Piece) (out : List ℕ)
-    → ((ps : List Piece) (words : List ℕ) → Prints 0 ps words → IsStraight ps × (printed_by ps ≡ words)) → ArePieces pieces parts
-    → out ≡ done_text (printed_by pieces) → (ws : List ℕ) → Yields Run parts ws Done out
-run_yields parts pieces out law a e ws =
-    let r = numbers_run parts (world_of ws) a.main in
-    let words = (law pieces (words_of a.main.main.body) a.prints).1 ∙ sym r.words in
-    subst (λ o. Yields Run parts ws Done o) (sym (e ∙ ap done_text words)) (ran r.turns r.end r.runs)
+use Rattle.wsc_top.specs.Answers.{IsCompiled, Yields, formatted, compiled, ended, faulted, going, ComesToItsEnd, MeetsFault, WantsTurns, EndsSo}
 
 pub format_yields : (parts : List Part) (out : List ℕ) → ReadsTheSame parts → out ≡ printed_form parts → (ws : List ℕ) → Yields Format parts ws Done out
 format_yields parts out r e ws = subst (λ o. Yields Format parts ws Done o) (sym e) (formatted r)
 
-pub pieces_are_straight : (pieces : List Piece) (parts : List Part) → ((ps : List Piece) (words : List ℕ) → Prints 0 ps words → IsStraight ps × (printed_by ps ≡ words))
-    → ArePieces pieces parts → IsStraight pieces
-pieces_are_straight pieces parts law a = (law pieces (words_of a.main.main.body) a.prints).0
-
 -- these two always come to their end
-pub run_so : (parts : List Part) (input : List ℕ) → EndsSo Run parts input Done
-run_so parts input = record { done = λ h. refl; fault = λ h. absurd h; budget = λ h. absurd h }
-
 pub format_so : (parts : List Part) (input : List ℕ) → EndsSo Format parts input Done
 format_so parts input = record { done = λ h. refl; fault = λ h. absurd h; budget = λ h. absurd h }
 

@@ -4,7 +4,7 @@ use Rattle.std.proofs.Common.{sym, ap, ◌∙◌, subst}
 use Rattle.src_ast.specs.declared.lexeme.Place.{Place}
 use Rattle.src_ast.specs.declared.lexeme.Lexeme.{Lexeme}
 use Rattle.src_ast.specs.declared.fault.Refusal.{Refusal}
-use Rattle.src_ast.specs.declared.fault.RefusalKind.TheVariants.{Syntax, Unbuilt, Input}
+use Rattle.src_ast.specs.declared.fault.RefusalKind.TheVariants.{Syntax, Input}
 use Rattle.src_ast.specs.Syntax.{Part}
 use Rattle.src_ast.specs.Lexemes.{Lex, KeepLimits}
 use Rattle.src_ast.specs.LexFaults.{LexFault, IsLexAnswer}
@@ -13,7 +13,7 @@ use Rattle.src_ast.specs.Faults.{SyntaxAt, IsTreeAnswer}
 use Rattle.src_ast.specs.Rules.{rules_of, IsAccepted, IsFirstBroken, IsRuleAnswer}
 use Rattle.src_ast.specs.Once.{ExactlyOne}
 use Rattle.wsc_top.specs.Sections.{program_of, input_of, input_place, InputWords, InputFault, IsInputAnswer}
-use Rattle.wsc_top.specs.Job.{ReadsAs, ProgramFault, lexemes, syntax, rules, Unfit, program, unbuilt, input, IsTextAnswer}
+use Rattle.wsc_top.specs.Job.{ReadsAs, ProgramFault, lexemes, syntax, rules, program, input, IsTextAnswer}
 use Rattle.wsc_top.proofs.Inputs.{one_answer}
 
 -- what a program section comes to: its tree, or its first fault
@@ -140,101 +140,68 @@ program_once text lexed parsed ruled = go lexed.answer lexed.holds lexed.only
     go (Err r) h only = lex_fault_once text r h only
 
 -- a refused program
-module _ (unfit : Unfit) (text : List ℕ) (r : Refusal) (fault : ProgramFault text r) (only : (other : Result (List Part) Refusal) → IsProgramAnswer text other → other ≡ Err r) where
-  only_program : (other : Result (List Part × List ℕ) Refusal) → IsTextAnswer unfit text other → other ≡ Err r
+module _ (text : List ℕ) (r : Refusal) (fault : ProgramFault text r) (only : (other : Result (List Part) Refusal) → IsProgramAnswer text other → other ≡ Err r) where
+  only_program : (other : Result (List Part × List ℕ) Refusal) → IsTextAnswer text other → other ≡ Err r
   only_program (Ok (parts, words)) h = let bad = only (Ok parts) h.reads in cc
   only_program (Err q) (program p h) = let same = only (Err p) h in cc
-  only_program (Err q) (unbuilt parts place more h e) = let bad = only (Ok parts) h in cc
-  only_program (Err q) (input parts place h e f) = let bad = only (Ok parts) h in cc
+  only_program (Err q) (input parts place h f) = let bad = only (Ok parts) h in cc
 
-  refused_once : ExactlyOne (IsTextAnswer unfit text)
+  refused_once : ExactlyOne (IsTextAnswer text)
   refused_once = record { answer = Err r; holds = program r fault; only = only_program }
 
 -- a program with this tree
-module _ (unfit : Unfit) (text : List ℕ) (parts : List Part) (reads : ReadsAs text parts) (only : (other : Result (List Part) Refusal) → IsProgramAnswer text other → other ≡ Ok parts) where
+module _ (text : List ℕ) (parts : List Part) (reads : ReadsAs text parts) (only : (other : Result (List Part) Refusal) → IsProgramAnswer text other → other ≡ Ok parts) where
   same_parts : (found : List Part) → ReadsAs text found → found ≡ parts
   same_parts found h = let same = only (Ok found) h in cc
 
   no_program_fault : (r : Refusal) → ProgramFault text r → ⊥
   no_program_fault r h = let bad = only (Err r) h in cc
 
-  -- a place in what the task can't take
-  abbrev unbuilt_at : Place → Refusal
-  unbuilt_at p = record { kind = Unbuilt; place = p }
-
   abbrev input_at : Place → Refusal
   input_at p = record { kind = Input; place = p }
 
-  module _ (place : Place) (more : List Place) (found : unfit parts ≡ place ∷ more) where
-    same_place : (others : List Part) (at : Place) (rest : List Place) → ReadsAs text others → unfit others ≡ at ∷ rest → at ≡ place
-    same_place others at rest h e =
-        let same : at ∷ rest ≡ place ∷ more = sym e ∙ ap unfit (same_parts others h) ∙ found in
-        cc
+  module _ (words : List ℕ) (read : InputWords (input_place text) (input_of text) words)
+      (only_input : (other : Result (List ℕ) Place) → IsInputAnswer (input_place text) (input_of text) other → other ≡ Ok words) where
+    same_words : (others : List ℕ) → InputWords (input_place text) (input_of text) others → others ≡ words
+    same_words others h = let same = only_input (Ok others) h in cc
 
-    not_fit : (others : List Part) → ReadsAs text others → unfit others ≡ [] → ⊥
-    not_fit others h e = let bad : [] ≡ place ∷ more = sym e ∙ ap unfit (same_parts others h) ∙ found in cc
+    only_job : (other : Result (List Part × List ℕ) Refusal) → IsTextAnswer text other → other ≡ Ok (parts, words)
+    only_job (Ok (others, found)) h = ap (λ ps. Ok (ps, found)) (same_parts others h.reads) ∙ ap (λ ws. Ok (parts, ws)) (same_words found h.words)
+    only_job (Err q) (program p h) = absurd (no_program_fault p h)
+    only_job (Err q) (input others at h f) = let bad = only_input (Err at) f in cc
 
-    only_unbuilt : (other : Result (List Part × List ℕ) Refusal) → IsTextAnswer unfit text other → other ≡ Err (unbuilt_at place)
-    only_unbuilt (Ok (others, words)) h = absurd (not_fit others h.reads h.fit)
-    only_unbuilt (Err q) (program p h) = absurd (no_program_fault p h)
-    only_unbuilt (Err q) (unbuilt others at rest h e) = ap (λ p. Err (unbuilt_at p)) (same_place others at rest h e)
-    only_unbuilt (Err q) (input others at h e f) = absurd (not_fit others h e)
+    job_once : ExactlyOne (IsTextAnswer text)
+    job_once = record { answer = Ok (parts, words); holds = record { reads = reads; words = read }; only = only_job }
 
-    unbuilt_once : ExactlyOne (IsTextAnswer unfit text)
-    unbuilt_once = record { answer = Err (unbuilt_at place); holds = unbuilt parts place more reads found; only = only_unbuilt }
+  module _ (place : Place) (fault : InputFault (input_place text) (input_of text) place)
+      (only_input : (other : Result (List ℕ) Place) → IsInputAnswer (input_place text) (input_of text) other → other ≡ Err place) where
+    same_fault : (at : Place) → InputFault (input_place text) (input_of text) at → at ≡ place
+    same_fault at h = let same = only_input (Err at) h in cc
 
-  module _ (fit : unfit parts ≡ []) where
-    none_unbuilt : (others : List Part) (at : Place) (rest : List Place) → ReadsAs text others → unfit others ≡ at ∷ rest → ⊥
-    none_unbuilt others at rest h e = let bad : at ∷ rest ≡ [] = sym e ∙ ap unfit (same_parts others h) ∙ fit in cc
+    only_input_fault : (other : Result (List Part × List ℕ) Refusal) → IsTextAnswer text other → other ≡ Err (input_at place)
+    only_input_fault (Ok (others, found)) h = let bad = only_input (Ok found) h.words in cc
+    only_input_fault (Err q) (program p h) = absurd (no_program_fault p h)
+    only_input_fault (Err q) (input others at h f) = ap (λ p. Err (input_at p)) (same_fault at f)
 
-    module _ (words : List ℕ) (read : InputWords (input_place text) (input_of text) words)
-        (only_input : (other : Result (List ℕ) Place) → IsInputAnswer (input_place text) (input_of text) other → other ≡ Ok words) where
-      same_words : (others : List ℕ) → InputWords (input_place text) (input_of text) others → others ≡ words
-      same_words others h = let same = only_input (Ok others) h in cc
+    input_fault_once : ExactlyOne (IsTextAnswer text)
+    input_fault_once = record { answer = Err (input_at place); holds = input parts place reads fault; only = only_input_fault }
 
-      only_job : (other : Result (List Part × List ℕ) Refusal) → IsTextAnswer unfit text other → other ≡ Ok (parts, words)
-      only_job (Ok (others, found)) h = ap (λ ps. Ok (ps, found)) (same_parts others h.reads) ∙ ap (λ ws. Ok (parts, ws)) (same_words found h.words)
-      only_job (Err q) (program p h) = absurd (no_program_fault p h)
-      only_job (Err q) (unbuilt others at rest h e) = absurd (none_unbuilt others at rest h e)
-      only_job (Err q) (input others at h e f) = let bad = only_input (Err at) f in cc
-
-      job_once : ExactlyOne (IsTextAnswer unfit text)
-      job_once = record { answer = Ok (parts, words); holds = record { reads = reads; fit = fit; words = read }; only = only_job }
-
-    module _ (place : Place) (fault : InputFault (input_place text) (input_of text) place)
-        (only_input : (other : Result (List ℕ) Place) → IsInputAnswer (input_place text) (input_of text) other → other ≡ Err place) where
-      same_fault : (at : Place) → InputFault (input_place text) (input_of text) at → at ≡ place
-      same_fault at h = let same = only_input (Err at) h in cc
-
-      only_input_fault : (other : Result (List Part × List ℕ) Refusal) → IsTextAnswer unfit text other → other ≡ Err (input_at place)
-      only_input_fault (Ok (others, found)) h = let bad = only_input (Ok found) h.words in cc
-      only_input_fault (Err q) (program p h) = absurd (no_program_fault p h)
-      only_input_fault (Err q) (unbuilt others at rest h e) = absurd (none_unbuilt others at rest h e)
-      only_input_fault (Err q) (input others at h e f) = ap (λ p. Err (input_at p)) (same_fault at f)
-
-      input_fault_once : ExactlyOne (IsTextAnswer unfit text)
-      input_fault_once = record { answer = Err (input_at place); holds = input parts place reads fit fault; only = only_input_fault }
-
-    fit_once : ExactlyOne (IsInputAnswer (input_place text) (input_of text)) → ExactlyOne (IsTextAnswer unfit text)
-    fit_once e = go e.answer e.holds e.only
-      where
-        go : (found : Result (List ℕ) Place) → IsInputAnswer (input_place text) (input_of text) found
-            → ((other : Result (List ℕ) Place) → IsInputAnswer (input_place text) (input_of text) other → other ≡ found) → ExactlyOne (IsTextAnswer unfit text)
-        go (Ok words) h only_input = job_once words h only_input
-        go (Err place) h only_input = input_fault_once place h only_input
-
-  reads_once : ExactlyOne (IsTextAnswer unfit text)
-  reads_once = go (unfit parts) refl
+  fit_once : ExactlyOne (IsInputAnswer (input_place text) (input_of text)) → ExactlyOne (IsTextAnswer text)
+  fit_once e = go e.answer e.holds e.only
     where
-      go : (places : List Place) → unfit parts ≡ places → ExactlyOne (IsTextAnswer unfit text)
-      go [] e = fit_once e (one_answer (input_place text) (input_of text))
-      go (place ∷ more) e = unbuilt_once place more e
+      go : (found : Result (List ℕ) Place) → IsInputAnswer (input_place text) (input_of text) found
+          → ((other : Result (List ℕ) Place) → IsInputAnswer (input_place text) (input_of text) other → other ≡ found) → ExactlyOne (IsTextAnswer text)
+      go (Ok words) h only_input = job_once words h only_input
+      go (Err place) h only_input = input_fault_once place h only_input
+
+  reads_once : ExactlyOne (IsTextAnswer text)
+  reads_once = fit_once (one_answer (input_place text) (input_of text))
 
 -- each text comes to one thing alone, since its lexemes, its tree, its rules and its input section do
-pub text_once : (unfit : Unfit) (text : List ℕ) → ((bytes : List ℕ) → ExactlyOne (IsLexAnswer bytes)) → ((ls : List Lexeme) (finish : Place) → ExactlyOne (IsTreeAnswer ls finish))
-    → ((parts : List Part) (finish : Place) → ExactlyOne (IsRuleAnswer parts finish)) → ExactlyOne (IsTextAnswer unfit text)
-text_once unfit text lexed parsed ruled = let e = program_once text (lexed (program_of text)) parsed ruled in go e.answer e.holds e.only
+pub text_once : (text : List ℕ) → ((bytes : List ℕ) → ExactlyOne (IsLexAnswer bytes)) → ((ls : List Lexeme) (finish : Place) → ExactlyOne (IsTreeAnswer ls finish))
+    → ((parts : List Part) (finish : Place) → ExactlyOne (IsRuleAnswer parts finish)) → ExactlyOne (IsTextAnswer text)
+text_once text lexed parsed ruled = let e = program_once text (lexed (program_of text)) parsed ruled in go e.answer e.holds e.only
   where
-    go : (found : Result (List Part) Refusal) → IsProgramAnswer text found → ((other : Result (List Part) Refusal) → IsProgramAnswer text other → other ≡ found) → ExactlyOne (IsTextAnswer unfit text)
-    go (Ok parts) h only = reads_once unfit text parts h only
-    go (Err r) h only = refused_once unfit text r h only
+    go : (found : Result (List Part) Refusal) → IsProgramAnswer text found → ((other : Result (List Part) Refusal) → IsProgramAnswer text other → other ≡ found) → ExactlyOne (IsTextAnswer text)
+    go (Ok parts) h only = reads_once text parts h only
+    go (Err r) h only = refused_once text r h only

@@ -1,10 +1,10 @@
 -- What a call of the program answers: the status, and the text that goes out with it.
-use Rattle.std.specs.Prelude.{◌≡◌, ◌⊎◌, ℕ, ◌+◌, ◌≤◌, List, [], length, Option, Some}
+use Rattle.std.specs.Prelude.{◌≡◌, ◌⊎◌, ℕ, ◌+◌, ◌≤◌, List, [], ◌++◌, length, Option, Some}
 use Rattle.ws_io.specs.Streams.{Rose, Takes, TakesAll}
-use Rattle.ws_words.specs.Outside.{Outside, printed_words}
+use Rattle.ws_words.specs.Outside.{Outside, World, printed_words}
 use Rattle.src_ast.specs.declared.fault.Refusal.{Refusal}
 use Rattle.src_ast.specs.Syntax.{Part}
-use Rattle.src_ast.specs.Runs.{Runs, Goes, Faults}
+use Rattle.src_ast.specs.Runs.{acts_in, Runs, Goes, Faults}
 use Rattle.src_ast.specs.Printed.{printed_form}
 use Rattle.src_ast.specs.Written.{ReadsTheSame}
 use Rattle.wsc_top.specs.declared.status.Status.{Status}
@@ -29,21 +29,13 @@ use Rattle.list_out.specs.Listing.{listing}
 use Rattle.wsc_top.specs.Assembly.{assembly_limit, IsAssembly, RefusesAssembly}
 use Rattle.work_gen.specs.Job.{job_text}
 use Rattle.wsc_top.specs.Tasks.{IsLine, IsNoLine}
-use Rattle.wsc_top.specs.Straights.{unbuilt_places}
-use Rattle.wsc_top.specs.Job.{Unfit, IsJob, Refuses, world_of}
-use Rattle.wsc_top.specs.Texts.{done_text, ended_text, faulted_text, going_text, turns_line, names_of, array_name, usage_text, unread_text, long_text, refusal_text, sound_text, asm_refusal_text}
+use Rattle.wsc_top.specs.Job.{IsJob, Refuses, world_of}
+use Rattle.wsc_top.specs.Texts.{ended_text, faulted_text, going_text, spent_text, turns_line, firings_line, names_of, array_name, usage_text, unread_text, long_text, refusal_text, sound_text, asm_refusal_text}
 use Rattle.wsc_top.specs.Executions.{Executes, EndsRun}
 
 -- the most bytes of a job
 abbrev pub job_limit : ℕ
 job_limit = 1048576
-
--- what a task can't take: a run takes prints over numbers alone so far, the other tasks any program
-abbrev pub unfit_for : JobTask → Unfit
-unfit_for Run = unbuilt_places
-unfit_for Format = λ _. []
-unfit_for Compile = λ _. []
-unfit_for (Plain options) = λ _. []
 
 -- an image of a program as the compiler gives it: a machine runs it, it does what the program does
 -- within its bound, its notes are numbered and have the ripples that can be had, and it is a draft of the program with
@@ -58,15 +50,34 @@ pub record IsCompiled (parts : List Part) (image : Image) : Type 0 where
   pub ripples : ExactRipples image
   pub draft : HasDraft image
 
--- What comes of a task to a program and its input words: the status and the text. `run` prints
--- the words that the sequential run prints in as many turns as it takes; `format` the printed form,
--- which reads as the same program; `compile` an image of it; `plain` is the sequential run itself,
--- in at most so many turns: at its end, before its first index fault, or where it wants a further
--- turn.
+-- What the run of an image of a program tells, in the words of the program's own run.
+pub data TellsRun (options : RunOptions) (parts : List Part) (world : World)
+    : Status → List ℕ → Type 0 where
+  -- the sequential run has ended; what it printed and left is told
+  ended : (n fired : ℕ) (end : Outside) → Runs parts world n end → fired ≤ options.budget
+      → TellsRun options parts world Done
+      (ended_text options.memory options.stats (names_of parts)
+      (printed_words end.acts) end.cells (firings_line fired))
+  -- it meets this index fault; what it printed and left before it is told
+  faulted : (n array : ℕ) (state : Outside) → Faults parts world n array state
+      → TellsRun options parts world Fault
+      (faulted_text options.memory (array_name (names_of parts) array) (names_of parts)
+      (printed_words state.acts) state.cells)
+  -- the words told are the first of those that the run prints that passes index faults
+  spent : (n : ℕ) (front more : List ℕ) → printed_words (acts_in parts world n) ≡ front ++ more
+      → TellsRun options parts world Budget (spent_text options.stats front options.budget)
+
+-- What comes of a task to a program and its input words: the status and the text. `run` runs an
+-- image of the program; `format` prints its printed form, which reads as the same program;
+-- `compile` prints an image of it; `plain` is the sequential run itself, in at most so many turns:
+-- at its end, before its first index fault, or where it wants a further turn.
 pub data Yields : JobTask → List Part → List ℕ → Status → List ℕ → Type 0 where
-  ran : {parts : List Part} {input : List ℕ} (n : ℕ) (end : Outside)
-      → Runs parts (world_of input) n end
-      → Yields Run parts input Done (done_text (printed_words end.acts))
+  ran : {options : RunOptions} {parts : List Part} {input : List ℕ} {status : Status}
+      {out : List ℕ} (image : Image) → IsCompiled parts image
+      → Executes options image (world_of input) status out
+      → EndsRun image (world_of input) options.budget status
+      → TellsRun options parts (world_of input) status out
+      → Yields (Run options) parts input status out
   formatted : {parts : List Part} {input : List ℕ} → ReadsTheSame parts
       → Yields Format parts input Done (printed_form parts)
   compiled : {parts : List Part} {input : List ℕ} (image : Image) → IsCompiled parts image
@@ -86,9 +97,10 @@ pub data Yields : JobTask → List Part → List ℕ → Status → List ℕ →
       → Goes parts (world_of input) options.turns now
       → Yields (Plain options) parts input Budget (going_text (printed_words now.acts))
 
--- a task comes to its end: the sequential run in no more turns than it may take
+-- A task comes to its end: the sequential run in no more turns than it may take. Of a run nothing is
+-- said here, since its cost is its image's.
 abbrev pub ComesToItsEnd : JobTask → List Part → List ℕ → Type 0
-ComesToItsEnd Run parts input = Unit {0}
+ComesToItsEnd (Run options) parts input = ⊥
 ComesToItsEnd Format parts input = Unit {0}
 ComesToItsEnd Compile parts input = Unit {0}
 ComesToItsEnd (Plain options) parts input =
@@ -96,16 +108,16 @@ ComesToItsEnd (Plain options) parts input =
 
 -- it meets an index fault, in a turn that it may take
 abbrev pub MeetsFault : JobTask → List Part → List ℕ → Type 0
-MeetsFault Run parts input = ⊥
+MeetsFault (Run options) parts input = ⊥
 MeetsFault Format parts input = ⊥
 MeetsFault Compile parts input = ⊥
 MeetsFault (Plain options) parts input =
     (n array : ℕ) × (state : Outside)
     × Faults parts (world_of input) n array state × (n ≤ options.turns)
 
--- it wants more turns than it may take
+-- it wants more turns than it may take: the run of an image where the sequential run never ends
 abbrev pub WantsTurns : JobTask → List Part → List ℕ → Type 0
-WantsTurns Run parts input = ⊥
+WantsTurns (Run options) parts input = (n : ℕ) → (now : Outside) × Goes parts (world_of input) n now
 WantsTurns Format parts input = ⊥
 WantsTurns Compile parts input = ⊥
 WantsTurns (Plain options) parts input =
@@ -121,16 +133,17 @@ pub record EndsSo (task : JobTask) (parts : List Part) (input : List ℕ) (statu
 -- The status and the text of the answer of a task to a job.
 pub data Answered (task : JobTask) (text : List ℕ) : Status → List ℕ → Type 0 where
   -- it is refused
-  refused : (r : Refusal) → Refuses (unfit_for task) text r
+  refused : (r : Refusal) → Refuses text r
       → Answered task text Refused (refusal_text r)
   -- it is a job, and this comes of it
   done : {status : Status} {out : List ℕ} (parts : List Part) (input : List ℕ)
-      → IsJob (unfit_for task) text parts input → Yields task parts input status out
+      → IsJob text parts input → Yields task parts input status out
       → Answered task text status out
 
--- a task of which one thing alone comes, by what is said of it here: any but `compile`, of which
--- another image of the program could come
+-- a task of which one thing alone comes, by what is said of it here: `run` and `compile` could take
+-- another image of the program
 abbrev pub IsFixed : JobTask → Type 0
+IsFixed (Run options) = ⊥
 IsFixed Compile = ⊥
 IsFixed _ = Unit {0}
 
@@ -217,7 +230,7 @@ pub record IsToldJob (words : List (List ℕ)) (left : Option (List ℕ)) (task 
   pub line : IsLine words (Job task)
   pub told : left ≡ Some text
   pub short : length text ≤ job_limit
-  pub job : IsJob (unfit_for task) text parts input
+  pub job : IsJob text parts input
 
 -- all that the source has left is told, and it is no job
 pub record IsToldOther (words : List (List ℕ)) (left : Option (List ℕ)) (task : JobTask)
@@ -226,7 +239,7 @@ pub record IsToldOther (words : List (List ℕ)) (left : Option (List ℕ)) (tas
   pub line : IsLine words (Job task)
   pub told : left ≡ Some text
   pub other : length text ≤ job_limit → (parts : List Part) (input : List ℕ)
-      → IsJob (unfit_for task) text parts input → ⊥
+      → IsJob text parts input → ⊥
 
 -- all that the source has left is told, and it is an assembly: this sound image and these words
 pub record IsToldAssembly (words : List (List ℕ)) (left : Option (List ℕ)) (task : AssemblyTask)

@@ -5,7 +5,9 @@ use Rattle.ws_isa.specs.Image.{Array, Image, array_at}
 use Rattle.ws_isa.specs.Shown.{shown_cells}
 use Rattle.image_walk.specs.Walk.{mem, walk, CostAtMost}
 use Rattle.image_walk.specs.Operations.{ops, FaultsAt, NoFault}
-use Rattle.core_run.specs.Answer.{FiringSteps, FirstAmong}
+use Rattle.core_run.specs.declared.answer.Run.{Run}
+use Rattle.core_run.specs.declared.answer.Run.TheVariants.{Rest, Budget as Spent, Fault as Stopped}
+use Rattle.core_run.specs.Answer.{FiringSteps, FirstAmong, RunSo}
 use Rattle.wsc_top.specs.declared.status.Status.{Status}
 use Rattle.wsc_top.specs.declared.status.Status.TheVariants.{Done, Budget, Fault}
 use Rattle.wsc_top.specs.declared.task.RunOptions.{RunOptions}
@@ -21,6 +23,26 @@ abbrev pub stopped_text : RunOptions → List Array → ℕ → List ℕ → Lis
 stopped_text options arrays array words cells =
     faulted_text options.memory (called arrays array) (shown_names arrays) words
     (shown_cells arrays cells)
+
+-- the status and the text of a run that is told so
+abbrev pub status_of : Run → Status
+status_of (Rest d) = Done
+status_of (Spent d) = Budget
+status_of (Stopped array d) = Fault
+
+abbrev pub run_text : RunOptions → List Array → Run → List ℕ
+run_text options arrays (Rest d) = rested_text options arrays d.printed d.arrays d.fired
+run_text options arrays (Spent d) = spent_text options.stats d.printed d.fired
+run_text options arrays (Stopped array d) =
+    stopped_text options arrays array d.printed d.arrays
+
+-- the run of an image answered with this status and this text
+pub record IsRun (options : RunOptions) (image : Image) (world : World) (status : Status)
+    (out : List ℕ) : Type 0 where
+  pub run : Run
+  pub so : RunSo image world options.budget run
+  pub status_is : status ≡ status_of run
+  pub text_is : out ≡ run_text options image.arrays run
 
 -- The walk has more instances than the budget. Exactly so many have fired, at some of its steps;
 -- and of the walk's operations, in their order, those before step t are the most of which all have.

@@ -4,7 +4,7 @@ use Rattle.ws_words.specs.Outside.{World}
 use Rattle.src_ast.specs.declared.lexeme.Place.{Place}
 use Rattle.src_ast.specs.declared.lexeme.Lexeme.{Lexeme}
 use Rattle.src_ast.specs.declared.fault.Refusal.{Refusal}
-use Rattle.src_ast.specs.declared.fault.RefusalKind.TheVariants.{Syntax, Unbuilt, Input}
+use Rattle.src_ast.specs.declared.fault.RefusalKind.TheVariants.{Syntax, Input}
 use Rattle.src_ast.specs.declared.fault.TextFault.{TextFault}
 use Rattle.src_ast.specs.declared.fault.TextFault.TheVariants.{Refused, NoMemory}
 use Rattle.src_ast.specs.Syntax.{Part}
@@ -37,42 +37,27 @@ pub data ProgramFault (text : List ℕ) : Refusal → Type 0 where
       → Lex (program_of text) ls finish → KeepLimits 0 0 ls → Tree ls parts
       → IsFirstBroken (rules_of parts finish) r → ProgramFault text r
 
--- A task can't take some programs: these are the places of what it can't take, in the order of
--- the text.
-abbrev pub Unfit : Type 0
-Unfit = List Part → List Place
-
--- the first place of some
-abbrev pub first_of : List Place → Option Place
-first_of [] = None
-first_of (p ∷ ps) = Some p
-
--- the text is a program that a task takes, and the words that it reads
-pub record IsJob (unfit : Unfit) (text : List ℕ) (parts : List Part) (input : List ℕ) : Type 0 where
+-- the text is a program, and the words that it reads
+pub record IsJob (text : List ℕ) (parts : List Part) (input : List ℕ) : Type 0 where
   pub reads : ReadsAs text parts
-  pub fit : unfit parts ≡ []
   pub words : InputWords (input_place text) (input_of text) input
 
--- the text is refused so: by the fault of its program, else by what the task can't take, else by
--- its input section
-pub data Refuses (unfit : Unfit) (text : List ℕ) : Refusal → Type 0 where
-  program : (r : Refusal) → ProgramFault text r → Refuses unfit text r
-  unbuilt : (parts : List Part) (place : Place) (more : List Place)
-      → ReadsAs text parts → unfit parts ≡ place ∷ more
-      → Refuses unfit text (record { kind = Unbuilt; place = place })
-  input : (parts : List Part) (place : Place) → ReadsAs text parts → unfit parts ≡ []
+-- the text is refused so: by the fault of its program, else by its input section
+pub data Refuses (text : List ℕ) : Refusal → Type 0 where
+  program : (r : Refusal) → ProgramFault text r → Refuses text r
+  input : (parts : List Part) (place : Place) → ReadsAs text parts
       → InputFault (input_place text) (input_of text) place
-      → Refuses unfit text (record { kind = Input; place = place })
+      → Refuses text (record { kind = Input; place = place })
 
--- what a text comes to for a task: the program and the words of a job, or why it is refused
-abbrev pub IsTextAnswer : Unfit → List ℕ → Result (List Part × List ℕ) Refusal → Type 0
-IsTextAnswer unfit text (Ok job) = IsJob unfit text job.0 job.1
-IsTextAnswer unfit text (Err refusal) = Refuses unfit text refusal
+-- what a text comes to: the program and the words of a job, or why it is refused
+abbrev pub IsTextAnswer : List ℕ → Result (List Part × List ℕ) Refusal → Type 0
+IsTextAnswer text (Ok job) = IsJob text job.0 job.1
+IsTextAnswer text (Err refusal) = Refuses text refusal
 
 -- why a text has no answer: memory, or it is refused
-abbrev pub IsRefused : Unfit → List ℕ → TextFault → Type 0
-IsRefused unfit text NoMemory = Unit {0}
-IsRefused unfit text (Refused r) = Refuses unfit text r
+abbrev pub IsRefused : List ℕ → TextFault → Type 0
+IsRefused text NoMemory = Unit {0}
+IsRefused text (Refused r) = Refuses text r
 
 -- the same for its program section alone
 abbrev pub IsProgramFault : List ℕ → TextFault → Type 0

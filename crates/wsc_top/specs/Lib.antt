@@ -1,7 +1,6 @@
 pub mod Codes
 pub mod Tasks
 pub mod Sections
-pub mod Straights
 pub mod Job
 pub mod Assembly
 pub mod Texts

@@ -1,5 +1,5 @@
 -- What the program does for a line of the command line, of what is built so far.
-use Rattle.std.specs.Prelude.{◌≡◌, ℕ, Bool, cond, not, ◌&&◌, eqb, List, Option, Some, None}
+use Rattle.std.specs.Prelude.{◌≡◌, ℕ, List, Option, Some, None}
 use Rattle.wsc_words.specs.Lines as lines
 use Rattle.wsc_words.specs.declared.line.Line.{Line}
 use Rattle.wsc_words.specs.declared.command.Command.{Command}
@@ -9,13 +9,12 @@ use Rattle.wsc_top.specs.declared.task.Task.TheVariants.{Job, Assembly, Generate
 use Rattle.wsc_top.specs.declared.task.JobTask.TheVariants.{Run, Format, Compile, Plain}
 use Rattle.wsc_top.specs.declared.task.AssemblyTask.TheVariants as assembly
 
--- no option of a run is built so far
-abbrev pub is_bare : Line → Bool
-is_bare line =
-    not line.memory && (not line.stats && (eqb line.workers 1 && eqb line.budget 2000000))
-
 abbrev pub task_by : Command → Line → Option Task
-task_by command.Run line = cond (is_bare line) (Some (Job Run)) None
+task_by command.Run line = Some (Job (Run (record {
+  budget = line.budget;
+  memory = line.memory;
+  stats = line.stats;
+})))
 task_by command.Plain line = Some (Job (Plain (record {
   turns = line.turns;
   memory = line.memory;

@@ -11,7 +11,7 @@ ghost use Rattle.wsc_top.specs.Tasks.{IsLine};
 ghost use Rattle.wsc_top.specs.declared.status.Status.{Status};
 ghost use Rattle.wsc_top.specs.Job.{IsJob};
 ghost use Rattle.wsc_top.specs.Assembly.{assembly_limit, IsAssembly};
-ghost use Rattle.wsc_top.specs.Answers.{job_limit, unfit_for, EndsSo, Answered, AssemblyEndsSo, AssemblyAnswered, Answers, WereRead, IsToldJob, IsToldAssembly};
+ghost use Rattle.wsc_top.specs.Answers.{job_limit, EndsSo, Answered, AssemblyEndsSo, AssemblyAnswered, Answers, WereRead, IsToldJob, IsToldAssembly};
 
 use crate::assembly::{self, AssemblyFault};
 use crate::status::Status;
@@ -37,11 +37,11 @@ fn to_text(alloc: Global, task: JobTask, text: &[u8]) -> Result<(Status, Bytes),
     requires { length text.now ≤ job_limit }
     ensures answered { IfOk result (λ a. Answered task text.now a.0 a.1) }
     ensures job { (parts : List Part) (input : List ℕ)
-        → IsJob (unfit_for task) text.now parts input
+        → IsJob text.now parts input
         → IfOk result (λ a. EndsSo task parts input a.0) }
 {
     read_is_written();
-    match job::read(alloc, task, text) {
+    match job::read(alloc, text) {
         Ok((accepted, input)) => Ok(yielded(alloc, task, &accepted, input)?),
         Err(TextFault::Refused(refusal)) => Ok((Status::Refused, texts::refused(alloc, refusal)?)),
         Err(TextFault::NoMemory) => Err(NoMemory),
@@ -59,7 +59,7 @@ fn of_job<S: Source>(
         (S.faults source.old) (S.faults source.new) a.0 a.1) }
     ensures job { (text : List ℕ) (parts : List Part) (input : List ℕ)
         → S.left source.old ≡ Some text → length text ≤ job_limit
-        → IsJob (unfit_for task) text parts input
+        → IsJob text parts input
         → IfOk result (λ a. a.0 ≢ Status.ReadFault → EndsSo task parts input a.0) }
     ensures memory { OnErr result ((bytes : List ℕ) × (length bytes ≤ job_limit + 1)
         × Takes (S.left source.old) bytes (S.left source.new)) }

@@ -2,7 +2,7 @@
 
 ghost use Rattle.std.specs.Prelude.{IfOk};
 ghost use Rattle.wsc_top.specs.Job.{world_of};
-ghost use Rattle.wsc_top.specs.Executions.{Executes, EndsRun};
+ghost use Rattle.wsc_top.specs.Executions.{IsRun, Executes, EndsRun};
 
 use crate::run_texts::{rested, spent, stopped};
 use crate::status::Status;
@@ -20,6 +20,7 @@ pub fn executed(
     image: &Checked,
     input: Words,
 ) -> Result<(Status, Bytes), NoMemory>
+    ensures told { IfOk result (λ y. IsRun options image.now (world_of input) y.0 y.1) }
     ensures executes { IfOk result (λ y. Executes options image.now (world_of input) y.0 y.1) }
     ensures ends { IfOk result (λ y. EndsRun image.now (world_of input) options.budget y.0) }
 {

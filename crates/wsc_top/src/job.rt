@@ -4,56 +4,36 @@ ghost use Rattle.std.specs.Prelude.{◌≡◌, ◌≤◌, ℕ, List, length, IfO
 ghost use Rattle.src_ast.specs.View as view;
 ghost use Rattle.src_ast.specs.Syntax.{Part};
 ghost use Rattle.src_ast.specs.declared.fault.TextFault.{TextFault};
-ghost use Rattle.wsc_top.specs.Job.{first_of, IsJob, IsRefused};
-ghost use Rattle.wsc_top.specs.Answers.{job_limit, unfit_for};
+ghost use Rattle.wsc_top.specs.Job.{IsJob, IsRefused};
+ghost use Rattle.wsc_top.specs.Answers.{job_limit};
 
 mod program;
 
 use crate::input::input_words;
 use crate::sections::split;
-use crate::straight::first_unbuilt;
-use crate::task::JobTask;
-use src_ast::{Place, Program, Refusal, RefusalKind, TextFault};
+use src_ast::TextFault;
 use src_check::Accepted;
 use std::alloc::Global;
 use ws_words::Words;
 
-// The first place in the text of what a task can't take.
-fn unfit(task: JobTask, program: &Program) -> Option<Place>
-    ensures { result ≡ first_of (unfit_for task (view.parts program.now.items.items)) }
-{
-    match task {
-        JobTask::Run => first_unbuilt(program),
-        JobTask::Format => None,
-        JobTask::Compile => None,
-        JobTask::Plain(_) => None,
-    }
-}
-
 /// The program of a job and the words that it reads, or why the text is refused.
-pub fn read(alloc: Global, task: JobTask, text: &[u8]) -> Result<(Accepted, Words), TextFault>
+pub fn read(alloc: Global, text: &[u8]) -> Result<(Accepted, Words), TextFault>
     requires { length text.now ≤ job_limit }
     ensures ok { IfOk result
-        (λ x. IsJob (unfit_for task) text.now (view.parts x.0.program.items.items) x.1) }
+        (λ x. IsJob text.now (view.parts x.0.program.items.items) x.1) }
     ensures only { (parts : List Part) (input : List ℕ)
-        → IsJob (unfit_for task) text.now parts input
+        → IsJob text.now parts input
         → IfErr result (λ e. e ≡ TextFault.NoMemory) }
     ensures same { (parts : List Part) (input : List ℕ)
-        → IsJob (unfit_for task) text.now parts input
+        → IsJob text.now parts input
         → IfOk result (λ x. (view.parts x.0.program.items.items ≡ parts) × (x.1 ≡ input)) }
-    ensures refused { IfErr result (λ e. IsRefused (unfit_for task) text.now e) }
+    ensures refused { IfErr result (λ e. IsRefused text.now e) }
 {
     let (program, _) = split(text);
     let accepted = match program::read(alloc, text, program) {
         Ok(accepted) => accepted,
         Err(fault) => return Err(fault),
     };
-    if let Some(place) = unfit(task, &accepted.program) {
-        return Err(TextFault::Refused(Refusal {
-            kind: RefusalKind::Unbuilt,
-            place,
-        }));
-    }
     match input_words(alloc, text) {
         Ok(words) => Ok((accepted, words)),
         Err(fault) => Err(fault),

@@ -12,7 +12,6 @@ mod laws;
 mod run_texts;
 mod sections;
 mod status;
-mod straight;
 mod task;
 mod texts;
 mod world;

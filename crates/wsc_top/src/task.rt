@@ -1,7 +1,7 @@
 //! What a line of the command line asks for.
 
 ghost use Rattle.std.specs.Prelude.{◌≡◌, map, string_bytes, IfOk, IfSome, IfNone};
-ghost use Rattle.wsc_top.specs.Tasks.{is_bare, task_of, IsLine, IsNoLine};
+ghost use Rattle.wsc_top.specs.Tasks.{task_of, IsLine, IsNoLine};
 
 use std::alloc::Global;
 use ws_words::NoMemory;
@@ -32,8 +32,8 @@ pub struct RunOptions {
 /// What is done with a job.
 #[derive(Clone, Copy, Debug, PartialEq, Eq)]
 pub enum JobTask {
-    /// It is run.
-    Run,
+    /// An image of it is run.
+    Run(RunOptions),
     /// Its program is printed.
     Format,
     /// The image of its program is printed.
@@ -64,11 +64,19 @@ pub enum Task {
     Generate(u32),
 }
 
-// Whether a line has no option of a run.
-fn is_bare(line: &Line) -> bool
-    ensures { result ≡ is_bare line.now }
+// How a line asks for a run.
+fn run_options(line: &Line) -> RunOptions
+    ensures { result ≡ record {
+      budget = line.now.budget;
+      memory = line.now.memory;
+      stats = line.now.stats;
+    } }
 {
-    !line.memory && !line.stats && line.workers == 1 && line.budget == 2_000_000
+    RunOptions {
+        budget: line.budget,
+        memory: line.memory,
+        stats: line.stats,
+    }
 }
 
 // What a line asks for, where that is built.
@@ -76,13 +84,7 @@ fn task_of(line: &Line) -> Option<Task>
     ensures { result ≡ task_of line.now }
 {
     match line.command {
-        Command::Run => {
-            if is_bare(line) {
-                Some(Task::Job(JobTask::Run))
-            } else {
-                None
-            }
-        }
+        Command::Run => Some(Task::Job(JobTask::Run(run_options(line)))),
         Command::Plain => Some(Task::Job(JobTask::Plain(PlainOptions {
             turns: line.turns,
             memory: line.memory,
@@ -92,11 +94,7 @@ fn task_of(line: &Line) -> Option<Task>
         Command::Compile => Some(Task::Job(JobTask::Compile)),
         Command::Check => Some(Task::Assembly(AssemblyTask::Check)),
         Command::List => Some(Task::Assembly(AssemblyTask::List)),
-        Command::Exec => Some(Task::Assembly(AssemblyTask::Exec(RunOptions {
-            budget: line.budget,
-            memory: line.memory,
-            stats: line.stats,
-        }))),
+        Command::Exec => Some(Task::Assembly(AssemblyTask::Exec(run_options(line)))),
         Command::Gen => Some(Task::Generate(line.number)),
         _ => None,
     }

@@ -1,22 +1,21 @@
 //! What comes of the commands.
 
-ghost use Rattle.std.specs.Prelude.{◌≡◌, ℕ, List, [], IfOk};
+ghost use Rattle.std.specs.Prelude.{ℕ, List, IfOk};
+ghost use Rattle.std.specs.List.{AllByRecursion};
 ghost use Rattle.src_ast.specs.View as view;
 ghost use Rattle.src_ast.specs.Written.{IsWritten};
-ghost use Rattle.wsc_top.specs.Straights.{unbuilt_places};
-ghost use Rattle.wsc_top.specs.Answers.{unfit_for, Yields, EndsSo, AssemblyYields, AssemblyEndsSo};
+ghost use Rattle.wave_gen.specs.Words.{IsWord};
+ghost use Rattle.wsc_top.specs.Answers.{Yields, EndsSo, AssemblyYields, AssemblyEndsSo};
 ghost use Rattle.wsc_top.specs.declared.task.JobTask.{JobTask};
 ghost use Rattle.wsc_top.specs.declared.status.Status.{Status};
 
 use crate::exec::executed;
 use crate::status::Status;
-use crate::straight::straight_image;
-use crate::task::{AssemblyTask, JobTask, PlainOptions};
+use crate::task::{AssemblyTask, JobTask, PlainOptions, RunOptions};
 use crate::texts;
 use crate::world::world;
 use asm_text::print_asm;
-use df_core::{Core, built_is_straight};
-use image_walk::Checked;
+use image_walk::{Checked, walks_go_on};
 use list_out::list_image;
 use seq_run::run_plain;
 use src_ast::{print_program, printed_reads_the_same};
@@ -25,19 +24,24 @@ use std::alloc::Global;
 use wave_build::compile;
 use ws_words::{Bytes, NoMemory, Plain, Words};
 
-// What a run of this program prints: its words, a line each, and `halt`.
-#[tactic(auto, using(crate::proofs::Outcomes::pieces_are_straight, crate::proofs::Outcomes::run_yields))]
-fn run(alloc: Global, accepted: &Accepted) -> Result<Bytes, NoMemory>
-    requires built { unbuilt_places (view.parts accepted.now.program.items.items) ≡ [] }
+// What comes of the run of an image of this program on these words.
+fn ran(
+    alloc: Global,
+    options: RunOptions,
+    accepted: &Accepted,
+    input: Words,
+) -> Result<(Status, Bytes), NoMemory>
+    requires words { AllByRecursion IsWord input }
     requires written { IsWritten (view.parts accepted.now.program.items.items) }
-    ensures { IfOk result (λ out. (input : List ℕ)
-        → Yields JobTask.Run (view.parts accepted.now.program.items.items) input Status.Done out) }
+    ensures yields { IfOk result (λ y. Yields (JobTask.Run options)
+        (view.parts accepted.now.program.items.items) input y.0 y.1) }
+    ensures ends { IfOk result (λ y. EndsSo (JobTask.Run options)
+        (view.parts accepted.now.program.items.items) input y.0) }
 {
-    built_is_straight();
-    let straight = straight_image(alloc, accepted)?;
-    let mut core = Core::begin(alloc, &straight)?;
-    core.run();
-    texts::done(alloc, core.printed())
+    walks_go_on();
+    let image = compile(alloc, accepted)?;
+    let (status, text) = executed(alloc, options, &image, input)?;
+    Ok((status, text))
 }
 
 // The text of the image of a program.
@@ -102,14 +106,14 @@ fn plainly(
 }
 
 /// The status and the text of what comes of a task to a program that it takes.
-#[tactic(auto, using(crate::proofs::Outcomes::format_yields, crate::proofs::Outcomes::run_so, crate::proofs::Outcomes::format_so, crate::proofs::Outcomes::compile_so))]
+#[tactic(auto, using(crate::proofs::Outcomes::format_yields, crate::proofs::Outcomes::format_so, crate::proofs::Outcomes::compile_so))]
 pub fn yielded(
     alloc: Global,
     task: JobTask,
     accepted: &Accepted,
     input: Words,
 ) -> Result<(Status, Bytes), NoMemory>
-    requires fit { unfit_for task (view.parts accepted.now.program.items.items) ≡ [] }
+    requires words { AllByRecursion IsWord input }
     requires written { IsWritten (view.parts accepted.now.program.items.items) }
     ensures yields { IfOk result (λ y.
         Yields task (view.parts accepted.now.program.items.items) input y.0 y.1) }
@@ -118,7 +122,7 @@ pub fn yielded(
 {
     printed_reads_the_same();
     match task {
-        JobTask::Run => Ok((Status::Done, run(alloc, accepted)?)),
+        JobTask::Run(options) => ran(alloc, options, accepted, input),
         JobTask::Format => Ok((Status::Done, print_program(alloc, &accepted.program)?)),
         JobTask::Compile => Ok((Status::Done, compiled(alloc, accepted)?)),
         JobTask::Plain(options) => plainly(alloc, options, accepted, input),

@@ -20,4 +20,4 @@ returns-in_ok-status-in-Ok-clause-ok g c words line =
 
 pub returns-in_ok-status-in-Ok-clause-job : goal.returns-in_ok-status-in-Ok-clause-job
 returns-in_ok-status-in-Ok-clause-job g c text parts input told short job f =
-    c.in_ok-status-in-Ok.ensures.job parts input (told_is c.args.task _ _ text _ _ parts input told job c.in-Ok.ensures.ok c.as_slice.ensures)
+    c.in_ok-status-in-Ok.ensures.job parts input (told_is _ _ text _ _ parts input told job c.in-Ok.ensures.ok c.as_slice.ensures)

@@ -1,7 +1,6 @@
 use Rattle.std.proofs.Common.{subst, sym}
 use Rattle.wsc_top.specs.declared.task.Task.TheVariants.{Job, Assembly, Generate}
-use Rattle.wsc_top.specs.Job.{IsJob}
-use Rattle.wsc_top.specs.Answers.{EndsSo, AssemblyEndsSo, unfit_for}
+use Rattle.wsc_top.specs.Answers.{EndsSo, AssemblyEndsSo}
 use Rattle.wsc_top.proofs.Tasks.{found_line, same_job, same_assembly}
 use Rattle.wsc_top.proofs.Calls.{no_line, usage_answers, generated_answers}
 use Rattle.wsc_top.proofs.answer.to_words.Goals as goal
@@ -29,7 +28,7 @@ returns-in_ok-status-in-Some-Job-clause-job g c task parts input told f =
     let line = found_line _ c.in_ok-read_task.field-0 (Job c.in-Some-Job.task) c.in_ok-read_task.ensures.some (cc) in
     let same = same_job c.words_are_one_line.ensures _ task c.in-Some-Job.task told.line line in
     subst (λ d. EndsSo d parts input c.in_ok-status-in-Some-Job.status) (sym same)
-    (c.in_ok-status-in-Some-Job.ensures.job told.text parts input told.told told.short (subst (λ d. IsJob (unfit_for d) told.text parts input) same told.job) f)
+    (c.in_ok-status-in-Some-Job.ensures.job told.text parts input told.told told.short told.job f)
 
 pub returns-in_ok-from_slice-in-None-clause-assembled : goal.returns-in_ok-from_slice-in-None-clause-assembled
 returns-in_ok-from_slice-in-None-clause-assembled g c task image input told f =

@@ -1,4 +1,3 @@
-use Rattle.wsc_top.specs.Answers.{unfit_for}
 use Rattle.wsc_top.proofs.Jobs.{job_written}
 use Rattle.wsc_top.proofs.AnswersOnce.{answered_once}
 use Rattle.wsc_top.proofs.laws.every_text_is_answered_once.Goals as goal
@@ -16,5 +15,5 @@ returns c task text one =
       no_end_on_the_way = runs.no_end_on_the_way;
       no_fault_on_the_way = runs.no_fault_on_the_way;
     })
-    (λ parts bytes input asked job. c.printed_reads_the_same.ensures parts (job_written (unfit_for asked) bytes parts input c.read_is_written.ensures job))
-    task text one (c.each_text_is_a_job_or_refused.ensures task text)
+    (λ parts bytes input job. c.printed_reads_the_same.ensures parts (job_written bytes parts input c.read_is_written.ensures job))
+    task text one (c.each_text_is_a_job_or_refused.ensures text)
