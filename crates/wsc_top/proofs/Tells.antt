@@ -1,10 +1,12 @@
 -- What the run of an image of a program yields.
-use Rattle.std.specs.Prelude.{◌≡◌, ℕ, ◌≤◌, true, List, length, refl}
+use Rattle.std.specs.Prelude.{◌≡◌, ℕ, suc, ◌*◌, ◌≤◌, true, List, length, refl}
 use Rattle.std.specs.List.{AllByRecursion}
 use Rattle.std.proofs.Common.{sym, ap, ◌∙◌, subst, arith, inl, inr}
 use Rattle.ws_words.specs.Outside.{Outside, World, printed_words}
 use Rattle.src_ast.specs.declared.lexeme.Place.{Place}
 use Rattle.src_ast.specs.Syntax.{Part}
+use Rattle.src_ast.specs.Bound.{bound}
+use Rattle.src_ast.specs.Meaning.{Passes}
 use Rattle.src_ast.specs.Runs.{Runs, Goes, Faults}
 use Rattle.ws_isa.specs.Image.{Image}
 use Rattle.ws_isa.specs.Shown.{shown_cells}
@@ -15,16 +17,17 @@ use Rattle.core_run.specs.declared.answer.Run.TheVariants as reply
 use Rattle.core_run.specs.Answer.{RunSo}
 use Rattle.wave_build.specs.Compiled.{WalksAsRun}
 use Rattle.wave_gen.specs.Words.{IsWord, WorldOfWords}
-use Rattle.seq_run.proofs.OneAnswer.{end_no_going, fault_no_going}
+use Rattle.seq_run.proofs.OneAnswer.{end_no_fault, end_no_going, fault_no_going}
 use Rattle.wsc_top.specs.declared.status.Status.{Status}
-use Rattle.wsc_top.specs.declared.status.Status.TheVariants.{Done, Budget, Fault}
+use Rattle.wsc_top.specs.declared.status.Status.TheVariants.{Done, Usage, Refused, Budget, ReadFault, WriteFault, PortFault, NoMemory, Fault}
 use Rattle.wsc_top.specs.declared.task.RunOptions.{RunOptions}
 use Rattle.wsc_top.specs.declared.task.JobTask.TheVariants.{Run}
 use Rattle.wsc_top.specs.Texts.{ended_text, faulted_text, spent_text, firings_line, names_of, array_name, shown_names, called}
 use Rattle.wsc_top.specs.Sections.{InputWords, Items, stop, next}
 use Rattle.wsc_top.specs.Job.{world_of}
-use Rattle.wsc_top.specs.Executions.{Executes, EndsRun, status_of, run_text}
-use Rattle.wsc_top.specs.Answers.{IsCompiled, TellsRun, ended, faulted, spent, Yields, ran, EndsSo}
+use Rattle.wsc_top.specs.Executions.{Executes, rested, stopped, EndsRun, status_of, run_text}
+use Rattle.wsc_top.specs.Executions as executions
+use Rattle.wsc_top.specs.Answers.{IsCompiled, TellsRun, ended, faulted, spent, Yields, ran, EndsSo, ComesToItsEnd, MeetsFault}
 use Rattle.wsc_top.specs.Answers as answers
 use Rattle.wsc_top.proofs.Headline.{EndTold, end_told, FrontTold, front_told, FaultTold, fault_told, same_names}
 
@@ -103,9 +106,52 @@ tells_budget options parts world status out (answers.TellsRun.spent n front more
 run_tells_so : (options : RunOptions) (parts : List Part) (input : List ℕ) (status : Status) (out : List ℕ) → Yields (Run options) parts input status out → TellsRun options parts (world_of input) status out
 run_tells_so options parts input status out (ran image c e ends tells) = tells
 
-pub run_so : (options : RunOptions) (parts : List Part) (input : List ℕ) (status : Status) (out : List ℕ) → Yields (Run options) parts input status out → EndsSo (Run options) parts input status
-run_so options parts input status out y = record {
-  done = λ h. absurd h;
-  fault = λ h. absurd h;
-  budget = tells_budget options parts (world_of input) status out (run_tells_so options parts input status out y);
-}
+-- where the budget is spent, the whole walk wants more
+abbrev IsDear : Image → World → ℕ → Status → Type 0
+IsDear image w most Done = Unit {0}
+IsDear image w most Usage = Unit {0}
+IsDear image w most Refused = Unit {0}
+IsDear image w most Budget = CostAtMost image w most → ⊥
+IsDear image w most ReadFault = Unit {0}
+IsDear image w most WriteFault = Unit {0}
+IsDear image w most (PortFault port) = Unit {0}
+IsDear image w most NoMemory = Unit {0}
+IsDear image w most Fault = Unit {0}
+
+spent_is_dear : (options : RunOptions) (image : Image) (w : World) (status : Status) (out : List ℕ) → Executes options image w status out
+    → IsDear image w options.budget status
+spent_is_dear options image w status out (rested t no_fault whole within) = tt
+spent_is_dear options image w status out (executions.Executes.spent t h) = h.dear
+spent_is_dear options image w status out (stopped t fault within) = tt
+
+-- so the budget isn't spent where it has the program's bound for each turn of a run that comes to an end, and once more
+never_spent : (options : RunOptions) (parts : List Part) (input : List ℕ) (status : Status) (out : List ℕ) → AllByRecursion IsWord input
+    → (n : ℕ) (o : Outside) → Passes parts (world_of input) n o → bound parts * suc n ≤ options.budget
+    → Yields (Run options) parts input status out → status ≡ Budget → ⊥
+never_spent options parts input status out words n o p le (ran image c e ends tells) is =
+    let cost = c.cost (world_of input) (given_words input words) n o p in
+    subst (IsDear image (world_of input) options.budget) is (spent_is_dear options image (world_of input) status out e) (λ t. let most = cost t in omega (arith, most, le))
+
+-- a run that comes to its end in time is done
+tells_done : (options : RunOptions) (parts : List Part) (input : List ℕ) (status : Status) (out : List ℕ) → (status ≡ Budget → ⊥)
+    → TellsRun options parts (world_of input) status out → ComesToItsEnd (Run options) parts input → status ≡ Done
+tells_done options parts input status out unspent (answers.TellsRun.ended n fired end r w) h = refl
+tells_done options parts input status out unspent (answers.TellsRun.faulted m array state f) h = absurd (end_no_fault parts (world_of input) h.0 m array h.1 state h.2 f)
+tells_done options parts input status out unspent (answers.TellsRun.spent n front more e) h = absurd (unspent refl)
+
+-- and one that meets a fault in time says so
+tells_fault : (options : RunOptions) (parts : List Part) (input : List ℕ) (status : Status) (out : List ℕ) → (status ≡ Budget → ⊥)
+    → TellsRun options parts (world_of input) status out → MeetsFault (Run options) parts input → status ≡ Fault
+tells_fault options parts input status out unspent (answers.TellsRun.ended n fired end r w) h = absurd (end_no_fault parts (world_of input) n h.0.0 h.0.1 end h.0.2 r h.0.3)
+tells_fault options parts input status out unspent (answers.TellsRun.faulted m array state f) h = refl
+tells_fault options parts input status out unspent (answers.TellsRun.spent n front more e) h = absurd (unspent refl)
+
+pub run_so : (options : RunOptions) (parts : List Part) (input : List ℕ) (status : Status) (out : List ℕ) → AllByRecursion IsWord input
+    → Yields (Run options) parts input status out → EndsSo (Run options) parts input status
+run_so options parts input status out words y =
+    let tells = run_tells_so options parts input status out y in
+    record {
+      done = λ h. tells_done options parts input status out (never_spent options parts input status out words h.0 h.1 h.2.passes h.3 y) tells h;
+      fault = λ h. tells_fault options parts input status out (never_spent options parts input status out words h.1.0 h.1.1 h.1.2 h.1.3 y) tells h;
+      budget = tells_budget options parts (world_of input) status out tells;
+    }

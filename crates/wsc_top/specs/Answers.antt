@@ -1,9 +1,11 @@
 -- What a call of the program answers: the status, and the text that goes out with it.
-use Rattle.std.specs.Prelude.{◌≡◌, ◌⊎◌, ℕ, ◌+◌, ◌≤◌, List, [], ◌++◌, length, Option, Some}
+use Rattle.std.specs.Prelude.{◌≡◌, ◌⊎◌, ℕ, suc, ◌+◌, ◌*◌, ◌≤◌, List, [], ◌++◌, length, Option, Some}
 use Rattle.ws_io.specs.Streams.{Rose, Takes, TakesAll}
 use Rattle.ws_words.specs.Outside.{Outside, World, printed_words}
 use Rattle.src_ast.specs.declared.fault.Refusal.{Refusal}
 use Rattle.src_ast.specs.Syntax.{Part}
+use Rattle.src_ast.specs.Bound.{bound}
+use Rattle.src_ast.specs.Meaning.{Passes}
 use Rattle.src_ast.specs.Runs.{acts_in, Runs, Goes, Faults}
 use Rattle.src_ast.specs.Printed.{printed_form}
 use Rattle.src_ast.specs.Written.{ReadsTheSame}
@@ -97,18 +99,24 @@ pub data Yields : JobTask → List Part → List ℕ → Status → List ℕ →
       → Goes parts (world_of input) options.turns now
       → Yields (Plain options) parts input Budget (going_text (printed_words now.acts))
 
--- A task comes to its end: the sequential run in no more turns than it may take. Of a run nothing is
--- said here, since its cost is its image's.
+-- A task comes to its end: the sequential run in no more turns than it may take, and the run of an
+-- image where its budget has the program's bound for each turn, and once more.
 abbrev pub ComesToItsEnd : JobTask → List Part → List ℕ → Type 0
-ComesToItsEnd (Run options) parts input = ⊥
+ComesToItsEnd (Run options) parts input =
+    (n : ℕ) × (end : Outside)
+    × Runs parts (world_of input) n end × (bound parts * suc n ≤ options.budget)
 ComesToItsEnd Format parts input = Unit {0}
 ComesToItsEnd Compile parts input = Unit {0}
 ComesToItsEnd (Plain options) parts input =
     (n : ℕ) × (end : Outside) × Runs parts (world_of input) n end × (n ≤ options.turns)
 
--- it meets an index fault, in a turn that it may take
+-- it meets an index fault, in a turn that it may take: the run of an image where the run that passes
+-- index faults comes to an end within its budget
 abbrev pub MeetsFault : JobTask → List Part → List ℕ → Type 0
-MeetsFault (Run options) parts input = ⊥
+MeetsFault (Run options) parts input =
+    ((m array : ℕ) × (state : Outside) × Faults parts (world_of input) m array state)
+    × ((n : ℕ) × (end : Outside)
+    × Passes parts (world_of input) n end × (bound parts * suc n ≤ options.budget))
 MeetsFault Format parts input = ⊥
 MeetsFault Compile parts input = ⊥
 MeetsFault (Plain options) parts input =

@@ -26,7 +26,7 @@ pub returns-clause-ends : goal.returns-clause-ends
 returns-clause-ends c =
     let made = c.in_ok-image.ensures in
     let ran = c.in_ok-status.ensures in
-    run_so c.args.options (view.parts c.args.accepted.now.program.items.items) c.args.input _ _
+    run_so c.args.options (view.parts c.args.accepted.now.program.items.items) c.args.input _ _ c.requires.words
     (run_yields c.args.options (view.parts c.args.accepted.now.program.items.items) c.args.input c.in_ok-image.image
     (record {
       formed = subst Formed c.image.view_is c.image.invariant.formed;
