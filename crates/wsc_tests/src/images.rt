@@ -1,11 +1,9 @@
 //! The images of programs walk as the programs run.
 
 use crate::graphs::{INPUTS, PROGRAMS, accepted, world};
-use image_walk::{Checked, walk_image};
+use image_walk::{Walked, walk_image};
 use seq_run::run_plain;
-use src_check::Accepted;
 use std::alloc::Global;
-use std::process::Abort;
 use std::test::Fail;
 use wave_build::compile;
 use ws_words::{Cells, Plain, Words, World};
@@ -35,37 +33,30 @@ fn are_first(words: &Words, all: &Words) -> bool {
     true
 }
 
-// The walk of an image prints and leaves what the run of its program does, and ends where it ends.
-fn walks_so(
-    rt: &impl Abort,
-    alloc: Global,
-    accepted: &Accepted,
-    image: &Checked,
-    world: &World,
-    text: &str,
-) -> Result<(), Fail> {
-    let walked = walk_image(alloc, image, world, FIRINGS)?;
-    match run_plain(alloc, accepted, world, TURNS)? {
+// Whether a walk prints and leaves what this run of its program does, and ends where it ends.
+fn is_walk_of(walked: &Walked, ran: &Plain) -> bool {
+    match ran {
         Plain::Ended {
             printed,
             arrays,
             took,
-            ..
+            turns: _,
         } => {
-            assert_eq!(rt; walked.printed, printed, "{text}");
-            assert_eq!(rt; walked.took, took, "{text}");
-            assert!(rt; begin_with(&walked.arrays, &arrays), "{text}");
-            assert!(rt; walked.whole && walked.fault.is_none(), "{text}");
+            walked.whole
+                && walked.fault.is_none()
+                && walked.printed == *printed
+                && walked.took == *took
+                && begin_with(&walked.arrays, arrays)
         }
-        Plain::Fault { array, printed, .. } => {
-            assert_eq!(rt; walked.fault, Some(array), "{text}");
-            assert!(rt; are_first(&printed, &walked.printed), "{text}");
-        }
-        Plain::Going { printed } => {
-            assert!(rt; are_first(&printed, &walked.printed), "{text}");
-        }
+        Plain::Fault {
+            array,
+            printed,
+            arrays: _,
+            took: _,
+            turns: _,
+        } => walked.fault == Some(*array) && are_first(printed, &walked.printed),
+        Plain::Going { printed } => are_first(printed, &walked.printed),
     }
-    Ok(())
 }
 
 #[test]
@@ -76,7 +67,9 @@ fn images_walk_as_programs_run(rt: HostRuntime) -> Result<(), Fail> {
         let image = compile(alloc, &accepted)?;
         for input in INPUTS {
             let world = world(alloc, input)?;
-            walks_so(&rt, alloc, &accepted, &image, &world, text)?;
+            let walked = walk_image(alloc, &image, &world, FIRINGS)?;
+            let ran = run_plain(alloc, &accepted, &world, TURNS)?;
+            assert!(rt; is_walk_of(&walked, &ran), "{text}");
         }
     }
     Ok(())
