@@ -1,31 +1,29 @@
 -- What the run of an image of a program tells, in the words of the program's own run.
-use Rattle.std.specs.Prelude.{◌≡◌, ℕ, zero, suc, ◌+◌, ◌-◌, ◌<◌, ◌≤◌, ◌⊎◌, ◌^◌, Bool, true, false, List, [], ◌∷◌, ◌++◌, length, map, Option, Some, None, if◌then◌else◌, unwrap_or, refl}
+use Rattle.std.specs.Prelude.{◌≡◌, ℕ, zero, suc, ◌-◌, Bool, true, false, List, [], ◌∷◌, ◌++◌, length, map, Option, Some, None, if◌then◌else◌, unwrap_or, refl}
 use Rattle.std.specs.Option.{is_some}
-use Rattle.std.specs.List.{AllByRecursion}
-use Rattle.std.proofs.Common.{sym, ap, ◌∙◌, subst, arith, inl, inr, append_assoc}
+use Rattle.std.proofs.Common.{sym, ap, ◌∙◌, subst, inl, inr, append_assoc}
 use Rattle.ws_words.specs.Outside.{Act, Outside, World, zeros, printed_words}
 use Rattle.ws_words.specs.Past.{AreWithin, FirstPast, after_acts}
-use Rattle.src_ast.specs.declared.lexeme.Name.{Name}
 use Rattle.src_ast.specs.Syntax.{Part, Array, Proc}
-use Rattle.src_ast.specs.Meaning.{lengths_of, empty_cells, Passes}
+use Rattle.src_ast.specs.Meaning.{lengths_of, empty_cells}
 use Rattle.src_ast.specs.Turns.{CallEnd}
-use Rattle.src_ast.specs.Runs.{outside_of, acts_in, opened, Runs, Goes, Faults}
+use Rattle.src_ast.specs.Runs.{outside_of, acts_in, opened, Runs, Faults}
 use Rattle.ws_isa.specs.Image as isa
 use Rattle.ws_isa.specs.Image.{Image, nth, instr_at, no_instr, flat, array_at, cells_of}
 use Rattle.ws_isa.specs.declared.instr.Op.{Op}
 use Rattle.ws_isa.specs.declared.instr.Op.TheVariants.{Const, Alu, Merge, Advance, Steer, Phi, Send, Load, Store, Input, Output, Give, Take, Nop, Halt}
 use Rattle.ws_isa.specs.Formed.{Formed, OpIn}
 use Rattle.ws_isa.specs.Shown as image_shown
-use Rattle.image_walk.specs.Walk.{mem, walk, opening_memory, has_ended, CostAtMost}
+use Rattle.image_walk.specs.Walk.{mem, opening_memory, has_ended}
 use Rattle.image_walk.specs.Operations.{FaultsAt, NoFault}
 use Rattle.image_walk.proofs.There.{all_nth}
 use Rattle.cfg_core.specs.Graph as graph
 use Rattle.cfg_core.specs.Graph.{GraphArray}
-use Rattle.cfg_core.specs.Shown.{has_name, shown_arrays, shown_cells, shown_among, hidden, is_hidden, shown_acts}
+use Rattle.cfg_core.specs.Shown.{shown_arrays, shown_cells, shown_among, hidden, is_hidden}
 use Rattle.cfg_build.specs.Keeps as program
 use Rattle.wave_gen.specs.Listing.{array_of}
 use Rattle.wave_build.specs.Compiled.{in_graph, shown, ShowsArrays, WalksAsRun}
-use Rattle.seq_run.specs.Laws.{Begins, HasAnswer}
+use Rattle.seq_run.specs.Laws.{HasAnswer}
 use Rattle.seq_run.proofs.FirstPasts.{not_within, one_array, one_before}
 use Rattle.seq_run.proofs.OneAnswer.{fronts, some_answer, passed}
 use Rattle.wsc_top.specs.Texts.{names_of, shown_names, name_at, array_name, called, maybe_name, name_or_number}

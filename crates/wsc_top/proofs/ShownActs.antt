@@ -1,9 +1,8 @@
 -- What acts show where some arrays are hidden: they stay within the ends, pass the same end first, print the same words and leave the same cells.
-use Rattle.std.specs.Prelude.{◌≡◌, ℕ, zero, suc, ◌+◌, ◌-◌, ◌<◌, ◌≤◌, Bool, true, false, List, [], ◌∷◌, ◌++◌, length, map, Option, Some, None, if◌then◌else◌, slice_index, slice_set, unwrap_or, refl}
-use Rattle.std.specs.List.{AllByRecursion}
-use Rattle.std.proofs.Common.{sym, ap, ◌∙◌, subst, arith, append_assoc, append-nil}
+use Rattle.std.specs.Prelude.{◌≡◌, ℕ, zero, suc, ◌+◌, ◌-◌, ◌<◌, ◌≤◌, Bool, true, false, List, [], ◌∷◌, ◌++◌, length, map, Some, if◌then◌else◌, slice_index, slice_set, refl}
+use Rattle.std.proofs.Common.{sym, ap, ◌∙◌, subst, arith, append_assoc}
 use Rattle.ws_words.specs.Operators.{flag}
-use Rattle.ws_words.specs.Outside.{Act, loads, stores, reads, prints, gives, takes, Outside, row, with_row, zeros, printed_words}
+use Rattle.ws_words.specs.Outside.{Act, loads, stores, reads, prints, gives, takes, Outside, row, with_row, printed_words}
 use Rattle.ws_words.specs.Past.{IsPast, IsWithin, AreWithin, FirstPast, after_act, after_acts}
 use Rattle.ws_words.specs.Past as past
 use Rattle.cfg_core.specs.Graph.{GraphArray, nth}

@@ -1,13 +1,13 @@
 -- What the run of an image of a program yields.
 use Rattle.std.specs.Prelude.{◌≡◌, ℕ, suc, ◌*◌, ◌≤◌, true, List, length, refl}
 use Rattle.std.specs.List.{AllByRecursion}
-use Rattle.std.proofs.Common.{sym, ap, ◌∙◌, subst, arith, inl, inr}
+use Rattle.std.proofs.Common.{sym, ap, ◌∙◌, subst, arith}
 use Rattle.ws_words.specs.Outside.{Outside, World, printed_words}
 use Rattle.src_ast.specs.declared.lexeme.Place.{Place}
 use Rattle.src_ast.specs.Syntax.{Part}
 use Rattle.src_ast.specs.Bound.{bound}
 use Rattle.src_ast.specs.Meaning.{Passes}
-use Rattle.src_ast.specs.Runs.{Runs, Goes, Faults}
+use Rattle.src_ast.specs.Runs.{Goes}
 use Rattle.ws_isa.specs.Image.{Image}
 use Rattle.ws_isa.specs.Shown.{shown_cells}
 use Rattle.image_walk.specs.Walk.{walk, has_ended, CostAtMost}
@@ -29,7 +29,7 @@ use Rattle.wsc_top.specs.Executions.{Executes, rested, stopped, EndsRun, status_
 use Rattle.wsc_top.specs.Executions as executions
 use Rattle.wsc_top.specs.Answers.{IsCompiled, TellsRun, ended, faulted, spent, Yields, ran, EndsSo, ComesToItsEnd, MeetsFault}
 use Rattle.wsc_top.specs.Answers as answers
-use Rattle.wsc_top.proofs.Headline.{EndTold, end_told, FrontTold, front_told, FaultTold, fault_told, same_names}
+use Rattle.wsc_top.proofs.Headline.{end_told, front_told, fault_told, same_names}
 
 -- the words of an input section are words
 items_words : (at place : Place) (text words rest : List ℕ) → Items at text words place rest → AllByRecursion IsWord words

@@ -1,5 +1,5 @@
 -- The acts of a walk: what is outside is what they leave, and loads and stores past the end are the acts past the end.
-use Rattle.std.specs.Prelude.{◌≡◌, ℕ, zero, suc, ◌+◌, ◌-◌, ◌<◌, ◌≤◌, Bool, true, false, not, cond, List, [], ◌∷◌, ◌++◌, length, map, Option, Some, None, slice_index, refl, ltb}
+use Rattle.std.specs.Prelude.{◌≡◌, ℕ, zero, suc, ◌-◌, ◌<◌, ◌≤◌, Bool, true, false, not, List, [], ◌∷◌, ◌++◌, map, Option, Some, None, slice_index, refl, ltb}
 use Rattle.std.proofs.Common.{sym, ap, ◌∙◌, subst, arith, append_assoc, append-nil}
 use Rattle.std.proofs.lemmas.Bool.{cond-true, cond-false, ltb-true, ltb-false}
 use Rattle.ws_words.specs.Outside.{Act, loads, stores, reads, prints, gives, takes, Outside, World}
@@ -7,9 +7,9 @@ use Rattle.ws_words.specs.Past.{IsPast, IsWithin, AreWithin, FirstPast, after_ac
 use Rattle.ws_words.specs.Past as past
 use Rattle.ws_isa.specs.declared.instr.Op.{Op}
 use Rattle.ws_isa.specs.declared.instr.Op.TheVariants.{Const, Alu, Merge, Advance, Steer, Phi, Send, Load, Store, Input, Output, Give, Take, Nop, Halt}
-use Rattle.ws_isa.specs.Image.{Array, Image, instr_at, is_memory, is_memory_op, acts_of_op, after, after_op, is_past, is_past_op, array_at, array_of_op, array_length, cells_of}
-use Rattle.image_walk.specs.Walk.{Inst, Pos, pos, mem, fires, fire, inst_at, operands_at, opening, opening_memory}
-use Rattle.image_walk.specs.Operations.{past as is_past_inst, FaultsAt, NoFault}
+use Rattle.ws_isa.specs.Image.{Array, Image, instr_at, is_memory, is_memory_op, acts_of_op, after, is_past, is_past_op, array_at, array_of_op, array_length}
+use Rattle.image_walk.specs.Walk.{Inst, Pos, pos, mem, fires, fire, operands_at, opening, opening_memory}
+use Rattle.image_walk.specs.Operations.{past as is_past_inst, FaultsAt}
 use Rattle.image_walk.proofs.Steps.{StepCase, stands, turns, ends, leaves, step_case}
 use Rattle.seq_run.proofs.FirstPasts.{within_both}
 
