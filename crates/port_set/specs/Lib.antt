@@ -1,0 +1,4 @@
+pub mod Lines
+pub mod Ports
+pub mod Slots
+pub mod Tape
