@@ -3,14 +3,14 @@
 #![tactic(auto)]
 
 mod answer;
-mod chain;
+pub mod chain;
 mod drive;
 mod engine;
 mod flow;
 mod memory;
 mod open;
-mod order;
-mod program;
+pub mod order;
+pub mod program;
 mod slots;
 mod token;
 mod way;

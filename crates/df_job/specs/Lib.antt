@@ -1,0 +1,3 @@
+pub mod Began
+pub mod Codes
+pub mod Rights
