@@ -26,7 +26,7 @@ use Rattle.asm_text.specs.Forms.{is_steer, line_of}
 use Rattle.asm_text.specs.Printed.{dest_lexemes, numbers, link_lexeme, note_lexemes, number_lexemes, op_lexemes, list_lexemes, instr_lexemes, pad_lexemes, exit_lexemes, array_lexemes, array_by, numbered, text_of}
 use Rattle.asm_text.specs.Reading.{reading}
 use Rattle.asm_text.specs.Spelling.{array_line_of}
-use Rattle.asm_text.proofs.Spelt.{IsLexeme, AreLexemes}
+use Rattle.asm_text.specs.Spelled.{IsLexeme, AreLexemes}
 use Rattle.asm_text.proofs.Again.{target_of, AreNarrow, OpFits}
 use Rattle.asm_text.proofs.AgainLines.{SmallNumbers, version_again, array_again, wave_again, block_again, pad_again, instr_again, go_again, branch_again, send_again, stop_again, end_again, reading_again}
 use Rattle.asm_text.proofs.Items.{InstrIn, Small, dests_small}

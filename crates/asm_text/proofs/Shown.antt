@@ -16,7 +16,8 @@ use Rattle.asm_text.specs.Printed.{instr_lexemes, instr_lines, wave_lines, block
 use Rattle.asm_text.specs.Reading.{reading, read}
 use Rattle.asm_text.specs.Spelling.{Item, Version, Array, Wave, Block, Pad, Instr, Exit, End, instr_items, wave_items, block_items, blocks_items, items, Naming, IsFor, Pairs, TargetIsFor, array_line_of, Spells, SpellsExit, Say, Spelled}
 use Rattle.asm_text.proofs.Again.{target_of}
-use Rattle.asm_text.proofs.Lined.{AllLexemes, texts, lines_of_printed}
+use Rattle.asm_text.specs.Spelled.{AllLexemes, texts}
+use Rattle.asm_text.proofs.Lined.{lines_of_printed}
 use Rattle.asm_text.proofs.Items.{InstrIn, BlockIn, blocks_formed}
 use Rattle.asm_text.proofs.Says.{Says, pad_line, instr_line, exit_line, version_says, array_says, wave_says, block_says, pad_says, instr_says, exit_says, end_says}
 use Rattle.asm_text.proofs.Completes.{spelled_read}

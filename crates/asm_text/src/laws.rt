@@ -1,13 +1,26 @@
 //! Laws over the definitions of reading and printing.
 
-ghost use Rattle.std.specs.Prelude.{◌≡◌, ℕ, List, Ok};
+ghost use Rattle.std.specs.Prelude.{◌≡◌, ℕ, List, Ok, Some, false};
+ghost use Rattle.std.specs.List.{flat_map};
 ghost use Rattle.ws_isa.specs.Image.{Image};
 ghost use Rattle.ws_isa.specs.Formed.{Formed};
 ghost use Rattle.ws_isa.specs.Samples.{image_a, image_b};
-ghost use Rattle.asm_text.specs.Printed.{printed};
-ghost use Rattle.asm_text.specs.Reading.{read};
+ghost use Rattle.asm_text.specs.declared.lexeme.Lexeme.{Lexeme};
+ghost use Rattle.asm_text.specs.Lexing.{lexed};
+ghost use Rattle.asm_text.specs.Printed.{start, text_of, line_text, printed};
+ghost use Rattle.asm_text.specs.Spelled.{AreLexemes, AllLexemes, texts};
+ghost use Rattle.asm_text.specs.Reading.{lines_of, read};
 ghost use Rattle.asm_text.specs.Samples.{text_a, text_b, text_named};
 ghost use Rattle.asm_text.specs.Spelling.{Spelled};
+
+/// The lexemes of a printed line are those that were printed, and the lines of a printed text are the
+/// printed lines.
+pub fn printed_lexemes_are_lexed()
+    ensures lexemes { (ls : List Lexeme) → AreLexemes ls →
+        lexed (text_of start ls) ≡ Some (record { items = ls; wide = false }) }
+    ensures lines { (lines : List (List Lexeme)) → AllLexemes lines →
+        lines_of (flat_map line_text lines) ≡ texts lines }
+{}
 
 /// The printed form of a formed image is read as that image.
 pub fn printed_reads_again()

@@ -1,0 +1,11 @@
+use Rattle.std.proofs.Common.{take}
+use Rattle.core_run.specs.Cores.{Runs}
+use Rattle.trace_check.specs.Replays.{events_of}
+use Rattle.trace_check.proofs.Making.{LedAlong}
+use Rattle.trace_check.proofs.replaying.make_all.Given as goal
+
+abbrev pub invariant-loop-event : goal.invariant-loop-event
+invariant-loop-event l = record {
+  core : Runs l.core;
+  made : LedAlong (events_of (take l.event-index l.events)) l.initial.core l.core;
+}
