@@ -1,0 +1,9 @@
+pub mod Spots
+pub mod Chains
+pub mod Arrivals
+pub mod Search
+pub mod Store
+pub mod Held
+pub mod Kept
+pub mod Answered
+pub mod Events

@@ -1,0 +1,78 @@
+-- What a table answers to a token.
+use Rattle.std.specs.Prelude.{◌≡◌, ℕ, Bool, true, false, not, ◌&&◌, List, [], ◌∷◌, ◌++◌, slice_index, Some, None}
+use Rattle.ws_isa.specs.Image.{Image, Token, ports, is_memory, result_of, sends}
+use Rattle.core_law.specs.Core.{State, arrived, matched, has, is_full, with_at, operands_in}
+use Rattle.df_job.specs.Rights.{operands_of}
+use Rattle.match_table.specs.declared.table.Accept.{Accept}
+use Rattle.match_table.specs.declared.table.Accept.TheVariants.{Waits, Fires, Asks}
+use Rattle.match_table.specs.declared.table.AcceptFault.{AcceptFault}
+use Rattle.match_table.specs.declared.table.AcceptFault.TheVariants as fault
+use Rattle.match_table.specs.declared.meeting.Seen.{Seen}
+use Rattle.match_table.specs.declared.meeting.Seen.TheVariants.{Old}
+use Rattle.match_table.specs.declared.table.Fired.{Fired}
+use Rattle.match_table.specs.Ports.{listed}
+use Rattle.match_table.specs.Tables.{Content, held}
+
+-- the port had no token, and now it has this one
+pub record Arrives (old : Content) (t : Token) (new : Content) : Type 0 where
+  pub free : held old t.wave t.instr t.port ≡ None
+  pub more : (w i p : ℕ) → held new w i p ≡ with_at t.wave t.instr t.port (Some t.value) (held old) w i p
+
+-- the token's instance is full and has fired, with these operands
+pub record Full (image : Image) (old : Content) (t : Token) (new : Content) (operands : List ℕ) : Type 0 where
+  pub full : is_full (held new) t.wave t.instr (ports image t.instr) ≡ true
+  pub operands_are : operands ≡ operands_in image (held new) t.wave t.instr
+  pub entry : Fired
+  pub wave : entry.wave ≡ t.wave
+  pub instr : entry.instr ≡ t.instr
+  pub listed_are : listed entry.operands ≡ operands
+  pub fired : new.fired ≡ old.fired ++ entry ∷ []
+
+-- the port has had no token, and with this one the instance is full
+abbrev pub will_fire : Image → Content → Token → Bool
+will_fire image c t =
+    not (has (held c t.wave t.instr t.port))
+    && is_full (with_at t.wave t.instr t.port (Some t.value) (held c)) t.wave t.instr (ports image t.instr)
+
+-- an earlier token stands at the port
+abbrev pub IsOldSo : Content → Token → Seen → Type 0
+IsOldSo c t Old = has (held c t.wave t.instr t.port) ≡ true
+IsOldSo c t _ = Unit {0}
+
+module _ {J : Type 0} where
+  -- what an instance answers that is full with these operands
+  abbrev pub Outcome : Image → Token → List ℕ → Accept J → Type 0
+  Outcome image t operands Waits = ⊥
+  Outcome image t operands (Fires tokens) = (is_memory image t.instr ≡ false) × (tokens ≡ sends image t.wave t.instr operands (result_of image t.instr operands))
+  Outcome image t operands (Asks request) = (is_memory image t.instr ≡ true) × (request.wave ≡ t.wave) × (request.instr ≡ t.instr) × (request.second ≡ slice_index operands 1) × (operands_of (ports image t.instr) request.first request.second ≡ operands)
+
+  abbrev pub Accepted : Image → Content → Token → Content → Accept J → Type 0
+  Accepted image old t new Waits = Arrives old t new × (is_full (held new) t.wave t.instr (ports image t.instr) ≡ false) × (new.fired ≡ old.fired)
+  Accepted image old t new answer = Arrives old t new × ((operands : List ℕ) × Full image old t new operands × Outcome image t operands answer)
+
+  abbrev pub Refused : Content → Token → Content → AcceptFault J → Type 0
+  Refused old t new (fault.Old back) = (back ≡ t) × (new ≡ old) × (has (held old t.wave t.instr t.port) ≡ true)
+  Refused old t new (fault.NoMemory back) = (back ≡ t) × (new.entries ≡ old.entries) × (new.fired ≡ old.fired)
+
+module _ {J : Type 0} where
+  -- the answer says that the instance has fired
+  abbrev pub has_fired : Accept J → Bool
+  has_fired Waits = false
+  has_fired (Fires tokens) = true
+  has_fired (Asks request) = true
+
+  -- this holds where the answer is want of memory
+  abbrev pub IfNoMemory : AcceptFault J → Type 0 → Type 0
+  IfNoMemory (fault.Old back) holds = Unit {0}
+  IfNoMemory (fault.NoMemory back) holds = holds
+
+-- the state holds at the ports of the token's instance what the table holds
+abbrev pub Agrees : State → Content → Token → Type 0
+Agrees s c t = (q : ℕ) → s.held t.wave t.instr q ≡ held c t.wave t.instr q
+
+-- the state once the token has moved into its port
+abbrev pub moved : State → Token → State
+moved s t = arrived s t.wave t.instr t.port t.value
+
+abbrev pub match_of : Image → State → Token → State
+match_of image s t = matched image s t.wave t.instr t.port t.value

@@ -1,0 +1,309 @@
+//! Tables.
+
+ghost use Rattle.std.specs.Prelude.{◌≡◌, ◌<◌, ◌≤◌, ◌+◌, ◌^◌, ℕ, IfErr, IsOk, IsSome, None, [], false, cond, suc, IfSome, IfOk, OnOk, MatchResult};
+ghost use Rattle.ws_isa.specs.Formed.{Formed};
+ghost use Rattle.ws_isa.specs.Image.{is_advance_op, ports};
+ghost use Rattle.image_walk.specs.Sound.{Sound};
+ghost use Rattle.core_law.specs.Core.{Once, has, is_full};
+ghost use Rattle.core_law.specs.Shown.{TablesOk};
+ghost use Rattle.core_run.specs.Places.{ProgramIs, image_of};
+ghost use Rattle.match_table.specs.declared.meeting.Seen.TheVariants.{Waits, Fills};
+ghost use Rattle.match_table.specs.Matching.{Accepted, Arrives, Full, IfNoMemory, IsOldSo, Outcome, Refused, has_fired, will_fire};
+ghost use Rattle.match_table.specs.Pages.{KeyIs, arrived_in};
+ghost use Rattle.match_table.specs.Ports.{listed, SeenSo};
+ghost use Rattle.match_table.specs.Tables.{held, part};
+
+use crate::entry::Arrived;
+use crate::meeting::{Operands, Seen, is_taken, meet};
+use crate::ops::{result_of, selector};
+use crate::pages::Pages;
+use core_run::program::Program;
+use df_job::{Code, Job, Request, Token, TokenList};
+use std::alloc::Global;
+use std::marker::{Model, PhantomData};
+use ws_isa::Op;
+use ws_words::NoMemory;
+
+/// An instance that has fired, with its operands by port.
+#[derive(Clone, Copy)]
+pub struct Fired {
+    pub wave: u64,
+    pub instr: u32,
+    pub operands: Operands,
+}
+
+/// What a table answers to a token: its instance isn't full, or it has fired, and these are its
+/// result tokens or its request.
+#[derive(Drop)]
+pub enum Accept<J: Job> {
+    Waits,
+    Fires(TokenList<J>),
+    Asks(Request<J>),
+}
+
+/// Why a table doesn't take a token, which it hands back: its port had it before, or memory ran out.
+#[derive(Drop)]
+pub enum AcceptFault<J: Job> {
+    Old(Token<J>),
+    NoMemory(Token<J>),
+}
+
+/// The instances of which tokens have come: their tokens, and those that have fired, with their
+/// operands, in the order of firing.
+#[derive(Drop)]
+pub struct Table<J: Job> {
+    pages: Pages,
+    fired: Vec<Fired>,
+    of: PhantomData<J>,
+}
+
+impl<J: Job> Model for Table<J> {
+    ghost use Rattle.std.specs.Prelude.{◌-◌, min, vec_len, vec_capacity};
+    ghost use Rattle.match_table.specs.Tables.{Content, TableOk};
+
+    ghost Value = { Content };
+
+    ghost view = { λ t. record {
+      entries = t.pages.entries;
+      fired = t.fired.items;
+      spare = min t.pages.spare (vec_capacity t.fired - vec_len t.fired);
+    } };
+
+    ghost invariant = { λ t. TableOk J.image J.world t.pages.entries t.fired.items };
+}
+
+// The key of an instance's entry, and what a token finds at its port.
+#[derive(Clone, Copy)]
+struct Look {
+    key: Option<usize>,
+    seen: Seen,
+}
+
+impl<J: Job> Table<J> {
+    /// No tokens, and nothing has fired.
+    pub fn new(alloc: Global) -> Table<J>
+        ensures held { (w i p : ℕ) → held result w i p ≡ None }
+        ensures fired { result.fired ≡ [] }
+    {
+        Table {
+            pages: Pages::new(alloc),
+            fired: Vec::new(alloc),
+            of: PhantomData,
+        }
+    }
+
+    /// Makes room for so many tokens.
+    pub fn reserve(&mut self, tokens: u32) -> Result<(), NoMemory>
+        ensures entries { self.new.entries ≡ self.old.entries }
+        ensures fired { self.new.fired ≡ self.old.fired }
+        ensures room { OnOk result (tokens ≤ self.new.spare) }
+        ensures kept { self.old.spare ≤ self.new.spare }
+        ensures succeeds { 0 < tokens → tokens ≤ self.old.spare → IsOk result }
+    {
+        self.pages.reserve(tokens as usize)?;
+        self.fired.reserve(tokens as usize)?;
+        Ok(())
+    }
+
+    /// Whether a port of an instance has had its token.
+    pub fn holds(&self, wave: u64, instr: u32, port: u8) -> bool
+        ensures { result ≡ has (held self.now wave instr port) }
+    {
+        is_taken(self.pages.look(wave, instr).arrived, port)
+    }
+
+    /// The instances that fired here, in the order of firing.
+    pub fn fired(&self) -> &[Fired]
+        ensures { result.now ≡ self.now.fired }
+    {
+        &self.fired
+    }
+
+    /// What is true of every table: it is a part of the core's state of which the law speaks, and an
+    /// instance fires once.
+    pub fn facts(&self)
+        ensures part { TablesOk J.image J.world (part self.now) }
+        ensures once { Once (part self.now).fired }
+    {
+        let _ = &self.fired;
+    }
+
+    // What a token finds here.
+    fn look(&self, token: &Token<J>, count: u8) -> Look
+        requires formed { Formed J.image }
+        requires sound { Sound J.image }
+        requires ports { (count ≡ ports J.image token.now.instr) × (count ≤ 3) }
+        ensures key { KeyIs self.now.entries result.key token.now.wave token.now.instr }
+        ensures seen { SeenSo (arrived_in self.now.entries token.now.wave token.now.instr)
+            token.now.port token.now.value count result.seen }
+        ensures old { IsOldSo self.now token.now result.seen }
+    {
+        let found = self.pages.look(token.wave(), token.instr());
+        let seen = meet(found.arrived, token.port(), token.value(), count);
+        Look {
+            key: found.key,
+            seen,
+        }
+    }
+
+    /// Whether the token would fire its instance.
+    pub fn would_fire(&self, code: &Code<'_, J>, token: &Token<J>) -> bool
+        ensures { result ≡ will_fire J.image self.now token.now }
+    {
+        let _ = &self.fired;
+        let _ = token.wave();
+        let program = code.program();
+        let count = program.op(token.instr()).ports();
+        let look = self.look(token, count);
+        match look.seen {
+            Seen::Fills(_) => true,
+            Seen::Waits(_) => false,
+            Seen::Old => false,
+        }
+    }
+
+    // The token waits at its port.
+    fn keep(&mut self, token: &Token<J>, key: Option<usize>, next: Arrived, count: u8)
+        requires formed { Formed J.image }
+        requires sound { Sound J.image }
+        requires ports { (count ≡ ports J.image token.now.instr) × (count ≤ 3) }
+        requires key { KeyIs self.old.entries key token.now.wave token.now.instr }
+        requires seen { SeenSo (arrived_in self.old.entries token.now.wave token.now.instr)
+            token.now.port token.now.value count (Waits next) }
+        requires room { 0 < self.old.spare }
+        ensures arrives { Arrives self.old token.now self.new }
+        ensures waits { is_full (held self.new) token.now.wave token.now.instr
+            (ports J.image token.now.instr) ≡ false }
+        ensures fired { self.new.fired ≡ self.old.fired }
+        ensures spare { self.old.spare ≤ self.new.spare + 1 }
+    {
+        let wave = token.wave();
+        let instr = token.instr();
+        self.pages.put(key, wave, instr, next);
+    }
+
+    // The token's instance is full, and fires.
+    fn fire(&mut self, token: &Token<J>, key: Option<usize>, operands: Operands, count: u8)
+        requires formed { Formed J.image }
+        requires sound { Sound J.image }
+        requires ports { (count ≡ ports J.image token.now.instr) × (count ≤ 3) }
+        requires key { KeyIs self.old.entries key token.now.wave token.now.instr }
+        requires seen { SeenSo (arrived_in self.old.entries token.now.wave token.now.instr)
+            token.now.port token.now.value count (Fills operands) }
+        requires room { 0 < self.old.spare }
+        ensures arrives { Arrives self.old token.now self.new }
+        ensures full { Full J.image self.old token.now self.new (listed operands) }
+        ensures spare { self.old.spare ≤ self.new.spare + 1 }
+    {
+        let wave = token.wave();
+        let instr = token.instr();
+        self.pages.put(key, wave, instr, Arrived::Spent(count));
+        self.fired.push_reserved(Fired {
+            wave,
+            instr,
+            operands,
+        });
+    }
+
+    /// Takes a token: the core's match of it. Where its instance is full it fires. `Old` comes exactly
+    /// where the port had its token before.
+    pub fn accept(
+        &mut self,
+        alloc: Global,
+        code: &Code<'_, J>,
+        token: Token<J>,
+    ) -> Result<Accept<J>, AcceptFault<J>>
+        ensures answer { MatchResult result (Accepted J.image self.old token self.new)
+            (Refused self.old token self.new) }
+        ensures fires { IfOk result (λ answer. has_fired answer ≡ will_fire J.image self.old token) }
+
+        // Where there is room it isn't want of memory, and a token takes room for one.
+        ensures memory { IfErr result (λ fault.
+            IfNoMemory fault (0 < self.old.spare → token.wave + 1 < 2 ^ 64 → ⊥)) }
+        ensures spare { self.old.spare ≤ self.new.spare + 1 }
+    {
+        let program = code.program();
+        let instr = token.instr();
+        let op = program.op(instr);
+        let count = op.ports();
+        let look = self.look(&token, count);
+        match look.seen {
+            Seen::Old => Err(AcceptFault::Old(token)),
+            Seen::Waits(next) => {
+                if self.make_room().is_err() {
+                    return Err(AcceptFault::NoMemory(token));
+                }
+                self.keep(&token, look.key, next, count);
+                Ok(Accept::Waits)
+            }
+            Seen::Fills(operands) => {
+                let Ok(outcome) = self.outcome(alloc, program, &token, operands) else {
+                    return Err(AcceptFault::NoMemory(token));
+                };
+                if self.make_room().is_err() {
+                    return Err(AcceptFault::NoMemory(token));
+                }
+                self.fire(&token, look.key, operands, count);
+                Ok(outcome)
+            }
+        }
+    }
+
+    // What the token's instance answers once it is full with these operands.
+    fn outcome(
+        &self,
+        alloc: Global,
+        program: &Program<'_>,
+        token: &Token<J>,
+        operands: Operands,
+    ) -> Result<Accept<J>, NoMemory>
+        requires program { ProgramIs program.now }
+        requires image { image_of program.now ≡ J.image }
+        requires formed { Formed J.image }
+        requires sound { Sound J.image }
+        requires seen { SeenSo (arrived_in self.now.entries token.now.wave token.now.instr)
+            token.now.port token.now.value (ports J.image token.now.instr) (Fills operands) }
+        ensures outcome { IfOk result (Outcome J.image token.now (listed operands)) }
+        ensures few { token.now.wave + 1 < 2 ^ 64 → IsOk result }
+    {
+        let _ = &self.fired;
+        let wave = token.wave();
+        let instr = token.instr();
+        let op = program.op(instr);
+        if op.is_memory() {
+            let request = Request::right(wave, instr, operands.first(), operands.second());
+            return Ok(Accept::Asks(request));
+        }
+        let Some(number) = number_of(op, wave) else {
+            return Err(NoMemory);
+        };
+        let dests = program.destinations(instr, selector(op, operands));
+        let word = result_of(op, operands);
+        let mut tokens = TokenList::empty(alloc);
+        tokens.send(number, dests, word)?;
+        Ok(Accept::Fires(tokens))
+    }
+
+    // Makes room for one token.
+    fn make_room(&mut self) -> Result<(), NoMemory>
+        ensures entries { self.new.entries ≡ self.old.entries }
+        ensures fired { self.new.fired ≡ self.old.fired }
+        ensures room { OnOk result (0 < self.new.spare) }
+        ensures succeeds { 0 < self.old.spare → IsOk result }
+        ensures kept { self.old.spare ≤ self.new.spare }
+    {
+        self.reserve(1)
+    }
+}
+
+// The wave number of an instance's results, where there is one.
+fn number_of(op: Op, wave: u64) -> Option<u64>
+    ensures number { IfSome result (λ number. number ≡ cond (is_advance_op op) (suc wave) wave) }
+    ensures some { wave + 1 < 2 ^ 64 → IsSome result }
+{
+    if op.is_advance() {
+        wave.checked_add(1)
+    } else {
+        Some(wave)
+    }
+}
