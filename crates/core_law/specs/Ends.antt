@@ -3,7 +3,7 @@ use Rattle.std.specs.Prelude.{ℕ, ◌≡◌, ◌<◌, ◌≤◌, true, false, l
 use Rattle.ws_words.specs.Outside.{World}
 use Rattle.ws_isa.specs.Image.{Image, is_memory}
 use Rattle.image_walk.specs.Walk.{Inst, fires}
-use Rattle.image_walk.specs.Operations.{ops, Effect, FaultsAt, NoFault}
+use Rattle.image_walk.specs.Operations.{ops, past, Effect, FaultsAt, NoFault}
 use Rattle.core_law.specs.Effect.{effect_at}
 use Rattle.core_law.specs.Core.{State, HasFired}
 
@@ -39,17 +39,24 @@ FirstFired image world s p = (t : ℕ) (x : Inst) → fires image world t ≡ So
     is_memory image x.instr ≡ true → length (ops image world t) < p →
     HasFired s.fired x.wave x.instr
 
--- p is the largest number for which the first p operations of the walk have fired, and memory is
--- what they leave
+-- no load or store of the first t steps of the walk is past the end
+abbrev pub FirstWithin : Image → World → ℕ → Type 0
+FirstWithin image world t = (u : ℕ) (x : Inst) → u < t → fires image world u ≡ Some x →
+    past image x ≡ false
+
+-- p is the largest number for which the first p operations of the walk have fired, none of them is
+-- past the end, and memory is what they leave
 pub record AfterFired (image : Image) (world : World) (s : State) (p : ℕ) : Type 0 where
   pub memory : Effect image world p s.memory
+  pub within : (t : ℕ) → length (ops image world t) ≤ p → FirstWithin image world t
   pub fired : FirstFired image world s p
   pub most : (t : ℕ) → FirstFired image world s (length (ops image world t)) →
       length (ops image world t) ≤ p
 
--- memory is what the first p operations of the walk leave, and they are at least as many as have
--- fired without a gap
+-- memory is what the first p operations of the walk leave, none of them is past the end, and they
+-- are at least as many as have fired without a gap
 pub record Passed (image : Image) (world : World) (s : State) (p : ℕ) : Type 0 where
   pub memory : Effect image world p s.memory
+  pub within : (t : ℕ) → length (ops image world t) ≤ p → FirstWithin image world t
   pub most : (t : ℕ) → FirstFired image world s (length (ops image world t)) →
       length (ops image world t) ≤ p

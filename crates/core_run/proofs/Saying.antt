@@ -90,6 +90,7 @@ module _ (image : Image) (world : World) (facts : WalkFacts image world) (budget
         most = λ t f. after.most t (λ u x fx mx l. of.only u x (f u x fx mx l) fx);
         front = after.memory.steps;
         front_has = after.memory.count;
+        within = after.within after.memory.steps (let e : length (ops image world after.memory.steps) ≡ _ = after.memory.count in omega arith);
         left = tells_at after.memory.steps (effect_is image world after.memory.steps ∙ after.memory.left);
       }
 

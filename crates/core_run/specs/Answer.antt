@@ -5,6 +5,7 @@ use Rattle.ws_words.specs.Plain.{took_by_ports}
 use Rattle.ws_isa.specs.Image.{Image, In, is_memory, array_at}
 use Rattle.image_walk.specs.Walk.{Inst, fires, mem, walk, CostAtMost}
 use Rattle.image_walk.specs.Operations.{ops, FaultsAt, NoFault}
+use Rattle.core_law.specs.Ends.{FirstWithin}
 use Rattle.core_run.specs.declared.answer.Done.{Done}
 use Rattle.core_run.specs.declared.answer.Run.{Run}
 use Rattle.core_run.specs.declared.answer.Run.TheVariants.{Rest, Budget, Fault}
@@ -38,7 +39,7 @@ FirstAmong image world steps p = (t : ℕ) (x : Inst) → fires image world t �
 
 -- the walk has more instances than the budget, and exactly so many have fired, at these steps of
 -- the walk; of the numbers p for which its first p operations are among them `passed` is the
--- largest; what is told is what the walk leaves with its first `passed` operations
+-- largest, and none of those is past the end; what is told is what the walk leaves with them
 pub record Cut (image : Image) (world : World) (budget : ℕ) (d : Done) : Type 0 where
   pub dear : CostAtMost image world budget → ⊥
   pub fired : d.fired ≡ budget
@@ -51,6 +52,7 @@ pub record Cut (image : Image) (world : World) (budget : ℕ) (d : Done) : Type 
       length (ops image world t) ≤ passed
   pub front : ℕ
   pub front_has : length (ops image world front) ≡ passed
+  pub within : FirstWithin image world front
   pub left : Tells (mem image world front) d
 
 -- the walk's first load or store past the end, on this array, is its operation p, counted from 0,

@@ -37,3 +37,7 @@ Ended image budget old new ended = (world : World) (s : State) → Formed image 
 abbrev pub is_budget : Finish → Bool
 is_budget finish.Budget = true
 is_budget _ = false
+
+abbrev pub is_fault : Finish → Bool
+is_fault (finish.Fault array) = true
+is_fault _ = false

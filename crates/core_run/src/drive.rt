@@ -7,7 +7,7 @@ ghost use Rattle.image_walk.specs.Sound.{Sound};
 ghost use Rattle.core_law.specs.Core.{State};
 ghost use Rattle.core_run.specs.Places.{ProgramIs, image_of};
 ghost use Rattle.core_run.specs.Flows.{Going, Follows, NoneMay, NoneBelow, Room, weight};
-ghost use Rattle.core_run.specs.Finishes.{Ended, is_budget};
+ghost use Rattle.core_run.specs.Finishes.{Ended, is_budget, is_fault};
 
 use crate::flow::Flow;
 use crate::program::Program;
@@ -34,6 +34,7 @@ pub fn run(program: &Program<'_>, flow: &mut Flow<'_>, budget: u64) -> Finish
     requires room { Room flow.old 0 (budget - flow.old.fired) }
     ensures within { flow.new.fired ≤ budget }
     ensures spent { is_budget result ≡ true → flow.new.fired ≡ budget }
+    ensures stopped { is_some flow.new.fault ≡ is_fault result }
     ensures finish { Ended (image_of program.now) budget flow.old flow.new result }
 {
     issue_all(program, flow);

@@ -7,6 +7,7 @@ ghost use Rattle.ws_isa.specs.Image.{Image};
 ghost use Rattle.core_law.specs.Core.{State, Match, Issue, core_opening};
 ghost use Rattle.core_run.specs.Answer.{RunSo};
 ghost use Rattle.core_run.specs.Told.{run_from};
+ghost use Rattle.core_run.specs.Finishes.{is_fault};
 ghost use Rattle.core_run.specs.Cores.{IsAt, Runs, Prepared, Makes, NotEnabled, IsEnabled, IsAtRest, Keeps, LeadsTo, done, event_of, is_not_ready};
 
 use crate::drive::{Finish, run};
@@ -109,6 +110,8 @@ impl<'i> Core<'i> {
         ensures answer { (image : Image) (world : Given) (state : State) →
             IsAt image world self.old state →
             RunSo image world budget (run_from result (done self.new)) }
+        ensures stopped { (image : Image) (world : Given) (state : State) →
+            IsAt image world self.new state → state.stopped ≡ is_fault result }
     {
         run(&self.program, &mut self.flow, budget)
     }
