@@ -16,10 +16,12 @@ use Rattle.match_table.specs.Tables.{Content, held}
 -- the port had no token, and now it has this one
 pub record Arrives (old : Content) (t : Token) (new : Content) : Type 0 where
   pub free : held old t.wave t.instr t.port ≡ None
-  pub more : (w i p : ℕ) → held new w i p ≡ with_at t.wave t.instr t.port (Some t.value) (held old) w i p
+  pub more : (w i p : ℕ) →
+      held new w i p ≡ with_at t.wave t.instr t.port (Some t.value) (held old) w i p
 
 -- the token's instance is full and has fired, with these operands
-pub record Full (image : Image) (old : Content) (t : Token) (new : Content) (operands : List ℕ) : Type 0 where
+pub record Full (image : Image) (old : Content) (t : Token) (new : Content)
+    (operands : List ℕ) : Type 0 where
   pub full : is_full (held new) t.wave t.instr (ports image t.instr) ≡ true
   pub operands_are : operands ≡ operands_in image (held new) t.wave t.instr
   pub entry : Fired
@@ -32,7 +34,8 @@ pub record Full (image : Image) (old : Content) (t : Token) (new : Content) (ope
 abbrev pub will_fire : Image → Content → Token → Bool
 will_fire image c t =
     not (has (held c t.wave t.instr t.port))
-    && is_full (with_at t.wave t.instr t.port (Some t.value) (held c)) t.wave t.instr (ports image t.instr)
+    && is_full (with_at t.wave t.instr t.port (Some t.value) (held c)) t.wave t.instr
+    (ports image t.instr)
 
 -- an earlier token stands at the port
 abbrev pub IsOldSo : Content → Token → Seen → Type 0
@@ -43,16 +46,27 @@ module _ {J : Type 0} where
   -- what an instance answers that is full with these operands
   abbrev pub Outcome : Image → Token → List ℕ → Accept J → Type 0
   Outcome image t operands Waits = ⊥
-  Outcome image t operands (Fires tokens) = (is_memory image t.instr ≡ false) × (tokens ≡ sends image t.wave t.instr operands (result_of image t.instr operands))
-  Outcome image t operands (Asks request) = (is_memory image t.instr ≡ true) × (request.wave ≡ t.wave) × (request.instr ≡ t.instr) × (request.second ≡ slice_index operands 1) × (operands_of (ports image t.instr) request.first request.second ≡ operands)
+  Outcome image t operands (Fires tokens) = (is_memory image t.instr ≡ false)
+      × (tokens ≡ sends image t.wave t.instr operands (result_of image t.instr operands))
+  Outcome image t operands (Asks request) = (is_memory image t.instr ≡ true)
+      × (request.wave ≡ t.wave) × (request.instr ≡ t.instr)
+      × (request.second ≡ slice_index operands 1)
+      × (operands_of (ports image t.instr) request.first request.second ≡ operands)
 
+  -- the token was taken, and this is the answer
   abbrev pub Accepted : Image → Content → Token → Content → Accept J → Type 0
-  Accepted image old t new Waits = Arrives old t new × (is_full (held new) t.wave t.instr (ports image t.instr) ≡ false) × (new.fired ≡ old.fired)
-  Accepted image old t new answer = Arrives old t new × ((operands : List ℕ) × Full image old t new operands × Outcome image t operands answer)
+  Accepted image old t new Waits = Arrives old t new
+      × (is_full (held new) t.wave t.instr (ports image t.instr) ≡ false)
+      × (new.fired ≡ old.fired)
+  Accepted image old t new answer = Arrives old t new
+      × ((operands : List ℕ) × Full image old t new operands × Outcome image t operands answer)
 
+  -- the token is handed back, and nothing that the table holds or lists has changed
   abbrev pub Refused : Content → Token → Content → AcceptFault J → Type 0
-  Refused old t new (fault.Old back) = (back ≡ t) × (new ≡ old) × (has (held old t.wave t.instr t.port) ≡ true)
-  Refused old t new (fault.NoMemory back) = (back ≡ t) × (new.entries ≡ old.entries) × (new.fired ≡ old.fired)
+  Refused old t new (fault.Old back) = (back ≡ t) × (new ≡ old)
+      × (has (held old t.wave t.instr t.port) ≡ true)
+  Refused old t new (fault.NoMemory back) = (back ≡ t) × (new.entries ≡ old.entries)
+      × (new.fired ≡ old.fired)
 
 module _ {J : Type 0} where
   -- the answer says that the instance has fired
