@@ -24,3 +24,5 @@ pub mod Steady
 pub mod Fine
 pub mod Found
 pub mod Stepping
+pub mod Quietly
+pub mod Turning

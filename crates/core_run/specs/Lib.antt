@@ -12,3 +12,4 @@ pub mod Outdoors
 pub mod Partial
 pub mod Places
 pub mod Ways
+pub mod Quiet

@@ -1,6 +1,6 @@
 //! The core, event by event.
 
-ghost use Rattle.std.specs.Prelude.{◌≡◌, true, ◌≤◌, ◌-◌, ℕ, [], List, length, ◌⊎◌, map, IfOk, OnOk, OnErr, IfErr, MatchOption};
+ghost use Rattle.std.specs.Prelude.{◌≡◌, true, ◌≤◌, ◌-◌, ℕ, [], List, length, ◌⊎◌, map, is_some, IfOk, OnOk, OnErr, IfErr, MatchOption};
 ghost use Rattle.ws_words.specs.Outside.{World as Given, printed_words, row};
 ghost use Rattle.ws_words.specs.Plain.{took_by_ports, world_of};
 ghost use Rattle.ws_isa.specs.Image.{Image};
@@ -8,12 +8,17 @@ ghost use Rattle.core_law.specs.Core.{State, Match, Issue, core_opening};
 ghost use Rattle.core_run.specs.Answer.{RunSo};
 ghost use Rattle.core_run.specs.Told.{run_from};
 ghost use Rattle.core_run.specs.Finishes.{is_fault};
+ghost use Rattle.core_run.specs.Places.{image_of};
+ghost use Rattle.core_run.specs.Flows.{FaultIs, NoneMay};
+ghost use Rattle.core_run.specs.Quiet.{IsQuietly, OnlyFires};
 ghost use Rattle.core_run.specs.Cores.{IsAt, Runs, Prepared, Makes, NotEnabled, IsEnabled, IsAtRest, Keeps, LeadsTo, done, event_of, is_not_ready};
 
 use crate::drive::{Finish, run};
 use crate::flow::Flow;
 use crate::open::open;
 use crate::program::Program;
+use crate::quiet::quiet_token;
+use crate::token::Token;
 use image_walk::Checked;
 use std::alloc::Global;
 use ws_words::{Cells, NoMemory, World};
@@ -72,19 +77,26 @@ impl<'i> Core<'i> {
         ensures { MatchOption result (IsAtRest self.now)
             (λ event. IsEnabled (event_of event) self.now) }
     {
-        if let Some(place) = self.flow.issuable(&self.program) {
-            let asked = self.flow.asked[place];
-            return Some(Event::Issue {
-                wave: asked.wave,
-                instr: asked.instr,
-            });
+        if let Some(event) = self.issue() {
+            return Some(event);
         }
         match self.flow.way.some() {
-            Some(token) => Some(Event::Match {
-                wave: token.wave,
-                instr: token.instr,
-                port: token.port,
-            }),
+            Some(token) => Some(match_of(token)),
+            None => None,
+        }
+    }
+
+    /// An event that is enabled and fires no instance, if there is one.
+    pub fn pick_quiet(&self) -> Option<Event>
+        requires { Runs self.now }
+        ensures { MatchOption result (OnlyFires self.now)
+            (λ event. IsQuietly (event_of event) self.now) }
+    {
+        if let Some(event) = self.issue() {
+            return Some(event);
+        }
+        match quiet_token(&self.program, &self.flow) {
+            Some(token) => Some(match_of(token)),
             None => None,
         }
     }
@@ -159,6 +171,35 @@ impl<'i> Core<'i> {
         self.flow.fired
     }
 
+    /// The array of the load or store past the end at which the chain is stopped, by its number from
+    /// 1, if it is.
+    pub fn fault(&self) -> Option<u32>
+        ensures { (image : Image) (world : Given) (state : State) →
+            IsAt image world self.now state → (state.stopped ≡ is_some result)
+            × FaultIs image world result }
+    {
+        self.flow.fault
+    }
+
+    // The issue of a request that may be issued, if there is one.
+    fn issue(&self) -> Option<Event>
+        requires { Runs self.now }
+        ensures { MatchOption result ((is_some self.now.flow.fault ≡ true)
+            ⊎ NoneMay (image_of self.now.program) self.now.flow)
+            (λ event. IsQuietly (event_of event) self.now) }
+    {
+        match self.flow.issuable(&self.program) {
+            Some(place) => {
+                let asked = self.flow.asked[place];
+                Some(Event::Issue {
+                    wave: asked.wave,
+                    instr: asked.instr,
+                })
+            }
+            None => None,
+        }
+    }
+
     fn make_match(&mut self, wave: u64, instr: u32, port: u8) -> Result<(), StepFault>
         requires { Runs self.old }
         ensures made { OnOk result (Makes (Match wave instr port) self.old self.new) }
@@ -175,6 +216,7 @@ impl<'i> Core<'i> {
         match self.flow.way.take_at(wave, instr, port) {
             Some(token) => {
                 self.flow.arrive(&self.program, token);
+                self.flow.way.turn();
                 Ok(())
             }
             None => Err(StepFault::NotReady),
@@ -198,5 +240,15 @@ impl<'i> Core<'i> {
             }
             None => Err(StepFault::NotReady),
         }
+    }
+}
+
+fn match_of(token: Token) -> Event
+    ensures { event_of result ≡ Match token.wave token.instr token.port }
+{
+    Event::Match {
+        wave: token.wave,
+        instr: token.instr,
+        port: token.port,
     }
 }

@@ -11,6 +11,7 @@ mod memory;
 mod open;
 pub mod order;
 pub mod program;
+mod quiet;
 mod slots;
 mod token;
 mod way;

@@ -87,6 +87,20 @@ impl Way {
         None
     }
 
+    /// Where there are none of the first, the others take their place.
+    pub fn turn(&mut self)
+        ensures { way_of self.new ≡ way_of self.old }
+    {
+        if !self.now.is_empty() {
+            return;
+        }
+        swap(&mut self.now, &mut self.later);
+        let count = self.now.len();
+        if count > 0 {
+            self.front = self.now[count - 1].wave;
+        }
+    }
+
     /// Whether there is a token at a port of an instance.
     pub fn has(&self, wave: u64, instr: u32, port: u8) -> bool
         ensures { result ≡ false → NoneAt (way_of self.entry.now) wave instr port }

@@ -1,5 +1,9 @@
-use Rattle.std.proofs.Common.{refl}
+use Rattle.std.proofs.Common.{[], ◌∷◌, refl}
+use Rattle.core_law.specs.Core.{Match}
+use Rattle.core_run.specs.Places.{image_of}
+use Rattle.core_run.specs.Ways.{token_of}
 use Rattle.core_run.proofs.Stepping.{not_on_way, same_way, going_match, makes_match}
+use Rattle.core_run.proofs.Turning.{leads_turned}
 use Rattle.core_run.proofs.engine.Core.make_match.Goals as goal
 
 pub returns-then-not-has-clause-refused : goal.returns-then-not-has-clause-refused
@@ -9,7 +13,9 @@ pub arrive-requires-clause-going : goal.arrive-requires-clause-going
 arrive-requires-clause-going c = going_match c.args.self.now c.prepare.new.self _ c.args.wave c.args.instr c.args.port c.in-Some.token c.prepare.ensures.same c.in-Some.ensures.taken refl refl refl refl refl refl refl c.requires
 
 pub returns-in-Some-clause-made : goal.returns-in-Some-clause-made
-returns-in-Some-clause-made c = makes_match c.args.self.now c.prepare.new.self _ c.args.wave c.args.instr c.args.port c.in-Some.token c.prepare.ensures.same c.in-Some.ensures.taken refl refl refl refl refl refl refl _ refl c.arrive.ensures.leads
+returns-in-Some-clause-made c = makes_match c.args.self.now c.prepare.new.self _ c.args.wave c.args.instr c.args.port c.in-Some.token c.prepare.ensures.same c.in-Some.ensures.taken refl refl refl refl refl refl refl _ refl
+    (leads_turned _ c.arrive.new.self _ c.turn.ensures refl refl refl refl refl refl refl (image_of c.args.self.now.program)
+    (Match c.in-Some.token.wave c.in-Some.token.instr c.in-Some.token.port) (token_of c.in-Some.token ∷ []) c.arrive.ensures.leads)
 
 pub returns-in-None-clause-refused : goal.returns-in-None-clause-refused
 returns-in-None-clause-refused c = λ e. not_on_way c.args.self.now c.args.wave c.args.instr c.args.port (same_way c.args.self.now.flow c.prepare.new.self c.args.wave c.args.instr c.args.port c.prepare.ensures.same c.in-None.ensures.taken.1)

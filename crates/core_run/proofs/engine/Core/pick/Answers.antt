@@ -1,18 +1,11 @@
-use Rattle.std.proofs.Common.{◌≡◌, true, sym, subst}
-use Rattle.core_run.specs.declared.token.Asked.{Asked}
-use Rattle.core_run.specs.Places.{image_of}
-use Rattle.core_run.specs.Chains.{chain_of, may_flag}
-use Rattle.core_run.specs.Flows.{asked_at, no_asked}
-use Rattle.core_run.proofs.Issuing.{or_any}
-use Rattle.core_run.proofs.Stepping.{may_enabled, core_rests}
+use Rattle.std.proofs.Common.{sym, subst}
+use Rattle.core_law.specs.Core.{Event}
+use Rattle.core_run.specs.Cores.{IsEnabled}
+use Rattle.core_run.proofs.Stepping.{token_enabled, core_rests}
 use Rattle.core_run.proofs.engine.Core.pick.Goals as goal
 
-pub returns-in-Some : goal.returns-in-Some
-returns-in-Some c =
-    let flow = c.args.self.now.flow in
-    let a_is : c.index-asked.result.now ≡ asked_at flow c.in-Some.place = or_any flow.asked.items c.in-Some.place c.index-asked.result.now no_asked c.in-Some.ensures.0 c.index-asked.ensures in
-    may_enabled c.args.self.now c.in-Some.place c.index-asked.result.now c.in-Some.ensures.0 c.index-asked.ensures c.in-Some.ensures.1
-    (subst (λ (b : Asked). may_flag (image_of c.args.self.now.program) (chain_of flow.chain) b.wave b.instr b.operands.first ≡ true) (sym a_is) c.in-Some.ensures.2)
+pub returns-in-Some-some : goal.returns-in-Some-some
+returns-in-Some-some c = subst (λ (event : Event). IsEnabled event c.args.self.now) (sym c.match_of.ensures) (token_enabled c.args.self.now c.in-Some-some.token c.in-Some-some.ensures)
 
 pub returns-in-None : goal.returns-in-None
 returns-in-None c = core_rests c.args.self.now c.in-None.ensures c.in_default.ensures
