@@ -1,3 +1,4 @@
 pub mod Lines
 pub mod Making
 pub mod Telling
+pub mod Led

@@ -5,7 +5,7 @@ use Rattle.ws_isa.specs.Image.{Image}
 use Rattle.core_law.specs.Core.{State, Event, Run, Same}
 use Rattle.core_run.specs.declared.engine.Core.{Core}
 use Rattle.core_run.specs.Cores.{IsAt, Makes}
-use Rattle.trace_check.specs.declared.trace.Lined.{Lined}
+use Rattle.trace_check.specs.declared.events.Lined.{Lined}
 use Rattle.trace_check.specs.declared.replaying.ReplayFault.{ReplayFault}
 use Rattle.trace_check.specs.declared.replaying.ReplayFault.TheVariants.{Illegal, NoMemory}
 use Rattle.trace_check.specs.Replays.{events_of, event_in, MakesAll, StopsAt, IsEventFault, IsFault}

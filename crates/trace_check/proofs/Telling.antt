@@ -12,7 +12,7 @@ use Rattle.core_law.specs.Ends.{Whole, AtFault}
 use Rattle.core_run.specs.declared.engine.Core.{Core}
 use Rattle.core_run.specs.declared.engine.Event.{Event}
 use Rattle.core_run.specs.Cores.{IsAt, IsAtRest, IsEnabled, event_of}
-use Rattle.trace_check.specs.declared.trace.Lined.{Lined}
+use Rattle.trace_check.specs.declared.events.Lined.{Lined}
 use Rattle.trace_check.specs.declared.replaying.Replayed.{Replayed}
 use Rattle.trace_check.specs.declared.replaying.ReplayFault.{ReplayFault}
 use Rattle.trace_check.specs.declared.replaying.ReplayFault.TheVariants.{Illegal, NoMemory}

@@ -8,7 +8,7 @@ use Rattle.core_law.specs.Core.{State, Event, Run, Enabled, Rest, core_opening}
 use Rattle.core_law.specs.Fit.{chain_at}
 use Rattle.core_run.specs.declared.engine.Core.{Core}
 use Rattle.core_run.specs.Cores.{IsAt, NotEnabled, event_of}
-use Rattle.trace_check.specs.declared.trace.Lined.{Lined}
+use Rattle.trace_check.specs.declared.events.Lined.{Lined}
 use Rattle.trace_check.specs.declared.replaying.Replayed.{Replayed}
 use Rattle.trace_check.specs.declared.replaying.ReplayFault.{ReplayFault}
 use Rattle.trace_check.specs.declared.replaying.ReplayFault.TheVariants.{Illegal, NoMemory}

@@ -1,15 +1,16 @@
 -- The events of a text, or its first faulty line.
-use Rattle.std.specs.Prelude.{ℕ, ◌+◌, Bool, true, false, List, [], ◌∷◌, ◌++◌, codes, Option, Some, None, Result, Ok, Err, if◌then◌else◌}
+use Rattle.std.specs.Prelude.{ℕ, ◌+◌, Bool, true, false, List, [], ◌∷◌, ◌++◌, codes, flat_map, Option, Some, None, Result, Ok, Err, if◌then◌else◌}
 use Rattle.asm_text.specs.declared.fault.AsmKind.TheVariants.{Line, Number as Numbers}
 use Rattle.asm_text.specs.declared.lexeme.Lexeme.{Lexeme}
 use Rattle.asm_text.specs.declared.lexeme.Lexeme.TheVariants.{Word, Number}
 use Rattle.asm_text.specs.Building.{◌>>=◌, Maybe}
 use Rattle.asm_text.specs.Lexing.{Lexed, lexed}
 use Rattle.asm_text.specs.Words.{is, in_byte, in_word}
+use Rattle.asm_text.specs.Printed.{line_text}
 use Rattle.asm_text.specs.Reading.{Fault, lines_of, on_line}
 use Rattle.core_run.specs.declared.engine.Event.{Event}
 use Rattle.core_run.specs.declared.engine.Event.TheVariants.{Match, Issue}
-use Rattle.trace_check.specs.declared.trace.Lined.{Lined}
+use Rattle.trace_check.specs.declared.events.Lined.{Lined}
 
 -- The event that lexemes spell. A number too large for its field is kept as the field's largest
 -- value, which no instruction and no port has.
@@ -55,3 +56,20 @@ events_in first text = events_from first (lines_of text)
 -- behind others
 abbrev pub behind : List Lined → Result (List Lined) Fault → Result (List Lined) Fault
 behind events more = more >>= λ ls. Ok (events ++ ls)
+
+-- The text of events: a line for each.
+
+unfoldable pub lexemes_of : Event → List Lexeme
+lexemes_of (Match wave i p) = Word (codes "match") ∷ Number wave ∷ Number i ∷ Number p ∷ []
+lexemes_of (Issue wave i) = Word (codes "issue") ∷ Number wave ∷ Number i ∷ []
+
+abbrev pub event_line : Event → List ℕ
+event_line event = line_text (lexemes_of event)
+
+abbrev pub events_text : List Event → List ℕ
+events_text events = flat_map event_line events
+
+-- the events of lines that follow one another, the first of which has this number
+abbrev pub numbered : ℕ → List Event → List Lined
+numbered n [] = []
+numbered n (event ∷ events) = record { event = event; line = n } ∷ numbered (n + 1) events

@@ -1,10 +1,14 @@
-//! Traces: lists of events of the core, as text and made one after the other.
+//! Traces: lists of events of the core, as text, made one after the other, and written as they come.
 #![tactic(auto)]
 
+mod events;
 mod read;
+mod recording;
 mod replaying;
-mod trace;
+mod write;
 
+pub use events::{Events, Lined, Trace};
 pub use read::read_trace;
+pub use recording::{TraceEnd, Traced, trace};
 pub use replaying::{ReplayFault, Replayed, replay};
-pub use trace::{Lined, Trace};
+pub use write::put_events;

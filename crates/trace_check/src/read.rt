@@ -6,7 +6,7 @@ ghost use Rattle.asm_text.specs.Building.{Makes};
 ghost use Rattle.asm_text.specs.Reading.{Reads, fault_of};
 ghost use Rattle.trace_check.specs.Traces as spec;
 
-use crate::trace::{Lined, Trace};
+use crate::events::{Lined, Trace};
 use asm_text::{AsmFault, AsmKind, Lexeme, Stop, cut, in_byte, in_word, lexed};
 use core_run::Event;
 use std::alloc::Global;

@@ -6,7 +6,7 @@ ghost use Rattle.core_run.specs.Cores.{Runs, Makes};
 ghost use Rattle.trace_check.specs.declared.replaying.ReplayFault.TheVariants.{NoMemory as of_memory};
 ghost use Rattle.trace_check.specs.Replays.{Replays, IsReplayFault, MakesAll, IsEventFault, IsFault, event_in};
 
-use crate::trace::{Lined, Trace};
+use crate::events::{Lined, Trace};
 use core_law::{counts, every_list_of_events};
 use core_run::{Core, StepFault};
 use image_walk::{Checked, effects_are_one, walks_go_on};

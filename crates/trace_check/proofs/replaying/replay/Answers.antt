@@ -1,7 +1,7 @@
 use Rattle.std.proofs.Common.{List, sym, subst, ◌∙◌}
 use Rattle.ws_words.specs.Plain.{world_of}
 use Rattle.core_law.specs.Core.{Run, core_opening}
-use Rattle.trace_check.specs.declared.trace.Lined.{Lined}
+use Rattle.trace_check.specs.declared.events.Lined.{Lined}
 use Rattle.trace_check.specs.Replays.{events_of}
 use Rattle.trace_check.proofs.Telling.{Facts, fault_told, replay_told, rest_told}
 use Rattle.trace_check.proofs.replaying.replay.Goals as goal

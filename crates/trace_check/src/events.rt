@@ -1,7 +1,8 @@
 //! Events with the numbers of their lines.
 
 ghost use Rattle.std.specs.Prelude.{◌≡◌, List, [], ◌∷◌, ◌++◌, OnOk};
-ghost use Rattle.trace_check.specs.declared.trace.Lined.{Lined};
+ghost use Rattle.core_run.specs.declared.engine.Event.{Event};
+ghost use Rattle.trace_check.specs.declared.events.Lined.{Lined};
 
 use core_run::Event;
 use std::alloc::Global;
@@ -47,6 +48,44 @@ impl Trace {
 
     /// The events as a slice.
     pub fn as_slice(&self) -> &[Lined]
+        ensures { result.now ≡ self.now }
+    {
+        &self.items
+    }
+}
+
+/// A list of events.
+#[derive(Debug, Drop)]
+pub struct Events {
+    items: Vec<Event>,
+}
+
+impl Model for Events {
+    ghost Value = { List Event };
+
+    ghost view = { λ list. list.items.items };
+}
+
+impl Events {
+    /// No events.
+    pub fn empty(alloc: Global) -> Events
+        ensures { result ≡ [] }
+    {
+        Events {
+            items: Vec::new(alloc),
+        }
+    }
+
+    /// Puts an event at the end.
+    pub fn push(&mut self, event: Event) -> Result<(), NoMemory>
+        ensures { OnOk result (self.new ≡ self.old ++ event ∷ []) }
+    {
+        self.items.push(event)?;
+        Ok(())
+    }
+
+    /// The events as a slice.
+    pub fn as_slice(&self) -> &[Event]
         ensures { result.now ≡ self.now }
     {
         &self.items
