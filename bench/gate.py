@@ -1,7 +1,9 @@
 #!/usr/bin/env python3
 """Runs the gate's proofs, tests and edits (rt ci) and prints what each crate cost, in processor minutes.
 
-    bench/gate.py [LOG]      at the top of the repository; the gate's own output goes to LOG (gate.log)
+    bench/gate.py [LOG [CRATE..]]
+                             at the top of the repository; the gate's own output goes to LOG (gate.log); of these
+                             crates and those below them alone, where some are named
 
 Each check of the prover runs under a wrapper that notes its processor time; the table has a row for each crate,
 as docs/GATE.md shows it, and the last lines the sums and how long the whole took on how many processors.
@@ -71,7 +73,7 @@ def main():
         tool.rtlib.RATTLE = wrapper
         began = time.time()
         with log.open("w") as out, redirect_stdout(out):
-            status = tool.main(["ci"])
+            status = tool.main(["ci", *sys.argv[2:]])
         took = time.time() - began
         lines = pathlib.Path(calls).read_text().splitlines()
     show(table(lines))
