@@ -135,6 +135,12 @@ const ROWS: &[Row] = &[
         answer: "proc main() {\n  print (1 + 2) * 3;\n}\n",
         code: 0,
     },
+    Row {
+        line: "check",
+        job: b"wavescalar 1\nwave 1\nblock 1\nstop\nend\r",
+        answer: "refused 5 line\n",
+        code: 2,
+    },
 ];
 
 #[test]
