@@ -1,9 +1,12 @@
 -- Tokens to a list of destinations, one after another.
-use Rattle.std.proofs.Common.{◌≡◌, ◌+◌, ◌<◌, ℕ, zero, suc, List, [], ◌∷◌, ◌++◌, length, take, get_or, refl, sym, ap, ◌∙◌, inl, inr, arith, add-one}
+use Rattle.std.proofs.Common.{◌≡◌, ◌+◌, ◌<◌, ℕ, zero, suc, List, [], ◌∷◌, ◌++◌, All, length, take, get_or, refl, sym, ap, ◌∙◌, inl, inr, arith, add-one}
 use Rattle.std.proofs.lemmas.List.{append_assoc}
 use Rattle.ws_isa.specs.declared.instr.Dest.{Dest}
-use Rattle.ws_isa.specs.Image.{Token, tokens_to}
+use Rattle.ws_words.specs.Outside.{World}
+use Rattle.ws_isa.specs.Image.{Image, Token, tokens_to}
 use Rattle.core_law.specs.Core.{IsSent}
+use Rattle.core_law.specs.Fit.{RightToken}
+use Rattle.df_job.specs.Rights.{IsRight}
 
 abbrev token : ℕ → ℕ → Dest → Token
 token w v d = record { wave = w; instr = d.instr; port = d.port; value = v }
@@ -24,3 +27,12 @@ sent_at w v (x ∷ ds) (suc k) d lt = inr (sent_at w v ds k d (omega (arith, lt)
 -- one more token at the end
 pub sent_behind : (old now : List Token) (w v : ℕ) (ds : List Dest) (k : ℕ) (d : Dest) → k < length ds → now ≡ old ++ tokens_to w v (take k ds) → now ++ token w v (get_or ds k d) ∷ [] ≡ old ++ tokens_to w v (take (k + 1) ds)
 sent_behind old now w v ds k d lt is = ap (λ (ts : List Token). ts ++ token w v (get_or ds k d) ∷ []) is ∙ append_assoc old (tokens_to w v (take k ds)) (token w v (get_or ds k d) ∷ []) ∙ ap (λ (ts : List Token). old ++ ts) (sym (tokens_more w v ds k d lt))
+
+is_there : (ts : List Token) (k : ℕ) (d : Token) → k < length ts → IsSent ts (get_or ts k d).wave (get_or ts k d).instr (get_or ts k d).port (get_or ts k d).value
+is_there [] k d lt = absurd (omega (arith, lt))
+is_there (t ∷ ts) zero d lt = inl (refl, refl, refl, refl)
+is_there (t ∷ ts) (suc k) d lt = inr (is_there ts k d (omega (arith, lt)))
+
+-- where each token that is sent is right, all of the list are
+pub all_right : (image : Image) (world : World) (ts : List Token) → ((w i p v : ℕ) → IsSent ts w i p v → RightToken image world w i p v) → All (IsRight image world) ts
+all_right image world ts right k d lt = right (get_or ts k d).wave (get_or ts k d).instr (get_or ts k d).port (get_or ts k d).value (is_there ts k d lt)

@@ -4,7 +4,7 @@ ghost use Rattle.std.specs.Prelude.{◌≡◌, ◌+◌, ◌<◌, ◌≤◌, ◌�
 ghost use Rattle.ws_isa.specs.Image.{tokens_to};
 ghost use Rattle.core_law.specs.Core.{IsSent};
 ghost use Rattle.core_law.specs.Fit.{RightToken};
-ghost use Rattle.df_job.specs.Rights.{IsRight};
+ghost use Rattle.df_job.specs.Rights.{IsRight, tokens_of};
 
 use crate::job::Job;
 use crate::token::Token;
@@ -41,6 +41,19 @@ impl<J: Job> TokenList<J> {
     {
         TokenList {
             raw: SmallVec::new(alloc),
+            of: PhantomData,
+        }
+    }
+
+    /// These tokens, by wave number, instruction, port and value, which are right. Takes no memory.
+    pub fn of_right(raw: SmallVec<(u64, u32, u8, u64), 8>) -> TokenList<J>
+        requires room { 8 ≤ raw.capacity }
+        requires right { (w i p v : ℕ) → IsSent (tokens_of raw.items) w i p v →
+            RightToken J.image J.world w i p v }
+        ensures { result ≡ tokens_of raw.items }
+    {
+        TokenList {
+            raw,
             of: PhantomData,
         }
     }

@@ -1,0 +1,232 @@
+-- A request comes, and what is true of a store afterwards.
+use Rattle.std.proofs.Common.{ℕ, zero, suc, ◌≡◌, ◌<◌, ◌⊎◌, ◌↔◌, Bool, true, false, List, [], ◌∷◌, ◌++◌, length, Option, Some, None, Result, Ok, Err, slice_index_or, refl, sym, ap, ◌∙◌, subst, inl, inr, arith}
+use Rattle.std.proofs.lemmas.Bool.{both_ways}
+use Rattle.ws_words.specs.Outside.{Outside, World}
+use Rattle.ws_isa.specs.Image.{Image, Token, In, ports}
+use Rattle.ws_isa.specs.Formed.{Formed}
+use Rattle.image_walk.specs.Sound.{Sound}
+use Rattle.core_law.specs.Core.{HasFired, has, with_key}
+use Rattle.core_law.specs.Fit.{RightRequest}
+use Rattle.core_law.proofs.Ports.{with_key_cases}
+use Rattle.df_job.specs.Began.{Began}
+use Rattle.df_job.specs.Rights.{Asked, IsAsked, operands_of}
+use Rattle.core_run.specs.declared.chain.Chain as code
+use Rattle.core_run.specs.Chains.{chain_of}
+use Rattle.core_run.specs.Stands.{HasEarly}
+use Rattle.store_buf.specs.declared.fault.BufFault.{BufFault}
+use Rattle.store_buf.specs.declared.fault.BufFault.TheVariants as fault
+use Rattle.store_buf.specs.declared.kept.Kept.{Kept}
+use Rattle.store_buf.specs.declared.order.Order.{Order}
+use Rattle.store_buf.specs.declared.store.Store.{Store}
+use Rattle.store_buf.specs.Requests.{entry_of, kept_in, issued_in, issued_keys, key_if, answer_if, operands_if}
+use Rattle.store_buf.specs.Finding.{place_in}
+use Rattle.store_buf.specs.Orders.{Going, EarlyIssued}
+use Rattle.store_buf.specs.Ordering.{no_request, OrderOk}
+use Rattle.store_buf.specs.Outdoors.{Holding, OutIs, RoseAt}
+use Rattle.store_buf.specs.Outers.{holding}
+use Rattle.store_buf.specs.Holds.{Holds, part, waiting_in}
+use Rattle.store_buf.specs.Contents.{Content, FaultIs, IsBuffer, Arrives, Submitted, RightTokens, Idle, SubmitSo, buffer_in, with_tokens}
+use Rattle.store_buf.specs.Stores.{StandsFor, StoreOk, Keeps, Turns, SettledSo, SubmitLeads, Standing, asked_of, buffer_of, content_of}
+use Rattle.store_buf.proofs.Alike.{going_any, once_of}
+use Rattle.store_buf.proofs.Found as F
+use Rattle.store_buf.proofs.Resting.{none_issuable}
+
+pub entry_push : (ks : List Kept) (k : Kept) → entry_of ks k.wave k.instr ≡ None → (w i : ℕ) → entry_of (ks ++ k ∷ []) w i ≡ with_key k.wave k.instr (Some k) (entry_of ks) w i
+entry_push [] k fresh w i = refl
+entry_push (x ∷ ks) k fresh w i = elim (with_key_cases x.wave x.instr (Some x) (entry_of ks) k.wave k.instr) [
+  | inl h ↦ absurd (let g : Some x ≡ None = sym h.1 ∙ fresh in cc)
+  | inr h ↦ elim (with_key_cases x.wave x.instr (Some x) (entry_of (ks ++ k ∷ [])) w i) [
+    | inl a ↦ a.1 ∙ elim (with_key_cases k.wave k.instr (Some k) (entry_of (x ∷ ks)) w i) [
+      | inl b ↦ absurd (h.0 (record { wave = a.0.wave ∙ sym b.0.wave; instr = a.0.instr ∙ sym b.0.instr }))
+      | inr b ↦ sym (b.1 ∙ elim (with_key_cases x.wave x.instr (Some x) (entry_of ks) w i) [ inl c ↦ c.1 | inr c ↦ absurd (c.0 a.0) ])
+    ]
+    | inr a ↦ a.1 ∙ entry_push ks k (sym h.1 ∙ fresh) w i ∙ elim (with_key_cases k.wave k.instr (Some k) (entry_of ks) w i) [
+      | inl b ↦ b.1 ∙ elim (with_key_cases k.wave k.instr (Some k) (entry_of (x ∷ ks)) w i) [ inl c ↦ sym c.1 | inr c ↦ absurd (c.0 b.0) ]
+      | inr b ↦ b.1 ∙ elim (with_key_cases k.wave k.instr (Some k) (entry_of (x ∷ ks)) w i) [
+        | inl c ↦ absurd (b.0 c.0)
+        | inr c ↦ sym (c.1 ∙ elim (with_key_cases x.wave x.instr (Some x) (entry_of ks) w i) [ inl d ↦ absurd (a.0 d.0) | inr d ↦ d.1 ])
+      ]
+    ]
+  ]
+]
+
+module _ (image : Image) (ks : List Kept) (k : Kept) (fresh : entry_of ks k.wave k.instr ≡ None) (waits : k.answer ≡ None) where
+  pub kept_push : (w i : ℕ) → kept_in image (ks ++ k ∷ []) w i ≡ with_key k.wave k.instr (Some (operands_of (ports image k.instr) k.first k.second)) (kept_in image ks) w i
+  kept_push w i = ap (operands_if image) (entry_push ks k fresh w i) ∙ elim (with_key_cases k.wave k.instr (Some k) (entry_of ks) w i) [
+    | inl a ↦ ap (operands_if image) a.1 ∙ elim (with_key_cases k.wave k.instr (Some (operands_of (ports image k.instr) k.first k.second)) (kept_in image ks) w i) [ inl b ↦ sym b.1 | inr b ↦ absurd (b.0 a.0) ]
+    | inr a ↦ ap (operands_if image) a.1 ∙ elim (with_key_cases k.wave k.instr (Some (operands_of (ports image k.instr) k.first k.second)) (kept_in image ks) w i) [ inl b ↦ absurd (a.0 b.0) | inr b ↦ sym b.1 ]
+  ]
+
+  pub issued_push : (w i : ℕ) → issued_in (ks ++ k ∷ []) w i ≡ issued_in ks w i
+  issued_push w i = ap answer_if (entry_push ks k fresh w i) ∙ elim (with_key_cases k.wave k.instr (Some k) (entry_of ks) w i) [
+    | inl a ↦ ap answer_if a.1 ∙ waits ∙ sym (ap answer_if (subst (λ (n : ℕ). entry_of ks w n ≡ None) a.0.instr (subst (λ (n : ℕ). entry_of ks n k.instr ≡ None) a.0.wave fresh)))
+    | inr a ↦ ap answer_if a.1
+  ]
+
+-- what is issued is kept
+issued_kept : (image : Image) (e : Option Kept) (a : ℕ) → answer_if e ≡ Some a → (xs : List ℕ) × (operands_if image e ≡ Some xs)
+issued_kept image None a h = absurd (let f : None ≡ Some a = h in cc)
+issued_kept image (Some k) a h = (operands_of (ports image k.instr) k.first k.second, refl)
+
+-- and listed
+fired_more : (o : Option ℕ) (k : Kept) (ks : List Kept) (w i : ℕ) → HasFired (issued_keys ks) w i → HasFired (key_if o k (issued_keys ks)) w i
+fired_more None k ks w i h = h
+fired_more (Some a) k ks w i h = inr h
+
+fired_here : (o : Option ℕ) (a : ℕ) (k : Kept) (ks : List Kept) (w i : ℕ) → o ≡ Some a → k.wave ≡ w → k.instr ≡ i → HasFired (key_if o k (issued_keys ks)) w i
+fired_here None a k ks w i e ew ei = absurd (let f : None ≡ Some a = e in cc)
+fired_here (Some b) a k ks w i e ew ei = inl (ew, ei)
+
+listed_from : (ks : List Kept) (w i a : ℕ) → issued_in ks w i ≡ Some a → HasFired (issued_keys ks) w i
+listed_from [] w i a h = absurd (let f : None ≡ Some a = h in cc)
+listed_from (k ∷ ks) w i a h = elim (with_key_cases k.wave k.instr (Some k) (entry_of ks) w i) [
+  | inl e ↦ fired_here k.answer a k ks w i (sym (ap answer_if e.1) ∙ h) e.0.wave e.0.instr
+  | inr e ↦ fired_more k.answer k ks w i (listed_from ks w i a (sym (ap answer_if e.1) ∙ h))
+]
+
+listed_to : (ks : List Kept) → ((p q : ℕ) → p < length ks → q < length ks → (slice_index_or ks p no_request).wave ≡ (slice_index_or ks q no_request).wave → (slice_index_or ks p no_request).instr ≡ (slice_index_or ks q no_request).instr → p ≡ q) →
+    (w i : ℕ) → HasFired (issued_keys ks) w i → (a : ℕ) × (issued_in ks w i ≡ Some a)
+listed_to [] once w i h = absurd h
+listed_to (k ∷ ks) once w i h = go (λ f. listed_to ks (λ p q a b c d. let z : suc p ≡ suc q = once (suc p) (suc q) (omega arith) (omega arith) c d in omega arith) w i f) k.answer refl h
+  where
+    later : (HasFired (issued_keys ks) w i → (a : ℕ) × (issued_in ks w i ≡ Some a)) → HasFired (issued_keys ks) w i → (a : ℕ) × (issued_in (k ∷ ks) w i ≡ Some a)
+    later ih f =
+        let r = ih f in
+        elim (with_key_cases k.wave k.instr (Some k) (entry_of ks) w i) [
+          | inl e ↦ elim (F.entry_case ks w i) [
+            | inl n ↦ absurd (let g : None ≡ Some r.0 = sym (ap answer_if n) ∙ r.1 in cc)
+            | inr s ↦ absurd (let z : 0 ≡ suc s.place = once 0 (suc s.place) (omega arith) (let m = s.within in omega arith) (e.0.wave ∙ sym s.wave) (e.0.instr ∙ sym s.instr) in omega arith)
+          ]
+          | inr e ↦ (r.0, ap answer_if e.1 ∙ r.1)
+        ]
+
+    go : (HasFired (issued_keys ks) w i → (a : ℕ) × (issued_in ks w i ≡ Some a)) → (o : Option ℕ) → k.answer ≡ o → HasFired (key_if k.answer k (issued_keys ks)) w i → (a : ℕ) × (issued_in (k ∷ ks) w i ≡ Some a)
+    go ih None e f = later ih (subst (λ (o : Option ℕ). HasFired (key_if o k (issued_keys ks)) w i) e f)
+    go ih (Some b) e f = elim (subst (λ (o : Option ℕ). HasFired (key_if o k (issued_keys ks)) w i) e f) [
+      | inl q ↦ elim (with_key_cases k.wave k.instr (Some k) (entry_of ks) w i) [
+        | inl g ↦ (b, ap answer_if g.1 ∙ e)
+        | inr g ↦ absurd (g.0 (record { wave = q.0; instr = q.1 }))
+      ]
+      | inr q ↦ later ih q
+    ]
+
+module _ (image : Image) (world : World) (began : List (Option Began)) {P : Type 0} where
+  -- the parts stand for what contracts see, and the other way round
+  pub stands_of : (s : Store P) → EarlyIssued (issued_in s.order.kept.items) (chain_of s.order.chain) s.order.early.items → HasEarly image world (issued_in s.order.kept.items) (chain_of s.order.chain) s.order.early.items →
+      (m : Outside) → IsBuffer image world began (content_of s) m → StandsFor image world began s m
+  stands_of s issued all m is = record { going = record { legal = is.ok.legal; early_issued = issued; early_all = all }; right = is.ok.right; outside = is.outside }
+
+  pub buffer_from : (s : Store P) → OrderOk s.order → FaultIs image world s.fault → (m : Outside) → StandsFor image world began s m → IsBuffer image world began (content_of s) m
+  buffer_from s ok fault m h = record {
+    ok = record {
+      right = h.right;
+      issued_kept = λ w i a e. issued_kept image (entry_of s.order.kept.items w i) a e;
+      listed = λ w i. (listed_to s.order.kept.items (once_of s.order.kept.items (place_in s.order.index) ok.index) w i, λ e. listed_from s.order.kept.items w i e.0 e.1);
+      legal = h.going.legal;
+    };
+    outside = h.outside;
+    fault = fault;
+  }
+
+  -- nothing has changed
+  same_content : (old new : Store P) → Keeps old old.order.kept.items new → content_of new ≡ content_of old
+  same_content old new k = λ j. record { kept = k.kept_are j; chain = chain_of (k.chain j); fault = k.fault j; failed = k.failed j; starved = k.starved j; outside = k.outer j }
+
+  pub unchanged : (old new : Store P) → Keeps old old.order.kept.items new → StoreOk new → Standing image world began old → Standing image world began new × (content_of new ≡ content_of old)
+  unchanged old new k ok s = (
+    record {
+      ok = ok;
+      early_issued = subst (λ (x : List Kept × code.Chain × List ℕ). EarlyIssued (issued_in x.0) (chain_of x.1) x.2) (λ j. (sym k.kept_are j, sym k.chain j, sym k.early j)) s.early_issued;
+      early_all = subst (λ (x : List Kept × code.Chain × List ℕ). HasEarly image world (issued_in x.0) (chain_of x.1) x.2) (λ j. (sym k.kept_are j, sym k.chain j, sym k.early j)) s.early_all;
+      memory = s.memory;
+      is = subst (λ (c : Content). IsBuffer image world began c s.memory) (sym (same_content old new k)) s.is;
+      idle = λ f t. subst (Idle image) (sym (same_content old new k)) (s.idle (sym k.failed ∙ f) (sym k.starved ∙ t));
+    },
+    same_content old new k,
+  )
+
+  module _ (formed : Formed image) (sound : Sound image) (old mid : Store P) (k : Kept) (fresh : entry_of old.order.kept.items k.wave k.instr ≡ None) (waits : k.answer ≡ None) (ask : IsAsked image world (asked_of k))
+      (keeps : Keeps old (old.order.kept.items ++ k ∷ []) mid) (running : old.fault ≡ None) (working : old.failed ≡ None) (standing : Standing image world began old) where
+    came : (m : Outside) → StandsFor image world began old m → StandsFor image world began mid m
+    came m h = record {
+      going = subst (λ (x : List Kept × code.Chain × List ℕ × Option ℕ). Going image world (issued_in x.0) (waiting_in image x.0) (has x.3) (chain_of x.1) m x.2) (λ j. (sym keeps.kept_are j, sym keeps.chain j, sym keeps.early j, sym (keeps.fault ∙ running) j))
+          (going_any image world (issued_in old.order.kept.items) (issued_in (old.order.kept.items ++ k ∷ [])) (issued_push image old.order.kept.items k fresh waits) (waiting_in image old.order.kept.items) (waiting_in image (old.order.kept.items ++ k ∷ [])) (chain_of old.order.chain) m old.order.early.items
+          (subst (λ (f : Option ℕ). Going image world (issued_in old.order.kept.items) (waiting_in image old.order.kept.items) (has f) (chain_of old.order.chain) m old.order.early.items) running h.going));
+      right = right_now;
+      outside = subst (OutIs began m) (sym keeps.outer) h.outside;
+    }
+      where
+        right_now : (w i : ℕ) (xs : List ℕ) → kept_in image mid.order.kept.items w i ≡ Some xs → RightRequest image world w i xs
+        right_now w i xs e =
+            let g : with_key k.wave k.instr (Some (operands_of (ports image k.instr) k.first k.second)) (kept_in image old.order.kept.items) w i ≡ Some xs =
+            sym (kept_push image old.order.kept.items k fresh waits w i) ∙ ap (λ (x : List Kept). kept_in image x w i) (sym keeps.kept_are) ∙ e in
+            elim (with_key_cases k.wave k.instr (Some (operands_of (ports image k.instr) k.first k.second)) (kept_in image old.order.kept.items) w i) [
+              | inl a ↦ (let f : Some (operands_of (ports image k.instr) k.first k.second) ≡ Some xs = sym a.1 ∙ g in
+                  let q : operands_of (ports image k.instr) k.first k.second ≡ xs = cc in
+                  subst (λ (x : ℕ × ℕ × List ℕ). RightRequest image world x.0 x.1 x.2) (λ j. (a.0.wave j, a.0.instr j, q j)) ask)
+              | inr a ↦ h.right w i xs (sym a.1 ∙ g)
+            ]
+
+    arrives : (m : Outside) → Arrives image (buffer_in image (content_of old) m) (asked_of k) (buffer_of image mid m)
+    arrives m = record {
+      fresh = ap (operands_if image) fresh;
+      kept = λ w i. ap (λ (x : List Kept). kept_in image x w i) keeps.kept_are ∙ kept_push image old.order.kept.items k fresh waits w i;
+      issued = λ w i. ap (λ (x : List Kept). issued_in x w i) keeps.kept_are ∙ issued_push image old.order.kept.items k fresh waits w i;
+      chain = ap chain_of keeps.chain;
+      stopped = ap has keeps.fault;
+      memory = refl;
+    }
+
+    module _ (new : Store P) (ok : StoreOk new) (tokens : List Token) (lead : (m : Outside) → StandsFor image world began mid m → Turns image world began mid m new tokens) where
+      abbrev turns : (m : Outside) → IsBuffer image world began (content_of old) m → Turns image world began mid m new tokens
+      turns m is = lead m (came m (stands_of old standing.early_issued standing.early_all m is))
+
+      is_now : (m : Outside) (is : IsBuffer image world began (content_of old) m) → IsBuffer image world began (content_of new) (turns m is).memory
+      is_now m is = let t = turns m is in buffer_from new ok.order (t.fault (subst (FaultIs image world) (sym (keeps.fault ∙ running)) tt)) t.memory t.stands
+
+      submitted : (m : Outside) → IsBuffer image world began (content_of old) m → Submitted image world began (content_of old) m (asked_of k) tokens (content_of new)
+      submitted m is = let t = turns m is in record { arrived = buffer_of image mid m; arrives = arrives m; memory = t.memory; issues = t.issues; is = is_now m is }
+
+      abbrev last : Turns image world began mid standing.memory new tokens
+      last = turns standing.memory standing.is
+
+      stands_now : (new.failed ≡ None → new.starved ≡ false → Idle image (content_of new)) → Standing image world began new
+      stands_now idle = record {
+        ok = ok;
+        early_issued = last.stands.going.early_issued;
+        early_all = last.stands.going.early_all;
+        memory = last.memory;
+        is = is_now standing.memory standing.is;
+        idle = idle;
+      }
+
+      stopped_idle : (array : ℕ) → new.fault ≡ Some array → Idle image (content_of new)
+      stopped_idle array e m w i xs asks may = both_ways (has new.fault) may.going (ap has e)
+
+
+      pub said : (r : Result (Unit {0}) BufFault) → SettledSo image mid r new → Standing image world began new × RightTokens image world tokens × SubmitSo image world began (content_of old) (asked_of k) (with_tokens tokens r) (content_of new)
+      said (Ok u) s =
+          let idle : Idle image (content_of new) = λ m. none_issuable image world began new.order (has new.fault) (holding new.outer) last.memory last.stands s.3 in
+          (stands_now (λ f t. idle), last.right, (((running, working), fresh, submitted, s.0, s.1 ∙ keeps.failed ∙ working, s.2), idle))
+      said (Err (fault.Index array)) s =
+          (stands_now (λ f t. stopped_idle array s.0), last.right, (tokens, ((running, working), fresh, submitted, s.0, s.1 ∙ keeps.failed ∙ working, s.2)))
+      said (Err (fault.Port port)) s = (
+        stands_now (λ f t. absurd (let g : Some port ≡ None = sym s.1 ∙ f in cc)),
+        last.right,
+        ((tokens, ((running, working), fresh, submitted, s.0, s.1, s.2)), subst (λ (h : Holding). RoseAt port h.ports new.outer.ports) keeps.outer s.3, s.4),
+      )
+      said (Err fault.NoMemory) s = (
+        stands_now (λ f t. absurd (both_ways new.starved t s.2)),
+        last.right,
+        inr ((tokens, ((running, working), fresh, submitted, s.0, s.1 ∙ keeps.failed ∙ working, s.2)), s.3),
+      )
+      said (Err fault.Old) s = absurd s
+      said (Err (fault.Stopped port)) s = absurd s
+      said (Err (fault.Ended array)) s = absurd s
+
+-- what a call says of a store, said of a job
+pub with_job : {P : Type 0} (im image : Image) (world : World) (began : List (Option Began)) → im ≡ image → Formed image → Sound image → (old new : Store P) (k : Kept) (r : Asked) (tokens : List Token) (result : Result (Unit {0}) BufFault) → asked_of k ≡ r → IsAsked image world r → SubmitLeads im old k tokens result new →
+    Standing image world began old → Standing image world began new × RightTokens image world tokens × SubmitSo image world began (content_of old) r (with_tokens tokens result) (content_of new)
+with_job im image world began same formed sound old new k r tokens result asked right leads standing =
+    subst (λ (q : Asked). Standing image world began new × RightTokens image world tokens × SubmitSo image world began (content_of old) q (with_tokens tokens result) (content_of new)) asked
+    (subst (λ (i : Image). SubmitLeads i old k tokens result new) same leads world began formed sound (subst (IsAsked image world) (sym asked) right) standing)

@@ -1,0 +1,16 @@
+pub mod Going
+pub mod Lists
+pub mod Found
+pub mod Waves
+pub mod Ordered
+pub mod Issued
+pub mod Outside
+pub mod Alike
+pub mod Stepping
+pub mod Within
+pub mod Counted
+pub mod Resting
+pub mod Turns
+pub mod Silence
+pub mod Coming
+pub mod Opening

@@ -1,0 +1,90 @@
+-- Issues in turn, and more of them.
+use Rattle.std.proofs.Common.{ℕ, ◌≡◌, ◌<◌, ◌≤◌, ◌⊎◌, Bool, List, [], ◌∷◌, ◌++◌, Option, sym, ap, ◌∙◌, subst, inl, inr, arith}
+use Rattle.std.proofs.lemmas.List.{append_assoc, append-nil}
+use Rattle.ws_words.specs.Outside.{Outside, World}
+use Rattle.ws_isa.specs.Image.{Image, Token}
+use Rattle.ws_io.specs.Streams.{Rose}
+use Rattle.core_law.specs.Core.{IsSent, has}
+use Rattle.core_law.specs.Shown.{Buffer}
+use Rattle.core_run.specs.Chains.{chain_of}
+use Rattle.store_buf.specs.declared.fault.Silent.{Silent}
+use Rattle.store_buf.specs.declared.fault.Silent.TheVariants.{Failed, NoMemory}
+use Rattle.store_buf.specs.declared.order.Order.{Order}
+use Rattle.store_buf.specs.declared.store.Store.{Store}
+use Rattle.store_buf.specs.Outdoors.{FaultsGrow}
+use Rattle.store_buf.specs.Contents.{FaultIs, RightTokens}
+use Rattle.store_buf.specs.Holds.{Issued, Stopped, Issues, stays, goes, stops, part}
+use Rattle.store_buf.specs.Stores.{StandsFor, buffer_of, IssueLeads, StaysSo, AllLead, SilentSo}
+
+pub issues_on : (image : Image) (a b c : Buffer) (xs ys : List Token) → Issues image a xs b → Issues image b ys c → Issues image a (xs ++ ys) c
+issues_on image a b c xs ys stays more = more
+issues_on image a b c xs ys (goes {c = d} {some = some} {rest = rest} w i e on) more = subst (λ (ts : List Token). Issues image a ts c) (sym (append_assoc some rest ys)) (goes w i e (issues_on image d b c rest ys on more))
+issues_on image a b c xs ys (stops {c = d} w i e on) more = stops w i e (issues_on image d b c xs ys on more)
+
+-- one issue, or a stop
+one_issue : (image : Image) (b c : Buffer) (w i : ℕ) (ts : List Token) → Issued image b w i ts c ⊎ (Stopped image b w i c × (ts ≡ [])) → Issues image b ts c
+one_issue image b c w i ts (inl e) = subst (λ (us : List Token). Issues image b us c) (append-nil ts) (goes w i e stays)
+one_issue image b c w i ts (inr e) = subst (λ (us : List Token). Issues image b us c) (sym e.1) (stops w i e.0 stays)
+
+sent_either : (xs ys : List Token) (w i p v : ℕ) → IsSent (xs ++ ys) w i p v → IsSent xs w i p v ⊎ IsSent ys w i p v
+sent_either [] ys w i p v e = inr e
+sent_either (x ∷ xs) ys w i p v (inl e) = inl (inl e)
+sent_either (x ∷ xs) ys w i p v (inr e) = elim (sent_either xs ys w i p v e) [ inl h ↦ inl (inr h) | inr h ↦ inr h ]
+
+right_both : (image : Image) (world : World) (xs ys : List Token) → RightTokens image world xs → RightTokens image world ys → RightTokens image world (xs ++ ys)
+right_both image world xs ys a b w i p v e = elim (sent_either xs ys w i p v e) [ inl h ↦ a w i p v h | inr h ↦ b w i p v h ]
+
+rose_from : (a b c : ℕ) → a ≤ b → Rose b c → Rose a c
+rose_from a b c l (inl h) = inl (omega (arith, l, h))
+rose_from a b c l (inr h) = inr h
+
+module _ {P : Type 0} where
+  pub none_yet : (image : Image) (s : Store P) (ts : List Token) → AllLead image s s ts ts
+  none_yet image s ts = ([], sym (append-nil ts), λ world began m formed sound stands. record { memory = m; issues = stays; right = λ w i p v e. absurd e; fault = λ f. f; stands = stands })
+
+  pub one_more : (image : Image) (a b c : Store P) (t0 t1 t2 : List Token) → AllLead image a b t0 t1 → IssueLeads image b c t1 t2 → AllLead image a c t0 t2
+  one_more image a b c t0 t1 t2 all one = (
+    all.0 ++ one.0,
+    one.1 ∙ ap (λ (ts : List Token). ts ++ one.0) all.1 ∙ append_assoc t0 all.0 one.0,
+    λ world began m formed sound stands.
+      let r = all.2 world began m formed sound stands in
+      let q = one.2 world began r.memory formed sound r.stands in
+      record {
+        memory = q.memory;
+        issues = issues_on image (buffer_of image a m) (buffer_of image b r.memory) (buffer_of image c q.memory) all.0 one.0 r.issues (one_issue image (buffer_of image b r.memory) (buffer_of image c q.memory) q.wave q.instr one.0 q.event);
+        right = right_both image world all.0 one.0 r.right q.right;
+        fault = λ f. q.fault;
+        stands = q.stands;
+      },
+  )
+
+  pub still : (image : Image) (a b c : Store P) (t0 t1 : List Token) → AllLead image a b t0 t1 → StaysSo image b c → c.order ≡ b.order → c.fault ≡ b.fault → AllLead image a c t0 t1
+  still image a b c t0 t1 all so order fault = (
+    all.0,
+    all.1,
+    λ world began m formed sound stands.
+      let r = all.2 world began m formed sound stands in
+      record {
+        memory = r.memory;
+        issues = subst (λ (x : Order). Issues image (buffer_of image a m) all.0 (part image x.kept.items (chain_of x.chain) (has c.fault) r.memory)) (sym order)
+            (subst (λ (f : Option ℕ). Issues image (buffer_of image a m) all.0 (part image b.order.kept.items (chain_of b.order.chain) (has f) r.memory)) (sym fault) r.issues);
+        right = r.right;
+        fault = λ f. subst (FaultIs image world) (sym fault) (r.fault f);
+        stands = so world began r.memory r.stands;
+      },
+  )
+
+  -- what is kept in mind of ports doesn't matter
+  pub in_mind : (image : Image) (a b : Store P) (f g : Option ℕ) (s t : Bool) (t0 t1 : List Token) → AllLead image a b t0 t1 → AllLead image (record a { failed = f; starved = s }) (record b { failed = g; starved = t }) t0 t1
+  in_mind image a b f g s t t0 t1 all = (
+    all.0,
+    all.1,
+    λ world began m formed sound stands.
+      let r = all.2 world began m formed sound stands in
+      record { memory = r.memory; issues = r.issues; right = r.right; fault = r.fault; stands = r.stands },
+  )
+
+  -- a count that rose at last has risen since before
+  pub silent_from : (image : Image) (a b c : Store P) (why : Silent) → FaultsGrow a.outer.ports b.outer.ports → SilentSo image b c why → SilentSo image a c why
+  silent_from image a b c (Failed p) grow s = (s.0, rose_from _ _ _ (grow p) s.1)
+  silent_from image a b c (NoMemory p) grow s = s

@@ -1,0 +1,58 @@
+use Rattle.std.proofs.Common.{◌≡◌, ◌+◌, ◌≤◌, None, false, List, [], map, length, vec_len, vec_capacity, ap, ◌∙◌, sym, subst, arith}
+use Rattle.ws_isa.specs.Image.{Image, cells_of}
+use Rattle.ws_isa.specs.View as view
+use Rattle.image_walk.specs.Walk.{opening_memory}
+use Rattle.store_buf.specs.declared.order.Order.{Order}
+use Rattle.store_buf.specs.declared.store.Store.{Store}
+use Rattle.store_buf.specs.Requests.{unissued}
+use Rattle.store_buf.specs.Ordering.{OrderOk, Room}
+use Rattle.store_buf.specs.Outdoors.{AllBegan}
+use Rattle.store_buf.specs.Contents.{Content, IsBuffer, opening_content}
+use Rattle.store_buf.specs.Stores.{StoreOk, content_of}
+use Rattle.store_buf.proofs.Opening as O
+use Rattle.store_buf.proofs.buffer.Buffer.begin.Goals as goal
+
+-- nothing waits
+none_wait : (o : Order) → OrderOk o → o.kept.items ≡ [] → o.waiting ≡ 0
+none_wait o ok e = ok.count ∙ ap unissued e
+
+no_room : (o : Order) → OrderOk o → o.kept.items ≡ [] → o.early.items ≡ [] → Room o
+no_room o ok e f = let w = none_wait o ok e in let l = ap length f in omega (arith, w, l, o.early.ok.0)
+
+pub invariant_of-result : goal.invariant_of-result
+invariant_of-result g c =
+    let image = g.J.Job.image in
+    let world = g.J.Job.world in
+    let w = none_wait c.new-3.result c.new-3.ensures.ok c.new-3.ensures.kept in
+    let s : Store g.row.P.Denot = record { order = c.new-3.result; outer = record { cells = c.in-Ok.cells; input = c.args.input; read = 0; printed = c.new.result; ports = c.new-2.result }; fault = None; failed = None; starved = false } in
+    let cells : c.in-Ok.cells ≡ cells_of image.arrays = c.in-Ok.ensures ∙ ap (λ xs. cells_of (map view.array xs)) c.deref.ensures.value ∙ ap (λ (i : Image). cells_of i.arrays) c.program.ensures.image in
+    O.opening_stands image world g.J.Job.began (λ state r. c.every_list_of_events.ensures.reach image world c.program.ensures.formed c.program.ensures.sound state r)
+    c.new-2.result (subst (AllBegan g.J.Job.began world.left) (sym c.new-2.ensures) c.requires.ports) s
+    (record { order = c.new-3.ensures.ok; early = no_room c.new-3.result c.new-3.ensures.ok c.new-3.ensures.kept c.new-3.ensures.early; printed = omega (arith, w, c.new.ensures.len) })
+    c.new-3.ensures.early
+    (λ j. record {
+      kept = c.new-3.ensures.kept j;
+      chain = record { wave = c.new-3.ensures.wave j; last = c.new-3.ensures.last j };
+      fault = None;
+      failed = None;
+      starved = false;
+      outside = record { cells = cells j; input = c.requires.input j; printed = c.new.ensures.items j; ports = c.new-2.result };
+    })
+
+pub returns-clause-stands : goal.returns-clause-stands
+returns-clause-stands g c =
+    let image = g.J.Job.image in
+    let world = g.J.Job.world in
+    let cells : c.in-Ok.cells ≡ cells_of image.arrays = c.in-Ok.ensures ∙ ap (λ xs. cells_of (map view.array xs)) c.deref.ensures.value ∙ ap (λ (i : Image). cells_of i.arrays) c.program.ensures.image in
+    let s : Store g.row.P.Denot = record { order = c.new-3.result; outer = record { cells = c.in-Ok.cells; input = c.args.input; read = 0; printed = c.new.result; ports = c.new-2.result }; fault = None; failed = None; starved = false } in
+    let is : content_of s ≡ opening_content image world c.new-2.result = λ j. record {
+      kept = c.new-3.ensures.kept j;
+      chain = record { wave = c.new-3.ensures.wave j; last = c.new-3.ensures.last j };
+      fault = None;
+      failed = None;
+      starved = false;
+      outside = record { cells = cells j; input = c.requires.input j; printed = c.new.ensures.items j; ports = c.new-2.result };
+    } in
+    subst (λ (x : Content). IsBuffer image world g.J.Job.began x (opening_memory image world)) (sym is)
+    (O.opening_is image world g.J.Job.began (λ state r. c.every_list_of_events.ensures.reach image world c.program.ensures.formed c.program.ensures.sound state r)
+    c.new-2.result (subst (AllBegan g.J.Job.began world.left) (sym c.new-2.ensures) c.requires.ports))

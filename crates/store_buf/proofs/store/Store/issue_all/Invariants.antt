@@ -1,0 +1,21 @@
+use Rattle.std.proofs.Common.{◌≡◌, ◌*◌}
+use Rattle.smallvec.specs.SmallVec.{HasRoomFor}
+use Rattle.core_run.specs.Places.{image_of}
+use Rattle.df_job.specs.Rights.{tokens_of}
+use Rattle.store_buf.specs.Outdoors.{FaultsGrow}
+use Rattle.store_buf.specs.Stores.{StoreOk, AllLead, left_over}
+use Rattle.store_buf.proofs.store.Store.issue_all.Given as goal
+
+abbrev pub invariant-loop-self : goal.invariant-loop-self
+invariant-loop-self g l = record {
+  ok : StoreOk l.self;
+  lead : AllLead (image_of l.program) l.initial.self l.self (tokens_of l.initial.told.items) (tokens_of l.told.items);
+  grow : FaultsGrow l.initial.self.outer.ports l.self.outer.ports;
+  failed : l.self.failed ≡ l.initial.self.failed;
+  starved : l.self.starved ≡ l.initial.self.starved;
+  room : HasRoomFor l.told (8 * l.self.order.waiting);
+  same_room : l.told.capacity ≡ l.initial.told.capacity;
+}
+
+abbrev pub decreases-loop-self : goal.decreases-loop-self
+decreases-loop-self g l = left_over l.self

@@ -1,0 +1,10 @@
+pub mod Orders
+pub mod Requests
+pub mod Finding
+pub mod Laters
+pub mod Ordering
+pub mod Outdoors
+pub mod Outers
+pub mod Holds
+pub mod Contents
+pub mod Stores

@@ -1,0 +1,17 @@
+-- A buffer's order: what is issued and what waits, and what is true of it whenever no call is at work.
+use Rattle.std.specs.Prelude.{ℕ, ◌≡◌, Bool, List, Option, Some}
+use Rattle.ws_words.specs.Outside.{Outside, World}
+use Rattle.ws_isa.specs.Image.{Image, In}
+use Rattle.core_law.specs.Core.{Chain}
+use Rattle.core_law.specs.Fit.{Legal}
+use Rattle.core_run.specs.Stands.{HasEarly}
+
+-- these are issued, in the current wave
+abbrev pub EarlyIssued : (ℕ → ℕ → Option ℕ) → Chain → List ℕ → Type 0
+EarlyIssued issued chain early = (i : ℕ) → In i early → (a : ℕ) × (issued chain.wave i ≡ Some a)
+
+-- it is legal, and the issued loads that the chain hasn't passed are listed
+pub record Going (image : Image) (world : World) (issued : ℕ → ℕ → Option ℕ) (waiting : ℕ → ℕ → Option (List ℕ)) (stopped : Bool) (chain : Chain) (memory : Outside) (early : List ℕ) : Type 0 where
+  pub legal : Legal image world issued waiting stopped chain memory
+  pub early_issued : EarlyIssued issued chain early
+  pub early_all : HasEarly image world issued chain early

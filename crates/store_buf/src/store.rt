@@ -1,0 +1,197 @@
+//! A buffer without its job: requests, chain, memory and ports.
+
+ghost use Rattle.std.specs.Prelude.{◌≡◌, ◌<◌, ◌≤◌, ◌+◌, ◌*◌, ◌++◌, ◌∷◌, ◌⊎◌, [], true, false, Some, None, IfErr, OnOk, OnErr};
+ghost use Rattle.smallvec.specs.SmallVec.{HasRoomFor};
+ghost use Rattle.ws_isa.specs.Formed.{Formed};
+ghost use Rattle.ws_isa.specs.Image.{array_of_op};
+ghost use Rattle.core_law.specs.Core.{has};
+ghost use Rattle.core_run.specs.Places.{ProgramIs, image_of};
+ghost use Rattle.df_job.specs.Rights.{tokens_of};
+ghost use Rattle.store_buf.specs.Requests.{entry_of};
+ghost use Rattle.store_buf.specs.Ordering.{MayAt, NoneMay};
+ghost use Rattle.store_buf.specs.Outdoors.{FaultsGrow};
+ghost use Rattle.store_buf.specs.Stores.{StoreOk, Keeps, IssueLeads, StaysSo, AllLead, SilentSo, SettledSo, SubmitLeads, content_of, left_over};
+
+use crate::fault::{BufFault, Silent};
+use crate::kept::Kept;
+use crate::order::Order;
+use crate::outer::Outer;
+use crate::told::{Told, tell};
+use core_run::program::Program;
+use port_set::Port;
+use ws_isa::Op;
+use ws_words::NoMemory;
+
+// For each request that waits there has to be room for eight tokens.
+const MOST_WAITING: usize = usize::MAX / 16;
+
+/// Requests and what they work on. `fault` is the array of the operation past the end at which the
+/// chain is stopped, `failed` a port that failed; `starved` is set where a port found no memory.
+#[derive(Drop)]
+pub struct Store<P: Port> {
+    pub order: Order,
+    pub outer: Outer<P>,
+    pub fault: Option<u32>,
+    pub failed: Option<u8>,
+    pub starved: bool,
+}
+
+impl<P: Port> Store<P> {
+    /// Keeps a request and issues what may be issued then; the tokens of that are told.
+    pub fn submit(
+        &mut self,
+        program: &Program<'_>,
+        kept: Kept,
+        told: &mut Told,
+    ) -> Result<(), BufFault>
+        requires program { ProgramIs program.now }
+        requires formed { Formed (image_of program.now) }
+        requires ok { StoreOk self.old }
+        requires waits { kept.answer ≡ None }
+        requires told { told.old.items ≡ [] }
+        ensures leads { SubmitLeads (image_of program.now) self.old kept
+            (tokens_of told.new.items) result self.new }
+        ensures room { told.old.capacity ≤ told.new.capacity }
+    {
+        if let Some(array) = self.fault {
+            return Err(BufFault::Ended { array });
+        }
+        if let Some(port) = self.failed {
+            return Err(BufFault::Stopped { port });
+        }
+        match self.order.find(kept.wave, kept.instr) {
+            Some(_) => Err(BufFault::Old),
+            None => match self.keep(kept, told) {
+                Ok(()) => self.settle(program, told),
+                Err(_) => Err(BufFault::NoMemory),
+            },
+        }
+    }
+
+    /// Keeps a request of an instance that had none, and makes room for all that may be issued then.
+    fn keep(&mut self, kept: Kept, told: &mut Told) -> Result<(), NoMemory>
+        requires ok { StoreOk self.old }
+        requires fresh { entry_of self.old.order.kept.items kept.wave kept.instr ≡ None }
+        requires waits { kept.answer ≡ None }
+        ensures ok { StoreOk self.new }
+        ensures keeps { OnOk result (Keeps self.old (self.old.order.kept.items ++ kept ∷ []) self.new) }
+        ensures unchanged { OnErr result (Keeps self.old self.old.order.kept.items self.new) }
+        ensures told { told.new.items ≡ told.old.items }
+        ensures room { OnOk result (HasRoomFor told.new (8 * self.new.order.waiting)) }
+        ensures grown { told.old.capacity ≤ told.new.capacity }
+    {
+        let waiting = self.order.waiting;
+        if waiting >= MOST_WAITING {
+            return Err(NoMemory);
+        }
+        self.outer.printed.reserve(waiting + 1)?;
+        told.reserve(8 * (waiting + 1))?;
+        self.order.add(kept)
+    }
+
+    // Issues what may be issued, and keeps in mind how that ends.
+    fn settle(&mut self, program: &Program<'_>, told: &mut Told) -> Result<(), BufFault>
+        requires program { ProgramIs program.now }
+        requires formed { Formed (image_of program.now) }
+        requires ok { StoreOk self.old }
+        requires room { HasRoomFor told.old (8 * self.old.order.waiting) }
+        ensures ok { StoreOk self.new }
+        ensures lead { AllLead (image_of program.now) self.old self.new
+            (tokens_of told.old.items) (tokens_of told.new.items) }
+        ensures settled { SettledSo (image_of program.now) self.old result self.new }
+        ensures room { told.new.capacity ≡ told.old.capacity }
+    {
+        self.starved = false;
+        match self.issue_all(program, told) {
+            Ok(()) => match self.fault {
+                Some(array) => Err(BufFault::Index { array }),
+                None => Ok(()),
+            },
+            Err(Silent::Failed { port }) => {
+                self.failed = Some(port);
+                Err(BufFault::Port { port })
+            }
+            Err(Silent::NoMemory { .. }) => {
+                self.starved = true;
+                Err(BufFault::NoMemory)
+            }
+        }
+    }
+
+    /// Issues the request at a place of the list at hand, which may be issued; at one past the end
+    /// the chain stops. Where a port doesn't answer, the request still waits.
+    pub fn issue(
+        &mut self,
+        program: &Program<'_>,
+        at: usize,
+        told: &mut Told,
+    ) -> Result<(), Silent>
+        requires program { ProgramIs program.now }
+        requires formed { Formed (image_of program.now) }
+        requires ok { StoreOk self.old }
+        requires may { MayAt (image_of program.now) self.old.order at }
+        requires going { self.old.fault ≡ None }
+        requires room { HasRoomFor told.old (8 * self.old.order.waiting) }
+        ensures ok { StoreOk self.new }
+        ensures leads { OnOk result (IssueLeads (image_of program.now) self.old self.new
+            (tokens_of told.old.items) (tokens_of told.new.items)) }
+        ensures stays { OnErr result (StaysSo (image_of program.now) self.old self.new) }
+        ensures fewer { OnOk result (left_over self.new < left_over self.old) }
+        ensures order { OnErr result (self.new.order ≡ self.old.order) }
+        ensures fault { OnErr result (self.new.fault ≡ self.old.fault) }
+        ensures untold { OnErr result (told.new.items ≡ told.old.items) }
+        ensures silent { IfErr result (SilentSo (image_of program.now) self.old self.new) }
+        ensures counted { FaultsGrow self.old.outer.ports self.new.outer.ports }
+        ensures failed { self.new.failed ≡ self.old.failed }
+        ensures starved { self.new.starved ≡ self.old.starved }
+        ensures room { HasRoomFor told.new (8 * self.new.order.waiting) }
+        ensures same_room { told.new.capacity ≡ told.old.capacity }
+    {
+        let kept = self.order.request(at);
+        let op = program.op(kept.instr);
+        if program.is_past(op, kept.first) {
+            self.fault = Some(array_of(op));
+            return Ok(());
+        }
+        let word = self.outer.run(op, kept.first, kept.second)?;
+        self.order.issue(program, at, word);
+        tell(told, kept.wave, program.destinations(kept.instr, 0), word);
+        Ok(())
+    }
+
+    /// Issues requests until none may be issued, or the chain is stopped, or a port doesn't answer.
+    pub fn issue_all(&mut self, program: &Program<'_>, told: &mut Told) -> Result<(), Silent>
+        requires program { ProgramIs program.now }
+        requires formed { Formed (image_of program.now) }
+        requires ok { StoreOk self.old }
+        requires room { HasRoomFor told.old (8 * self.old.order.waiting) }
+        ensures ok { StoreOk self.new }
+        ensures lead { AllLead (image_of program.now) self.old self.new
+            (tokens_of told.old.items) (tokens_of told.new.items) }
+        ensures none { OnOk result ((has self.new.fault ≡ true)
+            ⊎ NoneMay (image_of program.now) self.new.order) }
+        ensures silent { IfErr result (SilentSo (image_of program.now) self.old self.new) }
+        ensures going { OnErr result (self.new.fault ≡ None) }
+        ensures failed { self.new.failed ≡ self.old.failed }
+        ensures starved { self.new.starved ≡ self.old.starved }
+        ensures same_room { told.new.capacity ≡ told.old.capacity }
+    {
+        while self.fault.is_none() {
+            match self.order.issuable(program) {
+                None => return Ok(()),
+                Some(at) => self.issue(program, at, told)?,
+            }
+        }
+        Ok(())
+    }
+}
+
+// The array of a load or store.
+fn array_of(op: Op) -> u32
+    ensures { result ≡ array_of_op op }
+{
+    match op {
+        Op::Load(array) | Op::Store(array) => array,
+        _ => 0,
+    }
+}
