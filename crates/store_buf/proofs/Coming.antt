@@ -1,8 +1,8 @@
 -- A request comes, and what is true of a store afterwards.
-use Rattle.std.proofs.Common.{ℕ, zero, suc, ◌≡◌, ◌<◌, ◌⊎◌, ◌↔◌, Bool, true, false, List, [], ◌∷◌, ◌++◌, length, Option, Some, None, Result, Ok, Err, slice_index_or, refl, sym, ap, ◌∙◌, subst, inl, inr, arith}
+use Rattle.std.proofs.Common.{ℕ, suc, ◌≡◌, ◌<◌, false, List, [], ◌∷◌, ◌++◌, length, Option, Some, None, Result, Ok, Err, slice_index_or, refl, sym, ap, ◌∙◌, subst, inl, inr, arith}
 use Rattle.std.proofs.lemmas.Bool.{both_ways}
 use Rattle.ws_words.specs.Outside.{Outside, World}
-use Rattle.ws_isa.specs.Image.{Image, Token, In, ports}
+use Rattle.ws_isa.specs.Image.{Image, Token, ports}
 use Rattle.ws_isa.specs.Formed.{Formed}
 use Rattle.image_walk.specs.Sound.{Sound}
 use Rattle.core_law.specs.Core.{HasFired, has, with_key}
@@ -16,7 +16,6 @@ use Rattle.core_run.specs.Stands.{HasEarly}
 use Rattle.store_buf.specs.declared.fault.BufFault.{BufFault}
 use Rattle.store_buf.specs.declared.fault.BufFault.TheVariants as fault
 use Rattle.store_buf.specs.declared.kept.Kept.{Kept}
-use Rattle.store_buf.specs.declared.order.Order.{Order}
 use Rattle.store_buf.specs.declared.store.Store.{Store}
 use Rattle.store_buf.specs.Requests.{entry_of, kept_in, issued_in, issued_keys, key_if, answer_if, operands_if}
 use Rattle.store_buf.specs.Finding.{place_in}
@@ -24,7 +23,7 @@ use Rattle.store_buf.specs.Orders.{Going, EarlyIssued}
 use Rattle.store_buf.specs.Ordering.{no_request, OrderOk}
 use Rattle.store_buf.specs.Outdoors.{Holding, OutIs, RoseAt}
 use Rattle.store_buf.specs.Outers.{holding}
-use Rattle.store_buf.specs.Holds.{Holds, part, waiting_in}
+use Rattle.store_buf.specs.Holds.{waiting_in}
 use Rattle.store_buf.specs.Contents.{Content, FaultIs, IsBuffer, Arrives, Submitted, RightTokens, Idle, SubmitSo, buffer_in, with_tokens}
 use Rattle.store_buf.specs.Stores.{StandsFor, StoreOk, Keeps, Turns, SettledSo, SubmitLeads, Standing, asked_of, buffer_of, content_of}
 use Rattle.store_buf.proofs.Alike.{going_any, once_of}
@@ -202,7 +201,6 @@ module _ (image : Image) (world : World) (began : List (Option Began)) {P : Type
 
       stopped_idle : (array : ℕ) → new.fault ≡ Some array → Idle image (content_of new)
       stopped_idle array e m w i xs asks may = both_ways (has new.fault) may.going (ap has e)
-
 
       pub said : (r : Result (Unit {0}) BufFault) → SettledSo image mid r new → Standing image world began new × RightTokens image world tokens × SubmitSo image world began (content_of old) (asked_of k) (with_tokens tokens r) (content_of new)
       said (Ok u) s =

@@ -1,10 +1,8 @@
 -- The opening buffer.
-use Rattle.std.proofs.Common.{ℕ, ◌-◌, ◌≡◌, ◌≤◌, false, List, [], ◌++◌, Option, Some, None, refl, sym, ap, ◌∙◌, subst, arith}
+use Rattle.std.proofs.Common.{ℕ, ◌-◌, ◌≡◌, false, List, [], Option, Some, None, refl, sym, ap, ◌∙◌, subst, arith}
 use Rattle.std.proofs.lemmas.List.{append-nil}
-use Rattle.ws_words.specs.Outside.{Outside, World, row}
+use Rattle.ws_words.specs.Outside.{World, row}
 use Rattle.ws_isa.specs.Image.{Image, In}
-use Rattle.ws_isa.specs.Formed.{Formed}
-use Rattle.image_walk.specs.Sound.{Sound}
 use Rattle.image_walk.specs.Walk.{opening_memory}
 use Rattle.core_law.specs.Core.{State, Reach, Once, core_opening}
 use Rattle.core_law.specs.Fit.{Fit, Grounded, Legal}
@@ -13,7 +11,6 @@ use Rattle.port_set.specs.Slots.{port_at}
 use Rattle.df_job.specs.Began.{Began}
 use Rattle.store_buf.specs.declared.store.Store.{Store}
 use Rattle.store_buf.specs.Outdoors.{more, SlotIs, BeganSo, AllBegan}
-use Rattle.store_buf.specs.Ordering.{OrderOk}
 use Rattle.store_buf.specs.Contents.{IsBuffer, Idle, Content, opening_content}
 use Rattle.store_buf.specs.Requests.{issued_in}
 use Rattle.store_buf.specs.Stores.{StoreOk, Standing, content_of}
@@ -31,16 +28,19 @@ slot_is (Some b) left (Some t) h = (h.0, h.1 ∙ none_more b.took, (let e : t.fa
 module _ (image : Image) (world : World) (began : List (Option Began))
     (reach : (state : State) → Reach image world state → Fit image world state × Grounded image world state × Once state.fired) where
   opening_fit : Fit image world (core_opening image world)
-  opening_fit = (reach (core_opening image world) ([], record {
-    held = λ w i p. refl;
-    way = λ w i p. refl;
-    fired = refl;
-    waiting = λ w i. refl;
-    issued = λ w i. refl;
-    chain = refl;
-    stopped = refl;
-    memory = refl;
-  })).0
+  opening_fit = (reach (core_opening image world) (
+    [],
+    record {
+      held = λ w i p. refl;
+      way = λ w i p. refl;
+      fired = refl;
+      waiting = λ w i. refl;
+      issued = λ w i. refl;
+      chain = refl;
+      stopped = refl;
+      memory = refl;
+    },
+  )).0
 
   opening_legal : Legal image world (λ w i. None) (λ w i. None) false (record { wave = 1; last = None }) (opening_memory image world)
   unfolding core_opening

@@ -3,12 +3,11 @@ use Rattle.std.proofs.Common.{ℕ, ◌≡◌, Bool, true, List, Option, Some, No
 use Rattle.std.specs.Prelude.{is_none}
 use Rattle.std.proofs.lemmas.Bool.{and_from, both_ways}
 use Rattle.ws_words.specs.Outside.{Outside, World}
-use Rattle.ws_isa.specs.Image.{Image, instr_at, ports, ports_of}
+use Rattle.ws_isa.specs.Image.{Image, instr_at, ports}
 use Rattle.core_law.specs.Core.{Issuable}
 use Rattle.core_law.specs.Shown.{NoneIssuable, waits_if}
 use Rattle.df_job.specs.Began.{Began}
 use Rattle.df_job.specs.Rights.{operands_of}
-use Rattle.core_run.specs.declared.token.Operands.{Operands}
 use Rattle.core_run.specs.Partial.{listed}
 use Rattle.core_run.specs.Chains.{chain_of}
 use Rattle.core_run.proofs.Driving.{flagged}

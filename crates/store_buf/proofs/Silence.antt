@@ -1,20 +1,18 @@
 -- Ports that don't answer.
-use Rattle.std.proofs.Common.{ℕ, ◌-◌, ◌≡◌, ◌<◌, ◌≤◌, ◌⊎◌, ◌||◌, ◌&&◌, ◌==◌, Bool, true, false, not, nat_le, List, [], ◌∷◌, Option, Some, None, Result, Ok, Err, length, slice_index_or, slice_set, refl, sym, ap, ◌∙◌, subst, inl, inr, arith}
+use Rattle.std.proofs.Common.{ℕ, ◌-◌, ◌≡◌, ◌<◌, ◌≤◌, ◌||◌, ◌&&◌, ◌==◌, true, false, not, nat_le, List, [], ◌∷◌, Option, Some, None, Result, Err, length, slice_index_or, slice_set, refl, sym, ap, ◌∙◌, subst, inl, inr, arith}
 use Rattle.std.specs.Prelude.{is_none}
 use Rattle.std.proofs.lemmas.Bool.{cases_eq, and_parts, both_ways}
 use Rattle.ws_io.specs.Streams.{Rose}
 use Rattle.ws_isa.specs.declared.instr.Op.{Op}
 use Rattle.ws_isa.specs.declared.instr.Op.TheVariants.{Give, Take}
 use Rattle.ws_isa.specs.Image.{Image, instr_at, note_of, is_load_op, is_past_op}
-use Rattle.core_law.specs.Core.{IsNext, position_after}
+use Rattle.core_law.specs.Core.{position_after}
 use Rattle.port_set.specs.declared.port.PortError.{PortError}
 use Rattle.port_set.specs.declared.port.PortError.TheVariants as error
 use Rattle.port_set.specs.Ports.{Told, IfFailed}
 use Rattle.port_set.specs.Slots.{port_at, SlotGave, SlotTook}
 use Rattle.core_run.specs.Chains.{chain_of, may_flag, next_flag}
 use Rattle.core_run.proofs.Nexts.{next_is, either}
-use Rattle.store_buf.specs.declared.fault.Silent.{Silent}
-use Rattle.store_buf.specs.declared.fault.Silent.TheVariants.{Failed, NoMemory}
 use Rattle.store_buf.specs.declared.order.Order.{Order}
 use Rattle.store_buf.specs.Finding.{place_in}
 use Rattle.store_buf.specs.Ordering.{OrderOk, kept_at, ready_flag}

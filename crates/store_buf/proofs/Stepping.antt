@@ -14,7 +14,6 @@ use Rattle.core_law.specs.Core.{IsNext, Issuable, Passes, issued_with, position_
 use Rattle.core_law.specs.Fit.{RightRequest}
 use Rattle.core_law.specs.Shown.{waits_if}
 use Rattle.core_law.specs.Core.{IsSent}
-use Rattle.core_law.proofs.BufferKept as B
 use Rattle.core_law.proofs.BufferKept.{fault_here}
 use Rattle.core_law.proofs.Facts.{WalkFacts}
 use Rattle.core_law.proofs.FromSound.{facts_of}

@@ -1,7 +1,7 @@
 -- Issues in turn, and more of them.
-use Rattle.std.proofs.Common.{ℕ, ◌≡◌, ◌<◌, ◌≤◌, ◌⊎◌, Bool, List, [], ◌∷◌, ◌++◌, Option, sym, ap, ◌∙◌, subst, inl, inr, arith}
+use Rattle.std.proofs.Common.{ℕ, ◌≡◌, ◌≤◌, ◌⊎◌, Bool, List, [], ◌∷◌, ◌++◌, Option, sym, ap, ◌∙◌, subst, inl, inr, arith}
 use Rattle.std.proofs.lemmas.List.{append_assoc, append-nil}
-use Rattle.ws_words.specs.Outside.{Outside, World}
+use Rattle.ws_words.specs.Outside.{World}
 use Rattle.ws_isa.specs.Image.{Image, Token}
 use Rattle.ws_io.specs.Streams.{Rose}
 use Rattle.core_law.specs.Core.{IsSent, has}
@@ -14,7 +14,7 @@ use Rattle.store_buf.specs.declared.store.Store.{Store}
 use Rattle.store_buf.specs.Outdoors.{FaultsGrow}
 use Rattle.store_buf.specs.Contents.{FaultIs, RightTokens}
 use Rattle.store_buf.specs.Holds.{Issued, Stopped, Issues, stays, goes, stops, part}
-use Rattle.store_buf.specs.Stores.{StandsFor, buffer_of, IssueLeads, StaysSo, AllLead, SilentSo}
+use Rattle.store_buf.specs.Stores.{buffer_of, IssueLeads, StaysSo, AllLead, SilentSo}
 
 pub issues_on : (image : Image) (a b c : Buffer) (xs ys : List Token) → Issues image a xs b → Issues image b ys c → Issues image a (xs ++ ys) c
 issues_on image a b c xs ys stays more = more
@@ -47,15 +47,15 @@ module _ {P : Type 0} where
     all.0 ++ one.0,
     one.1 ∙ ap (λ (ts : List Token). ts ++ one.0) all.1 ∙ append_assoc t0 all.0 one.0,
     λ world began m formed sound stands.
-      let r = all.2 world began m formed sound stands in
-      let q = one.2 world began r.memory formed sound r.stands in
-      record {
-        memory = q.memory;
-        issues = issues_on image (buffer_of image a m) (buffer_of image b r.memory) (buffer_of image c q.memory) all.0 one.0 r.issues (one_issue image (buffer_of image b r.memory) (buffer_of image c q.memory) q.wave q.instr one.0 q.event);
-        right = right_both image world all.0 one.0 r.right q.right;
-        fault = λ f. q.fault;
-        stands = q.stands;
-      },
+        let r = all.2 world began m formed sound stands in
+        let q = one.2 world began r.memory formed sound r.stands in
+        record {
+          memory = q.memory;
+          issues = issues_on image (buffer_of image a m) (buffer_of image b r.memory) (buffer_of image c q.memory) all.0 one.0 r.issues (one_issue image (buffer_of image b r.memory) (buffer_of image c q.memory) q.wave q.instr one.0 q.event);
+          right = right_both image world all.0 one.0 r.right q.right;
+          fault = λ f. q.fault;
+          stands = q.stands;
+        },
   )
 
   pub still : (image : Image) (a b c : Store P) (t0 t1 : List Token) → AllLead image a b t0 t1 → StaysSo image b c → c.order ≡ b.order → c.fault ≡ b.fault → AllLead image a c t0 t1
@@ -63,15 +63,15 @@ module _ {P : Type 0} where
     all.0,
     all.1,
     λ world began m formed sound stands.
-      let r = all.2 world began m formed sound stands in
-      record {
-        memory = r.memory;
-        issues = subst (λ (x : Order). Issues image (buffer_of image a m) all.0 (part image x.kept.items (chain_of x.chain) (has c.fault) r.memory)) (sym order)
-            (subst (λ (f : Option ℕ). Issues image (buffer_of image a m) all.0 (part image b.order.kept.items (chain_of b.order.chain) (has f) r.memory)) (sym fault) r.issues);
-        right = r.right;
-        fault = λ f. subst (FaultIs image world) (sym fault) (r.fault f);
-        stands = so world began r.memory r.stands;
-      },
+        let r = all.2 world began m formed sound stands in
+        record {
+          memory = r.memory;
+          issues = subst (λ (x : Order). Issues image (buffer_of image a m) all.0 (part image x.kept.items (chain_of x.chain) (has c.fault) r.memory)) (sym order)
+              (subst (λ (f : Option ℕ). Issues image (buffer_of image a m) all.0 (part image b.order.kept.items (chain_of b.order.chain) (has f) r.memory)) (sym fault) r.issues);
+          right = r.right;
+          fault = λ f. subst (FaultIs image world) (sym fault) (r.fault f);
+          stands = so world began r.memory r.stands;
+        },
   )
 
   -- what is kept in mind of ports doesn't matter
@@ -80,8 +80,8 @@ module _ {P : Type 0} where
     all.0,
     all.1,
     λ world began m formed sound stands.
-      let r = all.2 world began m formed sound stands in
-      record { memory = r.memory; issues = r.issues; right = r.right; fault = r.fault; stands = r.stands },
+        let r = all.2 world began m formed sound stands in
+        record { memory = r.memory; issues = r.issues; right = r.right; fault = r.fault; stands = r.stands },
   )
 
   -- a count that rose at last has risen since before

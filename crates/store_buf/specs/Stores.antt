@@ -15,7 +15,6 @@ use Rattle.store_buf.specs.declared.fault.BufFault.TheVariants as fault
 use Rattle.store_buf.specs.declared.fault.Silent.{Silent}
 use Rattle.store_buf.specs.declared.fault.Silent.TheVariants.{Failed, NoMemory}
 use Rattle.store_buf.specs.declared.kept.Kept.{Kept}
-use Rattle.store_buf.specs.declared.order.Order.{Order}
 use Rattle.store_buf.specs.declared.store.Store.{Store}
 use Rattle.store_buf.specs.Requests.{issued_in}
 use Rattle.store_buf.specs.Orders.{EarlyIssued}

@@ -120,12 +120,7 @@ impl<P: Port> Store<P> {
 
     /// Issues the request at a place of the list at hand, which may be issued; at one past the end
     /// the chain stops. Where a port doesn't answer, the request still waits.
-    pub fn issue(
-        &mut self,
-        program: &Program<'_>,
-        at: usize,
-        told: &mut Told,
-    ) -> Result<(), Silent>
+    pub fn issue(&mut self, program: &Program<'_>, at: usize, told: &mut Told) -> Result<(), Silent>
         requires program { ProgramIs program.now }
         requires formed { Formed (image_of program.now) }
         requires ok { StoreOk self.old }

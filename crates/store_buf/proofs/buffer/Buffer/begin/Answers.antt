@@ -1,4 +1,4 @@
-use Rattle.std.proofs.Common.{◌≡◌, ◌+◌, ◌≤◌, None, false, List, [], map, length, vec_len, vec_capacity, ap, ◌∙◌, sym, subst, arith}
+use Rattle.std.proofs.Common.{◌≡◌, None, false, [], map, length, ap, ◌∙◌, sym, subst, arith}
 use Rattle.ws_isa.specs.Image.{Image, cells_of}
 use Rattle.ws_isa.specs.View as view
 use Rattle.image_walk.specs.Walk.{opening_memory}
@@ -8,7 +8,7 @@ use Rattle.store_buf.specs.Requests.{unissued}
 use Rattle.store_buf.specs.Ordering.{OrderOk, Room}
 use Rattle.store_buf.specs.Outdoors.{AllBegan}
 use Rattle.store_buf.specs.Contents.{Content, IsBuffer, opening_content}
-use Rattle.store_buf.specs.Stores.{StoreOk, content_of}
+use Rattle.store_buf.specs.Stores.{content_of}
 use Rattle.store_buf.proofs.Opening as O
 use Rattle.store_buf.proofs.buffer.Buffer.begin.Goals as goal
 

@@ -42,27 +42,31 @@ returns-in_err-word-clause-ok g c = record {
 }
 
 pub returns-then-is_past-clause-leads : goal.returns-then-is_past-clause-leads
-returns-then-is_past-clause-leads g c = ([], sym (append-nil (tokens_of c.args.told.now.items)), λ world began m formed sound stands.
-    let o = c.args.self.now.order in
-    let image = image_of c.args.program.now in
-    let p = slice_index_or o.near.items c.args.at (length o.kept.items) in
-    let k = c.request-kept.ensures in
-    let array_is : c.array_of.result ≡ array_of_op (instr_at image (near_at o c.args.at).instr).op =
-    c.array_of.ensures ∙ ap array_of_op c.op-op.ensures ∙ ap (λ x. array_of_op (instr_at image x.instr).op) k in
-    let past : is_past_op image.arrays (instr_at image (near_at o c.args.at).instr).op ((near_at o c.args.at).first ∷ []) ≡ true =
-    subst (λ x. is_past_op image.arrays (instr_at image x.instr).op (x.first ∷ []) ≡ true) k
-    (subst (λ op. is_past_op image.arrays op (c.request-kept.result.first ∷ []) ≡ true) c.op-op.ensures (sym c.is_past.ensures ∙ c.if-is_past.true)) in
-    let hold : Holds image world began o false (holding c.args.self.now.outer) m = subst (λ f. Holds image world began o (has f) (holding c.args.self.now.outer) m) c.requires.going stands in
-    let r = S.stops image world formed sound began o (holding c.args.self.now.outer) m hold c.requires.ok.order p c.requires.may.place c.requires.may.ready past in
-    record {
-      wave = (near_at o c.args.at).wave;
-      instr = (near_at o c.args.at).instr;
-      memory = m;
-      event = inr (rw c.requires.going r.0, refl);
-      right = λ w i p v e. absurd e;
-      fault = subst (λ a. FaultIs image world (Some a)) (sym array_is) (S.fault_is image world formed sound began o (holding c.args.self.now.outer) m hold c.requires.ok.order p c.requires.may.place c.requires.may.ready past);
-      stands = r.1;
-    })
+returns-then-is_past-clause-leads g c = (
+  [],
+  sym (append-nil (tokens_of c.args.told.now.items)),
+  λ world began m formed sound stands.
+      let o = c.args.self.now.order in
+      let image = image_of c.args.program.now in
+      let p = slice_index_or o.near.items c.args.at (length o.kept.items) in
+      let k = c.request-kept.ensures in
+      let array_is : c.array_of.result ≡ array_of_op (instr_at image (near_at o c.args.at).instr).op =
+      c.array_of.ensures ∙ ap array_of_op c.op-op.ensures ∙ ap (λ x. array_of_op (instr_at image x.instr).op) k in
+      let past : is_past_op image.arrays (instr_at image (near_at o c.args.at).instr).op ((near_at o c.args.at).first ∷ []) ≡ true =
+      subst (λ x. is_past_op image.arrays (instr_at image x.instr).op (x.first ∷ []) ≡ true) k
+      (subst (λ op. is_past_op image.arrays op (c.request-kept.result.first ∷ []) ≡ true) c.op-op.ensures (sym c.is_past.ensures ∙ c.if-is_past.true)) in
+      let hold : Holds image world began o false (holding c.args.self.now.outer) m = subst (λ f. Holds image world began o (has f) (holding c.args.self.now.outer) m) c.requires.going stands in
+      let r = S.stops image world formed sound began o (holding c.args.self.now.outer) m hold c.requires.ok.order p c.requires.may.place c.requires.may.ready past in
+      record {
+        wave = (near_at o c.args.at).wave;
+        instr = (near_at o c.args.at).instr;
+        memory = m;
+        event = inr (rw c.requires.going r.0, refl);
+        right = λ w i p v e. absurd e;
+        fault = subst (λ a. FaultIs image world (Some a)) (sym array_is) (S.fault_is image world formed sound began o (holding c.args.self.now.outer) m hold c.requires.ok.order p c.requires.may.place c.requires.may.ready past);
+        stands = r.1;
+      },
+)
 
 on_err : {A E : Type 0} {X : Type 0} (r : Result A E) → X → OnErr r X
 on_err (Ok a) h = tt
@@ -76,39 +80,43 @@ returns-in_err-word-clause-stays g c = on_err c.from_residual.result (λ world b
 })
 
 pub returns-clause-leads : goal.returns-clause-leads
-returns-clause-leads g c = (tokens_to c.request-kept.result.wave c.in_ok-word.word c.destinations.result.now, c.tell.ensures.tokens, λ world began m formed sound stands.
-    let o = c.args.self.now.order in
-    let image = image_of c.args.program.now in
-    let p = slice_index_or o.near.items c.args.at (length o.kept.items) in
-    let k = c.request-kept.ensures in
-    let within : is_past_op image.arrays (instr_at image (near_at o c.args.at).instr).op ((near_at o c.args.at).first ∷ []) ≡ false =
-    subst (λ x. is_past_op image.arrays (instr_at image x.instr).op (x.first ∷ []) ≡ false) k
-    (subst (λ op. is_past_op image.arrays op (c.request-kept.result.first ∷ []) ≡ false) c.op-op.ensures (sym c.is_past.ensures ∙ c.if-is_past.false)) in
-    let answers : Answers began (instr_at image (near_at o c.args.at).instr).op ((near_at o c.args.at).first ∷ (near_at o c.args.at).second ∷ 0 ∷ []) m c.in_ok-word.word (holding c.run.new.self) =
-    subst (λ x. Answers began (instr_at image x.instr).op (x.first ∷ x.second ∷ 0 ∷ []) m c.in_ok-word.word (holding c.run.new.self)) k
-    (subst (λ op. Answers began op (c.request-kept.result.first ∷ c.request-kept.result.second ∷ 0 ∷ []) m c.in_ok-word.word (holding c.run.new.self)) c.op-op.ensures (c.in_ok-word.ensures.answer began m 0 stands.outside)) in
-    let hold : Holds image world began o false (holding c.args.self.now.outer) m = subst (λ f. Holds image world began o (has f) (holding c.args.self.now.outer) m) c.requires.going stands in
-    let r = S.issues image world formed sound began o (holding c.args.self.now.outer) m hold c.requires.ok.order p c.requires.may.place c.requires.may.ready within c.in_ok-word.word c.issue.new.self (holding c.run.new.self) answers c.issue.ensures.kept c.issue.ensures.passed in
-    let xs = operands_of (ports image (near_at o c.args.at).instr) (near_at o c.args.at).first (near_at o c.args.at).second in
-    let word = c.in_ok-word.word in
-    let told : tokens_to c.request-kept.result.wave word c.destinations.result.now ≡ sends image (near_at o c.args.at).wave (near_at o c.args.at).instr xs (answer image (near_at o c.args.at).instr xs m) =
-    ap (tokens_to c.request-kept.result.wave word) c.destinations.ensures
-    ∙ ap (λ x. tokens_to x.wave word (destinations image x.instr 0)) k
-    ∙ S.tokens_are image world formed sound began o (holding c.args.self.now.outer) m hold c.requires.ok.order p c.requires.may.place c.requires.may.ready within word c.issue.new.self (holding c.run.new.self) answers c.issue.ensures.kept c.issue.ensures.passed in
-    let e : false ≡ has c.args.self.now.fault = ap has (sym c.requires.going) in
-    record {
-      wave = (near_at o c.args.at).wave;
-      instr = (near_at o c.args.at).instr;
-      memory = effect_after image (near_at o c.args.at).instr xs m;
-      event = inl (subst (λ ts. Issued image (part image o.kept.items (chain_of o.chain) (has c.args.self.now.fault) m) (near_at o c.args.at).wave (near_at o c.args.at).instr ts
-          (part image c.issue.new.self.kept.items (chain_of c.issue.new.self.chain) (has c.args.self.now.fault) (effect_after image (near_at o c.args.at).instr xs m))) (sym told)
-          (subst (λ f. Issued image (part image o.kept.items (chain_of o.chain) f m) (near_at o c.args.at).wave (near_at o c.args.at).instr
-          (sends image (near_at o c.args.at).wave (near_at o c.args.at).instr xs (answer image (near_at o c.args.at).instr xs m))
-          (part image c.issue.new.self.kept.items (chain_of c.issue.new.self.chain) f (effect_after image (near_at o c.args.at).instr xs m))) e r.0));
-      right = subst (RightTokens image world) (sym told) (S.sent_right image world formed sound began o (holding c.args.self.now.outer) m hold c.requires.ok.order p c.requires.may.place c.requires.may.ready);
-      fault = subst (FaultIs image world) (sym c.requires.going) tt;
-      stands = subst (λ f. Holds image world began c.issue.new.self f (holding c.run.new.self) (effect_after image (near_at o c.args.at).instr xs m)) e r.1;
-    })
+returns-clause-leads g c = (
+  tokens_to c.request-kept.result.wave c.in_ok-word.word c.destinations.result.now,
+  c.tell.ensures.tokens,
+  λ world began m formed sound stands.
+      let o = c.args.self.now.order in
+      let image = image_of c.args.program.now in
+      let p = slice_index_or o.near.items c.args.at (length o.kept.items) in
+      let k = c.request-kept.ensures in
+      let within : is_past_op image.arrays (instr_at image (near_at o c.args.at).instr).op ((near_at o c.args.at).first ∷ []) ≡ false =
+      subst (λ x. is_past_op image.arrays (instr_at image x.instr).op (x.first ∷ []) ≡ false) k
+      (subst (λ op. is_past_op image.arrays op (c.request-kept.result.first ∷ []) ≡ false) c.op-op.ensures (sym c.is_past.ensures ∙ c.if-is_past.false)) in
+      let answers : Answers began (instr_at image (near_at o c.args.at).instr).op ((near_at o c.args.at).first ∷ (near_at o c.args.at).second ∷ 0 ∷ []) m c.in_ok-word.word (holding c.run.new.self) =
+      subst (λ x. Answers began (instr_at image x.instr).op (x.first ∷ x.second ∷ 0 ∷ []) m c.in_ok-word.word (holding c.run.new.self)) k
+      (subst (λ op. Answers began op (c.request-kept.result.first ∷ c.request-kept.result.second ∷ 0 ∷ []) m c.in_ok-word.word (holding c.run.new.self)) c.op-op.ensures (c.in_ok-word.ensures.answer began m 0 stands.outside)) in
+      let hold : Holds image world began o false (holding c.args.self.now.outer) m = subst (λ f. Holds image world began o (has f) (holding c.args.self.now.outer) m) c.requires.going stands in
+      let r = S.issues image world formed sound began o (holding c.args.self.now.outer) m hold c.requires.ok.order p c.requires.may.place c.requires.may.ready within c.in_ok-word.word c.issue.new.self (holding c.run.new.self) answers c.issue.ensures.kept c.issue.ensures.passed in
+      let xs = operands_of (ports image (near_at o c.args.at).instr) (near_at o c.args.at).first (near_at o c.args.at).second in
+      let word = c.in_ok-word.word in
+      let told : tokens_to c.request-kept.result.wave word c.destinations.result.now ≡ sends image (near_at o c.args.at).wave (near_at o c.args.at).instr xs (answer image (near_at o c.args.at).instr xs m) =
+      ap (tokens_to c.request-kept.result.wave word) c.destinations.ensures
+      ∙ ap (λ x. tokens_to x.wave word (destinations image x.instr 0)) k
+      ∙ S.tokens_are image world formed sound began o (holding c.args.self.now.outer) m hold c.requires.ok.order p c.requires.may.place c.requires.may.ready within word c.issue.new.self (holding c.run.new.self) answers c.issue.ensures.kept c.issue.ensures.passed in
+      let e : false ≡ has c.args.self.now.fault = ap has (sym c.requires.going) in
+      record {
+        wave = (near_at o c.args.at).wave;
+        instr = (near_at o c.args.at).instr;
+        memory = effect_after image (near_at o c.args.at).instr xs m;
+        event = inl (subst (λ ts. Issued image (part image o.kept.items (chain_of o.chain) (has c.args.self.now.fault) m) (near_at o c.args.at).wave (near_at o c.args.at).instr ts
+            (part image c.issue.new.self.kept.items (chain_of c.issue.new.self.chain) (has c.args.self.now.fault) (effect_after image (near_at o c.args.at).instr xs m))) (sym told)
+            (subst (λ f. Issued image (part image o.kept.items (chain_of o.chain) f m) (near_at o c.args.at).wave (near_at o c.args.at).instr
+            (sends image (near_at o c.args.at).wave (near_at o c.args.at).instr xs (answer image (near_at o c.args.at).instr xs m))
+            (part image c.issue.new.self.kept.items (chain_of c.issue.new.self.chain) f (effect_after image (near_at o c.args.at).instr xs m))) e r.0));
+        right = subst (RightTokens image world) (sym told) (S.sent_right image world formed sound began o (holding c.args.self.now.outer) m hold c.requires.ok.order p c.requires.may.place c.requires.may.ready);
+        fault = subst (FaultIs image world) (sym c.requires.going) tt;
+        stands = subst (λ f. Holds image world began c.issue.new.self f (holding c.run.new.self) (effect_after image (near_at o c.args.at).instr xs m)) e r.1;
+      },
+)
 
 few_sent : (image : Image) → Formed image → (ds : List Dest) (i : ℕ) → ds ≡ destinations image i 0 → length ds ≤ 8
 few_sent image formed ds i e = subst (λ xs. length xs ≤ 8) (sym e) (few image formed i 0)

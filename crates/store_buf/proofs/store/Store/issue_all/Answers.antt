@@ -1,4 +1,4 @@
-use Rattle.std.proofs.Common.{◌≤◌, ◌∙◌, sym, ap, subst, refl, arith}
+use Rattle.std.proofs.Common.{◌∙◌, sym, ap, subst, refl, arith}
 use Rattle.core_run.specs.Places.{image_of}
 use Rattle.df_job.specs.Rights.{tokens_of}
 use Rattle.store_buf.specs.Stores.{AllLead}
