@@ -1,0 +1,92 @@
+//! A table of one phase.
+
+ghost use Rattle.std.specs.Prelude.{◌≡◌, ◌+◌, ◌<◌, ◌≤◌, ◌%◌, ℕ, List, length, slice_index};
+ghost use Rattle.crew_tables.specs.Limits.{Serves, Offered};
+
+use df_job::{Code, Job, Token};
+use match_table::{Accept, AcceptFault, Table};
+use std::alloc::Global;
+use std::marker::{Brand, Model, PhantomData};
+
+/// The largest lengths of the lists of fired instances in one phase, by table.
+pub trait Quotas {
+    ghost use Rattle.std.specs.Prelude.{ℕ, List};
+
+    ghost most: { List ℕ };
+}
+
+impl Quotas for Brand {
+    ghost use Rattle.std.specs.Prelude.{[]};
+
+    ghost most = { [] };
+}
+
+/// What a table of a phase answers to a token.
+#[derive(Drop)]
+pub enum Offer<J: Job> {
+    Took(Accept<J>),
+    /// The quota is spent. The token is let go.
+    Spent,
+    Fault(AcceptFault<J>),
+}
+
+/// A table of one phase. It serves the instances whose wave number plus instruction is K modulo 16,
+/// and lists no more that fired than its quota allows.
+#[derive(Drop)]
+pub struct Limited<J: Job, Q: Quotas, const K: u64> {
+    table: Table<J>,
+    most: usize,
+    of: PhantomData<Q>,
+}
+
+impl<J: Job, Q: Quotas, const K: u64> Model for Limited<J, Q, K> {
+    ghost use Rattle.std.specs.Prelude.{◌≡◌, ◌≤◌, length, slice_index};
+    ghost use Rattle.match_table.specs.Tables.{Content};
+    ghost use Rattle.crew_tables.specs.Limits.{Serves};
+
+    ghost Value = { Content };
+
+    ghost view = { λ l. l.table };
+
+    ghost invariant = { λ l. Serves K l.table × (l.most ≡ slice_index Q.most K)
+        × (length l.table.fired ≤ l.most) };
+}
+
+impl<J: Job, Q: Quotas, const K: u64> Limited<J, Q, K> {
+    /// A table for one phase.
+    pub fn new(table: Table<J>, most: usize) -> Limited<J, Q, K>
+        requires serves { Serves K table }
+        requires most { (most ≡ slice_index Q.most K) × (length table.fired ≤ most) }
+        ensures { result ≡ table }
+    {
+        Limited {
+            table,
+            most,
+            of: PhantomData,
+        }
+    }
+
+    /// Takes a token, unless it would fire its instance and the quota is spent.
+    pub fn offer(&mut self, alloc: Global, code: &Code<'_, J>, token: Token<J>) -> Offer<J>
+        requires { (token.wave + token.instr) % 16 ≡ K }
+        ensures { Offered J.image (slice_index Q.most K) self.old token self.new result }
+    {
+        let fires = self.table.would_fire(code, &token);
+        if fires && self.table.fired().len() >= self.most {
+            return Offer::Spent;
+        }
+        match self.table.accept(alloc, code, token) {
+            Ok(answer) => Offer::Took(answer),
+            Err(fault) => Offer::Fault(fault),
+        }
+    }
+
+    /// The table, at the end of the phase.
+    pub fn into_table(self) -> Table<J>
+        ensures same { result ≡ self }
+        ensures serves { Serves K self }
+        ensures within { length self.fired ≤ slice_index Q.most K }
+    {
+        self.table
+    }
+}
