@@ -2,3 +2,4 @@ pub mod Lines
 pub mod Making
 pub mod Telling
 pub mod Led
+pub mod Once

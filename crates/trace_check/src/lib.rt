@@ -2,12 +2,14 @@
 #![tactic(auto)]
 
 mod events;
+mod laws;
 mod read;
 mod recording;
 mod replaying;
 mod write;
 
 pub use events::{Events, Lined, Trace};
+pub use laws::traces_are_replayed_once;
 pub use read::read_trace;
 pub use recording::{TraceEnd, Traced, trace};
 pub use replaying::{ReplayFault, Replayed, replay};
