@@ -5,3 +5,7 @@
 mod assembly;
 #[cfg(test)]
 mod ports;
+#[cfg(test)]
+mod seats;
+#[cfg(test)]
+mod tables;
