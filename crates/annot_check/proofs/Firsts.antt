@@ -1,8 +1,8 @@
 -- First blocks of waves.
-use Rattle.std.proofs.Common.{ℕ, zero, suc, ◌≡◌, ◌<◌, ◌≤◌, ◌⊎◌, Bool, true, false, not, List, [], ◌∷◌, length, eqb, refl, sym, ap, ◌∙◌, inl, inr, arith, eq-eqb, ne_eqb}
+use Rattle.std.proofs.Common.{ℕ, zero, suc, ◌≡◌, ◌<◌, ◌≤◌, ◌⊎◌, true, false, not, List, [], ◌∷◌, length, sym, ap, ◌∙◌, inl, inr, arith, eq-eqb}
 use Rattle.std.proofs.Math.Path.{fun_ext}
 use Rattle.std.proofs.lemmas.Bool.{cases_eq, cases_lt, cases_Bool}
-use Rattle.ws_isa.specs.Image.{Block, Image, nth, or_else, no_block, block_at, is_first, is_advance, IsBlock, IsIn}
+use Rattle.ws_isa.specs.Image.{Block, Image, nth, or_else, no_block, block_at, is_first, IsBlock}
 use Rattle.ws_isa.specs.Formed.{WavesFrom, WavesInOrder}
 use Rattle.image_walk.specs.Sound.{Slots, AdvancesOpen}
 

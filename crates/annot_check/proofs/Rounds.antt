@@ -1,10 +1,10 @@
 -- Waves that are passed one after the other.
-use Rattle.std.proofs.Common.{ℕ, ◌≡◌, ◌⊎◌, Bool, true, List, [], ◌∷◌, ◌++◌, length, sym, ap, ◌∙◌, inl, inr, subst}
-use Rattle.ws_isa.specs.Image.{Image, is_first}
+use Rattle.std.proofs.Common.{ℕ, ◌≡◌, ◌⊎◌, true, List, [], ◌∷◌, ◌++◌, inl, inr, subst}
+use Rattle.ws_isa.specs.Image.{Image}
 use Rattle.ws_isa.specs.Formed.{WavesInOrder}
 use Rattle.image_walk.specs.Sound.{ShapeRules, SlotRules}
 use Rattle.annot_check.specs.declared.trace.Waves.{Waves}
-use Rattle.annot_check.specs.Done.{Begun, CameTo, WaveDone, Closed}
+use Rattle.annot_check.specs.Done.{Begun, CameTo, WaveDone}
 use Rattle.annot_check.specs.Open.{bit}
 use Rattle.annot_check.specs.Table.{HasNumber, MoreCome}
 use Rattle.annot_check.proofs.Closed.{slot_rules}

@@ -1,4 +1,4 @@
-use Rattle.std.proofs.Common.{◌∙◌, refl, sym}
+use Rattle.std.proofs.Common.{refl}
 use Rattle.annot_check.proofs.Come.{come_more, read_false}
 use Rattle.annot_check.proofs.trace.Waves.come_to.Goals as goal
 
