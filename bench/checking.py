@@ -1,20 +1,79 @@
 #!/usr/bin/env python3
-"""Times `wsc check` on images that cost the checker most, and on such of half their size.
+"""Times the check of images that cost the checker most, and of such of half their size.
 
-    bench/checking.py        at the top of the repository, over the program that ./wsc builds
-
-Each image is sound. The table has the seconds of one run and the memory at its peak.
+A small program that reads an assembly, and checks it if asked, is proved and built in a temporary folder,
+over the libraries of the repository. Each image is sound. The table has the processor time of reading, and
+what the check adds to it, the fastest of three, and the most memory that the process had without the check
+and with it.
 """
 
-import os
 import pathlib
-import subprocess
-import sys
 import tempfile
-import time
 
-ROOT = pathlib.Path(__file__).resolve().parent.parent
-PROGRAM = ROOT / "crates" / "wsc" / "out" / "wsc"
+from assembly import RUNS, build, once
+
+USES = "ws_words ws_io ws_isa image_walk asm_text annot_check"
+
+MAIN = """//! Reads an assembly, and checks it.
+#![tactic(auto)]
+
+ghost use Rattle.std.specs.Prelude.{◌<◌, ◌^◌, ◌-◌, length};
+
+use annot_check::check_image;
+use asm_text::read_asm;
+use std::alloc::{AllocError, Global};
+use std::env;
+use std::env::Env;
+use std::process::ExitCode;
+use ws_io::{StdSource, read_all};
+
+// Whether the text is read, and the image sound.
+#[tactic(auto, using(asm_text::proofs::Cutting::few_feeds))]
+fn answer(alloc: Global, text: &[u8], checking: bool) -> Result<String, AllocError>
+    requires { length text.now < 2 ^ 32 - 1 }
+{
+    let Ok(image) = read_asm(alloc, text) else {
+        return format!(in alloc; "not read");
+    };
+    if !checking {
+        return format!(in alloc; "read");
+    }
+    match check_image(alloc, image) {
+        Ok(_) => format!(in alloc; "sound"),
+        Err(_) => format!(in alloc; "not sound"),
+    }
+}
+
+fn is_asked<R: Env + AllocGlobal>(rt: &R, asked: &str) -> bool {
+    match env::args(rt) {
+        Ok(words) => {
+            for word in words.skip(1) {
+                if word.as_str() == asked {
+                    return true;
+                }
+            }
+            false
+        }
+        Err(_) => false,
+    }
+}
+
+fn main(rt: HostRuntime) -> ExitCode {
+    let alloc = rt.alloc();
+    let mut source = StdSource::new(rt.stdin());
+    let Ok(text) = read_all(alloc, &mut source, 134_217_728) else {
+        return ExitCode::FAILURE;
+    };
+    let checking = is_asked(&rt, "check");
+    let Ok(said) = answer(alloc, text.as_slice(), checking) else {
+        return ExitCode::FAILURE;
+    };
+    match println!(rt; "{said}") {
+        Ok(()) => ExitCode::SUCCESS,
+        Err(_) => ExitCode::FAILURE,
+    }
+}
+"""
 
 
 def dests(places):
@@ -86,6 +145,29 @@ def waves(count):
         yield "stop\nend\n" if k == count else f"go {k + 1}\n"
 
 
+def wide_waves(count, width=32):
+    """So many waves, each of which hands so many values on to the next one."""
+    inner = 1
+    while len(spread(1, [(inner + 2 + k, 0) for k in range(width)] + [(inner + 1, 0)])) > inner:
+        inner += 1
+    lists = spread(1, [(inner + 2 + k, 0) for k in range(width)] + [(inner + 1, 0)])
+    yield "wavescalar 2\nwave 1\nblock 1\npad 0 1.0\n"
+    for number, places in enumerate(lists, 1):
+        yield f"{number}: {'advance' if number == 1 else 'merge'} ->{dests(places)}\n"
+    yield f"{inner + 1}: out <., 1, .>.1\ngo 2\n"
+    first = inner + 2
+    for wave in range(2, count + 1):
+        last = wave == count
+        after = first + width + 1
+        yield f"wave {wave}\nblock {wave}\n"
+        for k in range(width):
+            places = ([] if last else [(after + k, 0)]) + ([(first + width, 0)] if k == 0 else [])
+            yield f"{first + k}: advance ->{dests(places)}\n"
+        yield f"{first + width}: {'halt' if last else 'out'} <., 1, .>.1\n"
+        yield "stop\nend\n" if last else f"go {wave + 1}\n"
+        first = after
+
+
 def long_block(count):
     """One block of so many instructions, most of which pass a value on to the next."""
     yield f"wavescalar 2\nwave 1\nblock 1\npad 0 1.0\n1: advance -> 2.0 {count}.0\n"
@@ -94,38 +176,32 @@ def long_block(count):
     yield f"{count - 1}: out <., 1, 2>.1\n{count}: halt <1, 2, .>.2\nstop\nend\n"
 
 
-def check(file):
-    before = time.time()
-    with open(file, "rb") as text:
-        process = subprocess.Popen([PROGRAM, "check"], stdin=text, stdout=subprocess.PIPE)
-        answer = process.stdout.read().decode()
-        _, _, usage = os.wait4(process.pid, 0)
-    return answer.strip(), time.time() - before, usage.ru_maxrss / 1024
-
-
 def main():
-    if not PROGRAM.exists():
-        subprocess.run([ROOT / "wsc"], stdout=subprocess.DEVNULL, check=False)
-    print("| Image | Text | Time | Memory |\n|---|---|---|---|")
-    for name, make, sizes in (
-        ("{} slots open across {} blocks", open_slots, (10_000, 20_000)),
-        ("16 sends to {} landings", landings, (1_024, 2_048)),
-        ("{} waves", waves, (30_000, 60_000)),
-        ("one block of {} instructions", long_block, (2_000_000, 4_000_000)),
-    ):
-        for size in sizes:
-            with tempfile.NamedTemporaryFile("w", suffix=".txt") as file:
-                file.writelines(make(size))
-                file.flush()
-                answer, took, memory = check(file.name)
-                text = pathlib.Path(file.name).stat().st_size / 1048576
-            named = name.format(f"{size:,}", f"{size:,}")
-            print(f"| {named} | {text:.1f} MiB | {took:.2f} s | {memory:.0f} MB |", flush=True)
-            if answer != "sound":
-                print(f"not sound: {answer}")
-                return 1
-    return 0
+    with tempfile.TemporaryDirectory() as name:
+        folder = pathlib.Path(name)
+        program = build(folder, "checking", MAIN, USES)
+        print("| Image | Text | Read | Checked | Memory | Memory with the check |\n|---|---|---|---|---|---|")
+        for said, make, sizes in (
+            ("{} slots open across {} blocks", open_slots, (10_000, 20_000)),
+            ("16 sends to {} landings", landings, (1_024, 2_048)),
+            ("{} waves", waves, (30_000, 60_000)),
+            ("{} waves that hand 32 values on", wide_waves, (30_000, 60_000)),
+            ("one block of {} instructions", long_block, (2_000_000, 4_000_000)),
+        ):
+            for size in sizes:
+                file = folder / "image.txt"
+                with file.open("w") as text:
+                    text.writelines(make(size))
+                read, least, _ = min(once([program, "read"], file) for _ in range(RUNS))
+                took, most, answer = min(once([program, "check"], file) for _ in range(RUNS))
+                if answer != "sound":
+                    raise SystemExit(f"{said}: {answer}")
+                print(
+                    f"| {said.format(f'{size:,}', f'{size:,}')} | {file.stat().st_size / 1048576:.1f} MiB"
+                    f" | {read:.2f} s | {took - read:.2f} s | {least:.0f} MB | {most:.0f} MB |",
+                    flush=True,
+                )
 
 
 if __name__ == "__main__":
-    sys.exit(main())
+    main()
