@@ -29,10 +29,10 @@ pub record RunsOnce : Type 0 where
   pub no_fault_on_the_way : (parts : List Part) (world : World) (n turns a : ℕ) (s now : Outside) → n ≤ turns → Faults parts world n a s → Goes parts world turns now → ⊥
 
 -- a status and a text
-abbrev Reply : Type 0
+abbrev pub Reply : Type 0
 Reply = Status × List ℕ
 
-same_reply : (s t : Status) (a b : List ℕ) → s ≡ t → a ≡ b → ◌≡◌ {A = Reply} (s, a) (t, b)
+pub same_reply : (s t : Status) (a b : List ℕ) → s ≡ t → a ≡ b → ◌≡◌ {A = Reply} (s, a) (t, b)
 same_reply s t a b e f = ap (λ x. (x, a)) e ∙ ap (λ x. (t, x)) f
 
 -- what comes of a task, by its causes

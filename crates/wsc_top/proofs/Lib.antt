@@ -14,3 +14,7 @@ pub mod RunTexts
 pub mod Runs
 pub mod Outcomes
 pub mod AnswersOnce
+pub mod RunsAlike
+pub mod AssembliesOnce
+pub mod Bounds
+pub mod Generated

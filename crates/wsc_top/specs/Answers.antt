@@ -1,5 +1,5 @@
 -- What a call of the program answers: the status, and the text that goes out with it.
-use Rattle.std.specs.Prelude.{◌≡◌, ◌⊎◌, ℕ, suc, ◌+◌, ◌*◌, ◌≤◌, List, [], ◌++◌, length, Option, Some}
+use Rattle.std.specs.Prelude.{◌≡◌, ◌⊎◌, ℕ, suc, ◌+◌, ◌*◌, ◌≤◌, false, List, [], ◌++◌, length, Option, Some}
 use Rattle.ws_io.specs.Streams.{Rose, Takes, TakesAll}
 use Rattle.ws_words.specs.Outside.{Outside, World, printed_words}
 use Rattle.src_ast.specs.declared.fault.Refusal.{Refusal}
@@ -159,6 +159,11 @@ IsFixed _ = Unit {0}
 abbrev pub IsAnswer : JobTask → List ℕ → Status × List ℕ → Type 0
 IsAnswer task text answer = Answered task text answer.0 answer.1
 
+-- An answer of a run that leaves nothing to the image: it isn't cut short by the budget, and where
+-- the run has ended its firings aren't told.
+abbrev pub IsFree : RunOptions → Status → Type 0
+IsFree options status = (status ≡ Budget → ⊥) × (status ≡ Done → options.stats ≡ false)
+
 -- What comes of a task to a sound image and its input words: `check` says that it is sound, `list`
 -- lists it, and `exec` runs it.
 pub data AssemblyYields : AssemblyTask → Image → List ℕ → Status → List ℕ → Type 0 where
@@ -185,6 +190,10 @@ pub data AssemblyAnswered (task : AssemblyTask) (text : List ℕ) : Status → L
   done : {status : Status} {out : List ℕ} (image : Image) (input : List ℕ)
       → IsAssembly text image input → AssemblyYields task image input status out
       → AssemblyAnswered task text status out
+
+-- a status and a text are an answer of a task to an assembly
+abbrev pub IsAssemblyReply : AssemblyTask → List ℕ → Status × List ℕ → Type 0
+IsAssemblyReply task text answer = AssemblyAnswered task text answer.0 answer.1
 
 -- a task that reads from the source
 abbrev pub IsReader : Task → Type 0

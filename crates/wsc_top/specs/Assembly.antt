@@ -35,6 +35,17 @@ pub data RefusesAssembly (text : List ℕ) : AsmRefusal → Type 0 where
   input : (image : Image) (place : Place) → read (program_of text) ≡ Ok image → Sound image
       → InputFault (input_place text) (input_of text) place → RefusesAssembly text (Input place)
 
+-- what a text comes to: a sound image and its words, or why it is refused
+abbrev pub IsAssemblyAnswer : List ℕ → Result (Image × List ℕ) AsmRefusal → Type 0
+IsAssemblyAnswer text (Ok found) = IsAssembly text found.0 found.1
+IsAssemblyAnswer text (Err r) = RefusesAssembly text r
+
+-- its image breaks a rule
+abbrev pub IsUnsound : AsmRefusal → Type 0
+IsUnsound (Text kind line) = ⊥
+IsUnsound (Unsound bad) = Unit {0}
+IsUnsound (Input place) = ⊥
+
 -- why a text has no answer: memory, or it is refused
 abbrev pub IsAssemblyFault : List ℕ → AssemblyFault → Type 0
 IsAssemblyFault text NoMemory = Unit {0}

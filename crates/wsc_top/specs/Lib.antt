@@ -6,3 +6,4 @@ pub mod Assembly
 pub mod Texts
 pub mod Executions
 pub mod Answers
+pub mod Generated

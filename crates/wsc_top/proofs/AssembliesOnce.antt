@@ -1,0 +1,221 @@
+-- What the text of an assembly comes to, and the answers to it.
+use Rattle.std.specs.Prelude.{◌≡◌, ℕ, ◌+◌, ◌-◌, ◌<◌, ◌≤◌, ◌⊎◌, true, false, List, [], ◌∷◌, ◌++◌, length, Some, Result, Ok, Err, refl}
+use Rattle.std.proofs.Common.{sym, ap, ◌∙◌, subst, inl, inr, arith, append-nil, length-append}
+use Rattle.std.proofs.Math.Nat.{eq-or-lt_of_le}
+use Rattle.std.proofs.lemmas.Bool.{cases_lt}
+use Rattle.std.proofs.lemmas.List.{nil_from_length}
+use Rattle.ws_words.specs.Outside.{Act, loads, stores, reads, prints, gives, takes, Outside, World, printed_words}
+use Rattle.src_ast.specs.declared.lexeme.Place.{Place}
+use Rattle.src_ast.specs.Once.{ExactlyOne}
+use Rattle.ws_isa.specs.Image.{Image, array_at}
+use Rattle.image_walk.specs.Walk.{Inst, mem, walk, fires}
+use Rattle.image_walk.specs.Operations.{operations, ops, without_loads, effect_of, Effect, FaultsAt, NoFault}
+use Rattle.image_walk.specs.Sound.{Sound}
+use Rattle.asm_text.specs.declared.fault.AsmKind.{AsmKind}
+use Rattle.asm_text.specs.Reading.{read}
+use Rattle.annot_check.specs.declared.fault.Bad.{Bad}
+use Rattle.annot_check.specs.Breach.{BadBreach}
+use Rattle.list_out.specs.Listing.{listing}
+use Rattle.wsc_top.specs.declared.assembly.AsmRefusal.{AsmRefusal}
+use Rattle.wsc_top.specs.declared.assembly.AsmRefusal.TheVariants.{Text, Unsound, Input}
+use Rattle.wsc_top.specs.declared.task.AssemblyTask.{AssemblyTask}
+use Rattle.wsc_top.specs.declared.task.AssemblyTask.TheVariants.{Check, List as Listing}
+use Rattle.wsc_top.specs.declared.task.RunOptions.{RunOptions}
+use Rattle.wsc_top.specs.declared.status.Status.{Status}
+use Rattle.wsc_top.specs.declared.status.Status.TheVariants.{Done, Refused, Budget, Fault}
+use Rattle.wsc_top.specs.Texts.{sound_text}
+use Rattle.wsc_top.specs.Sections.{program_of, input_of, input_place, IsInputAnswer}
+use Rattle.wsc_top.specs.Job.{world_of}
+use Rattle.wsc_top.specs.Assembly.{IsAssembly, RefusesAssembly, assembly, unsound, input, IsAssemblyAnswer, IsUnsound}
+use Rattle.wsc_top.specs.Executions.{Executes, rested, spent, stopped, rested_text, stopped_text}
+use Rattle.wsc_top.specs.Answers.{AssemblyYields, checked, listed, executed, AssemblyAnswered, refused, done, IsAssemblyReply}
+use Rattle.wsc_top.specs.Answers as answers
+use Rattle.wsc_top.proofs.Inputs.{one_list, no_fault_in_words, one_fault, one_answer}
+use Rattle.wsc_top.proofs.AnswersOnce.{Reply, same_reply}
+
+-- an image that is refused isn't sound
+abbrev pub BreachesBreak : Type 0
+BreachesBreak = (image : Image) (bad : Bad) → BadBreach image bad → Sound image → ⊥
+
+module _ (text : List ℕ) where
+  same_image : (a b : Image) → read (program_of text) ≡ Ok a → read (program_of text) ≡ Ok b → a ≡ b
+  same_image a b e f = let same = sym e ∙ f in cc
+
+  pub one_assembly : (image again : Image) (words more : List ℕ) → IsAssembly text image words → IsAssembly text again more → (image ≡ again) × (words ≡ more)
+  one_assembly image again words more a b = (same_image image again a.reads b.reads, one_list (input_place text) (input_of text) words more a.words b.words)
+
+  pub never_both : BreachesBreak → (image : Image) (words : List ℕ) (r : AsmRefusal) → IsAssembly text image words → RefusesAssembly text r → ⊥
+  never_both breaks image words r a (assembly kind line e) = let bad = sym a.reads ∙ e in cc
+  never_both breaks image words r a (unsound other bad e breach) = breaks image bad (subst (λ i. BadBreach i bad) (same_image other image e a.reads) breach) a.sound
+  never_both breaks image words r a (input other place e sound fault) = no_fault_in_words (input_place text) (input_of text) words place a.words fault
+
+  pub one_refusal : BreachesBreak → (r s : AsmRefusal) → RefusesAssembly text r → RefusesAssembly text s → (r ≡ s) ⊎ (IsUnsound r × IsUnsound s)
+  one_refusal breaks r s (assembly kind line e) (assembly other there f) =
+      let same = sym e ∙ f in
+      let pair : ◌≡◌ {A = AsmKind × ℕ} (kind, line) (other, there) = cc in
+      inl (ap (λ (x : AsmKind × ℕ). Text x.0 x.1) pair)
+  one_refusal breaks r s (assembly kind line e) (unsound image bad f breach) = absurd (let same = sym e ∙ f in cc)
+  one_refusal breaks r s (assembly kind line e) (input image place f sound fault) = absurd (let same = sym e ∙ f in cc)
+  one_refusal breaks r s (unsound image bad e breach) (assembly kind line f) = absurd (let same = sym e ∙ f in cc)
+  one_refusal breaks r s (unsound image bad e breach) (unsound other worse f more) = inr (tt, tt)
+  one_refusal breaks r s (unsound image bad e breach) (input other place f sound fault) = absurd (breaks other bad (subst (λ i. BadBreach i bad) (same_image image other e f) breach) sound)
+  one_refusal breaks r s (input image place e sound fault) (assembly kind line f) = absurd (let same = sym e ∙ f in cc)
+  one_refusal breaks r s (input image place e sound fault) (unsound other bad f breach) = absurd (breaks image bad (subst (λ i. BadBreach i bad) (same_image other image f e) breach) sound)
+  one_refusal breaks r s (input image place e sound fault) (input other there f again more) = inl (ap Input (one_fault (input_place text) (input_of text) place there fault more))
+
+  abbrev Comes : Type 0
+  Comes = (answer : Result (Image × List ℕ) AsmRefusal) × IsAssemblyAnswer text answer
+
+  sound_comes : (image : Image) → read (program_of text) ≡ Ok image → Sound image → (found : Result (List ℕ) Place) → IsInputAnswer (input_place text) (input_of text) found → Comes
+  sound_comes image e sound (Ok words) h = (Ok (image, words), record { reads = e; sound = sound; words = h })
+  sound_comes image e sound (Err place) h = (Err (Input place), input image place e sound h)
+
+  image_comes : (image : Image) → read (program_of text) ≡ Ok image → Sound image ⊎ ((bad : Bad) × BadBreach image bad) → Comes
+  image_comes image e (inl sound) = let found = one_answer (input_place text) (input_of text) in sound_comes image e sound found.answer found.holds
+  image_comes image e (inr breach) = (Err (Unsound breach.0), unsound image breach.0 e breach.1)
+
+  pub text_comes : ((image : Image) → read (program_of text) ≡ Ok image → Sound image ⊎ ((bad : Bad) × BadBreach image bad)) → Comes
+  text_comes decided = go (read (program_of text)) refl
+    where
+      go : (found : _) → read (program_of text) ≡ found → Comes
+      go (Ok image) e = image_comes image e (decided image e)
+      go (Err fault) e = (Err (Text fault.0 fault.1), assembly fault.0 fault.1 e)
+
+-- runs of one image
+
+printed_kept : (acts : List Act) → printed_words (without_loads acts) ≡ printed_words acts
+printed_kept [] = refl
+printed_kept (loads a i ∷ acts) = printed_kept acts
+printed_kept (stores a i w ∷ acts) = printed_kept acts
+printed_kept (reads ∷ acts) = printed_kept acts
+printed_kept (prints w ∷ acts) = ap (λ ws. w ∷ ws) (printed_kept acts)
+printed_kept (gives p ∷ acts) = printed_kept acts
+printed_kept (takes p w ∷ acts) = printed_kept acts
+
+-- what is known of walks
+pub record WalksOnce : Type 0 where
+  pub instances : (image : Image) (world : World) (d t : ℕ) → (more : List Inst) × (walk image world (d + t) ≡ walk image world t ++ more)
+  pub effects : (image : Image) (world : World) (p : ℕ) (one other : Outside) → Effect image world p one → Effect image world p other → one ≡ other
+
+either_way : (t u : ℕ) → (t ≤ u) ⊎ (u ≤ t)
+either_way t u = go (cases_lt t u)
+  where
+    go : (t < u) ⊎ (u ≤ t) → (t ≤ u) ⊎ (u ≤ t)
+    go (inl lt) = inl (omega (arith, lt))
+    go (inr le) = inr le
+
+three_ways : (t u : ℕ) → (t < u) ⊎ ((t ≡ u) ⊎ (u < t))
+three_ways t u = go (cases_lt t u)
+  where
+    past_equal : (u ≡ t) ⊎ (u < t) → (t < u) ⊎ ((t ≡ u) ⊎ (u < t))
+    past_equal (inl e) = inr (inl (sym e))
+    past_equal (inr lt) = inr (inr lt)
+
+    go : (t < u) ⊎ (u ≤ t) → (t < u) ⊎ ((t ≡ u) ⊎ (u < t))
+    go (inl lt) = inl lt
+    go (inr le) = past_equal (eq-or-lt_of_le le)
+
+module _ (known : WalksOnce) (image : Image) (world : World) where
+  walk_up : (t u : ℕ) → t ≤ u → length (walk image world t) ≡ length (walk image world u) → walk image world u ≡ walk image world t
+  walk_up t u le same =
+      let more = known.instances image world (u - t) t in
+      let here : walk image world u ≡ walk image world t ++ more.0 = ap (walk image world) (omega (arith, le)) ∙ more.1 in
+      let none : more.0 ≡ [] = nil_from_length more.0 (omega (arith, same, ap length here, length-append (walk image world t) more.0)) in
+      here ∙ ap (λ xs. walk image world t ++ xs) none ∙ append-nil (walk image world t)
+
+  one_walk : (t u : ℕ) → (t ≤ u) ⊎ (u ≤ t) → length (walk image world t) ≡ length (walk image world u) → walk image world t ≡ walk image world u
+  one_walk t u (inl le) same = sym (walk_up t u le same)
+  one_walk t u (inr le) same = walk_up u t le (sym same)
+
+  ops_same : (t u : ℕ) → walk image world t ≡ walk image world u → length (ops image world u) ≡ length (ops image world t)
+  unfolding ops
+  ops_same t u e = ap (λ xs. length (operations image xs)) (sym e)
+
+  one_effect : (t u : ℕ) → walk image world t ≡ walk image world u → effect_of (mem image world t) ≡ effect_of (mem image world u)
+  one_effect t u e =
+      known.effects image world (length (ops image world t)) (effect_of (mem image world t)) (effect_of (mem image world u))
+      (record { steps = t; count = refl; left = refl }) (record { steps = u; count = ops_same t u e; left = refl })
+
+  one_print : (t u : ℕ) → effect_of (mem image world t) ≡ effect_of (mem image world u) → printed_words (mem image world t).acts ≡ printed_words (mem image world u).acts
+  one_print t u e = sym (printed_kept (mem image world t).acts) ∙ ap (λ (o : Outside). printed_words o.acts) e ∙ printed_kept (mem image world u).acts
+
+  one_cells : (t u : ℕ) → effect_of (mem image world t) ≡ effect_of (mem image world u) → (mem image world t).cells ≡ (mem image world u).cells
+  one_cells t u e = ap (λ (o : Outside). o.cells) e
+
+  no_earlier : (t u : ℕ) → FaultsAt image world t → FaultsAt image world u → t < u → ⊥
+  no_earlier t u f g lt = let two : true ≡ false = sym f.is_past ∙ g.first t f.inst lt f.fired in cc
+
+  one_time : (t u : ℕ) → FaultsAt image world t → FaultsAt image world u → t ≡ u
+  one_time t u f g = go (three_ways t u)
+    where
+      go : (t < u) ⊎ ((t ≡ u) ⊎ (u < t)) → t ≡ u
+      go (inl lt) = absurd (no_earlier t u f g lt)
+      go (inr (inl e)) = e
+      go (inr (inr lt)) = absurd (no_earlier u t g f lt)
+
+  one_inst : (t u : ℕ) (f : FaultsAt image world t) (g : FaultsAt image world u) → t ≡ u → f.inst ≡ g.inst
+  one_inst t u f g e = let same : Some f.inst ≡ Some g.inst = sym f.fired ∙ ap (fires image world) e ∙ g.fired in cc
+
+  no_fault_here : (t : ℕ) → NoFault image world → FaultsAt image world t → ⊥
+  no_fault_here t none f = let two : true ≡ false = sym f.is_past ∙ none t f.inst f.fired in cc
+
+  module _ (options : RunOptions) where
+    execs_alike : (s v : Status) (out more : List ℕ) → Executes options image world s out → Executes options image world v more → (s ≡ Budget → ⊥) → (v ≡ Budget → ⊥)
+        → ◌≡◌ {A = Reply} (s, out) (v, more)
+    execs_alike s v out more (rested t none cost within) (rested u clean whole fits) a b =
+        let many : length (walk image world t) ≡ length (walk image world u) = omega (arith, cost u, whole t) in
+        let same = one_walk t u (either_way t u) many in
+        let effect = one_effect t u same in
+        same_reply Done Done _ _ refl
+        (ap (λ ws. rested_text options image.arrays ws (mem image world t).cells (length (walk image world t))) (one_print t u effect)
+        ∙ ap (λ rows. rested_text options image.arrays (printed_words (mem image world u).acts) rows (length (walk image world t))) (one_cells t u effect)
+        ∙ ap (λ n. rested_text options image.arrays (printed_words (mem image world u).acts) (mem image world u).cells n) many)
+    execs_alike s v out more (rested t none cost within) (stopped u fault fits) a b = absurd (no_fault_here u none fault)
+    execs_alike s v out more (rested t none cost within) (spent u h) a b = absurd (b refl)
+    execs_alike s v out more (stopped t fault within) (rested u none cost fits) a b = absurd (no_fault_here t none fault)
+    execs_alike s v out more (stopped t fault within) (stopped u other fits) a b =
+        let same = one_time t u fault other in
+        same_reply Fault Fault _ _ refl
+        (ap (λ (x : Inst). stopped_text options image.arrays (array_at image x.instr) (printed_words (mem image world t).acts) (mem image world t).cells) (one_inst t u fault other same)
+        ∙ ap (λ n. stopped_text options image.arrays (array_at image other.inst.instr) (printed_words (mem image world n).acts) (mem image world n).cells) same)
+    execs_alike s v out more (stopped t fault within) (spent u h) a b = absurd (b refl)
+    execs_alike s v out more (spent t h) other a b = absurd (a refl)
+
+-- what comes of a task to one image
+yields_alike : WalksOnce → (task : AssemblyTask) (image : Image) (words : List ℕ) (s v : Status) (out more : List ℕ) → AssemblyYields task image words s out → AssemblyYields task image words v more
+    → (s ≡ Budget → ⊥) → (v ≡ Budget → ⊥) → ◌≡◌ {A = Reply} (s, out) (v, more)
+yields_alike known task image words s v out more checked checked a b = refl
+yields_alike known task image words s v out more listed listed a b = refl
+yields_alike known task image words s v out more (executed {options} x) (executed y) a b = execs_alike known image (world_of words) options s v out more x y a b
+
+-- two answers to a text that aren't cut short by the budget are one, or both say that it is refused
+pub assembly_alike : BreachesBreak → WalksOnce → (task : AssemblyTask) (text : List ℕ) (s v : Status) (out more : List ℕ) → AssemblyAnswered task text s out → AssemblyAnswered task text v more
+    → (s ≡ Budget → ⊥) → (v ≡ Budget → ⊥) → (◌≡◌ {A = Reply} (s, out) (v, more)) ⊎ ((s ≡ Refused) × (v ≡ Refused))
+assembly_alike breaks known task text s v out more (answers.AssemblyAnswered.refused q h) (answers.AssemblyAnswered.refused r k) a b = inr (refl, refl)
+assembly_alike breaks known task text s v out more (answers.AssemblyAnswered.refused q h) (answers.AssemblyAnswered.done image words j y) a b = absurd (never_both text breaks image words q j h)
+assembly_alike breaks known task text s v out more (answers.AssemblyAnswered.done image words j y) (answers.AssemblyAnswered.refused r k) a b = absurd (never_both text breaks image words r j k)
+assembly_alike breaks known task text s v out more (answers.AssemblyAnswered.done image words j y) (answers.AssemblyAnswered.done again others k z) a b =
+    let same = one_assembly text image again words others j k in
+    inl (yields_alike known task again others s v out more (subst (λ ws. AssemblyYields task again ws s out) same.1 (subst (λ i. AssemblyYields task i words s out) same.0 y)) z a b)
+
+-- `check` and `list` have one answer to a sound assembly
+check_done : (image : Image) (words : List ℕ) (s : Status) (out : List ℕ) → AssemblyYields Check image words s out → ◌≡◌ {A = Reply} (s, out) (Done, sound_text)
+check_done image words s out checked = refl
+
+list_done : (image : Image) (words : List ℕ) (s : Status) (out : List ℕ) → AssemblyYields Listing image words s out → ◌≡◌ {A = Reply} (s, out) (Done, listing image)
+list_done image words s out listed = refl
+
+module _ (breaks : BreachesBreak) (text : List ℕ) (image : Image) (words : List ℕ) (is : IsAssembly text image words) where
+  pub checked_once : ExactlyOne (IsAssemblyReply Check text)
+  checked_once = record { answer = (Done, sound_text); holds = answers.AssemblyAnswered.done image words is checked; only = λ other h. only other.0 other.1 h }
+    where
+      only : (s : Status) (out : List ℕ) → AssemblyAnswered Check text s out → ◌≡◌ {A = Reply} (s, out) (Done, sound_text)
+      only s out (answers.AssemblyAnswered.refused r h) = absurd (never_both text breaks image words r is h)
+      only s out (answers.AssemblyAnswered.done other more j y) = check_done other more s out y
+
+  pub listed_once : ExactlyOne (IsAssemblyReply Listing text)
+  listed_once = record { answer = (Done, listing image); holds = answers.AssemblyAnswered.done image words is listed; only = λ other h. only other.0 other.1 h }
+    where
+      only : (s : Status) (out : List ℕ) → AssemblyAnswered Listing text s out → ◌≡◌ {A = Reply} (s, out) (Done, listing image)
+      only s out (answers.AssemblyAnswered.refused r h) = absurd (never_both text breaks image words r is h)
+      only s out (answers.AssemblyAnswered.done other more j y) = list_done other more s out y ∙ ap (λ i. (Done, listing i)) (one_assembly text other image more words j is).0
