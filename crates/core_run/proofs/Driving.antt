@@ -1,5 +1,5 @@
 -- What leads from parts to parts, put together.
-use Rattle.std.proofs.Common.{ℕ, suc, ◌+◌, ◌≡◌, ◌<◌, ◌⊎◌, Bool, true, false, not, List, [], ◌∷◌, ◌++◌, length, map, Option, slice_index_or, refl, sym, ap, ◌∙◌, subst, inl, inr, arith, eq-eqb, is_some, Vec, Global}
+use Rattle.std.proofs.Common.{ℕ, suc, ◌+◌, ◌≡◌, ◌<◌, ◌⊎◌, Bool, true, false, not, List, [], ◌∷◌, ◌++◌, length, map, Option, slice_index_or, refl, sym, ap, ◌∙◌, subst, inl, inr, arith, eq-eqb, eqb-true, ◌==◌, ◌≤◌, if◌then◌else◌, is_some, vec_len, Vec, Global}
 use Rattle.std.proofs.lemmas.Bool.{both_ways, and_from, le-leb}
 use Rattle.std.proofs.lemmas.List.{append-nil}
 use Rattle.ws_words.specs.Outside.{Outside, World}
@@ -24,7 +24,7 @@ use Rattle.core_run.specs.Chains.{chain_of, next_flag, may_flag}
 use Rattle.core_run.specs.Flows.{request_of, Holds, Going, Leads, NoneMay, SameParts, Reaches, stays, steps, Follows, no_asked}
 use Rattle.core_run.specs.declared.memory.Memory.{Memory}
 use Rattle.core_run.specs.Outdoors.{OutIs, SameOut}
-use Rattle.core_run.specs.Finishes.{IsSpent, FinishIs, Ended, is_budget}
+use Rattle.core_run.specs.Finishes.{IsSpent, FinishIs, Ended, is_budget, stopped_at}
 use Rattle.core_run.specs.declared.drive.Finish.{Finish}
 use Rattle.core_run.specs.declared.drive.Finish.TheVariants as finish
 use Rattle.core_run.proofs.Nexts.{is_next_flag, or_left, or_right}
@@ -191,6 +191,23 @@ spent image world flow s budget h going fired some none =
       on_way = h.stands.way_from t.wave t.instr t.port t.value t.is;
       settled = none_enabled image world flow s h none;
     }
+
+-- where no more instances may fire, and no request may be issued
+pub stands_still : (image : Image) (world : World) (flow : Flow) (s : State) (budget : ℕ) → Formed image → Sound image → Holds image world [] flow s → is_some flow.fault ≡ false → NoneMay image flow → flow.fired ≤ budget
+    → (vec_len flow.way.now + vec_len flow.way.later ≡ 0) ⊎ (budget ≤ flow.fired) → FinishIs image world budget (stopped_at flow) s
+stands_still image world flow s budget formed sound h going none within still = by_way (vec_len flow.way.now + vec_len flow.way.later == 0) refl
+  where
+    by_way : (b : Bool) → (vec_len flow.way.now + vec_len flow.way.later == 0) ≡ b → FinishIs image world budget (if b then finish.Rest else finish.Budget) s
+    by_way true e =
+        let n : length flow.way.now.items + length flow.way.later.items ≡ 0 = omega (arith, eqb-true _ _ e, flow.way.now.ok.0, flow.way.later.ok.0) in
+        (rests image world flow s formed sound h (empty_way flow.way n) none, h.stopped_is ∙ going)
+    by_way false e =
+        let some : length flow.way.now.items + length flow.way.later.items ≡ 0 → ⊥ = λ n. both_ways _ e (eq-eqb (vec_len flow.way.now + vec_len flow.way.later) 0 (omega (arith, n, flow.way.now.ok.0, flow.way.later.ok.0))) in
+        let fired : flow.fired ≡ budget = elim still [
+          | inl n ↦ absurd (some (omega (arith, n, flow.way.now.ok.0, flow.way.later.ok.0)))
+          | inr le ↦ omega (arith, le, within)
+        ] in
+        spent image world flow s budget h going fired some none
 
 pub none_may : (image : Image) (flow : Flow) → is_some flow.fault ≡ false → (is_some flow.fault ≡ true) ⊎ NoneMay image flow → NoneMay image flow
 none_may image flow going (inl e) = absurd (both_ways (is_some flow.fault) going e)

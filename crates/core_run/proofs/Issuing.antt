@@ -1,7 +1,8 @@
 -- The parts behind an issue stand for the state behind it.
-use Rattle.std.proofs.Common.{ℕ, zero, suc, ◌≡◌, ◌<◌, ◌≤◌, ◌⊎◌, Bool, true, false, cond, not, ◌&&◌, ◌||◌, ◌==◌, nat_le, eqb-true, is_some, Some, List, [], ◌∷◌, ◌++◌, length, map, take, drop, slice_index_or, refl, sym, ap, ◌∙◌, subst, inl, inr, arith}
-use Rattle.std.specs.List.{remove}
+use Rattle.std.proofs.Common.{ℕ, zero, suc, ◌≡◌, ◌<◌, ◌≤◌, ◌⊎◌, Bool, true, false, cond, not, ◌&&◌, ◌||◌, ◌==◌, nat_le, eqb-true, is_some, Some, List, [], ◌∷◌, ◌++◌, length, map, take, drop, slice_index_or, slice_set, ◌-◌, refl, sym, ap, ◌∙◌, subst, inl, inr, arith}
+use Rattle.std.specs.List.{swap_remove}
 use Rattle.std.proofs.lemmas.Bool.{both_ways, and_parts, leb-true}
+use Rattle.std.proofs.lemmas.List.{append-nil}
 use Rattle.ws_words.specs.Outside.{Act, loads, stores, reads, prints, gives, takes, Outside, World, printed_words}
 use Rattle.ws_words.specs.Plain.{took_words, took_by_ports}
 use Rattle.ws_isa.specs.declared.instr.Op.{Op}
@@ -23,7 +24,7 @@ use Rattle.core_law.proofs.Facts.{WalkFacts}
 use Rattle.core_law.proofs.FromSound.{facts_of}
 use Rattle.core_law.proofs.PortsThere.{ports_there}
 use Rattle.core_run.proofs.StandsIssue as I
-use Rattle.core_run.proofs.Moving.{stands_asked, picked, unpicked, stops_at, goes_next, goes_early}
+use Rattle.core_run.proofs.Moving.{AlikeBoth, both_same, both_trans, both_cons, both_picked, stands_asked, stops_at, goes_next, goes_early}
 use Rattle.core_run.specs.declared.token.Asked.{Asked}
 use Rattle.core_run.specs.declared.token.Operands.{Operands}
 use Rattle.core_run.specs.declared.memory.Memory.{Memory}
@@ -145,16 +146,49 @@ or_any [] k x d l e = absurd (omega arith)
 or_any (y ∷ xs) zero x d l e = e
 or_any (y ∷ xs) (suc k) x d l e = or_any xs k x d (omega arith) e
 
+-- the last of a list, and those before it
+last_of : (x : Asked) (xs : List Asked) (d : Asked) → x ∷ xs ≡ take (length xs) (x ∷ xs) ++ slice_index_or (x ∷ xs) (length xs) d ∷ []
+last_of x [] d = refl
+last_of x (y ∷ xs) d = ap (λ ys. x ∷ ys) (last_of y xs d)
+
+swap_is : (x : Asked) (xs : List Asked) (k : ℕ) (d : Asked) → swap_remove (x ∷ xs) k d ≡ take (length xs) (slice_set (x ∷ xs) k (slice_index_or (x ∷ xs) (length xs) d))
+swap_is x xs k d =
+    let e : length (x ∷ xs) - 1 ≡ length xs = omega arith in
+    ap (λ (n : ℕ). take n (slice_set (x ∷ xs) k (slice_index_or (x ∷ xs) n d))) e
+
+-- a request is taken out, and the last one takes its place
+taken_out : (image : Image) (xs : List Asked) (k : ℕ) (a : Asked) → k < length xs → a ≡ slice_index_or xs k a
+    → AlikeBoth (map (request_of image) xs) (request_of image a ∷ map (request_of image) (swap_remove xs k a))
+taken_out image [] k a l e = absurd (omega arith)
+taken_out image (x ∷ []) zero a l e =
+    subst (λ (rest : List Asked). AlikeBoth (request_of image x ∷ []) (request_of image a ∷ map (request_of image) rest)) (sym (swap_is x [] zero a))
+    (subst (λ (b : Asked). AlikeBoth (request_of image x ∷ []) (request_of image b ∷ [])) (sym e) (both_same (request_of image x ∷ [])))
+taken_out image (x ∷ []) (suc k) a l e = absurd (omega arith)
+taken_out image (x ∷ y ∷ ys) zero a l e =
+    let z : Asked = slice_index_or (y ∷ ys) (length ys) a in
+    let front : List Asked = take (length ys) (y ∷ ys) in
+    let split : map (request_of image) (y ∷ ys) ≡ map (request_of image) front ++ request_of image z ∷ [] = ap (map (request_of image)) (last_of y ys a) ∙ map_append (request_of image) front (z ∷ []) in
+    let moved : AlikeBoth (map (request_of image) front ++ request_of image z ∷ []) (request_of image z ∷ map (request_of image) front) =
+    subst (λ (rs : List Request). AlikeBoth (map (request_of image) front ++ request_of image z ∷ []) (request_of image z ∷ rs)) (append-nil (map (request_of image) front)) (both_picked (map (request_of image) front) [] (request_of image z)) in
+    let behind : AlikeBoth (map (request_of image) (y ∷ ys)) (request_of image z ∷ map (request_of image) front) = subst (λ (rs : List Request). AlikeBoth rs (request_of image z ∷ map (request_of image) front)) (sym split) moved in
+    subst (λ (rest : List Asked). AlikeBoth (map (request_of image) (x ∷ y ∷ ys)) (request_of image a ∷ map (request_of image) rest)) (sym (swap_is x (y ∷ ys) zero a))
+    (subst (λ (b : Asked). AlikeBoth (map (request_of image) (x ∷ y ∷ ys)) (request_of image b ∷ request_of image z ∷ map (request_of image) front)) (sym e)
+    (both_cons (request_of image x) (map (request_of image) (y ∷ ys)) (request_of image z ∷ map (request_of image) front) behind))
+taken_out image (x ∷ y ∷ ys) (suc k) a l e =
+    let left : List Request = map (request_of image) (swap_remove (y ∷ ys) k a) in
+    let on : swap_remove (x ∷ y ∷ ys) (suc k) a ≡ x ∷ swap_remove (y ∷ ys) k a = swap_is x (y ∷ ys) (suc k) a ∙ ap (λ (rest : List Asked). x ∷ rest) (sym (swap_is y ys k a)) in
+    subst (λ (rest : List Asked). AlikeBoth (map (request_of image) (x ∷ y ∷ ys)) (request_of image a ∷ map (request_of image) rest)) (sym on)
+    (both_trans (map (request_of image) (x ∷ y ∷ ys)) (request_of image x ∷ request_of image a ∷ left) (request_of image a ∷ request_of image x ∷ left)
+    (both_cons (request_of image x) (map (request_of image) (y ∷ ys)) (request_of image a ∷ left) (taken_out image (y ∷ ys) k a (omega arith) e))
+    (both_picked (request_of image x ∷ []) left (request_of image a)))
+
 module _ (image : Image) (world : World) (formed : Formed image) (sound : Sound image) (old : Flow) (s : State) (h : Holds image world [] old s) (k : ℕ) (a : Asked) (l : k < length old.asked.items) (a_is : a ≡ slice_index_or old.asked.items k a)
     (running : is_some old.fault ≡ false) (flag : may_flag image (chain_of old.chain) a.wave a.instr a.operands.first ≡ true) where
   facts : WalkFacts image world
   facts = facts_of image world (ports_there image formed) sound
 
-  abbrev front : List Request
-  front = map (request_of image) (take k old.asked.items)
-
-  abbrev back : List Request
-  back = map (request_of image) (drop (suc k) old.asked.items)
+  abbrev rest : List Request
+  rest = map (request_of image) (swap_remove old.asked.items k a)
 
   abbrev xs : List ℕ
   xs = listed (ports image a.instr) a.operands
@@ -162,16 +196,14 @@ module _ (image : Image) (world : World) (formed : Formed image) (sound : Sound 
   abbrev partial : Ports
   partial = partial_of old.slots.slots.items old.slots.spill.items
 
-  parted : map (request_of image) old.asked.items ≡ front ++ request_of image a ∷ back
-  parted = ap (map (request_of image)) (sym (split_at old.asked.items k a l)) ∙ map_append (request_of image) (take k old.asked.items) (slice_index_or old.asked.items k a ∷ drop (suc k) old.asked.items)
-      ∙ ap (λ (b : Asked). front ++ request_of image b ∷ back) (sym a_is)
+  mixed : AlikeBoth (map (request_of image) old.asked.items) (request_of image a ∷ rest)
+  mixed = taken_out image old.asked.items k a l a_is
 
   abbrev Picked : Type 0
-  Picked = Stands image world partial (way_of old.way) (request_of image a ∷ (front ++ back)) old.early.items s
+  Picked = Stands image world partial (way_of old.way) (request_of image a ∷ rest) old.early.items s
 
   st : Picked
-  st = stands_asked image world partial (way_of old.way) (front ++ request_of image a ∷ back) (request_of image a ∷ (front ++ back)) old.early.items s (picked front back (request_of image a))
-      (subst (λ (rs : List Request). Stands image world partial (way_of old.way) rs old.early.items s) parted h.stands)
+  st = stands_asked image world partial (way_of old.way) (map (request_of image) old.asked.items) (request_of image a ∷ rest) old.early.items s mixed.0 h.stands
 
   op_is : is_load image a.instr ≡ is_load_op (instr_at image a.instr).op
   unfolding is_load
@@ -203,7 +235,7 @@ module _ (image : Image) (world : World) (formed : Formed image) (sound : Sound 
   may = record {
     going = h.stopped_is ∙ running;
     current = eqb-true a.wave old.chain.wave flags.0 ∙ ap (λ (c : law.Chain). c.wave) same_chain;
-    fresh = I.fresh image world facts s partial (way_of old.way) a.wave a.instr xs (front ++ back) old.early.items st;
+    fresh = I.fresh image world facts s partial (way_of old.way) a.wave a.instr xs rest old.early.items st;
     turn = turn;
   }
 
@@ -212,10 +244,10 @@ module _ (image : Image) (world : World) (formed : Formed image) (sound : Sound 
       new.memory ≡ old.memory → new.fired ≡ old.fired → (t : State) × Step image s (Issue a.wave a.instr) t × Holds image world [] new t
   issue_stops op op_is past array array_is new slots way asked early chain stopped memory fired =
       let p : is_past image a.instr xs ≡ true = past_is_op ∙ ap (λ (o : Op). is_past_op image.arrays o (a.operands.first ∷ [])) (sym op_is) ∙ past in
-      let meet : Meets image world a.wave a.instr = stop_fault image world facts s h.stands.fit a.wave a.instr xs (I.waits image world facts s partial (way_of old.way) a.wave a.instr xs (front ++ back) old.early.items st) may p in
-      let m = stops_at image world facts s partial (way_of old.way) a.wave a.instr xs (front ++ back) old.early.items st may p in
-      let e : Stands image world partial (way_of old.way) (map (request_of image) old.asked.items) old.early.items m.new = subst (λ (rs : List Request). Stands image world partial (way_of old.way) rs old.early.items m.new) (sym parted)
-      (stands_asked image world partial (way_of old.way) (request_of image a ∷ (front ++ back)) (front ++ request_of image a ∷ back) old.early.items m.new (unpicked front back (request_of image a)) m.stands) in (
+      let meet : Meets image world a.wave a.instr = stop_fault image world facts s h.stands.fit a.wave a.instr xs (I.waits image world facts s partial (way_of old.way) a.wave a.instr xs rest old.early.items st) may p in
+      let m = stops_at image world facts s partial (way_of old.way) a.wave a.instr xs rest old.early.items st may p in
+      let e : Stands image world partial (way_of old.way) (map (request_of image) old.asked.items) old.early.items m.new =
+      stands_asked image world partial (way_of old.way) (request_of image a ∷ rest) (map (request_of image) old.asked.items) old.early.items m.new mixed.1 m.stands in (
         m.new,
         m.step,
         record {
@@ -233,12 +265,12 @@ module _ (image : Image) (world : World) (formed : Formed image) (sound : Sound 
       )
 
   memory_op : is_memory image a.instr ≡ true
-  memory_op = (h.stands.fit.request_right a.wave a.instr xs (I.waits image world facts s partial (way_of old.way) a.wave a.instr xs (front ++ back) old.early.items st)).memory
+  memory_op = (h.stands.fit.request_right a.wave a.instr xs (I.waits image world facts s partial (way_of old.way) a.wave a.instr xs rest old.early.items st)).memory
 
   -- else it takes its effect
   module _ (op : Op) (op_is' : op ≡ (instr_at image a.instr).op) (within : is_past_op image.arrays op (a.operands.first ∷ []) ≡ false) (word : ℕ) (new : Flow)
       (answers : (o : Outside) (third : ℕ) → OutIs o old.memory → Answers op (a.operands.first ∷ a.operands.second ∷ third ∷ []) o word new.memory)
-      (slots : new.slots ≡ old.slots) (asked : new.asked.items ≡ remove old.asked.items k) (stopped : new.fault ≡ old.fault) (fired : new.fired ≡ old.fired)
+      (slots : new.slots ≡ old.slots) (asked : new.asked.items ≡ swap_remove old.asked.items k a) (stopped : new.fault ≡ old.fault) (fired : new.fired ≡ old.fired)
       (passed : PassedOn image (chain_of old.chain) a.instr old.early.items (chain_of new.chain) new.early.items)
       (sent : SentTo old.way new.way (tokens_to a.wave word (destinations image a.instr (selector_of op (all_of a.operands))))) where
     inside : is_past image a.instr xs ≡ false
@@ -268,13 +300,13 @@ module _ (image : Image) (world : World) (formed : Formed image) (sound : Sound 
         ∙ ap (λ (n : ℕ). tokens_to n (answer image a.instr xs s.memory) (destinations image a.instr (selector_of (instr_at image a.instr).op xs))) (sym w)
         ∙ sends_are image a.wave a.instr xs (answer image a.instr xs s.memory)
 
-    rest_is : front ++ back ≡ map (request_of image) new.asked.items
-    rest_is = sym (map_append (request_of image) (take k old.asked.items) (drop (suc k) old.asked.items)) ∙ ap (map (request_of image)) (sym asked)
+    rest_is : rest ≡ map (request_of image) new.asked.items
+    rest_is = ap (map (request_of image)) (sym asked)
 
-    finish : (left : List ℕ) → Moves image world s (Issue a.wave a.instr) partial (way_of old.way ++ sends image a.wave a.instr xs (answer image a.instr xs s.memory)) (front ++ back) left (chain_of new.chain) s.stopped (effect_after image a.instr xs s.memory) (length s.fired) →
+    finish : (left : List ℕ) → Moves image world s (Issue a.wave a.instr) partial (way_of old.way ++ sends image a.wave a.instr xs (answer image a.instr xs s.memory)) rest left (chain_of new.chain) s.stopped (effect_after image a.instr xs s.memory) (length s.fired) →
         ((j : ℕ) → In j left → In j new.early.items) → ((j : ℕ) → In j new.early.items → In j left) → (t : State) × Step image s (Issue a.wave a.instr) t × Holds image world [] new t
     finish left m to from =
-        let e1 : Stands image world partial (way_of new.way) (front ++ back) left m.new = sent_on image world partial old.way new.way (sends image a.wave a.instr xs (answer image a.instr xs s.memory)) (front ++ back) left m.new (subst (SentTo old.way new.way) sent_is sent) m.stands in
+        let e1 : Stands image world partial (way_of new.way) rest left m.new = sent_on image world partial old.way new.way (sends image a.wave a.instr xs (answer image a.instr xs s.memory)) rest left m.new (subst (SentTo old.way new.way) sent_is sent) m.stands in
         let e2 : Stands image world partial (way_of new.way) (map (request_of image) new.asked.items) left m.new = subst (λ (rs : List Request). Stands image world partial (way_of new.way) rs left m.new) rest_is e1 in
         let e3 : Stands image world partial (way_of new.way) (map (request_of image) new.asked.items) new.early.items m.new = stands_early image world partial (way_of new.way) (map (request_of image) new.asked.items) left new.early.items m.new to from e2 in (
           m.new,
@@ -297,11 +329,11 @@ module _ (image : Image) (world : World) (formed : Formed image) (sound : Sound 
       | inl p ↦ (let nx : IsNext s.chain (note_of image a.instr) = subst (λ (c : law.Chain). IsNext c (note_of image a.instr)) same_chain p.0 in
           let se : Settles image (law.pass s.chain (note_of image a.instr)) (left_after (note_of image a.instr) old.early.items) (chain_of new.chain) new.early.items =
           subst (λ (c : law.Chain). Settles image (law.pass c (note_of image a.instr)) (left_after (note_of image a.instr) old.early.items) (chain_of new.chain) new.early.items) same_chain p.1 in
-          finish new.early.items (goes_next image world facts s partial (way_of old.way) a.wave a.instr xs (front ++ back) old.early.items st may inside nx (chain_of new.chain) new.early.items se) (λ j g. g) (λ j g. g))
+          finish new.early.items (goes_next image world facts s partial (way_of old.way) a.wave a.instr xs rest old.early.items st may inside nx (chain_of new.chain) new.early.items se) (λ j g. g) (λ j g. g))
       | inr p ↦ (let n : IsNext s.chain (note_of image a.instr) → ⊥ = λ e. p.0 (subst (λ (c : law.Chain). IsNext c (note_of image a.instr)) (sym same_chain) e) in
-          let m = goes_early image world facts s partial (way_of old.way) a.wave a.instr xs (front ++ back) old.early.items st may inside n (by_load n) in
+          let m = goes_early image world facts s partial (way_of old.way) a.wave a.instr xs rest old.early.items st may inside n (by_load n) in
           let c : s.chain ≡ chain_of new.chain = h.chain_is ∙ sym p.1 in
           finish (a.instr ∷ old.early.items)
-          (subst (λ (d : law.Chain). Moves image world s (Issue a.wave a.instr) partial (way_of old.way ++ sends image a.wave a.instr xs (answer image a.instr xs s.memory)) (front ++ back) (a.instr ∷ old.early.items) d s.stopped (effect_after image a.instr xs s.memory) (length s.fired)) c m)
+          (subst (λ (d : law.Chain). Moves image world s (Issue a.wave a.instr) partial (way_of old.way ++ sends image a.wave a.instr xs (answer image a.instr xs s.memory)) rest (a.instr ∷ old.early.items) d s.stopped (effect_after image a.instr xs s.memory) (length s.fired)) c m)
           (λ j g. subst (In j) (sym p.2) (in_end a.instr j old.early.items g)) (λ j g. end_in a.instr j old.early.items (subst (In j) p.2 g)))
     ]

@@ -220,6 +220,39 @@ unpicked_once (x ∷ a) b r o = (
 pub unpicked : (a b : List Request) (r : Request) → Alike (r ∷ (a ++ b)) (a ++ r ∷ b)
 unpicked a b r = record { to = picked_from a b r; from = picked_to a b r; once = unpicked_once a b r }
 
+-- one list and another are alike, both ways
+abbrev pub AlikeBoth : List Request → List Request → Type 0
+AlikeBoth xs ys = Alike xs ys × Alike ys xs
+
+pub both_same : (xs : List Request) → AlikeBoth xs xs
+both_same xs =
+    let same : Alike xs xs = record { to = λ w i os h. h; from = λ w i os h. h; once = λ o. o } in
+    (same, same)
+
+alike_trans : (xs ys zs : List Request) → Alike xs ys → Alike ys zs → Alike xs zs
+alike_trans xs ys zs a b = record {
+  to = λ w i os h. b.to w i os (a.to w i os h);
+  from = λ w i os h. a.from w i os (b.from w i os h);
+  once = λ o. b.once (a.once o);
+}
+
+alike_cons : (r : Request) (xs ys : List Request) → Alike xs ys → Alike (r ∷ xs) (r ∷ ys)
+alike_cons r xs ys a = record {
+  to = λ w i os h. elim h [ inl g ↦ inl g | inr g ↦ inr (a.to w i os g) ];
+  from = λ w i os h. elim h [ inl g ↦ inl g | inr g ↦ inr (a.from w i os g) ];
+  once = λ o. ((λ os h. o.0 os (a.from r.wave r.instr os h)), a.once o.1);
+}
+
+pub both_trans : (xs ys zs : List Request) → AlikeBoth xs ys → AlikeBoth ys zs → AlikeBoth xs zs
+both_trans xs ys zs a b = (alike_trans xs ys zs a.0 b.0, alike_trans zs ys xs b.1 a.1)
+
+pub both_cons : (r : Request) (xs ys : List Request) → AlikeBoth xs ys → AlikeBoth (r ∷ xs) (r ∷ ys)
+both_cons r xs ys a = (alike_cons r xs ys a.0, alike_cons r ys xs a.1)
+
+-- one of a list stands before the others
+pub both_picked : (a b : List Request) (r : Request) → AlikeBoth (a ++ r ∷ b) (r ∷ (a ++ b))
+both_picked a b r = (picked a b r, unpicked a b r)
+
 cleared_with : (w i p : ℕ) (o : Option ℕ) (f : Ports) (a b q : ℕ) → cleared w i (with_at w i p o f) a b q ≡ cleared w i f a b q
 cleared_with w i p o f a b q = elim (M.cleared_cases w i (with_at w i p o f) a b q) [
   | inl h ↦ h.1 ∙ (elim (M.cleared_cases w i f a b q) [ inl g ↦ sym g.1 | inr g ↦ absurd (g.0 h.0) ])

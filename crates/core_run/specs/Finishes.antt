@@ -1,5 +1,5 @@
 -- How a run ends.
-use Rattle.std.specs.Prelude.{◌≡◌, ℕ, Bool, true, false, [], length, Some}
+use Rattle.std.specs.Prelude.{◌≡◌, ◌+◌, ◌==◌, ℕ, Bool, true, false, if◌then◌else◌, [], length, Some, vec_len}
 use Rattle.ws_words.specs.Outside.{World}
 use Rattle.ws_isa.specs.Image.{Image}
 use Rattle.ws_isa.specs.Formed.{Formed}
@@ -41,3 +41,7 @@ is_budget _ = false
 abbrev pub is_fault : Finish → Bool
 is_fault (finish.Fault array) = true
 is_fault _ = false
+
+-- where nothing can be issued any more
+abbrev pub stopped_at : Flow → Finish
+stopped_at flow = if vec_len flow.way.now + vec_len flow.way.later == 0 then finish.Rest else finish.Budget

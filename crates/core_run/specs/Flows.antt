@@ -71,12 +71,6 @@ MayAt image flow k =
     may_flag image (chain_of flow.chain)
     (asked_at flow k).wave (asked_at flow k).instr (asked_at flow k).operands.first ≡ true
 
--- none of the first n requests may
-abbrev pub NoneBelow : Image → Flow → ℕ → Type 0
-NoneBelow image flow n = (k : ℕ) → k < n →
-    may_flag image (chain_of flow.chain) (asked_at flow k).wave (asked_at flow k).instr
-    (asked_at flow k).operands.first ≡ false
-
 -- the chain is stopped, or no request of the instance may be issued
 abbrev pub NotReady : Image → Flow → ℕ → ℕ → Type 0
 NotReady image flow w i = (is_some flow.fault ≡ true) ⊎ ((k : ℕ) → k < length flow.asked.items →

@@ -6,8 +6,8 @@ ghost use Rattle.ws_isa.specs.Formed.{Formed};
 ghost use Rattle.image_walk.specs.Sound.{Sound};
 ghost use Rattle.core_law.specs.Core.{State};
 ghost use Rattle.core_run.specs.Places.{ProgramIs, image_of};
-ghost use Rattle.core_run.specs.Flows.{Going, Follows, NoneMay, NoneBelow, Room, weight};
-ghost use Rattle.core_run.specs.Finishes.{Ended, is_budget, is_fault};
+ghost use Rattle.core_run.specs.Flows.{Going, Follows, Room, weight};
+ghost use Rattle.core_run.specs.Finishes.{Ended, is_budget, is_fault, stopped_at};
 
 use crate::flow::Flow;
 use crate::program::Program;
@@ -25,8 +25,11 @@ pub enum Finish {
 // For so many firings room is made at once.
 const AHEAD: u64 = 1024;
 
-/// Makes events until none is left or so many instances have fired, and issues what may be issued.
-/// Takes no memory.
+// So many loads are at most issued before their turn: each operation looks through them.
+const MOST_EARLY: usize = 16;
+
+/// Makes events until none is left or so many instances have fired, and then issues what may be
+/// issued. Takes no memory.
 pub fn run(program: &Program<'_>, flow: &mut Flow<'_>, budget: u64) -> Finish
     requires program { ProgramIs program.now }
     requires going { Going (image_of program.now) [] flow.old }
@@ -37,18 +40,18 @@ pub fn run(program: &Program<'_>, flow: &mut Flow<'_>, budget: u64) -> Finish
     ensures stopped { is_some flow.new.fault ≡ is_fault result }
     ensures finish { Ended (image_of program.now) budget flow.old flow.new result }
 {
-    issue_all(program, flow);
     loop {
         if let Some(array) = flow.fault {
             return Finish::Fault { array };
         }
-        if flow.way.is_empty() {
-            return Finish::Rest;
+        if is_still(flow, budget) {
+            match flow.issuable(program) {
+                Some(place) => flow.issue(program, place),
+                None => return stopped_at(flow),
+            }
+        } else {
+            match_next(program, flow);
         }
-        if flow.fired >= budget {
-            return Finish::Budget;
-        }
-        match_next(program, flow);
     }
 }
 
@@ -79,17 +82,36 @@ fn is_budget(finish: Finish) -> bool
     }
 }
 
-// Matches the next token on the way, and issues what then may be issued.
+// Whether no more instances may fire: nothing is on the way, or so many have.
+fn is_still(flow: &Flow<'_>, budget: u64) -> bool
+    ensures still { result ≡ true →
+        (vec_len flow.now.way.now + vec_len flow.now.way.later ≡ 0) ⊎ (budget ≤ flow.now.fired) }
+    ensures going { result ≡ false →
+        (0 < vec_len flow.now.way.now + vec_len flow.now.way.later) × (flow.now.fired < budget) }
+{
+    flow.way.is_empty() || flow.fired >= budget
+}
+
+// Rest where nothing is on the way.
+fn stopped_at(flow: &Flow<'_>) -> Finish
+    ensures { result ≡ stopped_at flow.now }
+{
+    if flow.way.is_empty() {
+        Finish::Rest
+    } else {
+        Finish::Budget
+    }
+}
+
+// Matches the next token on the way, and issues the operations that then are next.
 fn match_next(program: &Program<'_>, flow: &mut Flow<'_>)
     requires program { ProgramIs program.now }
     requires going { Going (image_of program.now) [] flow.old }
     requires fired { flow.old.fired + 1 < 2 ^ 64 }
     requires some { 0 < vec_len flow.old.way.now + vec_len flow.old.way.later }
     requires running { is_some flow.old.fault ≡ false }
-    requires none { NoneMay (image_of program.now) flow.old }
     requires room { Room flow.old 0 1 }
     ensures follows { Follows (image_of program.now) flow.old flow.new }
-    ensures none { (is_some flow.new.fault ≡ true) ⊎ NoneMay (image_of program.now) flow.new }
     ensures room { (n m : ℕ) → m + flow.new.fired ≡ n + flow.old.fired → Room flow.old 0 n →
         Room flow.new 0 m }
     ensures weight { weight flow.new + 9 * flow.old.fired < weight flow.old + 9 * flow.new.fired }
@@ -102,44 +124,41 @@ fn match_next(program: &Program<'_>, flow: &mut Flow<'_>)
     }
     if flow.asked.len() > waiting {
         issue_last(program, flow);
+        issue_next(program, flow);
     }
 }
 
-// Issues the last request if it may be issued, and then all that may; the others may not before.
+// Issues the last request if it may be issued, and few were issued early.
 fn issue_last(program: &Program<'_>, flow: &mut Flow<'_>)
     requires program { ProgramIs program.now }
     requires going { Going (image_of program.now) [] flow.old }
     requires fired { flow.old.fired < 2 ^ 64 }
     requires running { is_some flow.old.fault ≡ false }
     requires some { 0 < length flow.old.asked.items }
-    requires others { NoneBelow (image_of program.now) flow.old (length flow.old.asked.items - 1) }
     requires room { Room flow.old 0 0 }
     ensures follows { Follows (image_of program.now) flow.old flow.new }
-    ensures none { (is_some flow.new.fault ≡ true) ⊎ NoneMay (image_of program.now) flow.new }
     ensures room { (n : ℕ) → Room flow.old 0 n → Room flow.new 0 n }
     ensures weight { weight flow.new ≤ weight flow.old }
     ensures count { flow.new.fired ≡ flow.old.fired }
 {
     let place = flow.asked.len() - 1;
-    if flow.may_issue(program, flow.asked[place]) {
+    if flow.early.len() < MOST_EARLY && flow.may_issue(program, flow.asked[place]) {
         flow.issue(program, place);
-        issue_all(program, flow);
     }
 }
 
-// Issues requests until none may be issued.
-fn issue_all(program: &Program<'_>, flow: &mut Flow<'_>)
+// Issues the requests that are next, one after another, as far as hints of them go.
+fn issue_next(program: &Program<'_>, flow: &mut Flow<'_>)
     requires program { ProgramIs program.now }
     requires going { Going (image_of program.now) [] flow.old }
     requires fired { flow.old.fired < 2 ^ 64 }
     requires room { Room flow.old 0 0 }
     ensures follows { Follows (image_of program.now) flow.old flow.new }
-    ensures none { (is_some flow.new.fault ≡ true) ⊎ NoneMay (image_of program.now) flow.new }
     ensures room { (n : ℕ) → Room flow.old 0 n → Room flow.new 0 n }
     ensures weight { weight flow.new ≤ weight flow.old }
     ensures count { flow.new.fired ≡ flow.old.fired }
 {
-    while let Some(place) = flow.issuable(program) {
+    while let Some(place) = flow.next_up(program) {
         flow.issue(program, place);
     }
 }

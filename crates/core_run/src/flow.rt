@@ -10,6 +10,7 @@ ghost use Rattle.core_run.specs.Ways.{token_of, SentTo};
 ghost use Rattle.core_run.specs.Flows.{Going, Leads, Room, flight, AskedMore, all_of, asked_at, MayAt, NoneMay, NotReady, SameParts, weight};
 
 use crate::chain::Chain;
+use crate::hints::Hints;
 use crate::memory::Memory;
 use crate::order::pass_on;
 use crate::program::Program;
@@ -30,6 +31,7 @@ pub struct Flow<'w> {
     pub slots: Slots,
     pub way: Way,
     pub asked: Vec<Asked>,
+    pub hints: Hints,
     pub early: Vec<u32>,
     pub chain: Chain,
     pub fault: Option<u32>,
@@ -129,6 +131,23 @@ impl<'w> Flow<'w> {
         None
     }
 
+    /// The place of the request that is next, where there is a hint of it.
+    pub fn next_up(&self, program: &Program<'_>) -> Option<usize>
+        requires { ProgramIs program.now }
+        ensures { IfSome result (λ place. (place < length self.now.asked.items)
+            × (is_some self.now.fault ≡ false)
+            × MayAt (image_of program.now) self.now place) }
+    {
+        let place = self.hints.next(&self.chain) as usize;
+        if self.fault.is_none()
+            && place < self.asked.len()
+            && self.may_issue(program, self.asked[place])
+        {
+            return Some(place);
+        }
+        None
+    }
+
     /// Whether a request may be issued, where the chain isn't stopped.
     pub fn may_issue(&self, program: &Program<'_>, asked: Asked) -> bool
         requires { ProgramIs program.now }
@@ -191,7 +210,8 @@ impl<'w> Flow<'w> {
         let word = self
             .memory
             .run(op, asked.operands.first, asked.operands.second);
-        self.asked.remove(place);
+        self.asked.swap_remove(place);
+        look_again(program, &self.asked, &mut self.hints, place);
         self.chain = pass_on(program, self.chain, &mut self.early, asked.instr);
         let dests = program.destinations(asked.instr, selector(op, asked.operands));
         self.way.send(dests, asked.wave, word);
@@ -227,6 +247,7 @@ impl<'w> Flow<'w> {
     {
         self.fired += 1;
         if is_memory(op) {
+            self.hints.set(program.note(instr), self.asked.len());
             self.asked.push_reserved(Asked {
                 wave,
                 instr,
@@ -238,6 +259,15 @@ impl<'w> Flow<'w> {
             let number = if is_advance(op) { wave + 1 } else { wave };
             self.way.send(dests, number, word);
         }
+    }
+}
+
+// A request may have come to this place.
+fn look_again(program: &Program<'_>, asked: &[Asked], hints: &mut Hints, place: usize)
+    requires { ProgramIs program.now }
+{
+    if place < asked.len() {
+        hints.set(program.note(asked[place].instr), place);
     }
 }
 

@@ -7,6 +7,7 @@ pub mod chain;
 mod drive;
 mod engine;
 mod flow;
+mod hints;
 mod memory;
 mod open;
 pub mod order;

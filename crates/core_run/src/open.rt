@@ -9,6 +9,7 @@ ghost use Rattle.core_run.specs.Flows.{Opens};
 
 use crate::chain::Chain;
 use crate::flow::Flow;
+use crate::hints::Hints;
 use crate::memory::Memory;
 use crate::program::Program;
 use crate::slots::Slots;
@@ -38,6 +39,7 @@ pub fn open<'w>(
         slots: Slots::open(alloc, program.places.len().saturating_add(1))?,
         way,
         asked: Vec::new(alloc),
+        hints: Hints::open(alloc, program.places.len().saturating_add(1))?,
         early: Vec::new(alloc),
         chain: Chain {
             wave: 1,

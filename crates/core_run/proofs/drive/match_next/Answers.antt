@@ -1,8 +1,8 @@
-use Rattle.std.proofs.Common.{◌+◌, ◌-◌, ◌<◌, length, refl, inr, arith}
+use Rattle.std.proofs.Common.{◌+◌, ◌-◌, ◌<◌, length, refl, arith}
 use Rattle.core_run.specs.Places.{image_of}
 use Rattle.core_run.specs.declared.flow.Flow.{Flow}
 use Rattle.core_run.proofs.Driving.{takes_on, taken_going, going_on, follows_on}
-use Rattle.core_run.proofs.Steady.{same_parts, none_others, none_same, room_taken, room_less}
+use Rattle.core_run.proofs.Steady.{same_parts, room_taken, room_less}
 use Rattle.core_run.proofs.drive.match_next.Goals as goal
 
 pub arrive-requires-clause-going : goal.arrive-requires-clause-going
@@ -14,7 +14,7 @@ arrive-requires-clause-room c = room_taken c.args.flow.now _ 1 refl refl refl re
 pub issue_last-requires-clause-going : goal.issue_last-requires-clause-going
 issue_last-requires-clause-going c =
     let b = c.args.flow.now in
-    let mid : Flow = record { slots = b.slots; way = c.take.new.self; asked = b.asked; early = b.early; chain = b.chain; fault = b.fault; memory = b.memory; fired = b.fired } in
+    let mid : Flow = record { slots = b.slots; way = c.take.new.self; asked = b.asked; hints = b.hints; early = b.early; chain = b.chain; fault = b.fault; memory = b.memory; fired = b.fired } in
     going_on (image_of c.args.program.now) b c.arrive.new.self c.requires.going (takes_on (image_of c.args.program.now) b b mid c.arrive.new.self c.in-Some.token (same_parts b) c.in-Some.ensures.taken refl refl refl refl refl refl refl c.arrive.ensures.leads)
 
 pub issue_last-requires-clause-room : goal.issue_last-requires-clause-room
@@ -24,31 +24,36 @@ issue_last-requires-clause-room c =
     (c.arrive.ensures.room 1 (1 + b.fired - c.arrive.new.self.fired) (omega (arith, c.arrive.ensures.count.0, c.arrive.ensures.count.1))
     (room_taken b _ 1 refl refl refl refl c.in-Some.ensures.fewer c.in-Some.ensures.room c.requires.room))
 
-pub issue_last-requires-clause-others : goal.issue_last-requires-clause-others
-issue_last-requires-clause-others c =
+pub issue_next-requires-clause-going : goal.issue_next-requires-clause-going
+issue_next-requires-clause-going c =
     let b = c.args.flow.now in
-    let grew : length b.asked.items < length c.arrive.new.self.asked.items = omega (arith, c.if-len-waiting.true, c.len-waiting.ensures, c.len.ensures, b.asked.ok.0, c.arrive.new.self.asked.ok.0) in
-    none_others (image_of c.args.program.now) b c.arrive.new.self c.arrive.ensures.chain c.arrive.ensures.asked grew c.requires.none
+    let mid : Flow = record { slots = b.slots; way = c.take.new.self; asked = b.asked; hints = b.hints; early = b.early; chain = b.chain; fault = b.fault; memory = b.memory; fired = b.fired } in
+    going_on (image_of c.args.program.now) b c.issue_last.new.flow c.requires.going
+    (follows_on (image_of c.args.program.now) b c.arrive.new.self c.issue_last.new.flow (takes_on (image_of c.args.program.now) b b mid c.arrive.new.self c.in-Some.token (same_parts b) c.in-Some.ensures.taken refl refl refl refl refl refl refl c.arrive.ensures.leads) c.issue_last.ensures.follows)
+
+pub issue_next-requires-clause-room : goal.issue_next-requires-clause-room
+issue_next-requires-clause-room c =
+    let b = c.args.flow.now in
+    c.issue_last.ensures.room 0 (room_less c.arrive.new.self (1 + b.fired - c.arrive.new.self.fired) 0 (omega arith)
+    (c.arrive.ensures.room 1 (1 + b.fired - c.arrive.new.self.fired) (omega (arith, c.arrive.ensures.count.0, c.arrive.ensures.count.1))
+    (room_taken b _ 1 refl refl refl refl c.in-Some.ensures.fewer c.in-Some.ensures.room c.requires.room)))
 
 pub returns-then-len-waiting-clause-follows : goal.returns-then-len-waiting-clause-follows
 returns-then-len-waiting-clause-follows c =
     let b = c.args.flow.now in
-    let mid : Flow = record { slots = b.slots; way = c.take.new.self; asked = b.asked; early = b.early; chain = b.chain; fault = b.fault; memory = b.memory; fired = b.fired } in
-    follows_on (image_of c.args.program.now) b c.arrive.new.self c.issue_last.new.flow (takes_on (image_of c.args.program.now) b b mid c.arrive.new.self c.in-Some.token (same_parts b) c.in-Some.ensures.taken refl refl refl refl refl refl refl c.arrive.ensures.leads) c.issue_last.ensures.follows
+    let mid : Flow = record { slots = b.slots; way = c.take.new.self; asked = b.asked; hints = b.hints; early = b.early; chain = b.chain; fault = b.fault; memory = b.memory; fired = b.fired } in
+    follows_on (image_of c.args.program.now) b c.issue_last.new.flow c.issue_next.new.flow
+    (follows_on (image_of c.args.program.now) b c.arrive.new.self c.issue_last.new.flow (takes_on (image_of c.args.program.now) b b mid c.arrive.new.self c.in-Some.token (same_parts b) c.in-Some.ensures.taken refl refl refl refl refl refl refl c.arrive.ensures.leads) c.issue_last.ensures.follows)
+    c.issue_next.ensures.follows
 
 pub returns-then-len-waiting-clause-room : goal.returns-then-len-waiting-clause-room
-returns-then-len-waiting-clause-room c = λ n m e r. c.issue_last.ensures.room m (c.arrive.ensures.room n m (omega (arith, e, c.issue_last.ensures.count)) (room_taken c.args.flow.now _ n refl refl refl refl c.in-Some.ensures.fewer c.in-Some.ensures.room r))
+returns-then-len-waiting-clause-room c = λ n m e r. c.issue_next.ensures.room m (c.issue_last.ensures.room m (c.arrive.ensures.room n m (omega (arith, e, c.issue_last.ensures.count, c.issue_next.ensures.count)) (room_taken c.args.flow.now _ n refl refl refl refl c.in-Some.ensures.fewer c.in-Some.ensures.room r)))
 
 pub returns-else-len-waiting-clause-follows : goal.returns-else-len-waiting-clause-follows
 returns-else-len-waiting-clause-follows c =
     let b = c.args.flow.now in
-    let mid : Flow = record { slots = b.slots; way = c.take.new.self; asked = b.asked; early = b.early; chain = b.chain; fault = b.fault; memory = b.memory; fired = b.fired } in
+    let mid : Flow = record { slots = b.slots; way = c.take.new.self; asked = b.asked; hints = b.hints; early = b.early; chain = b.chain; fault = b.fault; memory = b.memory; fired = b.fired } in
     takes_on (image_of c.args.program.now) b b mid c.arrive.new.self c.in-Some.token (same_parts b) c.in-Some.ensures.taken refl refl refl refl refl refl refl c.arrive.ensures.leads
-
-pub returns-else-len-waiting-clause-none : goal.returns-else-len-waiting-clause-none
-returns-else-len-waiting-clause-none c =
-    let b = c.args.flow.now in
-    inr (none_same (image_of c.args.program.now) b c.arrive.new.self c.arrive.ensures.chain c.arrive.ensures.asked (λ l. omega (arith, l, c.if-len-waiting.false, c.len-waiting.ensures, c.len.ensures, b.asked.ok.0, c.arrive.new.self.asked.ok.0)) c.requires.none)
 
 pub returns-else-len-waiting-clause-room : goal.returns-else-len-waiting-clause-room
 returns-else-len-waiting-clause-room c = λ n m e r. c.arrive.ensures.room n m e (room_taken c.args.flow.now _ n refl refl refl refl c.in-Some.ensures.fewer c.in-Some.ensures.room r)

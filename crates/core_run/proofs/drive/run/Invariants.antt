@@ -6,7 +6,6 @@ use Rattle.core_run.proofs.drive.run.Given as goal
 abbrev pub invariant-loop-flow : goal.invariant-loop-flow
 invariant-loop-flow l = record {
   follows : Follows (image_of l.program) l.fn.flow l.flow;
-  none : (is_some l.flow.fault ≡ true) ⊎ NoneMay (image_of l.program) l.flow;
   room : Room l.flow 0 (l.budget - l.flow.fired);
   within : l.flow.fired ≤ l.budget;
 }
