@@ -1,13 +1,8 @@
 -- What a match leaves as it was: requests that may not be issued, and room.
-use Rattle.std.proofs.Common.{ℕ, zero, suc, ◌+◌, ◌-◌, ◌*◌, ◌≡◌, ◌<◌, ◌≤◌, false, List, [], ◌∷◌, ◌++◌, length, slice_index_or, vec_len, vec_capacity, refl, sym, ap, ◌∙◌, subst, inl, inr, arith, length-append}
-use Rattle.std.proofs.lemmas.Bool.{cases_eq}
-use Rattle.ws_isa.specs.Image.{Image}
-use Rattle.core_run.specs.declared.token.Asked.{Asked}
-use Rattle.core_run.specs.declared.chain.Chain.{Chain}
+use Rattle.std.proofs.Common.{ℕ, ◌+◌, ◌*◌, ◌≡◌, ◌≤◌, vec_len, vec_capacity, refl, arith}
 use Rattle.core_run.specs.declared.flow.Flow.{Flow}
-use Rattle.core_run.specs.Chains.{chain_of, may_flag}
 use Rattle.core_run.proofs.Rooms.{space_less}
-use Rattle.core_run.specs.Flows.{AskedMore, Room, SameParts, no_asked, asked_at}
+use Rattle.core_run.specs.Flows.{Room, SameParts}
 
 pub same_parts : (a : Flow) → SameParts a a
 same_parts a = record {

@@ -1,4 +1,4 @@
-use Rattle.std.proofs.Common.{◌+◌, ◌-◌, ◌<◌, length, refl, arith}
+use Rattle.std.proofs.Common.{◌+◌, ◌-◌, refl, arith}
 use Rattle.core_run.specs.Places.{image_of}
 use Rattle.core_run.specs.declared.flow.Flow.{Flow}
 use Rattle.core_run.proofs.Driving.{takes_on, taken_going, going_on, follows_on}

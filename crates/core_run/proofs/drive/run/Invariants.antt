@@ -1,6 +1,6 @@
-use Rattle.std.proofs.Common.{◌≡◌, ◌≤◌, ◌+◌, ◌-◌, ◌*◌, ◌⊎◌, is_some, true}
+use Rattle.std.proofs.Common.{◌≤◌, ◌+◌, ◌-◌, ◌*◌}
 use Rattle.core_run.specs.Places.{image_of}
-use Rattle.core_run.specs.Flows.{Follows, NoneMay, Room, weight}
+use Rattle.core_run.specs.Flows.{Follows, Room, weight}
 use Rattle.core_run.proofs.drive.run.Given as goal
 
 abbrev pub invariant-loop-flow : goal.invariant-loop-flow
