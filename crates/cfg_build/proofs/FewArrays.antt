@@ -13,14 +13,14 @@ use Rattle.cfg_core.specs.Graph.{GraphArray}
 use Rattle.cfg_build.specs.Keeps.{arrays_of}
 use Rattle.src_ast.specs.LanguageLimits.{most_arrays, most_array_cells, most_cells}
 
-abbrev Kept : List Rule → Type 0
+abbrev pub Kept : List Rule → Type 0
 Kept rules = list_all (λ r. r.kept) rules ≡ true
 
 and_parts : (a b : Bool) → (a && b) ≡ true → (a ≡ true) × (b ≡ true)
 and_parts true b h = (refl, h)
 and_parts false b h = absurd (cc)
 
-kept_both : (xs ys : List Rule) → Kept (xs ++ ys) → Kept xs × Kept ys
+pub kept_both : (xs ys : List Rule) → Kept (xs ++ ys) → Kept xs × Kept ys
 kept_both xs ys h =
     let kept : Rule → Bool = λ r. r.kept in
     and_parts (list_all kept xs) (list_all kept ys) (sym (list_all-append kept xs ys) ∙ h)

@@ -18,5 +18,6 @@ pub mod Rules
 pub mod Heights
 pub mod Totals
 pub mod FewArrays
+pub mod FewTurns
 pub mod Sized
 pub mod OfPrograms

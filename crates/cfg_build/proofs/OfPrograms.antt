@@ -22,6 +22,7 @@ use Rattle.cfg_core.specs.Shape.{IsShaped}
 use Rattle.cfg_build.specs.Sizes.{IsSized, IsSmall}
 use Rattle.cfg_build.proofs.Heights.{two_blocks_a_turn}
 use Rattle.cfg_build.proofs.FewArrays.{few_arrays}
+use Rattle.cfg_build.proofs.FewTurns.{few_statements}
 use Rattle.cfg_build.proofs.Sized.{turns_pay_work, is_sized, is_small}
 use Rattle.cfg_build.proofs.Kept.{TurnsNeverGrow, NamesArePlaces, lowered_keeps_run}
 use Rattle.cfg_build.proofs.Rules.{is_graph}
@@ -85,7 +86,7 @@ module _ (parts : List Part) (program : Program) (g : Graph) (same : program ≡
   pub small_kept : (finish : Place) → IsAccepted parts finish → IsSmall parts g
   small_kept finish accepted =
       subst (λ (h : Graph). IsSmall parts h) (sym is_lowered)
-      (is_small parts (subst (λ (p : Program). ProgramIn p) same fit) (arrays_are parts) (few_arrays parts finish accepted))
+      (is_small parts (subst (λ (p : Program). ProgramIn p) same fit) (arrays_are parts) (few_arrays parts finish accepted) (few_statements parts finish accepted))
 
   none : NoneHidden g.arrays
   none = subst (λ (xs : List GraphArray). NoneHidden xs) (sym arrays_kept) (none_hidden parts)

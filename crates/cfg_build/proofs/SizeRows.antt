@@ -11,7 +11,7 @@ use Rattle.cfg_core.specs.Graph.{Graph, spots, spot_at, proc_at, entry_of}
 use Rattle.cfg_core.specs.Walk.{opening}
 use Rattle.cfg_core.specs.Weights.{path, ops_in, nodes_in}
 use Rattle.cfg_build.specs.Lowered.{lowered}
-use Rattle.cfg_build.specs.Sizes.{sum_procs, own_blocks, own_ops, ending_ops, own_nodes, result_nodes}
+use Rattle.cfg_build.specs.Sizes.{sum_procs, own_blocks, own_ops, ending_ops, own_nodes, result_nodes, turns_in}
 
 abbrev at : Place
 at = record { line = 1; column = 1 }
@@ -51,6 +51,9 @@ ten_ops = (refl, refl)
 
 pub ten_nodes : (nodes_in g ≡ 10) × (sum_procs own_nodes result_nodes (procs_of parts) ≡ 10)
 ten_nodes = (refl, refl)
+
+pub seven_turns : (turns_in g ≡ 7) × (sum_procs (λ s. 1) ending_ops (procs_of parts) ≡ 7)
+seven_turns = (refl, refl)
 
 -- eight turns: the call, the read, the test of the `if`, two of the loop, an assignment, the return and the print
 pub path_of_eight_turns : path g 9 (opening g (record { input = 8 ∷ []; left = [] }) 8) ≡ 7 ∷ 0 ∷ 1 ∷ 2 ∷ 3 ∷ 2 ∷ 4 ∷ 6 ∷ 8 ∷ []

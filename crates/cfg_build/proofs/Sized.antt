@@ -11,6 +11,7 @@ use Rattle.src_ast.specs.Syntax as source
 use Rattle.src_ast.specs.Syntax.{Expression, Statement, Statements, Last, Procedure, Part as Item}
 use Rattle.src_ast.specs.Bound.{nodes, nodes_of, most_nodes, most_nodes_of, ending_nodes, widest, most_variables}
 use Rattle.src_ast.specs.Meaning.{Scope, scope_of, procs_of}
+use Rattle.src_ast.specs.Rules.{statements_in}
 use Rattle.seq_run.specs.Resolved as resolved
 use Rattle.seq_run.specs.Resolved.{Action, Step, Do, Call, If, While, Steps, Nothing, Then, Proc, nth_proc, Program}
 use Rattle.seq_run.specs.Resolving as resolving
@@ -24,6 +25,7 @@ use Rattle.src_ast.specs.LanguageLimits.{most_procedures, most_statements, most_
 use Rattle.cfg_build.specs.Sizes.{sum_procs, own_blocks, own_ops, ending_ops, own_nodes, result_nodes, IsSized, IsSmall}
 use Rattle.cfg_build.specs.Keeps.{arrays_of}
 use Rattle.cfg_build.proofs.FewArrays.{FewArrays}
+use Rattle.cfg_build.proofs.FewTurns.{turns_are}
 use Rattle.cfg_build.proofs.Places.{all_both}
 use Rattle.cfg_build.proofs.Stand.{proc_spots, count_procs}
 use Rattle.cfg_build.proofs.Totals.{total_procs, EachAtMost, ProcAtMost, procs_most, IsMeasure, own_of, procs_total, procs_same}
@@ -46,7 +48,7 @@ all_nodes_same : (scope : Scope) (es : List Expression) → sum_by term_nodes (r
 all_nodes_same scope [] = refl
 all_nodes_same scope (e ∷ es) = omega (arith, sum_by-cons term_nodes (resolving.term scope e) (resolving.terms scope es), nodes_same scope e, all_nodes_same scope es)
 
--- Three measures: blocks, operations and nodes.
+-- Four measures: blocks, operations, nodes and turns.
 
 one_block : IsMeasure (λ b. 1) (λ o. 0) (λ exit. 1) 1
 one_block = record { act = λ o p. refl; exit = λ exit. refl; goes = λ b. refl; branch = λ t a b. refl; call = λ x f ts b. refl }
@@ -58,6 +60,15 @@ nodes_measured : IsMeasure block_nodes op_nodes exit_nodes 0
 nodes_measured = record {
   act = λ o p. omega (arith, sum_by-cons op_nodes (Tick 1) (o ∷ p.ops), sum_by-cons op_nodes o p.ops);
   exit = λ exit. omega (arith, sum_by-cons op_nodes (Tick 1) []);
+  goes = λ b. refl;
+  branch = λ t a b. refl;
+  call = λ x f ts b. refl;
+}
+
+turns_measured : IsMeasure (λ b. sum_by turns_of b.ops) (λ o. suc (turns_of o)) (λ exit. 1) 0
+turns_measured = record {
+  act = λ o p. omega (arith, sum_by-cons turns_of (Tick 1) (o ∷ p.ops), sum_by-cons turns_of o p.ops);
+  exit = λ exit. omega (arith, sum_by-cons turns_of (Tick 1) []);
   goes = λ b. refl;
   branch = λ t a b. refl;
   call = λ x f ts b. refl;
@@ -85,6 +96,20 @@ ops_same scope (source.Call at x f es) = refl
 ops_same scope (source.If at e a b) = refl
 ops_same scope (source.While at e body) = refl
 
+abbrev step_turns : Step → ℕ
+step_turns s = own_of (λ o. suc (turns_of o)) (λ exit. 1) 0 s
+
+turns_same : (scope : Scope) (s : Statement) → step_turns (resolving.one scope s) ≡ 1
+turns_same scope (source.Assign at x e) = refl
+turns_same scope (source.Store at a i e) = refl
+turns_same scope (source.Print at e) = refl
+turns_same scope (source.Read at x) = refl
+turns_same scope (source.Give at n q x) = refl
+turns_same scope (source.Take at n q e) = refl
+turns_same scope (source.Call at x f es) = refl
+turns_same scope (source.If at e a b) = refl
+turns_same scope (source.While at e body) = refl
+
 abbrev step_nodes : Step → ℕ
 step_nodes s = own_of op_nodes exit_nodes 0 s
 
@@ -102,12 +127,19 @@ step_nodes_same scope (source.While at e body) = omega (arith, nodes_same scope 
 abbrev last_ops : Option Term → ℕ
 last_ops r = length (block (last_part r)).ops
 
+abbrev last_turns : Option Term → ℕ
+last_turns r = sum_by turns_of (block (last_part r)).ops
+
 abbrev last_nodes : Option Term → ℕ
 last_nodes r = block_nodes (block (last_part r))
 
 last_ops_same : (scope : Scope) (r : Option Last) → last_ops (resolving.result scope r) ≡ ending_ops r
 last_ops_same scope None = refl
 last_ops_same scope (Some last) = refl
+
+last_turns_same : (scope : Scope) (r : Option Last) → last_turns (resolving.result scope r) ≡ ending_ops r
+last_turns_same scope None = refl
+last_turns_same scope (Some last) = refl
 
 last_nodes_same : (scope : Scope) (r : Option Last) → last_nodes (resolving.result scope r) ≡ result_nodes r
 last_nodes_same scope None = refl
@@ -130,12 +162,16 @@ module _ (ps : List Proc) where
   nodes_total : sum_by (λ (s : Spot). block_nodes s.block) graph_spots ≡ total_procs step_nodes last_nodes ps
   nodes_total = procs_total block_nodes op_nodes exit_nodes 0 nodes_measured 0 ps 0
 
+  turns_total : sum_by (λ (s : Spot). sum_by turns_of s.block.ops) graph_spots ≡ total_procs step_turns last_turns ps
+  turns_total = procs_total (λ b. sum_by turns_of b.ops) (λ o. suc (turns_of o)) (λ exit. 1) 0 turns_measured 0 ps 0
+
 pub is_sized : (parts : List Item) → IsSized (procs_of parts) (lowered (resolving.program parts))
 is_sized parts =
     let ps = (resolving.program parts).procs in record {
       blocks = blocks_total ps ∙ procs_same (own_of (λ o. 0) (λ exit. 1) 1) own_blocks blocks_same (λ r. 1) (λ r. 1) (λ scope r. refl) _ _ (procs_of parts);
       ops = ops_total ps ∙ procs_same (own_of (λ o. 2) (λ exit. 1) 0) own_ops ops_same last_ops ending_ops last_ops_same _ _ (procs_of parts);
       nodes = nodes_total ps ∙ procs_same step_nodes own_nodes step_nodes_same last_nodes result_nodes last_nodes_same _ _ (procs_of parts);
+      turns = turns_total ps ∙ procs_same step_turns (λ s. 1) turns_same last_turns ending_ops last_turns_same _ _ (procs_of parts);
     }
 
 -- Each step has at most the nodes of the widest statement.
@@ -299,8 +335,8 @@ few_vars most arrays names (source.Array x n at ∷ parts) c h = few_vars most a
 few_vars most arrays names (source.Proc p ∷ parts) c h =
     (omega arith, few_vars most arrays names parts (suc (c + begun (resolving.proc (scope_of arrays names p) p).body)) (omega arith))
 
-pub is_small : (parts : List Item) → ProgramIn (resolving.program parts) → (lowered (resolving.program parts)).arrays ≡ arrays_of parts → FewArrays 0 0 parts → IsSmall parts (lowered (resolving.program parts))
-is_small parts fit same few =
+pub is_small : (parts : List Item) → ProgramIn (resolving.program parts) → (lowered (resolving.program parts)).arrays ≡ arrays_of parts → FewArrays 0 0 parts → statements_in parts ≤ most_statements → IsSmall parts (lowered (resolving.program parts))
+is_small parts fit same few short =
     let program = resolving.program parts in let ps = program.procs in let most = widest parts in
     let many : length (procs ps 0) ≡ length ps = count_procs ps 0 in
     let blocks = procs_most (own_of (λ o. 0) (λ exit. 1) 1) (λ r. 1) 3 1 ps (all_few _ (λ r. 1) 3 1 few_blocks (λ r. omega arith) ps) in
@@ -317,4 +353,5 @@ is_small parts fit same few =
       blocks = omega (arith, blocks_total ps, blocks, fit.few_steps, fit.few_procs);
       ops = omega (arith, ops_total ps, ops, fit.few_steps, fit.few_procs);
       nodes = omega (arith, nodes_total ps, nodes, steps, ends);
+      turns = omega (arith, (is_sized parts).turns, turns_are parts, short);
     }

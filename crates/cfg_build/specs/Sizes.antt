@@ -6,7 +6,7 @@ use Rattle.src_ast.specs.Bound.{nodes, nodes_of, ending_nodes, widest, most_vari
 use Rattle.src_ast.specs.LanguageLimits.{most_procedures, most_statements, most_parameters, most_arrays, most_array_cells, most_cells}
 use Rattle.src_ast.specs.Meaning.{procs_of}
 use Rattle.cfg_core.specs.Graph.{Graph, spots}
-use Rattle.cfg_core.specs.Weights.{ops_in, nodes_in}
+use Rattle.cfg_core.specs.Weights.{turns_of, ops_in, nodes_in}
 
 -- the sum over a statement, and over statements, with those inside them
 abbrev mutual
@@ -60,11 +60,17 @@ abbrev pub result_nodes : Option Last → ℕ
 result_nodes None = 1
 result_nodes (Some last) = nodes last.value
 
--- The graph has the program's blocks, operations and nodes, and no more.
+-- the turns of all blocks
+abbrev pub turns_in : Graph → ℕ
+turns_in g = sum_by (λ s. sum_by turns_of s.block.ops) (spots g)
+
+-- The graph has the program's blocks, operations, nodes and turns, and no more: each statement has a
+-- turn.
 pub record IsSized (ps : List Procedure) (g : Graph) : Type 0 where
   pub blocks : length (spots g) ≡ sum_procs own_blocks (λ last. 1) ps
   pub ops : ops_in g ≡ sum_procs own_ops ending_ops ps
   pub nodes : nodes_in g ≡ sum_procs own_nodes result_nodes ps
+  pub turns : turns_in g ≡ sum_procs (λ s. 1) ending_ops ps
 
 -- The graph is as small as the limits of the language make it. Calls have as many values as the
 -- called procedure has parameters.
@@ -78,3 +84,4 @@ pub record IsSmall (parts : List Part) (g : Graph) : Type 0 where
   pub blocks : length (spots g) ≤ 3 * most_statements + most_procedures
   pub ops : ops_in g ≤ 2 * most_statements + most_procedures
   pub nodes : nodes_in g ≤ widest parts * (most_statements + most_procedures) + most_procedures
+  pub turns : turns_in g ≤ most_statements
