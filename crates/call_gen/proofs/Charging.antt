@@ -16,6 +16,7 @@ use Rattle.call_gen.proofs.Counting.{one_at_most}
 use Rattle.call_gen.proofs.Facts.{Given, Placed}
 use Rattle.call_gen.proofs.Slots.{below_count}
 use Rattle.call_gen.proofs.Standing.{places}
+use Rattle.call_gen.proofs.Covering.{each_is_placed}
 use Rattle.call_gen.proofs.Alongside.{first_is, weighs}
 use Rattle.call_gen.proofs.Places.{all_placed, all_celled}
 use Rattle.call_gen.proofs.Crossing.{Known, live_there, door_live, point_live, named_door}
@@ -263,6 +264,7 @@ module _ (g : Graph) (live : List (List ℕ)) (G : Given g live) where
   pub calls_charged : CallsCharged g live h
   calls_charged = record {
     places = places g live;
+    each = each_is_placed g live;
     blocks = block_stands;
     doors = door_stands;
     clears = λ f n lt most low. door_clears f lt n most low;

@@ -29,6 +29,7 @@ pub mod PartRules
 pub mod PartReached
 pub mod Marking
 pub mod PartMaking
+pub mod Covering
 pub mod Charging
 pub mod Sizing
 pub mod PartSizing

@@ -16,7 +16,7 @@ use Rattle.call_gen.specs.Charged.{ReachedInPlace}
 use Rattle.call_gen.specs.Part.{before, part_proc, part_procs, part, ExitThere, BlocksThere, flag_at, AreReached}
 use Rattle.call_gen.proofs.Making.{split_all}
 use Rattle.call_gen.proofs.PartWalk.{walks_kept, arrays_kept, weighs_no_more}
-use Rattle.call_gen.proofs.PartRules.{is_graph, sends_nothing, is_shaped, arms_alone}
+use Rattle.call_gen.proofs.PartRules.{kept_at, is_graph, sends_nothing, is_shaped, arms_alone}
 use Rattle.call_gen.proofs.PartSame.{does_the_same, begins_there}
 use Rattle.call_gen.proofs.PartSizing.{is_within}
 use Rattle.call_gen.proofs.PartReached.{closed, all_reached}
@@ -86,6 +86,7 @@ reached_kept g made flags e rules no_send A =
       arms = arms_alone g (flag_at flags) rules C no_send;
       places = record {
         place = λ b. before (flag_at flags) b;
+        each = λ c lt. (let k = kept_at g (flag_at flags) rules C no_send c lt in (k.block, C.there k.block k.kept, A.only k.block k.kept, k.place));
         begins = begins_there g (flag_at flags) rules C no_send;
         same = λ b lt r. does_the_same g (flag_at flags) rules C no_send b (A.all b lt r);
         walks = λ w given base pay fits. weighs_no_more g (flag_at flags) rules C no_send w given (λ b kept. fits b (C.there b kept) (A.only b kept)) base pay;

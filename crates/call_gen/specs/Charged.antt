@@ -24,6 +24,13 @@ beside weight p b _ = 0
 abbrev pub charged : Graph → Places → (ℕ → ℕ) → ℕ → ℕ
 charged g p weight b = weight (p.block b) + beside weight p b (block_at g b).exit
 
+-- block c of the second graph stands for a block, or it is a procedure's door or a call's point
+abbrev pub IsPlaced : Graph → Places → ℕ → Type 0
+IsPlaced g p c =
+    ((b : ℕ) × (b < length (spots g)) × (c ≡ p.block b))
+    ⊎ ((f : ℕ) × (f < length g.procs) × (c ≡ p.door f))
+    ⊎ ((b : ℕ) × (b < length (spots g)) × (calls (block_at g b).exit ≡ true) × (c ≡ p.point b))
+
 -- a save of a variable in a cell, a load of one, and a variable that begins with 0
 abbrev pub IsSave : Op → Type 0
 IsSave (Store a (Number n) (Var x)) = Unit {0}
@@ -82,12 +89,13 @@ pub record GoesOnAfter (Is : Op → Type 0) (names : ℕ) (h : Graph) (c : ℕ) 
 abbrev pub LiveBelow : List (List ℕ) → ℕ → ℕ → ℕ → Type 0
 LiveBelow live b vars n = (x : ℕ) → x < vars → has live b x ≡ true → x < n
 
--- What stands in the second graph for the blocks of the first, by these sets of live variables, and
--- that these pay for it: whatever the blocks of the second weigh, its walks weigh no more than those
--- of the first where each block is charged with all that stands for it, and the door by which the
--- walk begins. A door clears what is live at the entry and isn't given.
+-- What stands in the second graph for the blocks of the first, by these sets of live variables, that
+-- it has no other block, and that the first pay for it: whatever the blocks of the second weigh, its
+-- walks weigh no more than those of the first where each block is charged with all that stands for
+-- it, and the door by which the walk begins. A door clears what is live at the entry and isn't given.
 pub record CallsCharged (g : Graph) (live : List (List ℕ)) (h : Graph) : Type 0 where
   pub places : Places
+  pub each : (c : ℕ) → c < length (spots h) → IsPlaced g places c
   pub blocks : (b : ℕ) → b < length (spots g) → StandsFor g live h places b (places.block b)
   pub doors : (f : ℕ) → f < length g.procs →
       GoesOnAfter IsClear (suc (proc_at g f).params) h (places.door f)
@@ -125,11 +133,13 @@ pub record DoesTheSame (g h : Graph) (place : ℕ → ℕ) (b : ℕ) : Type 0 wh
   pub exit : SameExit g h place (block_at g b).exit (block_at h (place b)).exit
   pub held : (x : ℕ) → Live h (place b) x → Live g b x
 
--- Each block that is reached has a place in the second graph. Whatever the blocks of the second
--- weigh, its walks weigh no more than those of the first where each block that is reached weighs as
--- much as the one in its place, or more.
+-- Each block that is reached has a place in the second graph, which has no other block. Whatever the
+-- blocks of the second weigh, its walks weigh no more than those of the first where each block that
+-- is reached weighs as much as the one in its place, or more.
 pub record ReachedInPlace (g h : Graph) : Type 0 where
   pub place : ℕ → ℕ
+  pub each : (c : ℕ) → c < length (spots h) →
+      (b : ℕ) × (b < length (spots g)) × Reached g b × (c ≡ place b)
   pub begins : first_block h ≡ place (first_block g)
   pub same : (b : ℕ) → b < length (spots g) → Reached g b → DoesTheSame g h place b
   pub walks : (weight given : ℕ → ℕ) (base pay : ℕ) →
