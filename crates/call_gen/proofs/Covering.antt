@@ -1,8 +1,8 @@
 -- The spelled graph has no block but doors, those that stand for blocks, and return points.
-use Rattle.std.proofs.Common.{ℕ, zero, suc, ◌+◌, ◌-◌, ◌≡◌, ◌<◌, ◌≤◌, ◌⊎◌, Bool, true, false, if◌then◌else◌, List, [], ◌∷◌, ◌++◌, length, take, refl, sym, ap, ◌∙◌, subst, inl, inr, Option, Some, arith}
+use Rattle.std.proofs.Common.{ℕ, zero, suc, ◌+◌, ◌-◌, ◌≡◌, ◌<◌, ◌⊎◌, Bool, true, false, if◌then◌else◌, List, [], ◌∷◌, ◌++◌, length, take, refl, ap, ◌∙◌, inl, inr, Some, arith}
 use Rattle.std.proofs.lemmas.Bool.{cases_lt}
 use Rattle.std.proofs.lemmas.List.{length-append}
-use Rattle.cfg_core.specs.Graph.{Block, GraphProc, Graph, Spot, spots, spots_in, spots_from, nth, spot_at, block_at, entry_of}
+use Rattle.cfg_core.specs.Graph.{Block, GraphProc, Graph, Spot, spots, spots_in, spots_from, nth, spot_at, entry_of}
 use Rattle.cfg_core.specs.Rules.{calls}
 use Rattle.call_gen.specs.Spelled.{count_of, is_call, moved, door, after, spelled_blocks, spelled_procs, spelled}
 use Rattle.call_gen.specs.Charged.{IsPlaced}

@@ -16,7 +16,7 @@ use Rattle.wave_build.specs.Passed.{Passed}
 use Rattle.wave_build.specs.Prepared.{Prepared}
 use Rattle.wave_build.proofs.Bounding.{stays_within}
 
-all_passed : (parts : List Part) (g : Graph) (p : Prepared parts g) (live : List (List ℕ)) (cut : Cut) → AreLive g live → IsCut g cut → AreWaves g cut →
+pub all_passed : (parts : List Part) (g : Graph) (p : Prepared parts g) (live : List (List ℕ)) (cut : Cut) → AreLive g live → IsCut g cut → AreWaves g cut →
     Passed parts p.begun.lowered p.joined p.kept g p.needed live cut
 all_passed parts g p live cut l c w = record {
   lowering = p.begun.lowering;

@@ -116,7 +116,7 @@ module _ (parts : List Part) (l j k s : Graph) (needed live : List (List ℕ)) (
       subst (λ n. LiveBelow needed n (proc_at k f).vars V) (sym e) (sets_low b lt r (proc_at k f).vars (omega (arith, v, w)))
 
   -- a block that names, does operations of one weight and goes on
-  goes_weigh : (c d n : ℕ) → (block_at s c).exit ≡ Goto d → ((x : ℕ) → Live s c x → In x (block_at s c).named) → sum_by op_quarters (block_at s c).ops ≤ n → weight c ≤ n + 11 * length (block_at s c).named + 20
+  pub goes_weigh : (c d n : ℕ) → (block_at s c).exit ≡ Goto d → ((x : ℕ) → Live s c x → In x (block_at s c).named) → sum_by op_quarters (block_at s c).ops ≤ n → weight c ≤ n + 11 * length (block_at s c).named + 20
   goes_weigh c d n e held ops =
       let h = live_few c (block_at s c).named held in
       let x : exit_quarters (has live) (spot_at s c).vars (block_at s c).exit ≡ 0 = ap (exit_quarters (has live) (spot_at s c).vars) e in
@@ -242,7 +242,7 @@ module _ (parts : List Part) (l j k s : Graph) (needed live : List (List ℕ)) (
     by_exit (Send t ts ls) e = let z = z_of (Send t ts ls) e in let w = simple Stop Stop z (u_of Stop z) (omega arith) (omega arith) 5 (omega arith) in omega (arith, w)
     by_exit Stop e = let z = z_of Stop e in let w = simple Stop Stop z (u_of Stop z) (omega arith) (omega arith) 5 (omega arith) in omega (arith, w)
 
-    fits : charged k pl weight c ≤ charge parts l j k s needed live cut P b
+    pub fits : charged k pl weight c ≤ charge parts l j k s needed live cut P b
     fits = by_exit (block_at j b).exit refl
 
   -- the first block

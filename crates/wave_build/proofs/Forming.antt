@@ -1,22 +1,31 @@
--- The numbers of the last graph's draft are within the limits of an image.
-use Rattle.std.proofs.Common.{ℕ, suc, ◌+◌, ◌/◌, ◌≡◌, ◌<◌, ◌≤◌, nat_lt, Bool, true, false, if◌then◌else◌, List, [], ◌∷◌, length, map, refl, ap, subst, arith}
+-- The last graph's draft leaves room: its numbers are within the limits of an image.
+use Rattle.std.proofs.Common.{ℕ, suc, ◌+◌, ◌/◌, ◌≡◌, ◌<◌, ◌≤◌, nat_lt, Bool, true, false, if◌then◌else◌, List, [], ◌∷◌, length, map, refl, sym, ap, subst, arith}
 use Rattle.std.specs.List.{AllByRecursion}
 use Rattle.src_ast.specs.Syntax.{Part}
-use Rattle.src_ast.specs.Bound.{most_variables}
-use Rattle.src_ast.specs.LanguageLimits.{most_locals, most_parameters, most_array_cells}
+use Rattle.src_ast.specs.Bound.{widest, most_variables}
+use Rattle.src_ast.specs.LanguageLimits.{most_locals, most_parameters, most_array_cells, most_statements, most_statement_nodes}
+use Rattle.src_ast.specs.Written.{IsWritten}
 use Rattle.cfg_core.specs.Graph.{Exit, GraphArray, Graph, Spot, spots, no_spot, spot_at, block_at}
+use Rattle.cfg_core.specs.Shown.{shown_arrays}
 use Rattle.cfg_core.proofs.Total.{each_at}
 use Rattle.ws_isa.specs.Image.{Array, Image, Pad, Block}
 use Rattle.ws_isa.specs.Formed as formed
-use Rattle.ws_isa.specs.Formed.{most_blocks, most_waves, most_length, most_pads, most_landings, total_length}
+use Rattle.ws_isa.specs.Formed.{most_blocks, most_waves, most_length, most_dests, most_pads, most_landings, total_length, ArraysFormed}
 use Rattle.wave_cut.specs.Cut.{Cut}
 use Rattle.call_gen.specs.Keeps.{SendsAtMost}
-use Rattle.call_gen.specs.Sizes.{call_count, cell_count, Sizes, LandingsAtMost, BlockWithin, IsWithin, larger, most_hidden_arrays, hidden_cells, spelled_sizes}
-use Rattle.wave_gen.specs.Listing.{array_of}
+use Rattle.call_gen.specs.Sizes.{cell_count, Sizes, LandingsAtMost, BlockWithin, IsWithin, larger, most_hidden_arrays, hidden_cells, spelled_sizes}
+use Rattle.live_vars.specs.Marks.{has}
+use Rattle.cfg_build.specs.Keeps as program
+use Rattle.wave_gen.specs.Listing.{array_of, arrays_of}
 use Rattle.wave_gen.specs.Limits.{BringsAtMost, LandsAtMost, KeepsLimits}
+use Rattle.wave_gen.specs.Lists.{ListsFit}
+use Rattle.wave_gen.specs.Words.{GraphOfWords}
+use Rattle.wave_link.specs.Room.{LeavesRoom}
 use Rattle.wave_build.specs.Passed.{Passed}
-use Rattle.wave_build.specs.Small.{lowered_sizes, joined_sizes, DraftFits}
+use Rattle.wave_build.specs.Small.{lowered_sizes, joined_sizes}
 use Rattle.wave_build.proofs.Sizing.{last_within}
+use Rattle.wave_build.proofs.Named.{names_formed}
+use Rattle.wave_build.proofs.Together.{room}
 
 map_count : {A B : Type 0} (f : A → B) (xs : List A) → length (map f xs) ≡ length xs
 map_count f [] = refl
@@ -49,12 +58,12 @@ larger_few m n k h i = by_test (nat_lt m n)
     by_test true = i
     by_test false = h
 
-module _ (parts : List Part) (l j k s : Graph) (needed live : List (List ℕ)) (cut : Cut) (P : Passed parts l j k s needed live cut) (locals : most_variables parts ≤ most_locals) (few : call_count (spots l) ≤ most_landings) where
+module _ (parts : List Part) (l j k s : Graph) (needed live : List (List ℕ)) (cut : Cut) (P : Passed parts l j k s needed live cut) (written : IsWritten parts) (narrow : widest parts ≤ most_statement_nodes) (locals : most_variables parts ≤ most_locals) where
   abbrev z : Sizes
-  z = spelled_sizes (joined_sizes (lowered_sizes parts most_landings))
+  z = spelled_sizes (joined_sizes (lowered_sizes parts))
 
   W : IsWithin z s
-  W = last_within parts l j k s needed live cut P most_landings few
+  W = last_within parts l j k s needed live cut P
 
   within_at : (b : ℕ) → BlockWithin z (block_at s b)
   unfolding spot_at no_spot
@@ -66,25 +75,39 @@ module _ (parts : List Part) (l j k s : Graph) (needed live : List (List ℕ)) (
     start = let n = ap length P.spelling.start in omega (arith, n);
   }
 
-  lands : LandsAtMost most_landings s
+  lands : LandsAtMost most_statements s
   lands = λ b t ts ls e. subst (λ (x : Exit). LandingsAtMost z.landings x) e (within_at b).landings
 
-  pub draft_fits : (draft : Image) → KeepsLimits s draft → DraftFits s draft
-  unfolding most_blocks most_waves most_length most_pads most_landings formed.most_arrays formed.most_cells
-  draft_fits draft keeps =
-      let blocks = W.count_blocks in
+  arrays_formed : shown_arrays s.arrays ≡ program.arrays_of parts → ArraysFormed (arrays_of s)
+  unfolding most_length formed.most_arrays formed.most_cells
+  arrays_formed shown =
       let arrays = W.arrays in
       let cells = W.cells in
-      let few_blocks = keeps.blocks in
       let count = map_count array_of s.arrays in
       let total = cells_of s.arrays in
       record {
+        few = omega (arith, arrays, count);
+        names = names_formed parts s.arrays written shown;
+        lengths = lengths_of 65536 s.arrays (all_most GraphArray (λ a. a.length) z.length 65536 (larger_few most_array_cells (suc (hidden_cells (joined_sizes (lowered_sizes parts)) / most_hidden_arrays)) 65536 (omega arith) (omega (arith, locals))) s.arrays W.lengths);
+        cells = omega (arith, cells, total, locals);
+      }
+
+  pub leaves_room : shown_arrays s.arrays ≡ program.arrays_of parts → GraphOfWords s → (draft : Image) → KeepsLimits s (has live) draft → ListsFit draft → draft.arrays ≡ arrays_of s → LeavesRoom draft
+  unfolding most_blocks most_waves most_dests most_pads most_landings
+  leaves_room shown words draft keeps lists same =
+      let blocks = W.count_blocks in
+      let few_blocks = keeps.blocks in
+      record {
+        arrays = subst ArraysFormed (sym same) (arrays_formed shown);
+        instrs = room parts l j k s needed live cut P narrow locals draft keeps;
         blocks = omega (arith, few_blocks, blocks);
         waves = λ b there. let w = keeps.waves b there in omega (arith, w, few_blocks, blocks);
-        arrays = omega (arith, arrays, count);
-        lengths = lengths_of 65536 s.arrays (all_most GraphArray (λ a. a.length) z.length 65536 (larger_few most_array_cells (suc (hidden_cells (joined_sizes (lowered_sizes parts most_landings)) / most_hidden_arrays)) 65536 (omega arith) (omega (arith, locals))) s.arrays W.lengths);
-        cells = omega (arith, cells, total, locals);
-        pads = pads_less (suc most_parameters) 16 (omega arith) draft.blocks (keeps.pads (suc most_parameters) brings);
+        dests = λ b i there inside. let h = lists.dests b i there inside in omega (arith, h);
+        others = λ b i there inside. let h = lists.others b i there inside in omega (arith, h);
+        consts = keeps.consts words;
         sends = λ b i p there inside e. let le = keeps.sends (suc most_parameters) brings b i p there inside e in omega (arith, le);
-        landings = λ b i ls there e. keeps.landings most_landings lands b i ls there e;
+        numbers = pads_less (suc most_parameters) 16 (omega arith) draft.blocks (keeps.pads (suc most_parameters) brings);
+        pads = λ b p there i. let h = lists.pads b p there i in omega (arith, h);
+        rise = keeps.rise;
+        landings = λ b i ls there e. keeps.landings most_statements lands b i ls there e;
       }

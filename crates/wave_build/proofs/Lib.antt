@@ -6,7 +6,6 @@ pub mod CompilingWalks
 pub mod CompilingWords
 pub mod Fitting
 pub mod Sizing
-pub mod Forming
 pub mod RoomSteps
 pub mod RoomParts
 pub mod Weights
@@ -14,3 +13,7 @@ pub mod Counting
 pub mod Paying
 pub mod Costing
 pub mod Bounding
+pub mod Sums
+pub mod Together
+pub mod Named
+pub mod Forming

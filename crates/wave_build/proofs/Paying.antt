@@ -1,5 +1,5 @@
 -- What turns pay for on the way to the last graph.
-use Rattle.std.proofs.Common.{ℕ, zero, suc, ◌+◌, ◌*◌, ◌≡◌, ◌≤◌, max, List, [], ◌∷◌, ◌++◌, length, sym, ap, ◌∙◌, subst, inl, inr, arith}
+use Rattle.std.proofs.Common.{ℕ, zero, suc, ◌+◌, ◌*◌, ◌≡◌, ◌≤◌, max, List, [], ◌∷◌, ◌++◌, length, refl, sym, ap, ◌∙◌, subst, inl, inr, arith}
 use Rattle.std.specs.List.{AllByRecursion, sum_by}
 use Rattle.std.proofs.lemmas.Bool.{cases_lt}
 use Rattle.std.proofs.lemmas.List.Sums.{sum_by-append}
@@ -56,7 +56,7 @@ in_blocks : (V home v : ℕ) (bs : List Block) → v ≤ V → AllByRecursion (�
 in_blocks V home v [] le = tt
 in_blocks V home v (b ∷ bs) le = (le, in_blocks V home v bs le)
 
-in_procs : (V home : ℕ) (ps : List GraphProc) → AllByRecursion (λ p. p.vars ≤ V) ps → AllByRecursion (λ (s : Spot). s.vars ≤ V) (spots_from home ps)
+pub in_procs : (V home : ℕ) (ps : List GraphProc) → AllByRecursion (λ p. p.vars ≤ V) ps → AllByRecursion (λ (s : Spot). s.vars ≤ V) (spots_from home ps)
 in_procs V home [] h = tt
 in_procs V home (p ∷ ps) h = all_both (λ (s : Spot). s.vars ≤ V) (spots_in home p.vars p.blocks) (spots_from (suc home) ps) (in_blocks V home p.vars p.blocks h.0) (in_procs V (suc home) ps h.1)
 
@@ -208,16 +208,18 @@ module _ (parts : List Part) (l j k s : Graph) (needed live : List (List ℕ)) (
     | inr new ↦ subst CallsFew (sym new.goes ∙ e) tt
   ]
 
-  block_few : (b : ℕ) → charge b + extra (block_at j b).exit ≤ each + 29 + beyond * turns_at j b
-  block_few b = elim (P.joining.short.others b) [
+  -- turns pay for what a block is charged, also where they are but those of the lowered block
+  paid_by : (b t : ℕ) → turns_at l b ≤ t → charge b + extra (block_at j b).exit ≤ each + 29 + beyond * t
+  paid_by b t le = elim (P.joining.short.others b) [
     | inl same ↦
-        let acts = subst (λ (x : Block). sum_by acts_of x.ops + jumps_of x.exit ≤ sum_by turns_of x.ops) (sym same) (P.lowering.work.acts b) in
-        let nodes = subst (λ (x : Block). sum_by op_nodes x.ops + exit_nodes x.exit ≤ E * sum_by turns_of x.ops + 1) (sym same) (P.lowering.work.nodes b) in
-        plain_few (turns_at j b) (block_at j b).ops (block_at j b).exit (calls_few b (block_at j b).exit (ap (λ (x : Block). x.exit) (sym same))) acts nodes
+        let a = P.lowering.work.acts b in let n = P.lowering.work.nodes b in
+        let m : E * turns_at l b ≤ E * t = mul-le-mul_left E le in
+        subst (λ (x : Block). sum_by op_quarters x.ops + exit_charge V x.exit + extra x.exit ≤ each + 29 + beyond * t) (sym same)
+        (plain_few t (block_at l b).ops (block_at l b).exit (calls_few b (block_at l b).exit refl) (omega (arith, a, le)) (omega (arith, n, m)))
     | inr new ↦ of_joined new
   ]
     where
-      of_joined : JoinedAt l j b → charge b + extra (block_at j b).exit ≤ each + 29 + beyond * turns_at j b
+      of_joined : JoinedAt l j b → charge b + extra (block_at j b).exit ≤ each + 29 + beyond * t
       of_joined new =
           let ops = (block_at l b).ops in
           let more = joining new.sets new.vars new.short in
@@ -226,12 +228,27 @@ module _ (parts : List Part) (l j k s : Graph) (needed live : List (List ℕ)) (
           let acts : sum_by acts_of ops + 1 ≤ turns_at l b = subst (λ (x : Exit). sum_by acts_of ops + jumps_of x ≤ turns_at l b) new.branch a in
           let nodes : sum_by op_nodes ops + term_nodes new.test ≤ E * turns_at l b + 1 = subst (λ (x : Exit). sum_by op_nodes ops + exit_nodes x ≤ E * turns_at l b + 1) new.branch n in
           let w : sum_by op_quarters more ≤ term_quarters new.short.test + 168 = joining_weight new.sets new.vars new.short new.is.few in
-          let t : term_quarters new.short.test ≡ term_quarters new.test = ap term_quarters new.is.test in
-          let turns : turns_at j b ≡ turns_at l b + sum_by turns_of more = ap (λ (xs : List Op). sum_by turns_of xs) new.ops ∙ sum_by-append turns_of ops more in
-          let weigh : sum_by op_quarters more ≤ term_quarters new.test + 168 = omega (arith, w, t) in
-          let f = joined_few (turns_at j b) ops more new.test (turns_at l b) (omega (arith, turns)) acts nodes weigh in
-          subst (λ (x : Exit). sum_by op_quarters (block_at j b).ops + exit_charge V x + extra x ≤ each + 29 + beyond * turns_at j b) (sym new.goes)
-          (subst (λ (xs : List Op). sum_by op_quarters xs + (11 * V + 31) + 29 ≤ each + 29 + beyond * turns_at j b) (sym new.ops) f)
+          let s : term_quarters new.short.test ≡ term_quarters new.test = ap term_quarters new.is.test in
+          let weigh : sum_by op_quarters more ≤ term_quarters new.test + 168 = omega (arith, w, s) in
+          let f = joined_few t ops more new.test (turns_at l b) le acts nodes weigh in
+          subst (λ (x : Exit). sum_by op_quarters (block_at j b).ops + exit_charge V x + extra x ≤ each + 29 + beyond * t) (sym new.goes)
+          (subst (λ (xs : List Op). sum_by op_quarters xs + (11 * V + 31) + 29 ≤ each + 29 + beyond * t) (sym new.ops) f)
+
+  -- a joined block takes no fewer turns
+  turns_more : (b : ℕ) → turns_at l b ≤ turns_at j b
+  turns_more b = elim (P.joining.short.others b) [
+    | inl same ↦ (let e : turns_at j b ≡ turns_at l b = ap (λ (x : Block). sum_by turns_of x.ops) same in omega (arith, e))
+    | inr new ↦
+        let more = joining new.sets new.vars new.short in
+        let e : turns_at j b ≡ turns_at l b + sum_by turns_of more = ap (λ (xs : List Op). sum_by turns_of xs) new.ops ∙ sum_by-append turns_of (block_at l b).ops more in omega (arith, e)
+  ]
+
+  block_few : (b : ℕ) → charge b + extra (block_at j b).exit ≤ each + 29 + beyond * turns_at j b
+  block_few b = paid_by b (turns_at j b) (turns_more b)
+
+  -- whatever blocks walks pass, the turns of the program pay for what each block is charged
+  pub charge_few : (b : ℕ) → charge b ≤ (11 * most_variables parts + 60) + (42 * most_variables parts + 180 + 9 * widest parts) * turns_at l b
+  charge_few b = let p = paid_by b (turns_at l b) (omega arith) in omega (arith, p)
 
   pays_all : IsPotential j charge pay potential
   pays_all b lt = finish each (handed_on j p (block_at j b).exit) (p b) (turns_at j b) beyond (sum_by op_quarters (block_at j b).ops) (exit_charge V (block_at j b).exit) (extra (block_at j b).exit) (handed_on j potential (block_at j b).exit)

@@ -3,9 +3,10 @@ use Rattle.std.proofs.Common.{ℕ, suc, ◌+◌, ◌≡◌, ◌<◌, ◌≤◌, 
 use Rattle.std.specs.List.{AllByRecursion, sum_by}
 use Rattle.std.proofs.lemmas.List.Sums.{sum_by-cons}
 use Rattle.src_ast.specs.Syntax.{Part}
+use Rattle.src_ast.specs.LanguageLimits.{most_statements}
 use Rattle.cfg_core.specs.Graph.{Exit, Goto, Branch, Call, Return, Send, Stop, Block, GraphArray, GraphProc, Graph, Spot, spots, nth, or_else, no_spot, spot_at, block_at}
 use Rattle.cfg_core.specs.Rules.{calls}
-use Rattle.cfg_core.specs.Weights.{block_nodes}
+use Rattle.cfg_core.specs.Weights.{turns_of, acts_of, jumps_of, block_nodes}
 use Rattle.cfg_core.proofs.Total.{each_at}
 use Rattle.cfg_build.specs.Keeps.{IsFirstExit}
 use Rattle.wave_cut.specs.Cut.{Cut}
@@ -67,20 +68,42 @@ fewer_calls g live (s ∷ ss) = by_short (short g s.block.exit) (fewer_calls g l
     by_short None i = omega (arith, i)
     by_short (Some x) i = omega (arith, i)
 
-module _ (parts : List Part) (l j k s : Graph) (needed live : List (List ℕ)) (cut : Cut) (P : Passed parts l j k s needed live cut) (n : ℕ) (few : call_count (spots l) ≤ n) where
-  abbrev z : Sizes
-  z = lowered_sizes parts n
+-- an exit that calls is one that carries values
+one_call : (x : Exit) → (if calls x then 1 else 0) ≤ jumps_of x
+one_call (Goto b) = omega arith
+one_call (Branch t a b) = omega arith
+one_call (Call r f ts back) = omega arith
+one_call (Return t) = omega arith
+one_call (Send t ts ls) = omega arith
+one_call Stop = omega arith
 
-  lowered_within : IsWithin (lowered_sizes parts n) l
+-- each call has a turn
+calls_paid : (ss : List Spot) → AllByRecursion (λ s. sum_by acts_of s.block.ops + jumps_of s.block.exit ≤ sum_by turns_of s.block.ops) ss → call_count ss ≤ sum_by (λ s. sum_by turns_of s.block.ops) ss
+calls_paid [] h = omega arith
+calls_paid (s ∷ ss) h =
+    let i = calls_paid ss h.1 in let o = one_call s.block.exit in let a = h.0 in
+    let c = sum_by-cons (λ (t : Spot). sum_by turns_of t.block.ops) s ss in omega (arith, i, o, a, c)
+
+module _ (parts : List Part) (l j k s : Graph) (needed live : List (List ℕ)) (cut : Cut) (P : Passed parts l j k s needed live cut) where
+  abbrev z : Sizes
+  z = lowered_sizes parts
+
+  few_calls : call_count (spots l) ≤ most_statements
+  unfolding spot_at
+  few_calls =
+      let c = calls_paid (spots l) (all_at (λ (x : Spot). sum_by acts_of x.block.ops + jumps_of x.block.exit ≤ sum_by turns_of x.block.ops) (spots l) (λ b lt. P.lowering.work.acts b)) in
+      let t = P.lowering.small.turns in omega (arith, c, t)
+
+  lowered_within : IsWithin (lowered_sizes parts) l
   lowered_within = let small = P.lowering.small in record {
     arrays = small.arrays;
     lengths = small.lengths;
     cells = (let e = cells_are l.arrays in let c = small.cells in omega (arith, e, c));
     count_procs = small.procs;
-    procs = both_within (lowered_sizes parts n) l.procs small.params small.vars;
+    procs = both_within (lowered_sizes parts) l.procs small.params small.vars;
     count_blocks = small.blocks;
-    blocks = three (lowered_sizes parts n) refl refl (spots l) (each_summed (λ (x : Spot). length x.block.ops) (spots l) z.ops small.ops) (each_summed (λ (x : Spot). block_nodes x.block) (spots l) z.nodes small.nodes) P.lowering.form.exits;
-    calls = few;
+    blocks = three (lowered_sizes parts) refl refl (spots l) (each_summed (λ (x : Spot). length x.block.ops) (spots l) z.ops small.ops) (each_summed (λ (x : Spot). block_nodes x.block) (spots l) z.nodes small.nodes) P.lowering.form.exits;
+    calls = few_calls;
   }
 
   block_within : (b : ℕ) → BlockWithin z (block_at l b)
@@ -98,7 +121,7 @@ module _ (parts : List Part) (l j k s : Graph) (needed live : List (List ℕ)) (
       let w = block_within b in let o = P.joining.sizes.ops b in let m = P.joining.sizes.nodes b in
       record { ops = (let h = w.ops in omega (arith, h, o)); nodes = (let h = w.nodes in omega (arith, h, m)); values = (sends_at b).0; landings = (sends_at b).1 }
 
-  joined_within : IsWithin (joined_sizes (lowered_sizes parts n)) j
+  joined_within : IsWithin (joined_sizes (lowered_sizes parts)) j
   unfolding spot_at
   joined_within =
       let w = lowered_within in
@@ -119,6 +142,9 @@ module _ (parts : List Part) (l j k s : Graph) (needed live : List (List ℕ)) (
         calls = (let c = w.calls in omega (arith, calls, fewer, c));
       }
 
-  -- the last graph keeps its bounds
-  pub last_within : IsWithin (spelled_sizes (joined_sizes (lowered_sizes parts n))) s
-  last_within = P.spelling.sizes (joined_sizes (lowered_sizes parts n)) (P.keeping.sizes (joined_sizes (lowered_sizes parts n)) joined_within)
+  -- what is kept, and the last graph, keep their bounds
+  pub kept_within : IsWithin (joined_sizes (lowered_sizes parts)) k
+  kept_within = P.keeping.sizes (joined_sizes (lowered_sizes parts)) joined_within
+
+  pub last_within : IsWithin (spelled_sizes (joined_sizes (lowered_sizes parts))) s
+  last_within = P.spelling.sizes (joined_sizes (lowered_sizes parts)) kept_within

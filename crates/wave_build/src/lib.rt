@@ -12,5 +12,6 @@ mod words;
 
 pub use compiler::compile;
 pub use laws::{
-    joined_graphs_send_nothing, passed_drafts_fit, passed_graphs_fit, passed_walks_stay_within,
+    joined_graphs_send_nothing, passed_drafts_leave_room, passed_graphs_fit,
+    passed_walks_stay_within,
 };

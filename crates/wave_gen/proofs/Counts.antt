@@ -1,22 +1,20 @@
 -- How many instructions the draft of a graph has.
-use Rattle.std.proofs.Common.{ℕ, zero, suc, ◌+◌, ◌-◌, ◌*◌, ◌≡◌, ◌<◌, ◌≤◌, ◌⊎◌, ◌||◌, Bool, true, false, cond, List, [], ◌∷◌, ◌++◌, length, map, Option, Some, None, refl, sym, ap, ◌∙◌, subst, inl, inr, arith, eq-eqb, ne_eqb}
+use Rattle.std.proofs.Common.{ℕ, zero, suc, ◌+◌, ◌-◌, ◌*◌, ◌≡◌, ◌<◌, ◌≤◌, Bool, true, List, [], ◌∷◌, ◌++◌, length, map, Some, refl, ap, ◌∙◌, subst, inl, inr, arith, eq-eqb, ne_eqb}
 use Rattle.std.proofs.lemmas.Bool.{cases_eq, cases_lt}
 use Rattle.std.proofs.lemmas.List.{length-map}
-use Rattle.std.specs.List.{sum_by}
+use Rattle.std.specs.List.{sum_by, range_with_len}
 use Rattle.std.proofs.lemmas.List.Sums.{sum_by-cons, sum_by-append}
 use Rattle.ws_isa.specs.Image.{nth, flat}
 use Rattle.cfg_core.specs.Graph as graph
-use Rattle.cfg_core.specs.Graph.{Term, Number, Var, Cell, Flip, Not, Neg, Binary, Graph, Spot, no_spot, spots, spot_at, block_at}
+use Rattle.cfg_core.specs.Graph.{Graph, spots, spot_at, block_at}
 use Rattle.cfg_core.specs.Rules.{ExitIn}
-use Rattle.cfg_core.specs.Weights.{acts_of, term_nodes, op_nodes, exit_nodes}
 use Rattle.wave_cut.specs.Cut.{Cut}
 use Rattle.wave_gen.specs.Wire.{Wants}
 use Rattle.wave_gen.specs.Plans.{Plan, past, steered, end_wants, plan_at, made_at, starts_at, begins, instr_of, blocks_of, draft_of}
 use Rattle.wave_gen.specs.Gen.{gen_ops}
-use Rattle.wave_gen.specs.Listing.{gen_exit, live_from, of_wave, waves_from, turned, listing, place_of, width_of, plans_of, needed, arrays_of}
+use Rattle.wave_gen.specs.Listing.{gen_exit, of_wave, waves_from, turned, listing, place_of, width_of, plans_of, needed, arrays_of}
 use Rattle.wave_gen.specs.Fitting.{Fits}
-use Rattle.wave_gen.specs.Cost.{term_quarters, op_quarters, exit_quarters, quarters}
-use Rattle.wave_gen.specs.Limits.{values_sent, most_quarters}
+use Rattle.wave_gen.specs.Limits.{most_quarters}
 use Rattle.wave_gen.proofs.Weights.{total}
 use Rattle.wave_gen.proofs.Blocks.{past_is}
 use Rattle.wave_gen.proofs.EdgeWeights.{total_least, total_none}
@@ -80,18 +78,15 @@ module _ (w waves : ℕ → ℕ) where
   pub waves_sum : (n k m : ℕ) → sum_by w (waves_from waves n k m) ≤ below 0 n
   waves_sum n k m = let s = lists_sum n 0 k m in let e = ap (sum_by w) (lists_are n k m) in omega (arith, s, e)
 
-below_is : (h waves : ℕ → ℕ) (f : Spot → ℕ) (b : ℕ) (xs : List Spot) → ((i : ℕ) → i < length xs → h (b + i) ≡ f (graph.or_else (graph.nth xs i) no_spot)) → below h waves b (length xs) ≡ sum_by f xs
-below_is h waves f b [] e = refl
-below_is h waves f b (x ∷ xs) e =
-    let z : b + 0 ≡ b = omega arith in
-    let first : h b ≡ f x = subst (λ j. h j ≡ f x) z (e 0 (omega arith)) in
-    let i = below_is h waves f (suc b) xs (λ i l. (let y : b + suc i ≡ suc b + i = omega arith in subst (λ j. h j ≡ f (graph.or_else (graph.nth xs i) no_spot)) y (e (suc i) (omega (arith, l))))) in
-    let c = sum_by-cons f x xs in
-    omega (arith, first, i, c)
-
-spots_sum : (g : Graph) (waves : ℕ → ℕ) (f : Spot → ℕ) → below (λ b. f (spot_at g b)) waves 0 (length (spots g)) ≡ sum_by f (spots g)
-unfolding spot_at
-spots_sum g waves f = below_is (λ b. f (spot_at g b)) waves f 0 (spots g) (λ i l. (let z : 0 + i ≡ i = omega arith in ap (λ j. f (graph.or_else (graph.nth (spots g) j) no_spot)) z))
+-- the same sum over a list of numbers
+ranged : (w waves : ℕ → ℕ) (b n : ℕ) → below w waves b n ≡ sum_by w (range_with_len b n)
+ranged w waves b zero = refl
+ranged w waves b (suc n) =
+    let i = ranged w waves (suc b) n in
+    let z : suc b ≡ b + 1 = omega arith in
+    let j = ap (λ k. sum_by w (range_with_len k n)) z in
+    let c = sum_by-cons w b (range_with_len (b + 1) n) in
+    omega (arith, i, j, c)
 
 -- instructions, block after block
 flat_few : (width : ℕ) (ps : List Plan) (w : ℕ → ℕ) (xs : List ℕ) (s : ℕ) → ((i x : ℕ) → nth xs i ≡ Some x → 4 * length (made_at width ps (s + i)).code ≤ w x) → 4 * length (flat (blocks_of width ps s (length xs))) ≤ sum_by w xs
@@ -150,61 +145,7 @@ module _ (g : Graph) (live : ℕ → ℕ → Bool) (cut : Cut) (fit : Fits g liv
       go (graph.Return t) h = nothing
       go graph.Stop h = nothing
 
-  -- live variables are variables
-  few_live : (f : ℕ → Bool) (x n : ℕ) → length (live_from f x n) ≤ n
-  few_live f x zero = omega arith
-  few_live f x (suc n) = one (f x) (few_live f (suc x) n)
-    where
-      one : (v : Bool) → length (live_from f (suc x) n) ≤ n → length (cond v (suc x ∷ live_from f (suc x) n) (live_from f (suc x) n)) ≤ suc n
-      one true i = omega (arith, i)
-      one false i = omega (arith, i)
-
-  term_most : (t : Term) → term_quarters t + 4 ≤ 9 * term_nodes t
-  term_most (Number zero) = omega arith
-  term_most (Number (suc n)) = omega arith
-  term_most (Var x) = omega arith
-  term_most (Cell a t) = let h = term_most t in omega (arith, h)
-  term_most (Flip t) = let h = term_most t in omega (arith, h)
-  term_most (Not t) = let h = term_most t in omega (arith, h)
-  term_most (Neg t) = let h = term_most t in omega (arith, h)
-  term_most (Binary op a b) = let h = term_most a in let i = term_most b in omega (arith, h, i)
-
-  terms_most : (ts : List Term) → sum_by term_quarters ts ≤ 9 * sum_by term_nodes ts
-  terms_most [] = omega arith
-  terms_most (t ∷ ts) = let h = term_most t in let i = terms_most ts in let a = sum_by-cons term_quarters t ts in let b = sum_by-cons term_nodes t ts in omega (arith, h, i, a, b)
-
-  op_most : (op : graph.Op) → op_quarters op ≤ 9 * op_nodes op + 6 * acts_of op
-  op_most (graph.Assign x t) = let h = term_most t in omega (arith, h)
-  op_most (graph.Store a t u) = let h = term_most t in let i = term_most u in omega (arith, h, i)
-  op_most (graph.Print t) = let h = term_most t in omega (arith, h)
-  op_most (graph.Read x) = omega arith
-  op_most (graph.Give p x) = omega arith
-  op_most (graph.Take p t) = let h = term_most t in omega (arith, h)
-  op_most (graph.Choose x t a b) = let h = term_most t in let i = term_most a in let j = term_most b in omega (arith, h, i, j)
-  op_most (graph.Tick n) = omega arith
-  op_most (graph.TickBy t n m) = omega arith
-
-  ops_most : (ops : List graph.Op) → sum_by op_quarters ops ≤ 9 * sum_by op_nodes ops + 6 * sum_by acts_of ops
-  ops_most [] = omega arith
-  ops_most (op ∷ ops) = let h = op_most op in let i = ops_most ops in let a = sum_by-cons op_quarters op ops in let b = sum_by-cons op_nodes op ops in let c = sum_by-cons acts_of op ops in omega (arith, h, i, a, b, c)
-
-  exit_most : (n : ℕ) (exit : graph.Exit) → exit_quarters live n exit ≤ 9 * exit_nodes exit + 12 * values_sent exit + 7 * suc n + 7
-  exit_most n (graph.Goto c) = omega arith
-  exit_most n (graph.Branch t a b) = let h = term_most t in let l = few_live (λ x. live a x || live b x) 0 n in omega (arith, h, l)
-  exit_most n (graph.Call r f ts back) = omega arith
-  exit_most n (graph.Return t) = let h = term_most t in omega (arith, h)
-  exit_most n (graph.Send t ts ls) = let h = term_most t in let i = terms_most ts in omega (arith, h, i)
-  exit_most n graph.Stop = omega arith
-
-  -- what a block weighs, by its nodes
-  most : (x : ℕ) → quarters g live x + 7 * suc (spot_at g x).vars ≤ most_quarters (spot_at g x)
-  most x =
-      let o = ops_most (block_at g x).ops in
-      let e = exit_most (spot_at g x).vars (block_at g x).exit in
-      let l = few_live (live x) 0 (spot_at g x).vars in
-      omega (arith, o, e, l)
-
-  code_few : (x : ℕ) → x < length (spots g) → 4 * length (made_at (width_of g) (plans_of g live cut) (place_of g cut x)).code ≤ most_quarters (spot_at g x)
+  code_few : (x : ℕ) → x < length (spots g) → 4 * length (made_at (width_of g) (plans_of g live cut) (place_of g cut x)).code ≤ most_quarters g live x
   code_few x l =
       let n = above_all g live cut fit (length (plans_of g live cut)) in
       let c = block_cost g live cut fit n x l (covers g live cut fit (length (plans_of g live cut)) (place_of g cut x) (omega arith) (place_there g live cut fit x l)) in
@@ -213,16 +154,15 @@ module _ (g : Graph) (live : ℕ → ℕ → Bool) (cut : Cut) (fit : Fits g liv
       let e : total (end_wants (width_of g) (starts_at (width_of g) (plans_of g live cut)) (plan_at (plans_of g live cut) (place_of g cut x)).exit) n ≡ total (end_wants (width_of g) (starts_at (width_of g) (plans_of g live cut)) (gen_exit (place_of g cut) k (block_at g x).exit).exit) n =
       ap (λ (p : Plan). total (end_wants (width_of g) (starts_at (width_of g) (plans_of g live cut)) p.exit) n) q in
       let f = ends_few n x k l in
-      let m = most x in
-      omega (arith, c, e, f, m)
+      omega (arith, c, e, f)
 
-  pub instrs_few : 4 * length (flat (draft_of (arrays_of g) (width_of g) (plans_of g live cut)).blocks) ≤ sum_by most_quarters (spots g)
+  pub instrs_few : 4 * length (flat (draft_of (arrays_of g) (width_of g) (plans_of g live cut)).blocks) ≤ sum_by (most_quarters g live) (range_with_len 0 (length (spots g)))
   unfolding draft_of
   instrs_few =
-      let w : ℕ → ℕ = λ b. most_quarters (spot_at g b) in
+      let w : ℕ → ℕ = most_quarters g live in
       let f = flat_few (width_of g) (plans_of g live cut) w (listing g cut) 1 (λ i x e. (let l = listed_there (length (spots g)) _ _ (length cut.heads) (waving g live cut fit) i x e in
       subst (λ j. 4 * length (made_at (width_of g) (plans_of g live cut) j).code ≤ w x) (place_is g live cut fit i x e ∙ (let z : suc i ≡ 1 + i = omega arith in z)) (code_few x l))) in
       let s = waves_sum w (turned g cut) (length (spots g)) 1 (length cut.heads) in
-      let t = spots_sum g (turned g cut) most_quarters in
+      let t = ranged w (turned g cut) 0 (length (spots g)) in
       let n : length (flat (blocks_of (width_of g) (plans_of g live cut) 1 (length (plans_of g live cut)))) ≡ length (flat (blocks_of (width_of g) (plans_of g live cut) 1 (length (listing g cut)))) = ap (λ j. length (flat (blocks_of (width_of g) (plans_of g live cut) 1 j))) (as_many g live cut fit) in
       omega (arith, f, s, t, n)

@@ -61,7 +61,7 @@ fits g planes cut r l c w n a b = record {
 pub record Kept (g : Graph) (live : ℕ → ℕ → Bool) (draft : Image) : Type 0 where
   pub open_to_notes : OpenToNotes draft
   pub lists : ListsFit draft
-  pub limits : KeepsLimits g draft
+  pub limits : KeepsLimits g live draft
   pub arrays : draft.arrays ≡ arrays_of g
   pub walk : GraphOfWords g → (world : World) → WorldOfWords world → (turns : ℕ) → KeepsWalk g draft world turns
   pub endless : GraphOfWords g → (world : World) → WorldOfWords world → EndlessWith g draft world

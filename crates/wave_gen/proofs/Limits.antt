@@ -257,7 +257,7 @@ module _ (g : Graph) (live : ℕ → ℕ → Bool) (cut : Cut) (fit : Fits g liv
       let runs : stops I b ≡ false = ap is_stop x.2 in
       has_below n p (image.block_at I (target I b 0)).pads (pads_at n h (target I b 0) (w.shape.edges b 0 hb runs)) (w.more_shape.landing_pad b k p 0 hb i e)
 
-  limits : OpenToNotes I → KeepsLimits g I
+  limits : OpenToNotes I → KeepsLimits g live I
   limits o = record {
     instrs = instrs_few g live cut fit;
     blocks = (let a : length (plans_of g live cut) ≡ length (listing g cut) = as_many g live cut fit in omega (arith, count, a, listed_few));
@@ -270,6 +270,6 @@ module _ (g : Graph) (live : ℕ → ℕ → Bool) (cut : Cut) (fit : Fits g liv
   }
 
 -- the numbers of a graph's draft
-pub graph_limits : (g : Graph) (live : ℕ → ℕ → Bool) (cut : Cut) → Fits g live cut → KeepsLimits g (graph_draft g (arrays_of g) live cut)
+pub graph_limits : (g : Graph) (live : ℕ → ℕ → Bool) (cut : Cut) → Fits g live cut → KeepsLimits g live (graph_draft g (arrays_of g) live cut)
 unfolding graph_draft
 graph_limits g live cut fit = limits g live cut fit (graph_open g live cut fit)

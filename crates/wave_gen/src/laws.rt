@@ -23,7 +23,7 @@ pub fn graph_drafts_keep()
     ensures lists { (g : Graph) (live : ℕ → ℕ → Bool) (cut : Cut) → Fits g live cut →
         ListsFit (graph_draft g (arrays_of g) live cut) }
     ensures limits { (g : Graph) (live : ℕ → ℕ → Bool) (cut : Cut) → Fits g live cut →
-        KeepsLimits g (graph_draft g (arrays_of g) live cut) }
+        KeepsLimits g live (graph_draft g (arrays_of g) live cut) }
     ensures walk { (g : Graph) (live : ℕ → ℕ → Bool) (cut : Cut) → Fits g live cut →
         GraphOfWords g → (world : World) → WorldOfWords world → (turns : ℕ) →
         KeepsWalk g (graph_draft g (arrays_of g) live cut) world turns }

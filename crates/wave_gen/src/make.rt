@@ -47,7 +47,8 @@ pub fn generate(
     // formed but for notes: references, lists, waves and pads; and so far go its numbers
     ensures open_to_notes { IfOk result (λ made. OpenToNotes (image.draft made)) }
     ensures lists { IfOk result (λ made. ListsFit (image.draft made)) }
-    ensures limits { IfOk result (λ made. KeepsLimits (view.graph graph.now) (image.draft made)) }
+    ensures limits { IfOk result (λ made.
+        KeepsLimits (view.graph graph.now) (has live.now) (image.draft made)) }
     ensures arrays { IfOk result (λ made.
         (image.draft made).arrays ≡ arrays_of (view.graph graph.now)) }
 
