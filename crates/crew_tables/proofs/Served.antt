@@ -1,5 +1,5 @@
 -- A table of a phase keeps its facts where it takes a token.
-use Rattle.std.proofs.Common.{◌≡◌, ◌+◌, ◌<◌, ◌≤◌, ◌%◌, ⊎_elim, ℕ, Bool, true, List, [], ◌∷◌, Option, Some, Result, Ok, Err, IfOk, MatchResult, length, length-append, sym, ap, ◌∙◌, subst, arith}
+use Rattle.std.proofs.Common.{◌≡◌, ◌+◌, ◌<◌, ◌≤◌, ◌%◌, ⊎_elim, ℕ, Bool, true, List, [], ◌∷◌, Option, Some, None, Result, Ok, Err, IfOk, MatchResult, length, length-append, sym, ap, ◌∙◌, subst, arith}
 use Rattle.ws_isa.specs.Image.{Image, Token}
 use Rattle.core_law.specs.Core.{with_at}
 use Rattle.core_law.proofs.Ports.{SamePlace, with_at_cases}
@@ -21,6 +21,10 @@ arrives_serves k old new t s serves a w i p v e = ⊎_elim
 
 same_serves : (k : ℕ) (old new : Content) → Serves k old → new.entries ≡ old.entries → new.fired ≡ old.fired → Serves k new
 same_serves k old new s e f w i p v h = s w i p v (ap (λ (x : List (Option Entry) × List Fired). held_in x.0 x.1 w i p) (λ j. (sym e j, sym f j)) ∙ h)
+
+-- a table that holds nothing serves any instances
+pub fresh_serves : (k : ℕ) (c : Content) → ((w i p : ℕ) → held c w i p ≡ None) → Serves k c
+fresh_serves k c none w i p v e = absurd (let g : None ≡ Some v = sym (none w i p) ∙ e in cc)
 
 one_longer : (image : Image) (old new : Content) (t : Token) (xs : List ℕ) → Full image old t new xs → length new.fired ≡ length old.fired + 1
 one_longer image old new t xs f = ap length f.fired ∙ length-append old.fired (f.entry ∷ [])

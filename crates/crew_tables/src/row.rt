@@ -55,6 +55,33 @@ pub struct Tables<J: Job> {
     pub t15: Table<J>,
 }
 
+impl<J: Job> Tables<J> {
+    /// Tables that no token has come to.
+    #[tactic(auto, using(crate::proofs::Served::fresh_serves))]
+    pub fn new(alloc: Global) -> Tables<J>
+        ensures { (most : List ℕ) → Fits result most }
+    {
+        Tables {
+            t0: Table::new(alloc),
+            t1: Table::new(alloc),
+            t2: Table::new(alloc),
+            t3: Table::new(alloc),
+            t4: Table::new(alloc),
+            t5: Table::new(alloc),
+            t6: Table::new(alloc),
+            t7: Table::new(alloc),
+            t8: Table::new(alloc),
+            t9: Table::new(alloc),
+            t10: Table::new(alloc),
+            t11: Table::new(alloc),
+            t12: Table::new(alloc),
+            t13: Table::new(alloc),
+            t14: Table::new(alloc),
+            t15: Table::new(alloc),
+        }
+    }
+}
+
 fn locked<J: Job, Q: Quotas, const K: u64>(table: Table<J>, most: usize) -> Locked<J, Q, K>
     requires serves { Serves K table }
     requires most { (most ≡ slice_index Q.most K) × (length table.fired ≤ most) }
