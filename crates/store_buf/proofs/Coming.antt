@@ -1,11 +1,12 @@
 -- A request comes, and what is true of a store afterwards.
-use Rattle.std.proofs.Common.{ℕ, suc, ◌≡◌, ◌<◌, false, List, [], ◌∷◌, ◌++◌, length, Option, Some, None, Result, Ok, Err, slice_index_or, refl, sym, ap, ◌∙◌, subst, inl, inr, arith}
+use Rattle.std.proofs.Common.{ℕ, suc, ◌≡◌, ◌<◌, ◌≤◌, ◌⊎◌, true, false, List, [], ◌∷◌, ◌++◌, length, Option, Some, None, Result, Ok, Err, slice_index_or, refl, sym, ap, ◌∙◌, subst, inl, inr, arith}
 use Rattle.std.proofs.lemmas.Bool.{both_ways}
 use Rattle.ws_words.specs.Outside.{Outside, World}
-use Rattle.ws_isa.specs.Image.{Image, Token, ports}
+use Rattle.ws_isa.specs.Image.{Image, Token, ports, is_load, is_past, note_of}
 use Rattle.ws_isa.specs.Formed.{Formed}
 use Rattle.image_walk.specs.Sound.{Sound}
-use Rattle.core_law.specs.Core.{HasFired, has, with_key}
+use Rattle.core_law.specs.Core.{HasFired, IsNext, has, position_after, with_key}
+use Rattle.core_law.specs.Shown.{waits_if}
 use Rattle.core_law.specs.Fit.{RightRequest}
 use Rattle.core_law.proofs.Ports.{with_key_cases}
 use Rattle.df_job.specs.Began.{Began}
@@ -23,7 +24,7 @@ use Rattle.store_buf.specs.Orders.{Going, EarlyIssued}
 use Rattle.store_buf.specs.Ordering.{no_request, OrderOk}
 use Rattle.store_buf.specs.Outdoors.{Holding, OutIs, RoseAt}
 use Rattle.store_buf.specs.Outers.{holding}
-use Rattle.store_buf.specs.Holds.{waiting_in}
+use Rattle.store_buf.specs.Holds.{stays, waiting_in}
 use Rattle.store_buf.specs.Contents.{Content, FaultIs, IsBuffer, Arrives, Submitted, RightTokens, Idle, SubmitSo, buffer_in, with_tokens}
 use Rattle.store_buf.specs.Stores.{StandsFor, StoreOk, Keeps, Turns, SettledSo, SubmitLeads, Standing, asked_of, buffer_of, content_of}
 use Rattle.store_buf.proofs.Alike.{going_any, once_of}
@@ -175,6 +176,39 @@ module _ (image : Image) (world : World) (began : List (Option Began)) {P : Type
       stopped = ap has keeps.fault;
       memory = refl;
     }
+
+    -- where it is of another wave and no port has found no memory, nothing that waits is issuable
+    module _ (ok : StoreOk mid) (fed : old.starved ≡ false) (later : k.wave ≡ old.order.chain.wave → ⊥) where
+      later_idle : Idle image (content_of mid)
+      later_idle m w i xs asks may =
+          let same : issued_in mid.order.kept.items w i ≡ issued_in old.order.kept.items w i = ap (λ (x : List Kept). issued_in x w i) keeps.kept_are ∙ issued_push image old.order.kept.items k fresh waits w i in
+          let kept : kept_in image mid.order.kept.items w i ≡ with_key k.wave k.instr (Some (operands_of (ports image k.instr) k.first k.second)) (kept_in image old.order.kept.items) w i =
+          ap (λ (x : List Kept). kept_in image x w i) keeps.kept_are ∙ kept_push image old.order.kept.items k fresh waits w i in
+          elim (with_key_cases k.wave k.instr (Some (operands_of (ports image k.instr) k.first k.second)) (kept_in image old.order.kept.items) w i) [
+            | inl a ↦ later (a.0.wave ∙ may.current ∙ ap (λ (c : code.Chain). c.wave) keeps.chain)
+            | inr a ↦ standing.idle working fed m w i xs
+                (subst (λ (x : Option ℕ × Option (List ℕ)). waits_if x.0 x.1 None ≡ Some xs) (λ j. (same j, (kept ∙ a.1) j)) asks)
+                (record {
+                  going = sym (ap has keeps.fault) ∙ may.going;
+                  current = may.current ∙ ap (λ (c : code.Chain). c.wave) keeps.chain;
+                  fresh = sym same ∙ may.fresh;
+                  turn = subst (λ (c : code.Chain). IsNext (chain_of c) (note_of image i) ⊎ ((is_load image i ≡ true) × (is_past image i xs ≡ false) × ((note_of image i).ripple ≤ position_after c.last))) keeps.chain may.turn;
+                })
+          ]
+
+      is_later : (m : Outside) → IsBuffer image world began (content_of old) m → IsBuffer image world began (content_of mid) m
+      is_later m is = buffer_from mid ok.order (subst (FaultIs image world) (sym (keeps.fault ∙ running)) tt) m (came m (stands_of old standing.early_issued standing.early_all m is))
+
+      later_submitted : (m : Outside) → IsBuffer image world began (content_of old) m → Submitted image world began (content_of old) m (asked_of k) [] (content_of mid)
+      later_submitted m is = record { arrived = buffer_of image mid m; arrives = arrives m; memory = m; issues = stays; is = is_later m is }
+
+      pub put_by : Standing image world began mid × RightTokens image world [] × SubmitSo image world began (content_of old) (asked_of k) (Ok []) (content_of mid)
+      put_by =
+          let stood : StandsFor image world began mid standing.memory = came standing.memory (stands_of old standing.early_issued standing.early_all standing.memory standing.is) in (
+            record { ok = ok; early_issued = stood.going.early_issued; early_all = stood.going.early_all; memory = standing.memory; is = is_later standing.memory standing.is; idle = λ f t. later_idle },
+            (λ w i p v e. absurd e),
+            (((running, working), fresh, later_submitted, keeps.fault ∙ running, keeps.failed ∙ working, keeps.starved ∙ fed), later_idle),
+          )
 
     module _ (new : Store P) (ok : StoreOk new) (tokens : List Token) (lead : (m : Outside) → StandsFor image world began mid m → Turns image world began mid m new tokens) where
       abbrev turns : (m : Outside) → IsBuffer image world began (content_of old) m → Turns image world began mid m new tokens

@@ -1,15 +1,15 @@
 //! A store buffer: memory operations are issued in the order of waves.
 #![tactic(auto)]
 
-pub mod buffer;
-pub mod fault;
-pub mod index;
-pub mod kept;
-pub mod later;
-pub mod order;
-pub mod outer;
-pub mod store;
-pub mod told;
+mod buffer;
+mod fault;
+mod index;
+mod kept;
+mod later;
+mod order;
+mod outer;
+mod store;
+mod told;
 
 pub use buffer::Buffer;
 pub use fault::BufFault;

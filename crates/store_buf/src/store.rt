@@ -3,7 +3,7 @@
 ghost use Rattle.std.specs.Prelude.{◌≡◌, ◌<◌, ◌≤◌, ◌+◌, ◌*◌, ◌++◌, ◌∷◌, ◌⊎◌, [], true, false, Some, None, IfErr, OnOk, OnErr};
 ghost use Rattle.smallvec.specs.SmallVec.{HasRoomFor};
 ghost use Rattle.ws_isa.specs.Formed.{Formed};
-ghost use Rattle.ws_isa.specs.Image.{array_of_op};
+ghost use Rattle.ws_isa.specs.Image.{Image, array_of_op};
 ghost use Rattle.core_law.specs.Core.{has};
 ghost use Rattle.core_run.specs.Places.{ProgramIs, image_of};
 ghost use Rattle.df_job.specs.Rights.{tokens_of};
@@ -61,31 +61,90 @@ impl<P: Port> Store<P> {
         }
         match self.order.find(kept.wave, kept.instr) {
             Some(_) => Err(BufFault::Old),
-            None => match self.keep(kept, told) {
-                Ok(()) => self.settle(program, told),
-                Err(_) => Err(BufFault::NoMemory),
-            },
+            None => {
+                if self.starved || kept.wave == self.order.chain.wave {
+                    self.take_in(program, kept, told)
+                } else {
+                    self.put_by(kept)
+                }
+            }
         }
     }
 
-    /// Keeps a request of an instance that had none, and makes room for all that may be issued then.
-    fn keep(&mut self, kept: Kept, told: &mut Told) -> Result<(), NoMemory>
+    // Keeps a request of another wave than the current one, so that nothing may be issued then.
+    fn put_by(&mut self, kept: Kept) -> Result<(), BufFault>
         requires ok { StoreOk self.old }
         requires fresh { entry_of self.old.order.kept.items kept.wave kept.instr ≡ None }
         requires waits { kept.answer ≡ None }
-        ensures ok { StoreOk self.new }
-        ensures keeps { OnOk result (Keeps self.old (self.old.order.kept.items ++ kept ∷ []) self.new) }
-        ensures unchanged { OnErr result (Keeps self.old self.old.order.kept.items self.new) }
-        ensures told { told.new.items ≡ told.old.items }
-        ensures room { OnOk result (HasRoomFor told.new (8 * self.new.order.waiting)) }
+        requires running { self.old.fault ≡ None }
+        requires working { self.old.failed ≡ None }
+        requires fed { self.old.starved ≡ false }
+        requires later { kept.wave ≡ self.old.order.chain.wave → ⊥ }
+        ensures leads { (image : Image) → SubmitLeads image self.old kept [] result self.new }
+    {
+        match self.keep(kept) {
+            Ok(()) => Ok(()),
+            Err(_) => Err(BufFault::NoMemory),
+        }
+    }
+
+    // Keeps a request, and issues what may be issued then.
+    fn take_in(
+        &mut self,
+        program: &Program<'_>,
+        kept: Kept,
+        told: &mut Told,
+    ) -> Result<(), BufFault>
+        requires program { ProgramIs program.now }
+        requires formed { Formed (image_of program.now) }
+        requires ok { StoreOk self.old }
+        requires fresh { entry_of self.old.order.kept.items kept.wave kept.instr ≡ None }
+        requires waits { kept.answer ≡ None }
+        requires running { self.old.fault ≡ None }
+        requires working { self.old.failed ≡ None }
+        requires told { told.old.items ≡ [] }
+        ensures leads { SubmitLeads (image_of program.now) self.old kept
+            (tokens_of told.new.items) result self.new }
+        ensures room { told.old.capacity ≤ told.new.capacity }
+    {
+        if self.make_room(told).is_err() {
+            return Err(BufFault::NoMemory);
+        }
+        match self.keep(kept) {
+            Ok(()) => self.settle(program, told),
+            Err(_) => Err(BufFault::NoMemory),
+        }
+    }
+
+    // Makes room for the tokens of all that waits, and of one more.
+    fn make_room(&self, told: &mut Told) -> Result<(), NoMemory>
+        ensures items { told.new.items ≡ told.old.items }
+        ensures room { OnOk result (HasRoomFor told.new (8 * (self.now.order.waiting + 1))) }
         ensures grown { told.old.capacity ≤ told.new.capacity }
     {
         let waiting = self.order.waiting;
         if waiting >= MOST_WAITING {
             return Err(NoMemory);
         }
-        self.outer.printed.reserve(waiting + 1)?;
         told.reserve(8 * (waiting + 1))?;
+        Ok(())
+    }
+
+    // Keeps a request of an instance that had none, and makes room for the word that it may print.
+    fn keep(&mut self, kept: Kept) -> Result<(), NoMemory>
+        requires ok { StoreOk self.old }
+        requires fresh { entry_of self.old.order.kept.items kept.wave kept.instr ≡ None }
+        requires waits { kept.answer ≡ None }
+        ensures ok { StoreOk self.new }
+        ensures keeps { OnOk result (Keeps self.old (self.old.order.kept.items ++ kept ∷ []) self.new) }
+        ensures unchanged { OnErr result (Keeps self.old self.old.order.kept.items self.new) }
+        ensures waiting { OnOk result (self.new.order.waiting ≡ self.old.order.waiting + 1) }
+    {
+        let waiting = self.order.waiting;
+        if waiting >= MOST_WAITING {
+            return Err(NoMemory);
+        }
+        self.outer.printed.reserve(waiting + 1)?;
         self.order.add(kept)
     }
 

@@ -1,24 +1,10 @@
-use Rattle.std.proofs.Common.{List, ◌++◌, ◌∙◌, ap, sym, subst, inl}
+use Rattle.std.proofs.Common.{List, ap, sym, subst}
 use Rattle.ws_isa.specs.Image.{Token}
 use Rattle.core_run.specs.Places.{image_of}
 use Rattle.df_job.specs.Rights.{tokens_of}
-use Rattle.store_buf.specs.Contents.{RightTokens, SubmitSo, with_tokens}
-use Rattle.store_buf.specs.Stores.{Standing, asked_of, content_of}
-use Rattle.store_buf.proofs.Coming as K
+use Rattle.store_buf.specs.Stores.{SubmitLeads}
 use Rattle.store_buf.proofs.store.Store.submit.Goals as goal
 
-pub returns-in-Ok-clause-leads : goal.returns-in-Ok-clause-leads
-returns-in-Ok-clause-leads g c = λ world began formed sound ask standing.
-    let image = image_of c.args.program.now in
-    let lead = c.settle.ensures.lead in
-    let told = lead.1 ∙ ap (λ xs. xs ++ lead.0) (ap tokens_of (c.keep.ensures.told ∙ c.requires.told)) in
-    subst (λ (ts : List Token). Standing image world began c.settle.new.self × RightTokens image world ts × SubmitSo image world began (content_of c.args.self.now) (asked_of c.args.kept) (with_tokens ts c.settle.result) (content_of c.settle.new.self)) (sym told)
-    (K.said image world began formed sound c.args.self.now c.keep.new.self c.args.kept (sym c.find.ensures ∙ c.in-None.is) c.requires.waits ask c.in-Ok.ensures.keeps c.in_default.is c.in_default-failed.is standing
-    c.settle.new.self c.settle.ensures.ok lead.0 (λ m h. lead.2 world began m formed sound h) c.settle.result c.settle.ensures.settled)
-
-pub returns-in-Err-clause-leads : goal.returns-in-Err-clause-leads
-returns-in-Err-clause-leads g c = λ world began formed sound ask standing.
-    let image = image_of c.args.program.now in
-    let r = K.unchanged image world began c.args.self.now c.keep.new.self c.in-Err.ensures.unchanged c.keep.ensures.ok standing in
-    let told = ap tokens_of (c.keep.ensures.told ∙ c.requires.told) in
-    (r.0, subst (RightTokens image world) (sym told) (λ w i p v e. absurd e), inl ((c.in_default.is, c.in_default-failed.is), sym c.find.ensures ∙ c.in-None.is, r.1))
+pub returns-else-kept-self-clause-leads : goal.returns-else-kept-self-clause-leads
+returns-else-kept-self-clause-leads g c = let image = image_of c.args.program.now in
+    subst (λ (ts : List Token). SubmitLeads image c.args.self.now c.args.kept ts c.put_by.result c.put_by.new.self) (sym (ap tokens_of c.requires.told)) (c.put_by.ensures.leads image)
