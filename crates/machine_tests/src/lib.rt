@@ -4,6 +4,8 @@
 #[cfg(test)]
 mod assembly;
 #[cfg(test)]
+mod crews;
+#[cfg(test)]
 mod ports;
 #[cfg(test)]
 mod seats;

@@ -13,7 +13,7 @@ use std::test::*;
 use ws_words::NoMemory;
 
 // A loop that doubles a number in each of its waves.
-const DOUBLES: &str =
+pub(crate) const DOUBLES: &str =
     "wavescalar 1\nwave 1\nblock 1\npad 0 1.0\n1: advance -> 2.0 3.0 4.0\n2: nop <., 1, .>.0\n3: const 0 -> 5.0\n4: const 1 -> 6.0\ngo 2\nwave 2\nblock 2\n5: advance -> 7.0 8.0\n6: advance -> 9.0 9.1 10.1 10.2\n7: nop <., 1, .>.0\n8: merge -> 5.0\n9: add -> 10.0\n10: phi -> 6.0\ngo 2\nend\n";
 
 // How many ports an instruction of it has.
@@ -33,7 +33,7 @@ fn doubled(wave: u64) -> u64 {
 
 // The image of this text.
 #[tactic(auto, using(crate::proofs::Feeds::few_feeds))]
-fn image_of(alloc: Global, text: &str) -> Option<Checked> {
+pub(crate) fn image_of(alloc: Global, text: &str) -> Option<Checked> {
     let bytes = text.as_bytes();
     if bytes.len() > 100_000 {
         return None;
@@ -146,7 +146,10 @@ fn call<J: Job>(
 }
 
 // Puts all tokens of a list behind others.
-fn take_all<J: Job>(tokens: TokenList<J>, way: &mut Vec<Token<J>>) -> Result<(), NoMemory> {
+pub(crate) fn take_all<J: Job>(
+    tokens: TokenList<J>,
+    way: &mut Vec<Token<J>>,
+) -> Result<(), NoMemory> {
     let mut tokens = tokens;
     for _ in 0..tokens.len() {
         if let Some(token) = tokens.pop() {
