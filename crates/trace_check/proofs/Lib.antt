@@ -3,3 +3,4 @@ pub mod Making
 pub mod Telling
 pub mod Led
 pub mod Once
+pub mod Written

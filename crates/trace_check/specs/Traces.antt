@@ -1,5 +1,5 @@
 -- The events of a text, or its first faulty line.
-use Rattle.std.specs.Prelude.{ℕ, ◌+◌, Bool, true, false, List, [], ◌∷◌, ◌++◌, codes, flat_map, Option, Some, None, Result, Ok, Err, if◌then◌else◌}
+use Rattle.std.specs.Prelude.{ℕ, ◌+◌, ◌^◌, ◌<◌, Bool, true, false, List, [], ◌∷◌, ◌++◌, codes, flat_map, Option, Some, None, Result, Ok, Err, if◌then◌else◌}
 use Rattle.asm_text.specs.declared.fault.AsmKind.TheVariants.{Line, Number as Numbers}
 use Rattle.asm_text.specs.declared.lexeme.Lexeme.{Lexeme}
 use Rattle.asm_text.specs.declared.lexeme.Lexeme.TheVariants.{Word, Number}
@@ -73,3 +73,12 @@ events_text events = flat_map event_line events
 abbrev pub numbered : ℕ → List Event → List Lined
 numbered n [] = []
 numbered n (event ∷ events) = record { event = event; line = n } ∷ numbered (n + 1) events
+
+-- the numbers of an event are within its fields
+abbrev pub Fits : Event → Type 0
+Fits (Match wave i p) = (wave < 2 ^ 64) × (i < 2 ^ 32) × (p < 256)
+Fits (Issue wave i) = (wave < 2 ^ 64) × (i < 2 ^ 32)
+
+abbrev pub AllFit : List Event → Type 0
+AllFit [] = Unit {0}
+AllFit (event ∷ events) = Fits event × AllFit events

@@ -9,7 +9,7 @@ mod replaying;
 mod write;
 
 pub use events::{Events, Lined, Trace};
-pub use laws::traces_are_replayed_once;
+pub use laws::{made_traces_are_replayed, traces_are_replayed_once, written_traces_read_again};
 pub use read::read_trace;
 pub use recording::{TraceEnd, Traced, trace};
 pub use replaying::{ReplayFault, Replayed, replay};
