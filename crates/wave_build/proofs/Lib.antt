@@ -6,8 +6,6 @@ pub mod CompilingWalks
 pub mod CompilingWords
 pub mod Fitting
 pub mod Sizing
-pub mod RoomSteps
-pub mod RoomParts
 pub mod Weights
 pub mod Counting
 pub mod Paying

@@ -12,7 +12,6 @@ ghost use Rattle.wave_link.specs.Ripples.{ExactRipples};
 ghost use Rattle.wave_build.specs.Compiled.{ShowsArrays, DoesAs, KeepsBound, HasDraft};
 ghost use Rattle.wave_build.specs.Prepared.{Begun, Prepared};
 
-use crate::room::leaves_room;
 use crate::words::see_words;
 use call_gen::{reached, spell_calls};
 use cfg_build::lower;
@@ -20,7 +19,7 @@ use cfg_core::{Graph, walks_answer};
 use image_walk::Checked;
 use live_vars::live;
 use phi_conv::join_short;
-use src_ast::written_is_narrow;
+use src_ast::{accepted_has_few_variables, written_is_narrow};
 use src_check::Accepted;
 use std::alloc::Global;
 use wave_cut::cut;
@@ -52,8 +51,9 @@ fn prepare(alloc: Global, accepted: &Accepted) -> Result<Graph, NoMemory>
     Ok(spelled)
 }
 
-// The image, where the draft is within the limits.
+// The image, which is within the limits since the draft leaves room.
 fn image_of(alloc: Global, accepted: &Accepted) -> Result<Image, NoMemory>
+    requires { IsWritten (ast.parts accepted.now.program.items.items) }
     ensures formed { IfOk result (λ made. Formed (image.image made)) }
     ensures sound { IfOk result (λ made. Sound (image.image made)) }
     ensures arrays { let parts = ast.parts accepted.now.program.items.items in
@@ -61,28 +61,28 @@ fn image_of(alloc: Global, accepted: &Accepted) -> Result<Image, NoMemory>
     ensures walk { let parts = ast.parts accepted.now.program.items.items in
         IfOk result (λ made. DoesAs parts (image.image made)) }
     ensures cost { let parts = ast.parts accepted.now.program.items.items in
-        IfOk result (λ made. IsWritten parts → KeepsBound parts (image.image made)) }
+        IfOk result (λ made. KeepsBound parts (image.image made)) }
     ensures numbers { IfOk result (λ made. NumberedInOrder (image.image made)) }
     ensures ripples { IfOk result (λ made. ExactRipples (image.image made)) }
     ensures draft { IfOk result (λ made. HasDraft (image.image made)) }
 {
     walks_answer();
     written_is_narrow();
+    accepted_has_few_variables();
     let graph = prepare(alloc, accepted)?;
     see_words(&graph);
     let live = live(alloc, &graph)?;
     let waves = cut(alloc, &graph)?;
     let draft = generate(alloc, &graph, &waves, &live)?;
-    if !leaves_room(&draft) {
-        return Err(NoMemory);
-    }
     let made = annotate(alloc, &draft)?;
     Ok(made)
 }
 
-/// The image of an accepted program. One that doesn't fit the limits of images is answered as want
-/// of memory.
+/// The image of an accepted program that can be written as a text, as each one can that was read from
+/// one. It is formed: no such program passes a limit of images.
 pub fn compile(alloc: Global, accepted: &Accepted) -> Result<Checked, NoMemory>
+    requires written { IsWritten (ast.parts accepted.now.program.items.items) }
+
     // it shows the program's arrays, and does what the run does that passes loads and stores past
     // the end, in every world of words
     ensures arrays { let parts = ast.parts accepted.now.program.items.items in
@@ -92,7 +92,7 @@ pub fn compile(alloc: Global, accepted: &Accepted) -> Result<Checked, NoMemory>
 
     // its walk costs at most the program's bound for each turn of that run, and once more
     ensures cost { let parts = ast.parts accepted.now.program.items.items in
-        IfOk result (λ made. IsWritten parts → KeepsBound parts made) }
+        IfOk result (λ made. KeepsBound parts made) }
 
     // its notes, and what was added to its draft for them
     ensures numbers { IfOk result (λ made. NumberedInOrder made) }

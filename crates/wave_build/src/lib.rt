@@ -7,7 +7,6 @@
 
 mod compiler;
 mod laws;
-mod room;
 mod words;
 
 pub use compiler::compile;

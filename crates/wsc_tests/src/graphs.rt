@@ -1,6 +1,8 @@
 //! The graphs of programs walk as the programs run, from pass to pass.
 
 ghost use Rattle.std.specs.Prelude.{◌<◌, ◌^◌, ◌-◌, length, IfOk};
+ghost use Rattle.src_ast.specs.View as ast;
+ghost use Rattle.src_ast.specs.Written.{IsWritten};
 ghost use Rattle.cfg_core.specs.View as view;
 ghost use Rattle.cfg_core.specs.Rules.{IsGraph};
 ghost use Rattle.cfg_build.specs.Keeps.{IsFirstForm};
@@ -11,6 +13,7 @@ use cfg_core::{Graph, run_graph};
 use live_vars::live;
 use phi_conv::join_short;
 use seq_run::run_plain;
+use src_ast::read_is_written;
 use src_check::{Accepted, check};
 use src_lex::lex;
 use src_parse::parse;
@@ -178,7 +181,10 @@ pub const PROGRAMS: &[(&str, usize)] = &[
     ),
 ];
 
-pub fn accepted(alloc: Global, text: &str) -> Result<Accepted, Fail> {
+pub fn accepted(alloc: Global, text: &str) -> Result<Accepted, Fail>
+    ensures { IfOk result (λ accepted. IsWritten (ast.parts accepted.program.items.items)) }
+{
+    read_is_written();
     if text.len() > 10_000 {
         return Err(Fail::from(NoMemory));
     }

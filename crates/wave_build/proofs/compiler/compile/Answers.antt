@@ -21,4 +21,4 @@ pub returns-clause-draft : goal.returns-clause-draft
 returns-clause-draft c = subst HasDraft (sym c.from_sound.ensures) c.in_ok-made.ensures.draft
 
 pub returns-clause-cost : goal.returns-clause-cost
-returns-clause-cost c = λ w. subst (KeepsBound (ast.parts c.args.accepted.now.program.items.items)) (sym c.from_sound.ensures) (c.in_ok-made.ensures.cost w)
+returns-clause-cost c = subst (KeepsBound (ast.parts c.args.accepted.now.program.items.items)) (sym c.from_sound.ensures) c.in_ok-made.ensures.cost
