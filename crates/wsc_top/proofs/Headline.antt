@@ -3,7 +3,7 @@ use Rattle.std.specs.Prelude.{◌≡◌, ℕ, zero, suc, ◌-◌, Bool, true, fa
 use Rattle.std.specs.Option.{is_some}
 use Rattle.std.proofs.Common.{sym, ap, ◌∙◌, subst, inl, inr, append_assoc}
 use Rattle.ws_words.specs.Outside.{Act, Outside, World, zeros, printed_words}
-use Rattle.ws_words.specs.Past.{AreWithin, FirstPast, after_acts}
+use Rattle.ws_words.specs.Past.{IsPast, AreWithin, FirstPast, after_acts}
 use Rattle.src_ast.specs.Syntax.{Part, Array, Proc}
 use Rattle.src_ast.specs.Meaning.{lengths_of, empty_cells}
 use Rattle.src_ast.specs.Turns.{CallEnd}
@@ -17,6 +17,7 @@ use Rattle.ws_isa.specs.Shown as image_shown
 use Rattle.image_walk.specs.Walk.{mem, opening_memory, has_ended}
 use Rattle.image_walk.specs.Operations.{FaultsAt, NoFault}
 use Rattle.image_walk.proofs.There.{all_nth}
+use Rattle.core_law.specs.Ends.{FirstWithin}
 use Rattle.cfg_core.specs.Graph as graph
 use Rattle.cfg_core.specs.Graph.{GraphArray}
 use Rattle.cfg_core.specs.Shown.{shown_arrays, shown_cells, shown_among, hidden, is_hidden}
@@ -26,6 +27,7 @@ use Rattle.wave_build.specs.Compiled.{in_graph, shown, ShowsArrays, WalksAsRun}
 use Rattle.seq_run.specs.Laws.{HasAnswer}
 use Rattle.seq_run.proofs.FirstPasts.{not_within, one_array, one_before}
 use Rattle.seq_run.proofs.OneAnswer.{fronts, some_answer, passed}
+use Rattle.wsc_top.specs.Answers.{Prints, to_end, to_fault, so_far}
 use Rattle.wsc_top.specs.Texts.{names_of, shown_names, name_at, array_name, called, maybe_name, name_or_number}
 use Rattle.wsc_top.proofs.WalkActs.{sizes, HasArray, mem_is, mem_within, fault_is_first}
 use Rattle.wsc_top.proofs.ShownActs.{lengths, shown_place, shown_within, open_first, shown_first, shown_words, cells_after, left_cells, shown_after, words_both}
@@ -144,6 +146,17 @@ first_more ls acts more before array f = record {
   split = ap (λ (xs : List Act). xs ++ more) f.split ∙ append_assoc before (f.act ∷ f.after) more;
 }
 
+-- acts that are within stand before the first that is past
+within_before : (ls : List ℕ) (act : Act) (after : List Act) (array : ℕ) → IsPast ls array act → (acts more before : List Act) → AreWithin ls acts
+    → acts ++ more ≡ before ++ act ∷ after → (rest : List Act) × (before ≡ acts ++ rest)
+within_before ls act after array past [] more before w e = (before, refl)
+within_before ls act after array past (x ∷ acts) more [] w e =
+    absurd (not_within ls (x ∷ []) [] array (record { within = tt; act = act; past = past; after = []; split = cc }) (w.0, tt))
+within_before ls act after array past (x ∷ acts) more (b ∷ before) w e =
+    let r = within_before ls act after array past acts more before w.1 cc in
+    let same : b ≡ x = cc in
+    (r.0, ap (λ (y : Act). y ∷ before) same ∙ ap (λ (ys : List Act). x ∷ ys) r.1)
+
 module _ (parts : List Part) (image : Image) (world : World) (formed : Formed image) (arrays : ShowsArrays parts image) (walks : WalksAsRun parts image world) where
   abbrev G : List GraphArray
   G = map in_graph image.arrays
@@ -192,21 +205,52 @@ module _ (parts : List Part) (image : Image) (world : World) (formed : Formed im
         rows = ap (image_shown.shown_cells image.arrays) q ∙ shows.cells;
       }
 
-  -- the words that the first steps of the walk print are the first that the passing run prints
+  -- the words that the first steps of the walk print, up to a fault, are the first that the sequential run prints
   pub record FrontTold (printed : List ℕ) : Type 0 where
     pub turns : ℕ
     pub more : List ℕ
-    pub words : printed_words (acts_in parts world turns) ≡ printed ++ more
+    pub prints : Prints parts world turns (printed ++ more)
 
-  pub front_told : (t : ℕ) (printed : List ℕ) → printed ≡ printed_words (mem image world t).acts → FrontTold printed
-  front_told t printed p =
-      let g = walks.goes_only t in
-      record {
-        turns = g.0;
-        more = printed_words g.1.0;
-        words = ap printed_words g.1.1 ∙ words_both (shown image (mem image world t).acts) g.1.0
-            ∙ ap (λ (ws : List ℕ). ws ++ printed_words g.1.0) (shown_words G (mem image world t).acts ∙ sym p);
-      }
+  module _ (t : ℕ) (first : FirstWithin image world t) (printed : List ℕ) (p : printed ≡ printed_words (mem image world t).acts) where
+    abbrev seen : List Act
+    seen = shown image (mem image world t).acts
+
+    seen_within : AreWithin (lengths_of parts) seen
+    seen_within = within_shown (mem image world t).acts (mem_within image world t first)
+
+    seen_words : (acts more : List Act) → acts ≡ seen ++ more → printed_words acts ≡ printed ++ printed_words more
+    seen_words acts more e =
+        ap printed_words e ∙ words_both seen more
+        ∙ ap (λ (ws : List ℕ). ws ++ printed_words more) (shown_words G (mem image world t).acts ∙ sym p)
+
+    abbrev till : ℕ
+    till = (walks.goes_only t).0
+
+    abbrev behind : List Act
+    behind = (walks.goes_only t).1.0
+
+    till_acts : acts_in parts world till ≡ seen ++ behind
+    till_acts = (walks.goes_only t).1.1
+
+    told_front : (acts more : List Act) → acts ≡ seen ++ more → Prints parts world till (printed_words acts) → FrontTold printed
+    told_front acts more e prints = record { turns = till; more = printed_words more; prints = subst (Prints parts world till) (seen_words acts more e) prints }
+
+    front_by : HasAnswer parts world till → FrontTold printed
+    front_by (inl e) =
+        let r = passed parts world e.taken e.end e.runs.passes till e.within in
+        told_front e.end.acts behind (ap (λ (x : CallEnd). (outside_of x).acts) (sym r.1) ∙ till_acts) (to_end e.taken e.end e.within e.runs)
+    front_by (inr (inr g)) =
+        told_front g.now.acts behind (ap (λ (x : CallEnd). (outside_of x).acts) (sym g.goes.flows) ∙ till_acts) (so_far g.now g.goes)
+    front_by (inr (inl f)) =
+        let b = fronts parts world f.turn till f.within in
+        let there : FirstPast (lengths_of parts) (acts_in parts world till) f.state.acts f.array =
+        subst (λ (xs : List Act). FirstPast (lengths_of parts) xs f.state.acts f.array) (sym b.rest)
+        (first_more (lengths_of parts) (acts_in parts world f.turn) b.more f.state.acts f.array f.faults.first) in
+        let r = within_before (lengths_of parts) there.act there.after f.array there.past seen behind f.state.acts seen_within (sym till_acts ∙ there.split) in
+        told_front f.state.acts r.0 r.1 (to_fault f.turn f.array f.state f.within f.faults)
+
+    pub front_told : FrontTold printed
+    front_told = front_by (some_answer parts world till)
 
   -- what the sequential run leaves before its first index fault, where the walk has met one
   pub record FaultTold (array : ℕ) (printed : List ℕ) (cells : List (List ℕ)) : Type 0 where

@@ -49,6 +49,7 @@ module _ (options : RunOptions) (image : Image) (world : World) (d : Told) (out 
         count = told.count;
         first = subst (λ n. FirstAmong image world told.steps n) (sym told.front_has) told.first;
         most = λ u h. subst (λ n. length (ops image world u) ≤ n) (sym told.front_has) (told.most u h);
+        within = told.within;
       }))
 
   -- a load or store past the end stopped it

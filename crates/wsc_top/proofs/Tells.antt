@@ -69,9 +69,9 @@ module _ (options : RunOptions) (parts : List Part) (input : List ℕ) (image : 
   spent_tells : (d : Told) → RunSo image (world_of input) options.budget (reply.Budget d) → TellsRun options parts (world_of input) Budget (run_text options image.arrays (reply.Budget d))
   spent_tells d so =
       let told = so.told in
-      let r = front_told parts image (world_of input) c.formed c.arrays walks told.front d.printed told.left.printed in
+      let r = front_told parts image (world_of input) c.formed c.arrays walks told.front told.within d.printed told.left.printed in
       subst (λ (n : ℕ). TellsRun options parts (world_of input) Budget (spent_text options.stats d.printed n)) (sym told.fired)
-      (answers.TellsRun.spent r.turns d.printed r.more r.words)
+      (answers.TellsRun.spent r.turns d.printed r.more r.prints)
 
   fault_tells : (array : ℕ) (d : Told) → RunSo image (world_of input) options.budget (reply.Fault array d) → TellsRun options parts (world_of input) Fault (run_text options image.arrays (reply.Fault array d))
   fault_tells array d so =

@@ -6,7 +6,7 @@ use Rattle.src_ast.specs.declared.fault.Refusal.{Refusal}
 use Rattle.src_ast.specs.Syntax.{Part}
 use Rattle.src_ast.specs.Bound.{bound}
 use Rattle.src_ast.specs.Meaning.{Passes}
-use Rattle.src_ast.specs.Runs.{acts_in, Runs, Goes, Faults}
+use Rattle.src_ast.specs.Runs.{Runs, Goes, Faults}
 use Rattle.src_ast.specs.Printed.{printed_form}
 use Rattle.src_ast.specs.Written.{ReadsTheSame}
 use Rattle.wsc_top.specs.declared.status.Status.{Status}
@@ -52,6 +52,16 @@ pub record IsCompiled (parts : List Part) (image : Image) : Type 0 where
   pub ripples : ExactRipples image
   pub draft : HasDraft image
 
+-- The words that the sequential run prints in at most n turns: to its end, to its first index
+-- fault, or to where it wants a further turn.
+pub data Prints (parts : List Part) (world : World) (n : ℕ) : List ℕ → Type 0 where
+  to_end : (m : ℕ) (end : Outside) → m ≤ n → Runs parts world m end
+      → Prints parts world n (printed_words end.acts)
+  to_fault : (m array : ℕ) (state : Outside) → m ≤ n → Faults parts world m array state
+      → Prints parts world n (printed_words state.acts)
+  so_far : (now : Outside) → Goes parts world n now
+      → Prints parts world n (printed_words now.acts)
+
 -- What the run of an image of a program tells, in the words of the program's own run.
 pub data TellsRun (options : RunOptions) (parts : List Part) (world : World)
     : Status → List ℕ → Type 0 where
@@ -65,8 +75,8 @@ pub data TellsRun (options : RunOptions) (parts : List Part) (world : World)
       → TellsRun options parts world Fault
       (faulted_text options.memory (array_name (names_of parts) array) (names_of parts)
       (printed_words state.acts) state.cells)
-  -- the words told are the first of those that the run prints that passes index faults
-  spent : (n : ℕ) (front more : List ℕ) → printed_words (acts_in parts world n) ≡ front ++ more
+  -- the words told are the first of those that it prints in some number of turns
+  spent : (n : ℕ) (front more : List ℕ) → Prints parts world n (front ++ more)
       → TellsRun options parts world Budget (spent_text options.stats front options.budget)
 
 -- What comes of a task to a program and its input words: the status and the text. `run` runs an

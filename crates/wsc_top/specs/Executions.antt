@@ -5,6 +5,7 @@ use Rattle.ws_isa.specs.Image.{Array, Image, array_at}
 use Rattle.ws_isa.specs.Shown.{shown_cells}
 use Rattle.image_walk.specs.Walk.{mem, walk, CostAtMost}
 use Rattle.image_walk.specs.Operations.{ops, FaultsAt, NoFault}
+use Rattle.core_law.specs.Ends.{FirstWithin}
 use Rattle.core_run.specs.declared.answer.Run.{Run}
 use Rattle.core_run.specs.declared.answer.Run.TheVariants.{Rest, Budget as Spent, Fault as Stopped}
 use Rattle.core_run.specs.Answer.{FiringSteps, FirstAmong, RunSo}
@@ -45,7 +46,8 @@ pub record IsRun (options : RunOptions) (image : Image) (world : World) (status 
   pub text_is : out ≡ run_text options image.arrays run
 
 -- The walk has more instances than the budget. Exactly so many have fired, at some of its steps;
--- and of the walk's operations, in their order, those before step t are the most of which all have.
+-- and of the walk's operations, in their order, those before step t are the most of which all have,
+-- and none of them is past the end.
 pub record IsSpent (image : Image) (world : World) (budget t : ℕ) : Type 0 where
   pub dear : CostAtMost image world budget → ⊥
   pub steps : List ℕ
@@ -54,6 +56,7 @@ pub record IsSpent (image : Image) (world : World) (budget t : ℕ) : Type 0 whe
   pub first : FirstAmong image world steps (length (ops image world t))
   pub most : (u : ℕ) → FirstAmong image world steps (length (ops image world u))
       → length (ops image world u) ≤ length (ops image world t)
+  pub within : FirstWithin image world t
 
 -- What comes of the run of an image on a world within a budget.
 pub data Executes (options : RunOptions) (image : Image) (world : World) : Status → List ℕ → Type 0
