@@ -22,6 +22,3 @@ pub use answer::{Done, Run};
 pub use drive::Finish;
 pub use engine::{Core, Event, StepFault};
 pub use whole::run_checked;
-
-#[cfg(test)]
-mod tests;

@@ -7,3 +7,5 @@ mod calls;
 mod graphs;
 #[cfg(test)]
 mod images;
+#[cfg(test)]
+mod schedules;

@@ -28,7 +28,7 @@ use Rattle.wsc_top.specs.Sections.{program_of, input_of, input_place, IsInputAns
 use Rattle.wsc_top.specs.Job.{world_of}
 use Rattle.wsc_top.specs.Assembly.{IsAssembly, RefusesAssembly, assembly, unsound, input, IsAssemblyAnswer, IsUnsound}
 use Rattle.wsc_top.specs.Executions.{Executes, rested, spent, stopped, rested_text, stopped_text}
-use Rattle.wsc_top.specs.Answers.{AssemblyYields, checked, listed, executed, AssemblyAnswered, refused, done, IsAssemblyReply}
+use Rattle.wsc_top.specs.Answers.{assembly_text, AssemblyYields, checked, listed, executed, traced, replayed, AssemblyAnswered, refused, done, IsSettled, IsAssemblyReply}
 use Rattle.wsc_top.specs.Answers as answers
 use Rattle.wsc_top.proofs.Inputs.{one_list, no_fault_in_words, one_fault, one_answer}
 use Rattle.wsc_top.proofs.AnswersOnce.{Reply, same_reply}
@@ -182,28 +182,35 @@ module _ (known : WalksOnce) (image : Image) (world : World) where
     execs_alike s v out more (spent t h) other a b = absurd (a refl)
 
 -- what comes of a task to one image
-yields_alike : WalksOnce → (task : AssemblyTask) (image : Image) (words : List ℕ) (s v : Status) (out more : List ℕ) → AssemblyYields task image words s out → AssemblyYields task image words v more
+yields_alike : WalksOnce → (task : AssemblyTask) → IsSettled task → (text : List ℕ) (image : Image) (words : List ℕ) (s v : Status) (out more : List ℕ)
+    → AssemblyYields task text image words s out → AssemblyYields task text image words v more
     → (s ≡ Budget → ⊥) → (v ≡ Budget → ⊥) → ◌≡◌ {A = Reply} (s, out) (v, more)
-yields_alike known task image words s v out more checked checked a b = refl
-yields_alike known task image words s v out more listed listed a b = refl
-yields_alike known task image words s v out more (executed {options} x) (executed y) a b = execs_alike known image (world_of words) options s v out more x y a b
+yields_alike known task k text image words s v out more checked checked a b = refl
+yields_alike known task k text image words s v out more listed listed a b = refl
+yields_alike known task k text image words s v out more (executed {options} x) (executed y) a b = execs_alike known image (world_of words) options s v out more x y a b
+yields_alike known task k text image words s v out more (traced x) (traced y) a b = absurd k
+yields_alike known task k text image words s v out more (replayed x) (replayed y) a b = absurd k
 
 -- two answers to a text that aren't cut short by the budget are one, or both say that it is refused
-pub assembly_alike : BreachesBreak → WalksOnce → (task : AssemblyTask) (text : List ℕ) (s v : Status) (out more : List ℕ) → AssemblyAnswered task text s out → AssemblyAnswered task text v more
+pub assembly_alike : BreachesBreak → WalksOnce → (task : AssemblyTask) → IsSettled task → (text : List ℕ) (s v : Status) (out more : List ℕ)
+    → AssemblyAnswered task text s out → AssemblyAnswered task text v more
     → (s ≡ Budget → ⊥) → (v ≡ Budget → ⊥) → (◌≡◌ {A = Reply} (s, out) (v, more)) ⊎ ((s ≡ Refused) × (v ≡ Refused))
-assembly_alike breaks known task text s v out more (answers.AssemblyAnswered.refused q h) (answers.AssemblyAnswered.refused r k) a b = inr (refl, refl)
-assembly_alike breaks known task text s v out more (answers.AssemblyAnswered.refused q h) (answers.AssemblyAnswered.done image words j y) a b = absurd (never_both text breaks image words q j h)
-assembly_alike breaks known task text s v out more (answers.AssemblyAnswered.done image words j y) (answers.AssemblyAnswered.refused r k) a b = absurd (never_both text breaks image words r j k)
-assembly_alike breaks known task text s v out more (answers.AssemblyAnswered.done image words j y) (answers.AssemblyAnswered.done again others k z) a b =
-    let same = one_assembly text image again words others j k in
-    inl (yields_alike known task again others s v out more (subst (λ ws. AssemblyYields task again ws s out) same.1 (subst (λ i. AssemblyYields task i words s out) same.0 y)) z a b)
+assembly_alike breaks known task k text s v out more (answers.AssemblyAnswered.refused q h) (answers.AssemblyAnswered.refused r i) a b = inr (refl, refl)
+assembly_alike breaks known task k text s v out more (answers.AssemblyAnswered.refused q h) (answers.AssemblyAnswered.done image words j y) a b =
+    absurd (never_both (assembly_text task text) breaks image words q j h)
+assembly_alike breaks known task k text s v out more (answers.AssemblyAnswered.done image words j y) (answers.AssemblyAnswered.refused r i) a b =
+    absurd (never_both (assembly_text task text) breaks image words r j i)
+assembly_alike breaks known task k text s v out more (answers.AssemblyAnswered.done image words j y) (answers.AssemblyAnswered.done again others i z) a b =
+    let same = one_assembly (assembly_text task text) image again words others j i in
+    inl (yields_alike known task k text again others s v out more
+    (subst (λ ws. AssemblyYields task text again ws s out) same.1 (subst (λ im. AssemblyYields task text im words s out) same.0 y)) z a b)
 
 -- `check` and `list` have one answer to a sound assembly
-check_done : (image : Image) (words : List ℕ) (s : Status) (out : List ℕ) → AssemblyYields Check image words s out → ◌≡◌ {A = Reply} (s, out) (Done, sound_text)
-check_done image words s out checked = refl
+check_done : (text : List ℕ) (image : Image) (words : List ℕ) (s : Status) (out : List ℕ) → AssemblyYields Check text image words s out → ◌≡◌ {A = Reply} (s, out) (Done, sound_text)
+check_done text image words s out checked = refl
 
-list_done : (image : Image) (words : List ℕ) (s : Status) (out : List ℕ) → AssemblyYields Listing image words s out → ◌≡◌ {A = Reply} (s, out) (Done, listing image)
-list_done image words s out listed = refl
+list_done : (text : List ℕ) (image : Image) (words : List ℕ) (s : Status) (out : List ℕ) → AssemblyYields Listing text image words s out → ◌≡◌ {A = Reply} (s, out) (Done, listing image)
+list_done text image words s out listed = refl
 
 module _ (breaks : BreachesBreak) (text : List ℕ) (image : Image) (words : List ℕ) (is : IsAssembly text image words) where
   pub checked_once : ExactlyOne (IsAssemblyReply Check text)
@@ -211,11 +218,11 @@ module _ (breaks : BreachesBreak) (text : List ℕ) (image : Image) (words : Lis
     where
       only : (s : Status) (out : List ℕ) → AssemblyAnswered Check text s out → ◌≡◌ {A = Reply} (s, out) (Done, sound_text)
       only s out (answers.AssemblyAnswered.refused r h) = absurd (never_both text breaks image words r is h)
-      only s out (answers.AssemblyAnswered.done other more j y) = check_done other more s out y
+      only s out (answers.AssemblyAnswered.done other more j y) = check_done text other more s out y
 
   pub listed_once : ExactlyOne (IsAssemblyReply Listing text)
   listed_once = record { answer = (Done, listing image); holds = answers.AssemblyAnswered.done image words is listed; only = λ other h. only other.0 other.1 h }
     where
       only : (s : Status) (out : List ℕ) → AssemblyAnswered Listing text s out → ◌≡◌ {A = Reply} (s, out) (Done, listing image)
       only s out (answers.AssemblyAnswered.refused r h) = absurd (never_both text breaks image words r is h)
-      only s out (answers.AssemblyAnswered.done other more j y) = list_done other more s out y ∙ ap (λ i. (Done, listing i)) (one_assembly text other image more words j is).0
+      only s out (answers.AssemblyAnswered.done other more j y) = list_done text other more s out y ∙ ap (λ i. (Done, listing i)) (one_assembly text other image more words j is).0

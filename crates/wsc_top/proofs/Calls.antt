@@ -5,7 +5,7 @@ use Rattle.ws_io.specs.Streams.{Rose, Takes, TakesAll}
 use Rattle.src_ast.specs.Syntax.{Part}
 use Rattle.wsc_top.specs.declared.task.JobTask.{JobTask}
 use Rattle.wsc_top.specs.declared.task.Task.{Task}
-use Rattle.wsc_top.specs.declared.task.Task.TheVariants.{Job, Assembly, Generate}
+use Rattle.wsc_top.specs.declared.task.Task.TheVariants.{Job, Assembly, Generate, Bench}
 use Rattle.wsc_top.specs.declared.task.AssemblyTask.{AssemblyTask}
 use Rattle.ws_isa.specs.Image.{Image}
 use Rattle.wsc_top.specs.declared.assembly.AsmRefusal.{AsmRefusal}
@@ -19,11 +19,18 @@ use Rattle.work_gen.specs.Job.{job_text}
 use Rattle.wsc_top.specs.Tasks.{IsLine, IsNoLine}
 use Rattle.wsc_top.proofs.Tasks.{OneLine, same_task_by}
 use Rattle.wsc_top.specs.declared.task.RunOptions.{RunOptions}
+use Rattle.wsc_top.specs.declared.task.BenchOptions.{BenchOptions}
 use Rattle.ws_words.specs.Outside.{World}
-use Rattle.wsc_top.specs.Job.{IsJob, world_of}
+use Rattle.wsc_top.specs.Job.{job_limit, IsJob, world_of}
 use Rattle.wsc_top.specs.Texts.{usage_text, unread_text, long_text, asm_refusal_text}
 use Rattle.wsc_top.specs.Executions.{Executes, rested, spent, stopped}
-use Rattle.wsc_top.specs.Answers.{job_limit, TellsRun, Yields, ran, formatted, compiled, ended, faulted, going, Answered, refused, done, IsReader, limit_of, AssemblyYields, checked, listed, executed, AssemblyEndsSo, AssemblyAnswered, Answers, usage, generated, unread, long, read, assembled, WereRead, IsToldJob, IsToldOther, IsToldAssembly, IsToldNoAssembly}
+use Rattle.wsc_top.specs.Generated.{TellsBriefly}
+use Rattle.wsc_top.specs.Generated as briefly
+use Rattle.trace_check.specs.declared.recording.TraceEnd.{TraceEnd}
+use Rattle.trace_check.specs.declared.recording.TraceEnd.TheVariants as end
+use Rattle.wsc_top.specs.Traced as traces
+use Rattle.wsc_top.specs.Traced.{IsReplayed, missing, faulty, illegal, made, trace_status}
+use Rattle.wsc_top.specs.Answers.{TellsRun, Yields, ran, formatted, compiled, ended, faulted, going, Answered, refused, done, IsReader, limit_of, assembly_text, AssemblyYields, checked, listed, executed, traced, replayed, AssemblyEndsSo, AssemblyAnswered, Answers, usage, generated, unread, long, read, assembled, WereRead, IsToldJob, IsToldOther, IsToldAssembly, IsToldNoAssembly, Benched, benched}
 
 -- the answer where the words are no line
 pub usage_answers : (words : List (List ℕ)) (left : Option (List ℕ)) (m n : ℕ) (out : List ℕ) → IsNoLine words → out ≡ usage_text → Answers words left left m n Usage out
@@ -34,6 +41,11 @@ pub generated_answers : (words : List (List ℕ)) (left : Option (List ℕ)) (m 
     → IsLine words (Generate number) → out ≡ job_text number → Answers words left left m n Done out
 generated_answers words left m n number out h e =
     subst (λ o. Answers words left left m n Done o) (sym e) (generated number h refl)
+
+-- the answer where one is to be run
+pub benched_answers : (words : List (List ℕ)) (left : Option (List ℕ)) (m n : ℕ) (options : BenchOptions) (status : Status) (out : List ℕ)
+    → IsLine words (Bench options) → Benched options status out → Answers words left left m n status out
+benched_answers words left m n options status out h b = benched options h refl b
 
 -- the answer where reading failed
 pub unread_answers : (words : List (List ℕ)) (left after : Option (List ℕ)) (m n : ℕ) (out : List ℕ) (t : Task)
@@ -65,11 +77,11 @@ assembled_answers words left after m n text same out c status r l t e a =
 
 -- what is written where an assembly is refused
 pub unsound_answers : (task : AssemblyTask) (text out : List ℕ) (f : AssemblyFault) (why : AsmRefusal)
-    → f ≡ fault.Refused why → IsAssemblyFault text f → out ≡ asm_refusal_text why
+    → f ≡ fault.Refused why → IsAssemblyFault (assembly_text task text) f → out ≡ asm_refusal_text why
     → AssemblyAnswered task text Refused out
 unsound_answers task text out f why is h e =
     subst (λ o. AssemblyAnswered task text Refused o) (sym e)
-    (answers.AssemblyAnswered.refused why (subst (λ x. IsAssemblyFault text x) is h))
+    (answers.AssemblyAnswered.refused why (subst (λ x. IsAssemblyFault (assembly_text task text) x) is h))
 
 -- any told text that is no job is refused
 other_refused : OneLine → (words : List (List ℕ)) (c : JobTask) (text : List ℕ) (after : Option (List ℕ)) (m n : ℕ) (status : Status) (out : List ℕ) → Answers words (Some text) after m n status out
@@ -77,6 +89,8 @@ other_refused : OneLine → (words : List (List ℕ)) (c : JobTask) (text : List
 other_refused one words c text after m n status out (usage h e) r b f = absurd (h (Job c) r)
 other_refused one words c text after m n status out (generated k q e) r b f =
     let same : Generate k ≡ Job c = same_task_by one words (Generate k) (Job c) q r in absurd cc
+other_refused one words c text after m n status out (benched o q e x) r b f =
+    let same : Bench o ≡ Job c = same_task_by one words (Bench o) (Job c) q r in absurd cc
 other_refused one words c text after m n status out (unread d bytes q is rose k t) r b f = absurd (f refl)
 other_refused one words c text after m n status out (long d bytes q is k t) r b f = refl
 other_refused one words c text after m n status out (read d other q k t (refused x h)) r b f = refl
@@ -90,18 +104,23 @@ other_refused one words c text after m n status out (assembled d other q k t a) 
 -- any told text that is no assembly is refused
 none_refused : OneLine → (words : List (List ℕ)) (c : AssemblyTask) (text : List ℕ) (after : Option (List ℕ)) (m n : ℕ)
     (status : Status) (out : List ℕ) → Answers words (Some text) after m n status out → IsLine words (Assembly c)
-    → (length text ≤ assembly_limit → (image : Image) (input : List ℕ) → IsAssembly text image input → ⊥)
+    → (length text ≤ assembly_limit → (image : Image) (input : List ℕ) → IsAssembly (assembly_text c text) image input → ⊥)
     → (status ≡ ReadFault → ⊥) → status ≡ Refused
 none_refused one words c text after m n status out (usage h e) r b f = absurd (h (Assembly c) r)
 none_refused one words c text after m n status out (generated k q e) r b f =
     let same : Generate k ≡ Assembly c = same_task_by one words (Generate k) (Assembly c) q r in absurd cc
+none_refused one words c text after m n status out (benched o q e x) r b f =
+    let same : Bench o ≡ Assembly c = same_task_by one words (Bench o) (Assembly c) q r in absurd cc
 none_refused one words c text after m n status out (unread d bytes q is rose k t) r b f = absurd (f refl)
 none_refused one words c text after m n status out (long d bytes q is k t) r b f = refl
 none_refused one words c text after m n status out (read d other q k t a) r b f =
     let same : Job d ≡ Assembly c = same_task_by one words (Job d) (Assembly c) q r in absurd cc
 none_refused one words c text after m n status out (assembled d other q k t (answers.AssemblyAnswered.refused x h)) r b f = refl
 none_refused one words c text after m n status out (assembled d other q k t (answers.AssemblyAnswered.done image input a y)) r b f =
-    absurd (b (subst (λ x. length x ≤ assembly_limit) (sym t.0) k) image input (subst (λ x. IsAssembly x image input) (sym t.0) a))
+    let whole : Assembly d ≡ Assembly c = same_task_by one words (Assembly d) (Assembly c) q r in
+    let same : d ≡ c = cc in
+    absurd (b (subst (λ x. length x ≤ assembly_limit) (sym t.0) k) image input
+    (subst (λ x. IsAssembly (assembly_text c x) image input) (sym t.0) (subst (λ e. IsAssembly (assembly_text e other) image input) same a)))
 
 -- a told text that is no assembly is refused, or reading failed
 pub told_unassembled : OneLine → (words : List (List ℕ)) (c : AssemblyTask) (left after : Option (List ℕ)) (m n : ℕ)
@@ -152,26 +171,48 @@ executes_status options image world status out (rested t n k w) = tt
 executes_status options image world status out (spent t s) = tt
 executes_status options image world status out (stopped t f w) = tt
 
-yield_status : (c : AssemblyTask) (image : Image) (input : List ℕ) (status : Status) (out : List ℕ) → AssemblyYields c image input status out → IsOfText status
-yield_status c image input status out checked = tt
-yield_status c image input status out listed = tt
-yield_status c image input status out (executed {options} e) = executes_status options image (world_of input) status out e
+trace_ends : (how : TraceEnd) → IsOfText (trace_status how)
+trace_ends end.Rest = tt
+trace_ends end.Budget = tt
+trace_ends end.Fault = tt
+
+replay_status : (text : List ℕ) (image : Image) (input : List ℕ) (status : Status) (out : List ℕ) → IsReplayed text image input status out → IsOfText status
+replay_status text image input status out (missing e) = tt
+replay_status text image input status out (faulty kind line n e) = tt
+replay_status text image input status out (traces.IsReplayed.read trace h (illegal line s)) = tt
+replay_status text image input status out (traces.IsReplayed.read trace h (made r s)) = tt
+
+yield_status : (c : AssemblyTask) (text : List ℕ) (image : Image) (input : List ℕ) (status : Status) (out : List ℕ) → AssemblyYields c text image input status out → IsOfText status
+yield_status c text image input status out checked = tt
+yield_status c text image input status out listed = tt
+yield_status c text image input status out (executed {options} e) = executes_status options image (world_of input) status out e
+yield_status c text image input status out (traced t) = subst IsOfText (sym t.status_is) (trace_ends t.how)
+yield_status c text image input status out (replayed r) = replay_status text image input status out r
 
 assembly_status : (c : AssemblyTask) (text : List ℕ) (status : Status) (out : List ℕ) → AssemblyAnswered c text status out
     → IsOfText status
 assembly_status c text status out (answers.AssemblyAnswered.refused x h) = tt
-assembly_status c text status out (answers.AssemblyAnswered.done image input a y) = yield_status c image input status out y
+assembly_status c text status out (answers.AssemblyAnswered.done image input a y) = yield_status c text image input status out y
+
+brief_status : (parts : List Part) (world : World) (status : Status) (out : List ℕ) → TellsBriefly parts world status out → IsOfText status
+brief_status parts world status out (briefly.TellsBriefly.ended n end r) = tt
+brief_status parts world status out (briefly.TellsBriefly.faulted n array state f) = tt
+brief_status parts world status out briefly.TellsBriefly.spent = tt
+
+bench_status : (o : BenchOptions) (status : Status) (out : List ℕ) → Benched o status out → IsOfText status
+bench_status o status out b = brief_status b.parts _ status out b.runs.tells
 
 -- the status of a task to an assembly, where it is the same image and the same words
-pub assembly_ends : (task : AssemblyTask) (found image : Image) (words input : List ℕ) (status : Status)
-    → (found ≡ image) × (words ≡ input) → AssemblyEndsSo task found words status → AssemblyEndsSo task image input status
-assembly_ends task found image words input status e h =
-    subst (λ w. AssemblyEndsSo task image w status) e.1 (subst (λ i. AssemblyEndsSo task i words status) e.0 h)
+pub assembly_ends : (task : AssemblyTask) (text : List ℕ) (found image : Image) (words input : List ℕ) (status : Status)
+    → (found ≡ image) × (words ≡ input) → AssemblyEndsSo task text found words status → AssemblyEndsSo task text image input status
+assembly_ends task text found image words input status e h =
+    subst (λ w. AssemblyEndsSo task text image w status) e.1 (subst (λ i. AssemblyEndsSo task text i words status) e.0 h)
 
 -- no answer has this status
 pub not_memory : (words : List (List ℕ)) (left after : Option (List ℕ)) (m n : ℕ) (status : Status) (out : List ℕ) → Answers words left after m n status out → status ≡ NoMemory → ⊥
 not_memory words left after m n status out (usage g e) h = cc
 not_memory words left after m n status out (generated k q e) h = cc
+not_memory words left after m n status out (benched o q e x) h = subst IsOfText h (bench_status o status out x)
 not_memory words left after m n status out (unread c bytes q is f k t) h = cc
 not_memory words left after m n status out (long c bytes q is k t) h = cc
 not_memory words left after m n status out (read c text q k t a) h = subst IsOfText h (text_status c text status out a)
@@ -181,6 +222,7 @@ not_memory words left after m n status out (assembled c text q k t a) h = subst 
 pub not_write_fault : (words : List (List ℕ)) (left after : Option (List ℕ)) (m n : ℕ) (status : Status) (out : List ℕ) → Answers words left after m n status out → status ≡ WriteFault → ⊥
 not_write_fault words left after m n status out (usage g e) h = cc
 not_write_fault words left after m n status out (generated k q e) h = cc
+not_write_fault words left after m n status out (benched o q e x) h = subst IsOfText h (bench_status o status out x)
 not_write_fault words left after m n status out (unread c bytes q is f k t) h = cc
 not_write_fault words left after m n status out (long c bytes q is k t) h = cc
 not_write_fault words left after m n status out (read c text q k t a) h = subst IsOfText h (text_status c text status out a)
@@ -200,16 +242,22 @@ told_is left after text same view parts input e job t v =
     subst (λ x. IsJob x parts input) (sym (v ∙ told_text left text same after e t)) job
 
 -- the same of an assembly
-pub assembly_is : (left after : Option (List ℕ)) (text same view : List ℕ) (image : Image) (input : List ℕ)
-    → left ≡ Some text → IsAssembly text image input → TakesAll left same after → view ≡ same
-    → IsAssembly view image input
-assembly_is left after text same view image input e a t v =
-    subst (λ x. IsAssembly x image input) (sym (v ∙ told_text left text same after e t)) a
+pub assembly_is : (left after : Option (List ℕ)) (text same view : List ℕ) (task : AssemblyTask) (image : Image) (input : List ℕ)
+    → left ≡ Some text → IsAssembly (assembly_text task text) image input → TakesAll left same after → view ≡ same
+    → IsAssembly (assembly_text task view) image input
+assembly_is left after text same view task image input e a t v =
+    subst (λ x. IsAssembly (assembly_text task x) image input) (sym (v ∙ told_text left text same after e t)) a
+
+pub ends_is : (left after : Option (List ℕ)) (text same view : List ℕ) (task : AssemblyTask) (image : Image) (input : List ℕ) (status : Status)
+    → left ≡ Some text → TakesAll left same after → view ≡ same → AssemblyEndsSo task view image input status → AssemblyEndsSo task text image input status
+ends_is left after text same view task image input status e t v h =
+    subst (λ x. AssemblyEndsSo task x image input status) (v ∙ told_text left text same after e t) h
 
 -- where the answer is that reading failed, the count rose
 pub read_rose : (words : List (List ℕ)) (left after : Option (List ℕ)) (m n : ℕ) (status : Status) (out : List ℕ) → Answers words left after m n status out → status ≡ ReadFault → Rose m n
 read_rose words left after m n status out (usage g e) h = cc
 read_rose words left after m n status out (generated k q e) h = cc
+read_rose words left after m n status out (benched o q e x) h = absurd (subst IsOfText h (bench_status o status out x))
 read_rose words left after m n status out (unread c bytes q is rose k t) h = rose
 read_rose words left after m n status out (long c bytes q is k t) h = cc
 read_rose words left after m n status out (read c text q k t a) h = absurd (subst IsOfText h (text_status c text status out a))
@@ -236,6 +284,7 @@ pub no_line_usage : (words : List (List ℕ)) (left after : Option (List ℕ)) (
     → Answers words left after m n status out → IsNoLine words → status ≡ Usage
 no_line_usage words left after m n status out (usage g e) h = refl
 no_line_usage words left after m n status out (generated k q e) h = absurd (h (Generate k) q)
+no_line_usage words left after m n status out (benched o q e x) h = absurd (h (Bench o) q)
 no_line_usage words left after m n status out (unread c bytes q is rose k t) h = absurd (h c q)
 no_line_usage words left after m n status out (long c bytes q is k t) h = absurd (h c q)
 no_line_usage words left after m n status out (read c text q k t a) h = absurd (h (Job c) q)

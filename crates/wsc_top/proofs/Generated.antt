@@ -17,7 +17,7 @@ use Rattle.wave_gen.specs.Words.{IsWord}
 use Rattle.work_gen.specs.Program.{product}
 use Rattle.work_gen.specs.Job.{size, square, word, words_of, further_word, words_line, job_text}
 use Rattle.work_gen.specs.Jobs.{IsGenerated}
-use Rattle.wsc_top.specs.Sections.{ends_line, is_marker, after_line, front_of, rest_of, program_of, input_of, input_place, IsItem, IsWordText, stop, next, InputWords}
+use Rattle.wsc_top.specs.Sections.{ends_line, is_line, after_line, front_of, rest_of, program_of, input_of, input_place, IsItem, IsWordText, stop, next, InputWords}
 use Rattle.wsc_top.specs.Generated.{IsGeneratedJob}
 use Rattle.wsc_top.proofs.Bounds.{one_bound}
 
@@ -28,31 +28,37 @@ is_plain at_line (b ∷ bytes) = not (b == 37) && is_plain (b == 10) bytes
 
 -- the sections of a plain text and what begins with the marker
 
-front_step : (at_line : Bool) (b : ℕ) (bytes : List ℕ) → (b == 37) ≡ false → front_of at_line (b ∷ bytes) ≡ b ∷ front_of (b == 10) bytes
+abbrev input_marker : List ℕ
+input_marker = codes "%input"
+
+abbrev is_marker : List ℕ → Bool
+is_marker text = is_line input_marker text
+
+front_step : (at_line : Bool) (b : ℕ) (bytes : List ℕ) → (b == 37) ≡ false → front_of input_marker at_line (b ∷ bytes) ≡ b ∷ front_of input_marker (b == 10) bytes
 front_step true b bytes e = rw e refl
 front_step false b bytes e = refl
 
-rest_step : (at_line : Bool) (b : ℕ) (bytes : List ℕ) → (b == 37) ≡ false → rest_of at_line (b ∷ bytes) ≡ rest_of (b == 10) bytes
+rest_step : (at_line : Bool) (b : ℕ) (bytes : List ℕ) → (b == 37) ≡ false → rest_of input_marker at_line (b ∷ bytes) ≡ rest_of input_marker (b == 10) bytes
 rest_step true b bytes e = rw e refl
 rest_step false b bytes e = refl
 
-front_end : (text : List ℕ) → is_marker text ≡ true → front_of true text ≡ []
+front_end : (text : List ℕ) → is_marker text ≡ true → front_of input_marker true text ≡ []
 front_end [] m = refl
-front_end (b ∷ bytes) m = ap (λ (t : Bool). if t then [] else b ∷ front_of (b == 10) bytes) m
+front_end (b ∷ bytes) m = ap (λ (t : Bool). if t then [] else b ∷ front_of input_marker (b == 10) bytes) m
 
-rest_end : (text : List ℕ) → is_marker text ≡ true → rest_of true text ≡ text
+rest_end : (text : List ℕ) → is_marker text ≡ true → rest_of input_marker true text ≡ text
 rest_end [] m = refl
-rest_end (b ∷ bytes) m = ap (λ (t : Bool). if t then b ∷ bytes else rest_of (b == 10) bytes) m
+rest_end (b ∷ bytes) m = ap (λ (t : Bool). if t then b ∷ bytes else rest_of input_marker (b == 10) bytes) m
 
 module _ (rest : List ℕ) (marker : is_marker rest ≡ true) where
-  front_plain : (at_line : Bool) (text : List ℕ) → is_plain at_line text ≡ true → front_of at_line (text ++ rest) ≡ text
-  front_plain at_line [] h = ap (λ t. front_of t rest) h ∙ front_end rest marker
+  front_plain : (at_line : Bool) (text : List ℕ) → is_plain at_line text ≡ true → front_of input_marker at_line (text ++ rest) ≡ text
+  front_plain at_line [] h = ap (λ t. front_of input_marker t rest) h ∙ front_end rest marker
   front_plain at_line (b ∷ bytes) h =
       let parts = and_parts (not (b == 37)) (is_plain (b == 10) bytes) h in
       front_step at_line b (bytes ++ rest) (not-true (b == 37) parts.0) ∙ ap (λ t. b ∷ t) (front_plain (b == 10) bytes parts.1)
 
-  rest_plain : (at_line : Bool) (text : List ℕ) → is_plain at_line text ≡ true → rest_of at_line (text ++ rest) ≡ rest
-  rest_plain at_line [] h = ap (λ t. rest_of t rest) h ∙ rest_end rest marker
+  rest_plain : (at_line : Bool) (text : List ℕ) → is_plain at_line text ≡ true → rest_of input_marker at_line (text ++ rest) ≡ rest
+  rest_plain at_line [] h = ap (λ t. rest_of input_marker t rest) h ∙ rest_end rest marker
   rest_plain at_line (b ∷ bytes) h =
       let parts = and_parts (not (b == 37)) (is_plain (b == 10) bytes) h in
       rest_step at_line b (bytes ++ rest) (not-true (b == 37) parts.0) ∙ rest_plain (b == 10) bytes parts.1
@@ -127,11 +133,11 @@ module _ (number : ℕ) where
 
   program_is : program_of (job_text number) ≡ program
   unfolding job_text
-  program_is = ap (front_of true) (append_assoc program (codes "%input\n") line) ∙ front_plain (codes "%input\n" ++ line) marks true program plain
+  program_is = ap (front_of input_marker true) (append_assoc program (codes "%input\n") line) ∙ front_plain (codes "%input\n" ++ line) marks true program plain
 
   input_is : input_of (job_text number) ≡ line
   unfolding job_text
-  input_is = ap (λ t. after_line (rest_of true t)) (append_assoc program (codes "%input\n") line) ∙ ap after_line (rest_plain (codes "%input\n" ++ line) marks true program plain)
+  input_is = ap (λ t. after_line (rest_of input_marker true t)) (append_assoc program (codes "%input\n") line) ∙ ap after_line (rest_plain (codes "%input\n" ++ line) marks true program plain)
 
 -- words on a line are read
 

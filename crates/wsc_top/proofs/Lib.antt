@@ -16,5 +16,7 @@ pub mod Outcomes
 pub mod AnswersOnce
 pub mod RunsAlike
 pub mod AssembliesOnce
+pub mod Brief
 pub mod Bounds
 pub mod Generated
+pub mod Replays

@@ -12,9 +12,10 @@ use Rattle.list_out.specs.Listing.{listing}
 use Rattle.wsc_top.specs.declared.status.Status.{Status}
 use Rattle.wsc_top.specs.declared.status.Status.TheVariants.{Done, Budget, Fault}
 use Rattle.wsc_top.specs.declared.task.AssemblyTask.{AssemblyTask}
-use Rattle.wsc_top.specs.declared.task.AssemblyTask.TheVariants.{Check, List as Listing, Exec}
+use Rattle.wsc_top.specs.declared.task.AssemblyTask.TheVariants.{Check, List as Listing, Exec, Trace, Replay}
 use Rattle.wsc_top.specs.Job.{world_of}
-use Rattle.wsc_top.specs.Answers.{AssemblyYields, checked, listed, executed}
+use Rattle.wsc_top.specs.Answers.{AssemblyYields, checked, listed, executed, traced, replayed}
+use Rattle.wsc_top.specs.Traced.{IsTraced, IsReplayed}
 use Rattle.wsc_top.specs.declared.task.RunOptions.{RunOptions}
 use Rattle.wsc_top.specs.Texts.{spent_text, sound_text}
 use Rattle.wsc_top.specs.Executions.{rested_text, stopped_text, Executes, rested, spent, stopped}
@@ -66,15 +67,25 @@ module _ (options : RunOptions) (image : Image) (world : World) (d : Told) (out 
       (stopped t told.fault (omega (arith, told.place, told.within)))
 
 -- what comes of a task to a sound image
-pub checked_yields : (task : AssemblyTask) (image : Image) (input out : List ℕ) → task ≡ Check → out ≡ sound_text → AssemblyYields task image input Done out
-checked_yields task image input out e f =
-    subst (λ t. AssemblyYields t image input Done out) (sym e) (subst (λ o. AssemblyYields Check image input Done o) (sym f) checked)
+pub checked_yields : (task : AssemblyTask) (text : List ℕ) (image : Image) (input out : List ℕ) → task ≡ Check → out ≡ sound_text → AssemblyYields task text image input Done out
+checked_yields task text image input out e f =
+    subst (λ t. AssemblyYields t text image input Done out) (sym e) (subst (λ o. AssemblyYields Check text image input Done o) (sym f) checked)
 
-pub listed_yields : (task : AssemblyTask) (image : Image) (input out : List ℕ) → task ≡ Listing → out ≡ listing image → AssemblyYields task image input Done out
-listed_yields task image input out e f =
-    subst (λ t. AssemblyYields t image input Done out) (sym e) (subst (λ o. AssemblyYields Listing image input Done o) (sym f) listed)
+pub listed_yields : (task : AssemblyTask) (text : List ℕ) (image : Image) (input out : List ℕ) → task ≡ Listing → out ≡ listing image → AssemblyYields task text image input Done out
+listed_yields task text image input out e f =
+    subst (λ t. AssemblyYields t text image input Done out) (sym e) (subst (λ o. AssemblyYields Listing text image input Done o) (sym f) listed)
 
-pub executed_yields : {E : Type 0} (task : AssemblyTask) (options : RunOptions) (image : Image) (input : List ℕ) (result : Result (Status × List ℕ) E) → task ≡ Exec options
-    → IfOk result (λ y. Executes options image (world_of input) y.0 y.1) → IfOk result (λ y. AssemblyYields task image input y.0 y.1)
-executed_yields task options image input (Ok y) e h = subst (λ t. AssemblyYields t image input y.0 y.1) (sym e) (executed h)
-executed_yields task options image input (Err e) f h = tt
+pub executed_yields : {E : Type 0} (task : AssemblyTask) (options : RunOptions) (text : List ℕ) (image : Image) (input : List ℕ) (result : Result (Status × List ℕ) E) → task ≡ Exec options
+    → IfOk result (λ y. Executes options image (world_of input) y.0 y.1) → IfOk result (λ y. AssemblyYields task text image input y.0 y.1)
+executed_yields task options text image input (Ok y) e h = subst (λ t. AssemblyYields t text image input y.0 y.1) (sym e) (executed h)
+executed_yields task options text image input (Err e) f h = tt
+
+pub traced_yields : {E : Type 0} (task : AssemblyTask) (budget : ℕ) (text : List ℕ) (image : Image) (input : List ℕ) (result : Result (Status × List ℕ) E) → task ≡ Trace budget
+    → IfOk result (λ y. IsTraced budget image input y.0 y.1) → IfOk result (λ y. AssemblyYields task text image input y.0 y.1)
+traced_yields task budget text image input (Ok y) e h = subst (λ t. AssemblyYields t text image input y.0 y.1) (sym e) (traced h)
+traced_yields task budget text image input (Err e) f h = tt
+
+pub replayed_yields : {E : Type 0} (task : AssemblyTask) (text : List ℕ) (image : Image) (input : List ℕ) (result : Result (Status × List ℕ) E) → task ≡ Replay
+    → IfOk result (λ y. IsReplayed text image input y.0 y.1) → IfOk result (λ y. AssemblyYields task text image input y.0 y.1)
+replayed_yields task text image input (Ok y) e h = subst (λ t. AssemblyYields t text image input y.0 y.1) (sym e) (replayed h)
+replayed_yields task text image input (Err e) f h = tt

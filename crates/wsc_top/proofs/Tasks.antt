@@ -4,9 +4,10 @@ use Rattle.std.proofs.Common.{sym, ap, ◌∙◌, subst}
 use Rattle.wsc_words.specs.Lines as lines
 use Rattle.wsc_words.specs.declared.line.Line.{Line}
 use Rattle.wsc_top.specs.declared.task.Task.{Task}
-use Rattle.wsc_top.specs.declared.task.Task.TheVariants.{Job, Assembly}
+use Rattle.wsc_top.specs.declared.task.Task.TheVariants.{Job, Assembly, Bench}
 use Rattle.wsc_top.specs.declared.task.JobTask.{JobTask}
 use Rattle.wsc_top.specs.declared.task.AssemblyTask.{AssemblyTask}
+use Rattle.wsc_top.specs.declared.task.BenchOptions.{BenchOptions}
 use Rattle.wsc_top.specs.Tasks.{task_of, IsLine, IsNoLine}
 
 -- words are one line at most
@@ -48,4 +49,10 @@ same_job one words c d h k =
 pub same_assembly : OneLine → (words : List (List ℕ)) (c d : AssemblyTask) → IsLine words (Assembly c) → IsLine words (Assembly d) → c ≡ d
 same_assembly one words c d h k =
     let whole : Assembly c ≡ Assembly d = same_task_by one words (Assembly c) (Assembly d) h k in
+    cc
+
+-- two lines for generated jobs that are run ask for the same
+pub same_bench : OneLine → (words : List (List ℕ)) (c d : BenchOptions) → IsLine words (Bench c) → IsLine words (Bench d) → c ≡ d
+same_bench one words c d h k =
+    let whole : Bench c ≡ Bench d = same_task_by one words (Bench c) (Bench d) h k in
     cc

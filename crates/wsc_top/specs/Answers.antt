@@ -12,13 +12,14 @@ use Rattle.src_ast.specs.Written.{ReadsTheSame}
 use Rattle.wsc_top.specs.declared.status.Status.{Status}
 use Rattle.wsc_top.specs.declared.status.Status.TheVariants.{Done, Usage, Refused, Budget, ReadFault, NoMemory, Fault}
 use Rattle.wsc_top.specs.declared.task.Task.{Task}
-use Rattle.wsc_top.specs.declared.task.Task.TheVariants.{Job, Assembly, Generate}
+use Rattle.wsc_top.specs.declared.task.Task.TheVariants.{Job, Assembly, Generate, Bench}
 use Rattle.wsc_top.specs.declared.task.JobTask.{JobTask}
 use Rattle.wsc_top.specs.declared.task.JobTask.TheVariants.{Run, Format, Compile, Plain}
 use Rattle.wsc_top.specs.declared.task.AssemblyTask.{AssemblyTask}
-use Rattle.wsc_top.specs.declared.task.AssemblyTask.TheVariants.{Check, List as Listing, Exec}
+use Rattle.wsc_top.specs.declared.task.AssemblyTask.TheVariants.{Check, List as Listing, Exec, Trace, Replay}
 use Rattle.wsc_top.specs.declared.task.PlainOptions.{PlainOptions}
 use Rattle.wsc_top.specs.declared.task.RunOptions.{RunOptions}
+use Rattle.wsc_top.specs.declared.task.BenchOptions.{BenchOptions}
 use Rattle.wsc_top.specs.declared.assembly.AsmRefusal.{AsmRefusal}
 use Rattle.ws_isa.specs.Image.{Image}
 use Rattle.ws_isa.specs.Formed.{Formed}
@@ -28,16 +29,15 @@ use Rattle.wave_link.specs.Ripples.{ExactRipples}
 use Rattle.wave_build.specs.Compiled.{ShowsArrays, DoesAs, KeepsBound, HasDraft}
 use Rattle.asm_text.specs.Printed.{printed}
 use Rattle.list_out.specs.Listing.{listing}
+use Rattle.wsc_top.specs.Sections.{before_trace}
 use Rattle.wsc_top.specs.Assembly.{assembly_limit, IsAssembly, RefusesAssembly}
-use Rattle.work_gen.specs.Job.{job_text}
+use Rattle.work_gen.specs.Job.{words_of, job_text}
 use Rattle.wsc_top.specs.Tasks.{IsLine, IsNoLine}
-use Rattle.wsc_top.specs.Job.{IsJob, Refuses, world_of}
+use Rattle.wsc_top.specs.Job.{job_limit, IsJob, Refuses, world_of}
 use Rattle.wsc_top.specs.Texts.{ended_text, faulted_text, going_text, spent_text, turns_line, firings_line, names_of, array_name, usage_text, unread_text, long_text, refusal_text, sound_text, asm_refusal_text}
 use Rattle.wsc_top.specs.Executions.{Executes, EndsRun}
-
--- the most bytes of a job
-abbrev pub job_limit : ℕ
-job_limit = 1048576
+use Rattle.wsc_top.specs.Generated.{IsGeneratedJob, TellsBriefly}
+use Rattle.wsc_top.specs.Traced.{IsTraced, IsReplayed, EndsReplay}
 
 -- an image of a program as the compiler gives it: a machine runs it, it does what the program does
 -- within its bound, its notes are numbered and have the ripples that can be had, and it is a draft of the program with
@@ -174,32 +174,78 @@ IsAnswer task text answer = Answered task text answer.0 answer.1
 abbrev pub IsFree : RunOptions → Status → Type 0
 IsFree options status = (status ≡ Budget → ⊥) × (status ≡ Done → options.stats ≡ false)
 
--- What comes of a task to a sound image and its input words: `check` says that it is sound, `list`
--- lists it, and `exec` runs it.
-pub data AssemblyYields : AssemblyTask → Image → List ℕ → Status → List ℕ → Type 0 where
-  checked : {image : Image} {input : List ℕ} → AssemblyYields Check image input Done sound_text
-  listed : {image : Image} {input : List ℕ}
-      → AssemblyYields Listing image input Done (listing image)
-  executed : {options : RunOptions} {image : Image} {input : List ℕ} {status : Status}
-      {out : List ℕ} → Executes options image (world_of input) status out
-      → AssemblyYields (Exec options) image input status out
+-- the part of a text that is an assembly with its input words
+abbrev pub assembly_text : AssemblyTask → List ℕ → List ℕ
+assembly_text Replay text = before_trace text
+assembly_text _ text = text
 
--- the status of a task to a sound image: Done, but for a run
-abbrev pub AssemblyEndsSo : AssemblyTask → Image → List ℕ → Status → Type 0
-AssemblyEndsSo Check image input status = status ≡ Done
-AssemblyEndsSo Listing image input status = status ≡ Done
-AssemblyEndsSo (Exec options) image input status =
+-- What comes of a task to a text with a sound image and its input words: `check` says that it is
+-- sound, `list` lists it, `exec` runs it, `trace` prints the events of a run, and `replay` makes the
+-- events that the text has.
+pub data AssemblyYields : AssemblyTask → List ℕ → Image → List ℕ → Status → List ℕ → Type 0 where
+  checked : {text : List ℕ} {image : Image} {input : List ℕ}
+      → AssemblyYields Check text image input Done sound_text
+  listed : {text : List ℕ} {image : Image} {input : List ℕ}
+      → AssemblyYields Listing text image input Done (listing image)
+  executed : {options : RunOptions} {text : List ℕ} {image : Image} {input : List ℕ}
+      {status : Status} {out : List ℕ} → Executes options image (world_of input) status out
+      → AssemblyYields (Exec options) text image input status out
+  traced : {budget : ℕ} {text : List ℕ} {image : Image} {input : List ℕ} {status : Status}
+      {out : List ℕ} → IsTraced budget image input status out
+      → AssemblyYields (Trace budget) text image input status out
+  replayed : {text : List ℕ} {image : Image} {input : List ℕ} {status : Status} {out : List ℕ}
+      → IsReplayed text image input status out
+      → AssemblyYields Replay text image input status out
+
+-- the status of a task to a sound image: Done, but for a run, a trace and a replay
+abbrev pub AssemblyEndsSo : AssemblyTask → List ℕ → Image → List ℕ → Status → Type 0
+AssemblyEndsSo Check text image input status = status ≡ Done
+AssemblyEndsSo Listing text image input status = status ≡ Done
+AssemblyEndsSo (Exec options) text image input status =
     EndsRun image (world_of input) options.budget status
+AssemblyEndsSo (Trace budget) text image input status =
+    EndsRun image (world_of input) budget status
+AssemblyEndsSo Replay text image input status = EndsReplay text image input status
 
 -- The status and the text of the answer of a task to an assembly.
 pub data AssemblyAnswered (task : AssemblyTask) (text : List ℕ) : Status → List ℕ → Type 0 where
   -- it is refused
-  refused : (r : AsmRefusal) → RefusesAssembly text r
+  refused : (r : AsmRefusal) → RefusesAssembly (assembly_text task text) r
       → AssemblyAnswered task text Refused (asm_refusal_text r)
   -- it is sound, and this comes of it
   done : {status : Status} {out : List ℕ} (image : Image) (input : List ℕ)
-      → IsAssembly text image input → AssemblyYields task image input status out
+      → IsAssembly (assembly_text task text) image input
+      → AssemblyYields task text image input status out
       → AssemblyAnswered task text status out
+
+-- what is told in brief of the run of an image of a program
+pub record RunsBriefly (budget : ℕ) (parts : List Part) (input : List ℕ) (status : Status)
+    (out : List ℕ) : Type 0 where
+  pub image : Image
+  pub compiled : IsCompiled parts image
+  pub ends : EndsRun image (world_of input) budget status
+  pub tells : TellsBriefly parts (world_of input) status out
+
+-- The status and the text of the answer of `bench`: an image of the generated job is run.
+pub record Benched (options : BenchOptions) (status : Status) (out : List ℕ) : Type 0 where
+  pub parts : List Part
+  pub job : IsGeneratedJob options.number parts
+  pub runs : RunsBriefly options.budget parts (words_of options.number) status out
+
+-- a run with this budget
+abbrev pub run_within : ℕ → JobTask
+run_within budget = Run (record { budget = budget; memory = false; stats = false })
+
+-- the status of `bench`: that of the run of the program
+abbrev pub BenchEndsSo : BenchOptions → List Part → Status → Type 0
+BenchEndsSo options parts status =
+    EndsSo (run_within options.budget) parts (words_of options.number) status
+
+-- a task that doesn't speak of the order of events
+abbrev pub IsSettled : AssemblyTask → Type 0
+IsSettled (Trace budget) = ⊥
+IsSettled Replay = ⊥
+IsSettled _ = Unit {0}
 
 -- a status and a text are an answer of a task to an assembly
 abbrev pub IsAssemblyReply : AssemblyTask → List ℕ → Status × List ℕ → Type 0
@@ -210,12 +256,14 @@ abbrev pub IsReader : Task → Type 0
 IsReader (Job task) = Unit {0}
 IsReader (Assembly task) = Unit {0}
 IsReader (Generate number) = ⊥
+IsReader (Bench options) = ⊥
 
 -- the most bytes that it reads as a text
 abbrev pub limit_of : Task → ℕ
 limit_of (Job task) = job_limit
 limit_of (Assembly task) = assembly_limit
 limit_of (Generate number) = 0
+limit_of (Bench options) = 0
 
 -- The status and the text of the answer to these words, where the source had these bytes left
 -- before the call and those after it, and counted these faults before it and those after it.
@@ -226,6 +274,10 @@ pub data Answers (words : List (List ℕ)) (left after : Option (List ℕ)) (fau
   -- the job of this number is written; nothing is read
   generated : (number : ℕ) → IsLine words (Generate number) → after ≡ left
       → Answers words left after faults counted Done (job_text number)
+  -- the job of this number is run; nothing is read
+  benched : {status : Status} {out : List ℕ} (options : BenchOptions)
+      → IsLine words (Bench options) → after ≡ left → Benched options status out
+      → Answers words left after faults counted status out
   -- reading failed
   unread : (task : Task) (bytes : List ℕ) → IsLine words task → IsReader task
       → Rose faults counted → length bytes ≤ limit_of task → Takes left bytes after
@@ -275,7 +327,7 @@ pub record IsToldAssembly (words : List (List ℕ)) (left : Option (List ℕ)) (
   pub line : IsLine words (Assembly task)
   pub told : left ≡ Some text
   pub short : length text ≤ assembly_limit
-  pub assembly : IsAssembly text image input
+  pub assembly : IsAssembly (assembly_text task text) image input
 
 -- all that the source has left is told, and it is no such assembly
 pub record IsToldNoAssembly (words : List (List ℕ)) (left : Option (List ℕ)) (task : AssemblyTask)
@@ -284,7 +336,7 @@ pub record IsToldNoAssembly (words : List (List ℕ)) (left : Option (List ℕ))
   pub line : IsLine words (Assembly task)
   pub told : left ≡ Some text
   pub other : length text ≤ assembly_limit → (image : Image) (input : List ℕ)
-      → IsAssembly text image input → ⊥
+      → IsAssembly (assembly_text task text) image input → ⊥
 
 -- the status is this one, unless memory ran out
 abbrev pub OrNoMemory : Status → Status → Type 0

@@ -12,7 +12,7 @@ use Rattle.core_run.specs.Answer.{FiringSteps, FirstAmong, RunSo}
 use Rattle.wsc_top.specs.declared.status.Status.{Status}
 use Rattle.wsc_top.specs.declared.status.Status.TheVariants.{Done, Budget, Fault}
 use Rattle.wsc_top.specs.declared.task.RunOptions.{RunOptions}
-use Rattle.wsc_top.specs.Texts.{ended_text, faulted_text, spent_text, firings_line, shown_names, called}
+use Rattle.wsc_top.specs.Texts.{ended_text, faulted_text, spent_text, firings_line, shown_names, called, summary_text, budget_line, fault_line}
 
 -- the answer of a run that printed these words, left these cells of all arrays, and fired so often
 abbrev pub rested_text : RunOptions → List Array → List ℕ → List (List ℕ) → ℕ → List ℕ
@@ -44,6 +44,20 @@ pub record IsRun (options : RunOptions) (image : Image) (world : World) (status 
   pub so : RunSo image world options.budget run
   pub status_is : status ≡ status_of run
   pub text_is : out ≡ run_text options image.arrays run
+
+-- a run that is told so, in brief
+abbrev pub brief_text : List Array → Run → List ℕ
+brief_text arrays (Rest d) = summary_text d.printed
+brief_text arrays (Spent d) = budget_line
+brief_text arrays (Stopped array d) = fault_line (called arrays array)
+
+-- the run of an image answered with this status and this text in brief
+pub record IsBriefRun (budget : ℕ) (image : Image) (world : World) (status : Status)
+    (out : List ℕ) : Type 0 where
+  pub run : Run
+  pub so : RunSo image world budget run
+  pub status_is : status ≡ status_of run
+  pub text_is : out ≡ brief_text image.arrays run
 
 -- The walk has more instances than the budget. Exactly so many have fired, at some of its steps;
 -- and of the walk's operations, in their order, those before step t are the most of which all have,

@@ -17,6 +17,10 @@ use Rattle.src_ast.specs.Faults.{SyntaxAt}
 use Rattle.src_ast.specs.Rules.{rules_of, IsAccepted, IsFirstBroken}
 use Rattle.wsc_top.specs.Sections.{program_of, input_of, input_place, InputWords, InputFault}
 
+-- the most bytes of a job
+abbrev pub job_limit : ℕ
+job_limit = 1048576
+
 -- the program section has lexemes within the limits, they have this tree, and it keeps the rules
 pub record ReadsAs (text : List ℕ) (parts : List Part) : Type 0 where
   pub ls : List Lexeme

@@ -5,5 +5,6 @@ pub mod Job
 pub mod Assembly
 pub mod Texts
 pub mod Executions
-pub mod Answers
 pub mod Generated
+pub mod Answers
+pub mod Traced

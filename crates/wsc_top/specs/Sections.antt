@@ -1,5 +1,6 @@
--- The sections of a job: the program, and after the first line `%input` the words that it reads.
-use Rattle.std.specs.Prelude.{◌≡◌, ℕ, ◌+◌, ◌^◌, ◌<◌, ◌==◌, Bool, true, false, not, ◌&&◌, ◌||◌, IsTrue, List, [], ◌∷◌, ◌++◌, codes, if◌then◌else◌, Result, Ok, Err}
+-- The sections of a text: the program or assembly, after the first line `%input` the words that it
+-- reads, and after a line `%trace` that follows it the events of a trace.
+use Rattle.std.specs.Prelude.{◌≡◌, ℕ, ◌+◌, ◌-◌, ◌^◌, ◌<◌, ◌==◌, Bool, true, false, not, ◌&&◌, ◌||◌, IsTrue, List, [], ◌∷◌, ◌++◌, codes, length, take, if◌then◌else◌, Result, Ok, Err}
 use Rattle.std.specs.List.{list_all}
 use Rattle.ws_words.specs.Digits.{is_number, value_of}
 use Rattle.src_ast.specs.declared.lexeme.Place.{Place}
@@ -21,34 +22,50 @@ is_line [] text = ends_line text
 is_line (m ∷ ms) [] = false
 is_line (m ∷ ms) (b ∷ text) = (b == m) && is_line ms text
 
--- the first line of the text is exactly `%input`
-abbrev pub is_marker : List ℕ → Bool
-is_marker text = is_line (codes "%input") text
-
 -- what stands after the first line feed
 abbrev pub after_line : List ℕ → List ℕ
 after_line [] = []
 after_line (b ∷ bytes) = if b == 10 then bytes else after_line bytes
 
--- The bytes in front of the first line that is exactly `%input`, or all; the flag says that a line
+-- The bytes in front of the first line that is exactly this one, or all; the flag says that a line
 -- begins here.
-abbrev pub front_of : Bool → List ℕ → List ℕ
-front_of at_line [] = []
-front_of at_line (b ∷ bytes) =
-    if at_line && is_marker (b ∷ bytes) then [] else b ∷ front_of (b == 10) bytes
+abbrev pub front_of : List ℕ → Bool → List ℕ → List ℕ
+front_of marker at_line [] = []
+front_of marker at_line (b ∷ bytes) =
+    if at_line && is_line marker (b ∷ bytes) then [] else b ∷ front_of marker (b == 10) bytes
 
 -- that line and what stands after it, or nothing
-abbrev pub rest_of : Bool → List ℕ → List ℕ
-rest_of at_line [] = []
-rest_of at_line (b ∷ bytes) =
-    if at_line && is_marker (b ∷ bytes) then b ∷ bytes else rest_of (b == 10) bytes
+abbrev pub rest_of : List ℕ → Bool → List ℕ → List ℕ
+rest_of marker at_line [] = []
+rest_of marker at_line (b ∷ bytes) =
+    if at_line && is_line marker (b ∷ bytes) then b ∷ bytes else rest_of marker (b == 10) bytes
 
 abbrev pub program_of : List ℕ → List ℕ
-program_of text = front_of true text
+program_of text = front_of (codes "%input") true text
 
 -- the input section without its marker
 abbrev pub input_of : List ℕ → List ℕ
-input_of text = after_line (rest_of true text)
+input_of text = after_line (rest_of (codes "%input") true text)
+
+-- the trace section, which stands in the input section: its marker `%trace` and what stands after
+-- it, or nothing
+abbrev pub trace_section : List ℕ → List ℕ
+trace_section text = rest_of (codes "%trace") true (input_of text)
+
+-- what stands in front of it
+abbrev pub before_trace : List ℕ → List ℕ
+before_trace text = take (length text - length (trace_section text)) text
+
+-- the events without the marker, and the number of their first line
+abbrev pub trace_of : List ℕ → List ℕ
+trace_of text = after_line (trace_section text)
+
+abbrev pub trace_line : List ℕ → ℕ
+trace_line text = (after start (before_trace text)).line + 1
+
+-- the number of the line at the text's end
+abbrev pub last_line : List ℕ → ℕ
+last_line text = (after start text).line
 
 -- the place where it begins
 abbrev pub input_place : List ℕ → Place

@@ -5,7 +5,7 @@ use Rattle.wsc_words.specs.declared.line.Line.{Line}
 use Rattle.wsc_words.specs.declared.command.Command.{Command}
 use Rattle.wsc_words.specs.declared.command.Command.TheVariants as command
 use Rattle.wsc_top.specs.declared.task.Task.{Task}
-use Rattle.wsc_top.specs.declared.task.Task.TheVariants.{Job, Assembly, Generate}
+use Rattle.wsc_top.specs.declared.task.Task.TheVariants.{Job, Assembly, Generate, Bench}
 use Rattle.wsc_top.specs.declared.task.JobTask.TheVariants.{Run, Format, Compile, Plain}
 use Rattle.wsc_top.specs.declared.task.AssemblyTask.TheVariants as assembly
 
@@ -29,7 +29,11 @@ task_by command.Exec line = Some (Assembly (assembly.Exec (record {
   stats = line.stats;
 })))
 task_by command.List line = Some (Assembly assembly.List)
+task_by command.Trace line = Some (Assembly (assembly.Trace line.budget))
+task_by command.Replay line = Some (Assembly assembly.Replay)
 task_by command.Gen line = Some (Generate line.number)
+task_by command.Bench line =
+    Some (Bench (record { number = line.number; budget = line.budget }))
 task_by _ line = None
 
 -- what a line asks for, where that is built

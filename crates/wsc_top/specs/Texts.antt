@@ -1,5 +1,6 @@
 -- The texts of answers.
-use Rattle.std.specs.Prelude.{ℕ, zero, suc, ◌-◌, Bool, List, [], ◌∷◌, ◌++◌, Option, Some, None, if◌then◌else◌, codes, decimal, flat_map, map, unwrap_or}
+use Rattle.std.specs.Prelude.{ℕ, zero, suc, ◌-◌, ◌%◌, ◌^◌, Bool, List, [], ◌∷◌, ◌++◌, length, Option, Some, None, if◌then◌else◌, codes, decimal, flat_map, map, unwrap_or}
+use Rattle.std.specs.List.{sum}
 use Rattle.src_ast.specs.declared.fault.Quantity.{Quantity}
 use Rattle.src_ast.specs.declared.fault.Quantity.TheVariants.{NameBytes, Depth, Lexemes, Arrays, Length, CellSum, Procs, Params, Vars, Statements, PortNumber}
 use Rattle.src_ast.specs.declared.fault.Refusal.{Refusal}
@@ -23,6 +24,16 @@ word_line w = decimal w ++ codes "\n"
 -- the words of a run that came to its end, a line each, and `halt`
 abbrev pub done_text : List ℕ → List ℕ
 done_text ws = flat_map word_line ws ++ codes "halt\n"
+
+-- such a run in brief: `halt`, how many words it printed, and their sum modulo 2^64
+abbrev pub summary_text : List ℕ → List ℕ
+summary_text ws =
+    codes "halt\nwords " ++ decimal (length ws) ++ codes "\nsum " ++ decimal (sum ws % 2 ^ 64)
+    ++ codes "\n"
+
+-- the line of a run that spent its budget
+abbrev pub budget_line : List ℕ
+budget_line = codes "budget\n"
 
 abbrev pub usage_text : List ℕ
 usage_text = codes "usage: wsc run|plain|format|compile|check|exec|list|trace|replay|gen|bench [--workers N] [--budget N] [--turns N] [--memory] [--stats] [NUMBER]\n"

@@ -5,15 +5,19 @@ ghost use Rattle.ws_io.specs.Streams.{Rose, Takes};
 ghost use Rattle.src_ast.specs.Syntax.{Part};
 ghost use Rattle.wsc_top.specs.declared.task.Task.{Task};
 ghost use Rattle.ws_isa.specs.Image.{Image};
+ghost use Rattle.wsc_top.specs.declared.task.BenchOptions.{BenchOptions};
 ghost use Rattle.wsc_top.specs.declared.task.JobTask.{JobTask};
 ghost use Rattle.wsc_top.specs.declared.task.AssemblyTask.{AssemblyTask};
 ghost use Rattle.wsc_top.specs.Tasks.{IsLine};
 ghost use Rattle.wsc_top.specs.declared.status.Status.{Status};
-ghost use Rattle.wsc_top.specs.Job.{IsJob};
+ghost use Rattle.wsc_top.specs.Job.{job_limit, IsJob};
 ghost use Rattle.wsc_top.specs.Assembly.{assembly_limit, IsAssembly};
-ghost use Rattle.wsc_top.specs.Answers.{job_limit, EndsSo, Answered, AssemblyEndsSo, AssemblyAnswered, Answers, WereRead, IsToldJob, IsToldAssembly};
+ghost use Rattle.wsc_top.specs.Generated.{IsGeneratedJob};
+ghost use Rattle.wsc_top.specs.Answers.{EndsSo, Answered, AssemblyEndsSo, AssemblyAnswered, BenchEndsSo, Answers, WereRead, IsToldJob, IsToldAssembly, assembly_text};
 
 use crate::assembly::{self, AssemblyFault};
+use crate::bench::benched;
+use crate::sections::split_trace;
 use crate::status::Status;
 use crate::task::{AssemblyTask, JobTask, Task, read_task};
 use crate::yields::{assembly_yielded, yielded};
@@ -75,15 +79,30 @@ fn of_job<S: Source>(
     }
 }
 
+// The part of a text that is an assembly with its input words.
+fn assembly_text(task: AssemblyTask, text: &[u8]) -> &[u8]
+    ensures same { result.now ≡ assembly_text task text.now }
+    ensures within { length result.now ≤ length text.now }
+{
+    match task {
+        AssemblyTask::Replay => {
+            let (front, _) = split_trace(text);
+            front
+        }
+        _ => text,
+    }
+}
+
 // The status and the text of the answer of a task to the text of an assembly.
 fn to_assembly(alloc: Global, task: AssemblyTask, text: &[u8]) -> Result<(Status, Bytes), NoMemory>
     requires { length text.now ≤ assembly_limit }
     ensures answered { IfOk result (λ a. AssemblyAnswered task text.now a.0 a.1) }
-    ensures ends { (image : Image) (input : List ℕ) → IsAssembly text.now image input
-        → IfOk result (λ a. AssemblyEndsSo task image input a.0) }
+    ensures ends { (image : Image) (input : List ℕ)
+        → IsAssembly (assembly_text task text.now) image input
+        → IfOk result (λ a. AssemblyEndsSo task text.now image input a.0) }
 {
-    match assembly::read(alloc, text) {
-        Ok((image, input)) => Ok(assembly_yielded(alloc, task, &image, input)?),
+    match assembly::read(alloc, assembly_text(task, text)) {
+        Ok((image, input)) => Ok(assembly_yielded(alloc, task, text, &image, input)?),
         Err(AssemblyFault::Refused(why)) => {
             Ok((Status::Refused, texts::asm_refused(alloc, why)?))
         }
@@ -103,8 +122,9 @@ fn of_assembly<S: Source>(
         (S.faults source.old) (S.faults source.new) a.0 a.1) }
     ensures ends { (text : List ℕ) (image : Image) (input : List ℕ)
         → S.left source.old ≡ Some text → length text ≤ assembly_limit
-        → IsAssembly text image input
-        → IfOk result (λ a. a.0 ≢ Status.ReadFault → AssemblyEndsSo task image input a.0) }
+        → IsAssembly (assembly_text task text) image input
+        → IfOk result (λ a. a.0 ≢ Status.ReadFault
+        → AssemblyEndsSo task text image input a.0) }
     ensures memory { OnErr result ((bytes : List ℕ) × (length bytes ≤ assembly_limit + 1)
         × Takes (S.left source.old) bytes (S.left source.new)) }
 {
@@ -132,12 +152,17 @@ pub fn to_words<S: Source>(
     ensures generated { (number : ℕ)
         → IsLine (map string_bytes words.now) (Task.Generate number)
         → IfOk result (λ a. a.0 ≡ Status.Done) }
+    ensures benched { (options : BenchOptions) (parts : List Part)
+        → IsLine (map string_bytes words.now) (Task.Bench options)
+        → IsGeneratedJob options.number parts
+        → IfOk result (λ a. BenchEndsSo options parts a.0) }
     ensures job { (task : JobTask) (parts : List Part) (input : List ℕ)
         → IsToldJob (map string_bytes words.now) (S.left source.old) task parts input
         → IfOk result (λ a. a.0 ≢ Status.ReadFault → EndsSo task parts input a.0) }
     ensures assembled { (task : AssemblyTask) (image : Image) (input : List ℕ)
-        → IsToldAssembly (map string_bytes words.now) (S.left source.old) task image input
-        → IfOk result (λ a. a.0 ≢ Status.ReadFault → AssemblyEndsSo task image input a.0) }
+        → (told : IsToldAssembly (map string_bytes words.now) (S.left source.old) task image input)
+        → IfOk result (λ a. a.0 ≢ Status.ReadFault
+        → AssemblyEndsSo task told.text image input a.0) }
     ensures memory { OnErr result ((bytes : List ℕ)
         × WereRead (map string_bytes words.now) bytes
         × Takes (S.left source.old) bytes (S.left source.new)) }
@@ -146,6 +171,10 @@ pub fn to_words<S: Source>(
     match read_task(alloc, words)? {
         None => Ok((Status::Usage, Bytes::from_slice(alloc, texts::USAGE)?)),
         Some(Task::Generate(number)) => Ok((Status::Done, workload(alloc, number)?)),
+        Some(Task::Bench(options)) => {
+            let (status, answer) = benched(alloc, options)?;
+            Ok((status, answer))
+        }
         Some(Task::Job(task)) => {
             let (status, answer) = of_job(alloc, task, source)?;
             Ok((status, answer))

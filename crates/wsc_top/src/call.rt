@@ -5,11 +5,13 @@ ghost use Rattle.ws_io.specs.Streams.{Rose, Takes, Adds, Flushes};
 ghost use Rattle.src_ast.specs.Syntax.{Part};
 ghost use Rattle.wsc_top.specs.declared.task.Task.{Task};
 ghost use Rattle.ws_isa.specs.Image.{Image};
+ghost use Rattle.wsc_top.specs.declared.task.BenchOptions.{BenchOptions};
 ghost use Rattle.wsc_top.specs.declared.task.JobTask.{JobTask};
 ghost use Rattle.wsc_top.specs.declared.task.AssemblyTask.{AssemblyTask};
 ghost use Rattle.wsc_top.specs.declared.status.Status.{Status};
 ghost use Rattle.wsc_top.specs.Tasks.{IsLine, IsNoLine};
-ghost use Rattle.wsc_top.specs.Answers.{ComesToItsEnd, MeetsFault, WantsTurns, AssemblyEndsSo, Answers, WereRead, IsToldJob, IsToldOther, IsToldAssembly, IsToldNoAssembly, OrNoMemory};
+ghost use Rattle.wsc_top.specs.Generated.{IsGeneratedJob};
+ghost use Rattle.wsc_top.specs.Answers.{ComesToItsEnd, MeetsFault, WantsTurns, AssemblyEndsSo, BenchEndsSo, Answers, WereRead, IsToldJob, IsToldOther, IsToldAssembly, IsToldNoAssembly, OrNoMemory};
 
 use crate::answer::to_words;
 use crate::status::{Outcome, Status};
@@ -63,6 +65,11 @@ pub fn wsc<S: Source, K: Sink>(
         → IsLine (map string_bytes words.now) (Task.Generate number)
         → ¬ Rose (K.faults sink.old) (K.faults sink.new)
         → OrNoMemory result.status Status.Done }
+    ensures benched { (options : BenchOptions) (parts : List Part)
+        → IsLine (map string_bytes words.now) (Task.Bench options)
+        → IsGeneratedJob options.number parts
+        → ¬ Rose (K.faults sink.old) (K.faults sink.new)
+        → BenchEndsSo options parts result.status ⊎ (result.status ≡ Status.NoMemory) }
     ensures done { (task : JobTask) (parts : List Part) (input : List ℕ)
         → IsToldJob (map string_bytes words.now) (S.left source.old) task parts input
         → ComesToItsEnd task parts input
@@ -87,10 +94,10 @@ pub fn wsc<S: Source, K: Sink>(
         → ¬ Rose (K.faults sink.old) (K.faults sink.new)
         → OrNoMemory result.status Status.Refused }
     ensures assembled { (task : AssemblyTask) (image : Image) (input : List ℕ)
-        → IsToldAssembly (map string_bytes words.now) (S.left source.old) task image input
+        → (told : IsToldAssembly (map string_bytes words.now) (S.left source.old) task image input)
         → ¬ Rose (S.faults source.old) (S.faults source.new)
         → ¬ Rose (K.faults sink.old) (K.faults sink.new)
-        → AssemblyEndsSo task image input result.status ⊎ (result.status ≡ Status.NoMemory) }
+        → AssemblyEndsSo task told.text image input result.status ⊎ (result.status ≡ Status.NoMemory) }
     ensures unassembled { (task : AssemblyTask)
         → IsToldNoAssembly (map string_bytes words.now) (S.left source.old) task
         → ¬ Rose (S.faults source.old) (S.faults source.new)

@@ -4,8 +4,7 @@ ghost use Rattle.std.specs.Prelude.{◌≡◌, ◌≤◌, ℕ, List, length, IfO
 ghost use Rattle.src_ast.specs.View as view;
 ghost use Rattle.src_ast.specs.Syntax.{Part};
 ghost use Rattle.src_ast.specs.declared.fault.TextFault.{TextFault};
-ghost use Rattle.wsc_top.specs.Job.{IsJob, IsRefused};
-ghost use Rattle.wsc_top.specs.Answers.{job_limit};
+ghost use Rattle.wsc_top.specs.Job.{job_limit, IsJob, IsRefused};
 
 mod program;
 

@@ -18,7 +18,7 @@ ghost use Rattle.wsc_top.specs.Sections.{program_of, IsInputAnswer};
 ghost use Rattle.wsc_top.specs.Job.{IsJob, IsTextAnswer};
 ghost use Rattle.wsc_top.specs.Assembly.{IsAssembly, RefusesAssembly, IsAssemblyAnswer, IsUnsound};
 ghost use Rattle.wsc_top.specs.Generated.{IsGeneratedJob};
-ghost use Rattle.wsc_top.specs.Answers.{EndsSo, IsFixed, IsAnswer, IsFree, IsAssemblyReply};
+ghost use Rattle.wsc_top.specs.Answers.{EndsSo, IsFixed, IsAnswer, IsFree, IsSettled, IsAssemblyReply};
 
 use annot_check::breaches_break;
 use image_walk::{effects_are_one, walks_go_on};
@@ -92,10 +92,10 @@ pub fn each_assembly_is_read_or_refused()
     breaches_break();
 }
 
-/// Two answers to an assembly that aren't cut short by the budget are the same, or both say that it
-/// is refused; `check` and `list` have exactly one answer to a sound assembly.
+/// Two answers of `check`, `list` or `exec` to an assembly that aren't cut short by the budget are the
+/// same, or both say that it is refused; `check` and `list` have exactly one answer to a sound assembly.
 pub fn assemblies_are_answered_alike()
-    ensures alike { (task : AssemblyTask) (text : List ℕ) (a b : Status × List ℕ)
+    ensures alike { (task : AssemblyTask) → IsSettled task → (text : List ℕ) (a b : Status × List ℕ)
         → IsAssemblyReply task text a → IsAssemblyReply task text b
         → (a.0 ≡ Status.Budget → ⊥) → (b.0 ≡ Status.Budget → ⊥)
         → (a ≡ b) ⊎ ((a.0 ≡ Status.Refused) × (b.0 ≡ Status.Refused)) }

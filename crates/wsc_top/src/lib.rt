@@ -4,6 +4,7 @@
 
 mod answer;
 mod assembly;
+mod bench;
 mod call;
 mod exec;
 mod input;
@@ -14,6 +15,7 @@ mod sections;
 mod status;
 mod task;
 mod texts;
+mod traces;
 mod world;
 mod yields;
 

@@ -3,7 +3,7 @@
 ghost use Rattle.std.specs.Prelude.{◌≡◌, ◌++◌, ℕ, map, option_copied, slice_get, IfOk, OnOk};
 ghost use Rattle.ws_isa.specs.View as view;
 ghost use Rattle.ws_isa.specs.Shown.{shown_cells};
-ghost use Rattle.wsc_top.specs.Texts.{array_lines, shown_line, shown_names, firings_line, maybe_name, called, spent_text};
+ghost use Rattle.wsc_top.specs.Texts.{array_lines, shown_line, shown_names, firings_line, maybe_name, called, fault_line, spent_text};
 ghost use Rattle.wsc_top.specs.Executions.{rested_text, stopped_text};
 
 use crate::task::RunOptions;
@@ -43,8 +43,8 @@ fn put_shown(text: &mut Bytes, arrays: &[ArrayDecl], rows: &Cells) -> Result<(),
     Ok(())
 }
 
-// Puts a line for the firings of a run after a text.
-fn put_firings(text: &mut Bytes, firings: u64) -> Result<(), NoMemory>
+/// Puts a line for the firings of a run after a text.
+pub fn put_firings(text: &mut Bytes, firings: u64) -> Result<(), NoMemory>
     ensures { OnOk result (text.new ≡ text.old ++ firings_line firings) }
 {
     text.extend(b"firings ")?;
@@ -111,6 +111,25 @@ fn put_called(text: &mut Bytes, arrays: &[ArrayDecl], array: u32) -> Result<(), 
     }
 }
 
+// Puts a line for an index fault on the array of this number, counted from 1, after a text.
+fn put_fault(text: &mut Bytes, arrays: &[ArrayDecl], array: u32) -> Result<(), NoMemory>
+    ensures { OnOk result
+        (text.new ≡ text.old ++ fault_line (called (map view.array arrays.now) array)) }
+{
+    text.extend(b"fault ")?;
+    put_called(text, arrays, array)?;
+    text.push(b'\n')
+}
+
+/// The answer in brief of a run that met an index fault on the array of this number, counted from 1.
+pub fn tripped(alloc: Global, arrays: &[ArrayDecl], array: u32) -> Result<Bytes, NoMemory>
+    ensures { IfOk result (λ text. text ≡ fault_line (called (map view.array arrays.now) array)) }
+{
+    let mut text = Bytes::empty(alloc);
+    put_fault(&mut text, arrays, array)?;
+    Ok(text)
+}
+
 /// The answer of a run that met an index fault on the array of this number, counted from 1: a line
 /// for each word, and `fault` with what the array is called; then, where they are asked for, a line
 /// for each shown array.
@@ -126,9 +145,7 @@ pub fn stopped(
 {
     let mut text = Bytes::empty(alloc);
     put_words(&mut text, &done.printed)?;
-    text.extend(b"fault ")?;
-    put_called(&mut text, arrays, array)?;
-    text.push(b'\n')?;
+    put_fault(&mut text, arrays, array)?;
     if options.memory {
         put_shown(&mut text, arrays, &done.arrays)?;
     }

@@ -1,10 +1,13 @@
-//! The sections of a job.
+//! The sections of a text.
 
 ghost use Rattle.std.specs.Prelude.{◌≡◌, ◌≤◌, length, take, drop, true};
 ghost use Rattle.wsc_top.specs.Sections as sections;
 
 /// The marker of the input section.
-const MARKER: &[u8] = b"%input";
+const INPUT: &[u8] = b"%input";
+
+/// The marker of the trace section.
+const TRACE: &[u8] = b"%trace";
 
 // Whether a line ends here.
 fn ends_line(text: &[u8]) -> bool
@@ -31,7 +34,7 @@ fn is_line(line: &[u8], text: &[u8]) -> bool
 }
 
 /// What stands after the first line feed.
-fn after_line(text: &[u8]) -> &[u8]
+pub fn after_line(text: &[u8]) -> &[u8]
     ensures after { result.now ≡ sections.after_line text.now }
     ensures within { length result.now ≤ length text.now }
 {
@@ -45,15 +48,15 @@ fn after_line(text: &[u8]) -> &[u8]
     rest
 }
 
-/// How many bytes stand in front of the first line that is exactly `%input`.
-fn program_length(text: &[u8]) -> usize
-    ensures program { take result text.now ≡ sections.program_of text.now }
-    ensures rest { drop result text.now ≡ sections.rest_of true text.now }
+/// How many bytes stand in front of the first line that is exactly this one.
+fn front_length(text: &[u8], marker: &[u8]) -> usize
+    ensures front { take result text.now ≡ sections.front_of marker.now true text.now }
+    ensures rest { drop result text.now ≡ sections.rest_of marker.now true text.now }
     ensures within { result ≤ length text.now }
 {
     let mut at_line = true;
     for (place, byte) in text.iter().enumerate() {
-        if at_line && is_line(MARKER, &text[place..]) {
+        if at_line && is_line(marker, &text[place..]) {
             return place;
         }
         at_line = *byte == b'\n';
@@ -68,6 +71,19 @@ pub fn split(text: &[u8]) -> (&[u8], &[u8])
     ensures program_within { length result.0.now ≤ length text.now }
     ensures input_within { length result.1.now ≤ length text.now }
 {
-    let (program, rest) = text.split_at(program_length(text));
+    let (program, rest) = text.split_at(front_length(text, INPUT));
     (program, after_line(rest))
+}
+
+/// What stands in front of the trace section of a text, and that section, from its marker on.
+pub fn split_trace(text: &[u8]) -> (&[u8], &[u8])
+    ensures front { result.0.now ≡ sections.before_trace text.now }
+    ensures section { result.1.now ≡ sections.trace_section text.now }
+    ensures front_within { length result.0.now ≤ length text.now }
+    ensures section_within { length result.1.now ≤ length text.now }
+{
+    let (_, input) = split(text);
+    let (_, section) = input.split_at(front_length(input, TRACE));
+    let (front, _) = text.split_at(text.len() - section.len());
+    (front, section)
 }

@@ -51,6 +51,19 @@ pub enum AssemblyTask {
     List,
     /// It is run.
     Exec(RunOptions),
+    /// It is run until so many instances have fired, and the events are printed.
+    Trace(u64),
+    /// The events of its trace section are made.
+    Replay,
+}
+
+/// How a generated job is run.
+#[derive(Clone, Copy, Debug, PartialEq, Eq)]
+pub struct BenchOptions {
+    /// The number of the job.
+    pub number: u32,
+    /// The most instances that may fire.
+    pub budget: u64,
 }
 
 /// What the program does, of what is built so far.
@@ -62,6 +75,8 @@ pub enum Task {
     Assembly(AssemblyTask),
     /// It writes the generated job of a number, and reads nothing.
     Generate(u32),
+    /// It runs a generated job and tells it in brief, and reads nothing.
+    Bench(BenchOptions),
 }
 
 // How a line asks for a run.
@@ -95,7 +110,13 @@ fn task_of(line: &Line) -> Option<Task>
         Command::Check => Some(Task::Assembly(AssemblyTask::Check)),
         Command::List => Some(Task::Assembly(AssemblyTask::List)),
         Command::Exec => Some(Task::Assembly(AssemblyTask::Exec(run_options(line)))),
+        Command::Trace => Some(Task::Assembly(AssemblyTask::Trace(line.budget))),
+        Command::Replay => Some(Task::Assembly(AssemblyTask::Replay)),
         Command::Gen => Some(Task::Generate(line.number)),
+        Command::Bench => Some(Task::Bench(BenchOptions {
+            number: line.number,
+            budget: line.budget,
+        })),
         _ => None,
     }
 }

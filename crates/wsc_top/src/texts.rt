@@ -1,10 +1,11 @@
 //! The texts of answers.
 
-ghost use Rattle.std.specs.Prelude.{◌≡◌, ◌++◌, List, [], ◌∷◌, flat_map, slice_get, IfOk, OnOk};
+ghost use Rattle.std.specs.List.{sum};
+ghost use Rattle.std.specs.Prelude.{◌≡◌, ◌++◌, ◌%◌, ◌^◌, List, [], ◌∷◌, flat_map, slice_get, IfOk, OnOk};
 ghost use Rattle.src_ast.specs.View as view;
 ghost use Rattle.annot_check.specs.declared.fault.Bad.TheVariants as bad;
 ghost use Rattle.wsc_top.specs.declared.assembly.AsmRefusal.TheVariants as refusal;
-ghost use Rattle.wsc_top.specs.Texts.{asm_word, broken_text, bad_text, asm_refusal_text, word_line, done_text, kind_word, refusal_text, separated_words, further_word, maybe_line, array_line, array_lines, turns_line, names_of, array_name, ended_text, faulted_text, going_text};
+ghost use Rattle.wsc_top.specs.Texts.{summary_text, asm_word, broken_text, bad_text, asm_refusal_text, word_line, done_text, kind_word, refusal_text, separated_words, further_word, maybe_line, array_line, array_lines, turns_line, names_of, array_name, ended_text, faulted_text, going_text};
 
 use crate::assembly::AsmRefusal;
 use annot_check::Bad;
@@ -45,6 +46,34 @@ pub fn done(alloc: Global, words: &Words) -> Result<Bytes, NoMemory>
     text.extend(b"halt\n")?;
     Ok(text)
 }
+
+// The sum of words modulo 2^64.
+fn sum_of(words: &[u64]) -> u64
+    ensures { result ≡ sum words.now % 2 ^ 64 }
+{
+    let mut total: u64 = 0;
+    for word in words {
+        total = total.wrapping_add(*word);
+    }
+    total
+}
+
+/// The answer in brief of a run that came to its end: `halt`, how many words it printed, and their
+/// sum modulo 2^64.
+pub fn summary(alloc: Global, words: &Words) -> Result<Bytes, NoMemory>
+    ensures { IfOk result (λ text. text ≡ summary_text words.now) }
+{
+    let words = words.as_slice();
+    let mut text = Bytes::from_slice(alloc, b"halt\nwords ")?;
+    put_decimal(&mut text, words.len() as u64)?;
+    text.extend(b"\nsum ")?;
+    put_decimal(&mut text, sum_of(words))?;
+    text.extend(b"\n")?;
+    Ok(text)
+}
+
+/// The answer in brief of a run that spent its budget.
+pub const BUDGET: &[u8] = b"budget\n";
 
 // What is printed for a kind of refusal.
 fn word(kind: RefusalKind) -> &'static [u8]

@@ -1,10 +1,11 @@
 //! What comes of the commands.
 
-ghost use Rattle.std.specs.Prelude.{ℕ, List, IfOk};
+ghost use Rattle.std.specs.Prelude.{◌≤◌, ℕ, List, length, IfOk};
 ghost use Rattle.std.specs.List.{AllByRecursion};
 ghost use Rattle.src_ast.specs.View as view;
 ghost use Rattle.src_ast.specs.Written.{IsWritten};
 ghost use Rattle.wave_gen.specs.Words.{IsWord};
+ghost use Rattle.wsc_top.specs.Assembly.{assembly_limit};
 ghost use Rattle.wsc_top.specs.Answers.{Yields, EndsSo, AssemblyYields, AssemblyEndsSo};
 ghost use Rattle.wsc_top.specs.declared.task.JobTask.{JobTask};
 ghost use Rattle.wsc_top.specs.declared.status.Status.{Status};
@@ -13,6 +14,7 @@ use crate::exec::executed;
 use crate::status::Status;
 use crate::task::{AssemblyTask, JobTask, PlainOptions, RunOptions};
 use crate::texts;
+use crate::traces::{replayed, traced};
 use crate::world::world;
 use asm_text::print_asm;
 use image_walk::{Checked, walks_go_on};
@@ -133,15 +135,19 @@ pub fn yielded(
 pub fn assembly_yielded(
     alloc: Global,
     task: AssemblyTask,
+    text: &[u8],
     image: &Checked,
     input: Words,
 ) -> Result<(Status, Bytes), NoMemory>
-    ensures yields { IfOk result (λ y. AssemblyYields task image.now input y.0 y.1) }
-    ensures ends { IfOk result (λ y. AssemblyEndsSo task image.now input y.0) }
+    requires { length text.now ≤ assembly_limit }
+    ensures yields { IfOk result (λ y. AssemblyYields task text.now image.now input y.0 y.1) }
+    ensures ends { IfOk result (λ y. AssemblyEndsSo task text.now image.now input y.0) }
 {
     match task {
         AssemblyTask::Check => Ok((Status::Done, Bytes::from_slice(alloc, texts::SOUND)?)),
         AssemblyTask::List => Ok((Status::Done, list_image(alloc, image)?)),
         AssemblyTask::Exec(options) => executed(alloc, options, image, input),
+        AssemblyTask::Trace(budget) => traced(alloc, budget, image, input),
+        AssemblyTask::Replay => replayed(alloc, text, image, input),
     }
 }

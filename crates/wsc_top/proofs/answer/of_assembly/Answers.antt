@@ -1,6 +1,6 @@
 use Rattle.wsc_top.specs.declared.task.Task.TheVariants.{Assembly}
 use Rattle.wsc_top.specs.Assembly.{assembly_limit}
-use Rattle.wsc_top.proofs.Calls.{unread_answers, long_answers, assembled_answers, too_much, assembly_is}
+use Rattle.wsc_top.proofs.Calls.{unread_answers, long_answers, assembled_answers, too_much, assembly_is, ends_is}
 use Rattle.wsc_top.proofs.answer.of_assembly.Goals as goal
 
 pub returns-in_ok-from_slice-in-Err-Failed-clause-ok : goal.returns-in_ok-from_slice-in-Err-Failed-clause-ok
@@ -22,4 +22,5 @@ returns-in_ok-status-in-Ok-clause-ok g c words line =
 
 pub returns-in_ok-status-in-Ok-clause-ends : goal.returns-in_ok-status-in-Ok-clause-ends
 returns-in_ok-status-in-Ok-clause-ends g c text image input told short assembly f =
-    c.in_ok-status-in-Ok.ensures.ends image input (assembly_is _ _ text _ _ image input told assembly c.in-Ok.ensures.ok c.as_slice.ensures)
+    ends_is _ _ text _ _ c.args.task image input _ told c.in-Ok.ensures.ok c.as_slice.ensures
+    (c.in_ok-status-in-Ok.ensures.ends image input (assembly_is _ _ text _ _ c.args.task image input told assembly c.in-Ok.ensures.ok c.as_slice.ensures))

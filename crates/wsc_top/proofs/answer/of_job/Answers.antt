@@ -1,5 +1,5 @@
 use Rattle.wsc_top.specs.declared.task.Task.TheVariants.{Job}
-use Rattle.wsc_top.specs.Answers.{job_limit}
+use Rattle.wsc_top.specs.Job.{job_limit}
 use Rattle.wsc_top.proofs.Calls.{unread_answers, long_answers, read_answers, too_much, told_is}
 use Rattle.wsc_top.proofs.answer.of_job.Goals as goal
 

@@ -43,3 +43,6 @@ returns-in-Ok-write_all-clause-assembled g c task image input told source sink =
 pub returns-in-Ok-write_all-clause-unassembled : goal.returns-in-Ok-write_all-clause-unassembled
 returns-in-Ok-write_all-clause-unassembled g c task told source sink =
     inl (told_unassembled c.words_are_one_line.ensures _ task _ _ _ _ _ c.in-Ok.status c.in-Ok.ensures.ok told (λ f. source (read_rose _ _ _ _ _ _ _ c.in-Ok.ensures.ok f)))
+
+pub returns-in-Ok-write_all-clause-benched : goal.returns-in-Ok-write_all-clause-benched
+returns-in-Ok-write_all-clause-benched g c options parts line job sink = inl (c.in-Ok.ensures.benched options parts line job)

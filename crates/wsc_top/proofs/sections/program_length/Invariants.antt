@@ -1,9 +1,0 @@
-use Rattle.std.proofs.Common.{◌≡◌, ◌++◌, take, drop, true}
-use Rattle.wsc_top.specs.Sections.{front_of, rest_of}
-use Rattle.wsc_top.proofs.sections.program_length.Given as goal
-
-abbrev pub invariant-loop-place : goal.invariant-loop-place
-invariant-loop-place l = record {
-  front : take l.place l.text ++ front_of l.at_line (drop l.place l.text) ≡ front_of true l.text;
-  rest : rest_of l.at_line (drop l.place l.text) ≡ rest_of true l.text;
-}
