@@ -7,3 +7,4 @@ pub mod Held
 pub mod Kept
 pub mod Answered
 pub mod Events
+pub mod Tells

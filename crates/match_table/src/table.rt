@@ -1,10 +1,10 @@
 //! Tables.
 
-ghost use Rattle.std.specs.Prelude.{◌≡◌, ◌<◌, ◌≤◌, ◌+◌, ◌^◌, ℕ, IfErr, IsOk, IsSome, None, [], false, cond, suc, IfSome, IfOk, OnOk, MatchResult};
+ghost use Rattle.std.specs.Prelude.{◌≡◌, ◌<◌, ◌≤◌, ◌+◌, ◌^◌, ℕ, All, IfErr, IsOk, IsSome, None, [], false, cond, suc, IfSome, IfOk, OnOk, MatchResult};
 ghost use Rattle.ws_isa.specs.Formed.{Formed};
 ghost use Rattle.ws_isa.specs.Image.{is_advance_op, ports};
 ghost use Rattle.image_walk.specs.Sound.{Sound};
-ghost use Rattle.core_law.specs.Core.{Once, has, is_full};
+ghost use Rattle.core_law.specs.Core.{Once, has, is_full, operands_in};
 ghost use Rattle.core_law.specs.Shown.{TablesOk};
 ghost use Rattle.core_run.specs.Places.{ProgramIs, image_of};
 ghost use Rattle.match_table.specs.declared.meeting.Seen.TheVariants.{Waits, Fills};
@@ -119,11 +119,13 @@ impl<J: Job> Table<J> {
         &self.fired
     }
 
-    /// What is true of every table: it is a part of the core's state of which the law speaks, and an
-    /// instance fires once.
+    /// What is true of every table: it is a part of the core's state of which the law speaks, an
+    /// instance fires once, and the operands that it lists are those that it holds.
     pub fn facts(&self)
         ensures part { TablesOk J.image J.world (part self.now) }
         ensures once { Once (part self.now).fired }
+        ensures operands { All (λ f. listed f.operands
+            ≡ operands_in J.image (held self.now) f.wave f.instr) self.now.fired }
     {
         let _ = &self.fired;
     }
