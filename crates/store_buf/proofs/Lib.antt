@@ -14,3 +14,4 @@ pub mod Turns
 pub mod Silence
 pub mod Coming
 pub mod Opening
+pub mod Once

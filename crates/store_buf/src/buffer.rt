@@ -1,6 +1,6 @@
 //! The store buffer of a job.
 
-ghost use Rattle.std.specs.Prelude.{◌≡◌, is_some, false, IfOk, IfErr};
+ghost use Rattle.std.specs.Prelude.{◌≡◌, All, Some, is_some, false, IfOk, IfErr};
 ghost use Rattle.ws_words.specs.Outside.{Outside};
 ghost use Rattle.ws_isa.specs.Image.{instr_at};
 ghost use Rattle.image_walk.specs.Walk.{opening_memory};
@@ -114,6 +114,13 @@ impl<J: Job, P: Port> Buffer<J, P> {
         self.store.order.find(wave, instr).is_some()
     }
 
+    /// The requests that it keeps, in the order in which they came.
+    pub fn kept(&self) -> &[Kept]
+        ensures { result.now ≡ self.now.kept }
+    {
+        &self.store.order.kept
+    }
+
     /// The word that an issued load, IN or GIVE gave.
     pub fn answer(&self, code: &Code<'_, J>, wave: u64, instr: u32) -> Option<u64>
         ensures { result ≡ answer_of J.image self.now wave instr }
@@ -150,6 +157,7 @@ impl<J: Job, P: Port> Buffer<J, P> {
     pub fn facts(&self)
         ensures stands { (m : Outside) × IsBuffer J.image J.world J.began self.now m }
         ensures idle { self.now.failed ≡ None → self.now.starved ≡ false → Idle J.image self.now }
+        ensures once { All (λ k. entry_of self.now.kept k.wave k.instr ≡ Some k) self.now.kept }
     {
         let _ = &self.store;
     }
