@@ -42,7 +42,7 @@ module _ (image : Image) (world : World) (entries : List (Option Entry)) (fs : L
       let s = ok.spent f.wave f.instr h in
       let xs : List ℕ = fired_operands fs f.wave f.instr in
       let at : (q v : ℕ) → nth xs q ≡ Some v → held_in entries fs f.wave f.instr (0 + q) ≡ Some v =
-          λ q v n. (let z : 0 + q ≡ q = omega arith in ap (λ (k : ℕ). held_in entries fs f.wave f.instr k) z ∙ ap (λ (a : Option Arrived). held_at a xs q) s.0 ∙ n) in
+      λ q v n. (let z : 0 + q ≡ q = omega arith in ap (λ (k : ℕ). held_in entries fs f.wave f.instr k) z ∙ ap (λ (a : Option Arrived). held_at a xs q) s.0 ∙ n) in
       let g : gather (held_in entries fs) f.wave f.instr 0 (length xs) ≡ xs = gather_is (held_in entries fs) f.wave f.instr 0 xs at in
       sym e ∙ sym g ∙ ap (λ (n : ℕ). gather (held_in entries fs) f.wave f.instr 0 n) s.1
 

@@ -1,0 +1,164 @@
+-- Where a run ends.
+use Rattle.std.proofs.Common.{◌≡◌, ◌+◌, ◌-◌, ◌<◌, ◌≤◌, ◌⊎◌, inl, inr, ℕ, Bool, true, false, cond, List, Option, Some, None, is_some, length, sym, refl, ap, ◌∙◌, subst, arith}
+use Rattle.std.proofs.lemmas.Bool.{both_ways, and_parts}
+use Rattle.ws_words.specs.Outside.{Outside, World, row}
+use Rattle.ws_isa.specs.Image.{Image, Token, ports, is_memory}
+use Rattle.ws_isa.specs.Formed.{Formed}
+use Rattle.image_walk.specs.Walk.{mem, walk}
+use Rattle.image_walk.specs.Operations.{ops, effect_of, Effect}
+use Rattle.image_walk.specs.Sound.{Sound}
+use Rattle.core_law.specs.Effect.{effect_at}
+use Rattle.core_law.specs.Core.{State, Issue, Enabled, HasFired, Once, has, operands_in}
+use Rattle.core_law.specs.Fit.{Fit, NoOp}
+use Rattle.core_law.specs.Ends.{Whole, AtFault, Passed}
+use Rattle.core_law.specs.Shown.{Tables, Buffer, TablesOk, OwesNothing, NoneIssuable, owed, shown, lists, waits_if}
+use Rattle.core_law.proofs.Facts.{WalkFacts}
+use Rattle.core_law.proofs.FromSound.{facts_of}
+use Rattle.core_law.proofs.PortsThere.{ports_there}
+use Rattle.core_law.proofs.Ports.{nth_below}
+use Rattle.core_law.proofs.Effects.{effect_is}
+use Rattle.core_law.proofs.Quiet.{no_op_no_write, mem_same}
+use Rattle.core_law.proofs.Ends.{one_fault}
+use Rattle.core_law.proofs.ShownFit.{lists_true}
+use Rattle.core_run.proofs.Issuing.{printed_alike, took_alike}
+use Rattle.core_run.proofs.Firings.{none_fires}
+use Rattle.df_job.specs.Began.{Began}
+use Rattle.df_job.specs.Rights.{IsRight}
+use Rattle.port_set.specs.Slots.{port_at}
+use Rattle.store_buf.specs.declared.kept.Kept.{Kept}
+use Rattle.store_buf.specs.Requests.{entry_of, operands_if}
+use Rattle.store_buf.specs.Contents.{Content, FaultIs, IsBuffer, buffer_in}
+use Rattle.store_buf.specs.Outdoors.{Holding, OutIs, SlotIs}
+use Rattle.crew_collect.specs.Owing.{AllKnown, HaveCome, IsMissing}
+use Rattle.crew_collect.specs.Ends.{AllRun, SomeRun, FaultRun, FrontRun}
+
+-- loads neither print, nor store, nor give words to ports
+pub out_of : (began : List (Option Began)) (o : Outside) (h : Holding) → OutIs began (effect_of o) h → OutIs began o h
+out_of began o h x = record {
+  cells_are = x.cells_are;
+  input_is = x.input_is;
+  printed_are = sym (printed_alike o.acts) ∙ x.printed_are;
+  slots_are = λ slot a b. subst (λ (ws : List ℕ). SlotIs (port_at began slot) (row o.left (slot - 1)) ws (port_at h.ports slot)) (took_alike slot o.acts) (x.slots_are slot a b);
+}
+
+nothing : {A : Type 0} (x : A) → None ≡ Some x → ⊥
+nothing x e = cc
+
+waits_cases : (o : Option ℕ) (k n : Option (List ℕ)) (xs : List ℕ) → waits_if o k n ≡ Some xs → (waits_if o k None ≡ Some xs) ⊎ ((k ≡ None) × (n ≡ Some xs))
+waits_cases (Some a) k n xs e = absurd (nothing xs e)
+waits_cases None (Some ys) n xs e = inl e
+waits_cases None None n xs e = inr (refl, e)
+
+some_only : (b : Bool) (ys xs : List ℕ) → cond b (Some ys) None ≡ Some xs → b ≡ true
+some_only true ys xs e = refl
+some_only false ys xs e = absurd (nothing xs e)
+
+kept_of : (image : Image) (o : Option Kept) → is_some o ≡ true → (xs : List ℕ) × (operands_if image o ≡ Some xs)
+kept_of image None e = cc
+kept_of image (Some k) e = (_, refl)
+
+module _ (image : Image) (world : World) (formed : Formed image) (sound : Sound image) (began : List (Option Began)) (t : Tables) (tok : TablesOk image world t) (once : Once t.fired) (c : Content) (m : Outside) (is : IsBuffer image world began c m) (fit : Fit image world (shown image t (buffer_in image c m))) where
+  facts : WalkFacts image world
+  facts = facts_of image world (ports_there image formed) sound
+
+  abbrev b : Buffer
+  b = buffer_in image c m
+
+  abbrev s : State
+  s = shown image t b
+
+  fired_is : s.fired ≡ t.fired
+  unfolding shown
+  fired_is = refl
+
+  pub shown_once : Once s.fired
+  shown_once = subst Once (sym fired_is) once
+
+  memory_is : s.memory ≡ m
+  unfolding shown
+  memory_is = refl
+
+  stopped_is : s.stopped ≡ has c.fault
+  unfolding shown
+  stopped_is = refl
+
+  pub not_stopped : c.fault ≡ None → s.stopped ≡ false
+  not_stopped e = stopped_is ∙ ap has e
+
+  requests : AllKnown image t c.kept → (w i : ℕ) → HasFired t.fired w i → is_memory image i ≡ true → (xs : List ℕ) × (b.kept w i ≡ Some xs)
+  requests known w i h mm = kept_of image (entry_of c.kept w i) (known w i h mm)
+
+  out_at : (n : ℕ) → effect_at image world n ≡ s.memory → OutIs began (mem image world n) c.outside
+  out_at n e = out_of began (mem image world n) c.outside (subst (λ (o : Outside). OutIs began o c.outside) (sym memory_is ∙ sym e ∙ effect_is image world n) is.outside)
+
+  pub owes : AllKnown image t c.kept → HaveCome t.held (owed image t b) → OwesNothing image t b
+  owes known come = record { tokens = come; requests = requests known }
+
+  whole_only : c.fault ≡ None → Whole image world s ⊎ AtFault image world s → Whole image world s
+  whole_only e (inl w) = w
+  whole_only e (inr f) = absurd (both_ways _ (not_stopped e) f.stopped)
+
+  pub all_run : c.fault ≡ None → Whole image world s ⊎ AtFault image world s → ((w : Whole image world s) (n : ℕ) → length (walk image world n) ≤ length s.fired) → (n : ℕ) × (length s.fired ≤ length (walk image world n)) → AllRun image world began t.fired c.outside
+  all_run e either counted f =
+      let w = whole_only e either in
+      let all : (n : ℕ) → length (walk image world n) ≤ length t.fired = λ n. subst (λ ks. length (walk image world n) ≤ length ks) fired_is (counted w n) in
+      record {
+        no_fault = w.within;
+        cost = all;
+        steps = f.0;
+        count = (let a = all f.0 in let d : length t.fired ≤ length (walk image world f.0) = subst (λ ks. length ks ≤ length (walk image world f.0)) fired_is f.1 in omega (arith, a, d));
+        all = λ n x fx. subst (λ ks. HasFired ks x.wave x.instr) fired_is (w.fired n x fx);
+        left = λ n l. out_at n (
+            let quiet : NoOp image world n (n + w.end) = none_fires image world (length t.fired) n (n + w.end) all l in
+            sym (mem_same image world facts n (n + w.end) (omega arith) (no_op_no_write image world n (n + w.end) quiet)) ∙ w.memory (n + w.end) (omega arith));
+      }
+
+  -- nothing may be issued
+  pub none_issues : AllKnown image t c.kept → NoneIssuable image b → (w i : ℕ) → Enabled image s (Issue w i) → ⊥
+  unfolding shown
+  none_issues known none w i e = elim (waits_cases (b.issued w i) (b.kept w i) _ e.0 e.1.waits) [
+    | inl h ↦ none w i e.0 h (record { going = e.1.issuable.going; current = e.1.issuable.current; fresh = e.1.issuable.fresh; turn = e.1.issuable.turn })
+    | inr h ↦ (let q = and_parts (lists t.fired w i) (is_memory image i) (some_only _ (operands_in image t.held w i) e.0 h.1) in
+        let r = requests known w i (lists_true t.fired w i q.0) q.1 in
+        nothing r.0 (sym h.0 ∙ r.1))
+  ]
+
+  -- an instance of which a token is missing hasn't fired
+  pub not_fired : (x : Token) (right : IsRight image world x) → IsMissing t.held x → HasFired s.fired right.inst.wave right.inst.instr → ⊥
+  not_fired x right missing h =
+      let f = tok.fired_full x.wave x.instr (subst (λ (k : ℕ × ℕ). HasFired t.fired k.0 k.1) (λ j. (right.at.wave j, right.at.instr j)) (subst (λ ks. HasFired ks right.inst.wave right.inst.instr) fired_is h)) in
+      let l = nth_below right.inst.operands x.port x.value right.operand in
+      let n : length right.inst.operands ≡ ports image x.instr = facts.filled right.time right.inst right.at.fires ∙ ap (ports image) right.at.instr in
+      let g = f.1 x.port (omega (arith, l, n)) in
+      nothing g.0 (sym missing ∙ g.1)
+
+  pub some_run : (n : ℕ) × (length s.fired < length (walk image world n)) → (p : ℕ) × Passed image world s p → SomeRun image world began t.fired c.outside
+  some_run r q = record {
+    dear = λ cost. (let l : length t.fired < length (walk image world r.0) = subst (λ ks. length ks < length (walk image world r.0)) fired_is r.1 in let k : length (walk image world r.0) ≤ length t.fired = cost r.0 in absurd (omega (arith, l, k)));
+    front = q.1.memory.steps;
+    most = λ n f. (let k : length (ops image world n) ≤ q.0 = q.1.most n (λ u x fx mx l. subst (λ ks. HasFired ks x.wave x.instr) (sym fired_is) (f u x fx mx l)) in
+        let e : length (ops image world q.1.memory.steps) ≡ q.0 = q.1.memory.count in omega (arith, k, e));
+    left = out_at q.1.memory.steps (effect_is image world q.1.memory.steps ∙ q.1.memory.left);
+  }
+
+  pub stopped_so : (array : ℕ) → c.fault ≡ Some array → s.stopped ≡ true
+  stopped_so array e = stopped_is ∙ ap has e
+
+  pub fault_run : (array : ℕ) → c.fault ≡ Some array → AtFault image world s → ((p : ℕ) (one other : Outside) → Effect image world p one → Effect image world p other → one ≡ other) → FaultRun image world began array c.outside
+  fault_run array e at same =
+      let f = subst (λ (o : Option ℕ). FaultIs image world o) e is.fault in
+      let times : at.time ≡ f.0 = one_fault image world facts at.time f.0 at.fault f.1 in
+      let left : Effect image world (length (ops image world f.0)) s.memory = subst (λ (n : ℕ). Effect image world (length (ops image world n)) s.memory) times at.memory in
+      let here : Effect image world (length (ops image world f.0)) (effect_of (mem image world f.0)) = record { steps = f.0; count = refl; left = refl } in
+      record {
+        time = f.0;
+        fault = f.1;
+        array_is = f.2;
+        left = out_at f.0 (effect_is image world f.0 ∙ same (length (ops image world f.0)) (effect_of (mem image world f.0)) s.memory here left);
+      }
+
+pub front_run : (image : Image) (world : World) (began : List (Option Began)) (c : Content) (m : Outside) → IsBuffer image world began c m → FrontRun image world began c.outside
+front_run image world began c m is = record {
+  front = is.ok.legal.cut;
+  left = out_of began (mem image world is.ok.legal.cut) c.outside (subst (λ (o : Outside). OutIs began o c.outside) (is.ok.legal.ordered.memory ∙ effect_is image world is.ok.legal.cut) is.outside);
+}

@@ -1,0 +1,6 @@
+pub mod Listed
+pub mod Union
+pub mod Rights
+pub mod Paid
+pub mod Endings
+pub mod Shares

@@ -1,0 +1,48 @@
+-- Where a run of a crew ends.
+use Rattle.std.specs.Prelude.{ℕ, ◌≡◌, ◌<◌, ◌≤◌, true, false, List, length, Option, Some, None}
+use Rattle.ws_words.specs.Outside.{World}
+use Rattle.ws_isa.specs.Image.{Image, is_memory, array_at}
+use Rattle.image_walk.specs.Walk.{Inst, fires, mem, walk, CostAtMost}
+use Rattle.image_walk.specs.Operations.{ops, FaultsAt, NoFault}
+use Rattle.core_law.specs.Core.{Key, HasFired}
+use Rattle.df_job.specs.Began.{Began}
+use Rattle.store_buf.specs.Contents.{Content}
+use Rattle.store_buf.specs.Outdoors.{Holding, OutIs}
+
+-- the chain isn't stopped, and no port has failed or found no memory
+abbrev pub IsGoing : Content → Type 0
+IsGoing c = (c.fault ≡ None) × (c.failed ≡ None) × (c.starved ≡ false)
+
+-- the walk has no load or store past the end; each of its instances is listed, and as many are as it has; what is outside is
+-- what it leaves
+pub record AllRun (image : Image) (world : World) (began : List (Option Began)) (listed : List Key) (h : Holding) : Type 0 where
+  pub no_fault : NoFault image world
+  pub cost : CostAtMost image world (length listed)
+  pub steps : ℕ
+  pub count : length listed ≡ length (walk image world steps)
+  pub all : (t : ℕ) (x : Inst) → fires image world t ≡ Some x → HasFired listed x.wave x.instr
+  pub left : (t : ℕ) → length listed ≤ length (walk image world t) → OutIs began (mem image world t) h
+
+-- the first q operations of the walk are listed
+abbrev pub FirstListed : Image → World → List Key → ℕ → Type 0
+FirstListed image world listed q = (t : ℕ) (x : Inst) → fires image world t ≡ Some x → is_memory image x.instr ≡ true → length (ops image world t) < q → HasFired listed x.wave x.instr
+
+-- the walk has more instances than are listed; what is outside is what it leaves with its first operations, and these are at
+-- least as many as are listed without a gap
+pub record SomeRun (image : Image) (world : World) (began : List (Option Began)) (listed : List Key) (h : Holding) : Type 0 where
+  pub dear : CostAtMost image world (length listed) → ⊥
+  pub front : ℕ
+  pub most : (t : ℕ) → FirstListed image world listed (length (ops image world t)) → length (ops image world t) ≤ length (ops image world front)
+  pub left : OutIs began (mem image world front) h
+
+-- the walk's first load or store past the end is on this array, and what is outside is what the walk leaves before it
+pub record FaultRun (image : Image) (world : World) (began : List (Option Began)) (array : ℕ) (h : Holding) : Type 0 where
+  pub time : ℕ
+  pub fault : FaultsAt image world time
+  pub array_is : array ≡ array_at image fault.inst.instr
+  pub left : OutIs began (mem image world time) h
+
+-- what is outside is what the walk leaves with its first operations
+pub record FrontRun (image : Image) (world : World) (began : List (Option Began)) (h : Holding) : Type 0 where
+  pub front : ℕ
+  pub left : OutIs began (mem image world front) h

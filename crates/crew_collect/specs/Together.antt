@@ -1,0 +1,36 @@
+-- Sixteen tables as one part of the core's state.
+use Rattle.std.specs.Prelude.{ℕ, suc, ◌+◌, ◌%◌, List, [], ◌∷◌, ◌++◌, slice_index_or}
+use Rattle.core_law.specs.Core.{Key}
+use Rattle.core_law.specs.Shown.{Tables as Part}
+use Rattle.match_table.specs.Tables.{Content, held, keys}
+use Rattle.crew_tables.specs.declared.row.Tables.{Tables}
+use Rattle.crew_tables.specs.Limits.{Serves}
+use Rattle.crew_tables.specs.Rows.{contents}
+
+-- stands for a table that isn't there
+abbrev pub no_content : Content
+no_content = record { entries = []; fired = []; spare = 0 }
+
+abbrev pub content_at : List Content → ℕ → Content
+content_at cs k = slice_index_or cs k no_content
+
+-- the tables serve, from this number on, the instances whose wave number plus instruction is their number modulo 16
+abbrev pub ServeFrom : ℕ → List Content → Type 0
+ServeFrom n [] = Unit {0}
+ServeFrom n (c ∷ cs) = Serves n c × ServeFrom (suc n) cs
+
+-- what they list, one table after another
+abbrev pub all_fired : List Content → List Key
+all_fired [] = []
+all_fired (c ∷ cs) = keys c.fired ++ all_fired cs
+
+-- what they hold and list together: at each instance what the table holds that serves it
+abbrev pub together : List Content → Part
+together cs = record { held = λ w i p. held (content_at cs ((w + i) % 16)) w i p; fired = all_fired cs }
+
+abbrev pub part_of : {J : Type 0} → Tables J → Part
+part_of ts = together (contents ts)
+
+-- each table holds tokens of the instances alone that it serves
+abbrev pub AllServe : {J : Type 0} → Tables J → Type 0
+AllServe ts = ServeFrom 0 (contents ts)

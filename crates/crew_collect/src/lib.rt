@@ -1,0 +1,8 @@
+//! What a crew's collector finds between two phases: what tables and a buffer owe.
+#![tactic(auto)]
+
+pub mod ends;
+pub mod limits;
+pub mod missing;
+pub mod tables;
+pub mod unknown;

@@ -1,0 +1,80 @@
+//! Sixteen tables between two phases, as one.
+
+ghost use Rattle.std.specs.Prelude.{◌≡◌, ◌+◌, ◌<◌, ◌%◌, ℕ, All};
+ghost use Rattle.core_law.specs.Core.{Once, has, operands_in};
+ghost use Rattle.core_law.specs.Shown.{TablesOk};
+ghost use Rattle.match_table.specs.Ports.{listed};
+ghost use Rattle.crew_collect.specs.Together.{AllServe, content_at, part_of};
+ghost use Rattle.crew_tables.specs.Rows.{contents};
+
+use crew_tables::row::Tables;
+use df_job::Job;
+use match_table::Table;
+
+/// The table with this number.
+pub fn table_at<J: Job>(tables: &Tables<J>, number: u64) -> &Table<J>
+    requires { number < 16 }
+    ensures { result.now ≡ content_at (contents tables.now) number }
+{
+    match number {
+        0 => &tables.t0,
+        1 => &tables.t1,
+        2 => &tables.t2,
+        3 => &tables.t3,
+        4 => &tables.t4,
+        5 => &tables.t5,
+        6 => &tables.t6,
+        7 => &tables.t7,
+        8 => &tables.t8,
+        9 => &tables.t9,
+        10 => &tables.t10,
+        11 => &tables.t11,
+        12 => &tables.t12,
+        13 => &tables.t13,
+        14 => &tables.t14,
+        _ => &tables.t15,
+    }
+}
+
+/// Whether a port of an instance has had its token.
+pub fn holds<J: Job>(tables: &Tables<J>, wave: u64, instr: u32, port: u8) -> bool
+    ensures { result ≡ has ((part_of tables.now).held wave instr port) }
+{
+    table_at(tables, table_of(wave, instr)).holds(wave, instr, port)
+}
+
+// The number of the table that serves an instance.
+fn table_of(wave: u64, instr: u32) -> u64
+    ensures number { result ≡ (wave + instr) % 16 }
+    ensures below { result < 16 }
+{
+    (wave % 16 + u64::from(instr) % 16) % 16
+}
+
+/// What is true of tables that serve apart: together they are a part of the core's state of which
+/// the law speaks, an instance fires once, and the operands that are listed are those that are held.
+pub fn facts<J: Job>(tables: &Tables<J>)
+    requires { AllServe tables.now }
+    ensures part { TablesOk J.image J.world (part_of tables.now) }
+    ensures once { Once (part_of tables.now).fired }
+    ensures operands { (k : ℕ) → k < 16 → All (λ f. listed f.operands
+        ≡ operands_in J.image (part_of tables.now).held f.wave f.instr)
+        (content_at (contents tables.now) k).fired }
+{
+    tables.t0.facts();
+    tables.t1.facts();
+    tables.t2.facts();
+    tables.t3.facts();
+    tables.t4.facts();
+    tables.t5.facts();
+    tables.t6.facts();
+    tables.t7.facts();
+    tables.t8.facts();
+    tables.t9.facts();
+    tables.t10.facts();
+    tables.t11.facts();
+    tables.t12.facts();
+    tables.t13.facts();
+    tables.t14.facts();
+    tables.t15.facts();
+}
