@@ -1,0 +1,8 @@
+//! A crew of workers that fire the instances of a job.
+#![tactic(auto)]
+
+pub mod gate;
+pub mod phase;
+pub mod work;
+
+pub use gate::{Free, Gate};

@@ -1,0 +1,87 @@
+//! One phase of a run.
+
+ghost use Rattle.std.specs.Prelude.{◌≡◌, length};
+ghost use Rattle.crew_tables.specs.Rows.{Fits};
+
+use crate::gate::Gate;
+use crate::work::{Worked, work};
+use crew_tables::{Quotas, Row, Tables};
+use df_job::{Code, Job, Token, TokenList};
+use port_set::Port;
+use ready_pool::{Seat, SeatList};
+use std::alloc::Global;
+use std::sync::{Mutex, Wait};
+use std::thread;
+use std::thread::Threads;
+use store_buf::Buffer;
+
+/// What a phase leaves: tables, the buffer, the tokens that were let go, and whether memory ran out.
+#[derive(Drop)]
+pub struct PhaseEnd<J: Job, P: Port> {
+    pub tables: Tables<J>,
+    pub buffer: Buffer<J, P>,
+    pub let_go: TokenList<J>,
+    pub starved: bool,
+}
+
+/// A worker for each seat, until none finds a token. Each table keeps within its limit. Where no
+/// thread can be started the caller's does all.
+pub fn phase<
+    J: Job + Send + Sync,
+    Q: Quotas + Send + Sync,
+    P: Port + Send,
+    G: Gate,
+    R: Threads + Wait + Sync,
+>(
+    rt: &R,
+    alloc: Global,
+    tables: Tables<J>,
+    buffer: Buffer<J, P>,
+    limits: &[usize],
+    deal: SeatList<Token<J>>,
+    code: &Code<'_, J>,
+    gate: &G,
+) -> PhaseEnd<J, P>
+    requires limits { (limits.now ≡ Q.most) × (length limits.now ≡ 16) }
+    requires fits { Fits tables limits.now }
+    ensures { Fits result.tables limits.now }
+{
+    let row: Row<J, Q> = Row::new(tables, limits);
+    let lock = Mutex::new(buffer);
+    let shared = &row;
+    let behind = &lock;
+    let back = thread::map_vec(
+        rt,
+        deal,
+        &|seat: Seat<Token<J>>| -> Worked<J> { work(rt, alloc, seat, shared, behind, code, gate) },
+    );
+    let (let_go, starved) = match back {
+        Ok(all) => gather(alloc, all),
+        Err(_) => (TokenList::empty(alloc), true),
+    };
+    PhaseEnd {
+        tables: row.gather(),
+        buffer: lock.into_inner(),
+        let_go,
+        starved,
+    }
+}
+
+// What all workers let go, and whether memory ran out for one of them.
+fn gather<J: Job>(alloc: Global, all: Vec<Worked<J>>) -> (TokenList<J>, bool) {
+    let mut let_go = TokenList::empty(alloc);
+    let mut starved = false;
+    for worked in all {
+        starved = starved || worked.starved;
+        pour(worked.let_go, &mut let_go);
+    }
+    (let_go, starved)
+}
+
+// Puts tokens behind others, as far as there is memory.
+fn pour<J: Job>(from: TokenList<J>, to: &mut TokenList<J>) {
+    let mut from = from;
+    while let Some(token) = from.pop() {
+        let _ = to.push(token);
+    }
+}
