@@ -1,0 +1,4 @@
+use Rattle.crew_run.proofs.turn.turn.Given as goal
+
+abbrev pub ghosts-phase : goal.ghosts-phase
+ghosts-phase g a = record { most = a.limits.now }

@@ -1,0 +1,123 @@
+//! The run of a crew.
+
+ghost use Rattle.std.specs.Prelude.{◌≡◌, ◌≤◌, ◌-◌, ◌⊎◌, length};
+ghost use Rattle.port_set.specs.Slots.{AllOpen, contents};
+ghost use Rattle.store_buf.specs.Outdoors.{AllBegan};
+ghost use Rattle.crew_collect.specs.Together.{AllServe, part_of};
+ghost use Rattle.crew_run.specs.Finishes.{FinishSo};
+ghost use Rattle.crew_run.specs.Verdicts.{EndingSo};
+
+use crate::finish::{CrewEnd, CrewFinish, finish};
+use crate::judge::{Ending, Verdict, judge};
+use crate::turn::turn;
+use crew_collect::limits::{fired, fitting};
+use crew_tables::Tables;
+use df_job::{Code, Job, TokenList};
+use fire_crew::Gate;
+use port_set::{Port, Slots};
+use std::alloc::Global;
+use std::sync::Wait;
+use std::thread::Threads;
+use store_buf::Buffer;
+use ws_words::Words;
+
+/// Where a run has ended.
+#[derive(Drop)]
+pub struct Ended<J: Job, P: Port> {
+    pub tables: Tables<J>,
+    pub buffer: Buffer<J, P>,
+    pub ending: Ending,
+}
+
+/// Runs phase after phase until the run has ended.
+pub fn run_on<J: Job + Send + Sync, P: Port + Send, G: Gate, R: Threads + Wait + Sync>(
+    rt: &R,
+    alloc: Global,
+    tables: Tables<J>,
+    buffer: Buffer<J, P>,
+    workers: u32,
+    budget: u64,
+    code: &Code<'_, J>,
+    gate: &G,
+) -> Ended<J, P>
+    requires serve { AllServe tables }
+    requires within { length (part_of tables).fired ≤ budget }
+    requires workers { (1 ≤ workers) × (workers ≤ 8) }
+    ensures serve { AllServe result.tables }
+    ensures within { length (part_of result.tables).fired ≤ budget }
+    ensures ended { EndingSo J.image J.world J.began (part_of result.tables).fired
+        (budget - length (part_of result.tables).fired) result.buffer result.ending }
+{
+    let mut tables = tables;
+    let mut buffer = buffer;
+    let mut tokens = TokenList::empty(alloc);
+    for _ in rt.forever() {
+        let left = budget - fired(&tables);
+        match judge(alloc, code, &tables, &mut buffer, tokens, left) {
+            Verdict::Ends(ending) => {
+                return Ended {
+                    tables,
+                    buffer,
+                    ending,
+                };
+            }
+            Verdict::Again => tokens = TokenList::empty(alloc),
+            Verdict::Go(all) => {
+                let after = turn(rt, alloc, tables, buffer, all, workers, left, code, gate);
+                tables = after.tables;
+                buffer = after.buffer;
+                tokens = after.let_go;
+                if after.starved {
+                    return Ended {
+                        tables,
+                        buffer,
+                        ending: Ending::Starved,
+                    };
+                }
+            }
+        }
+    }
+    Ended {
+        tables,
+        buffer,
+        ending: Ending::Starved,
+    }
+}
+
+/// Runs the image of a job with so many workers, until the whole walk has been run, so many instances
+/// have fired, or a port fails. The job names this image, this input, and the ports as they are handed
+/// in, with the words that they have left.
+pub fn run_over<J: Job + Send + Sync, P: Port + Send, G: Gate, R: Threads + Wait + Sync>(
+    rt: &R,
+    alloc: Global,
+    code: &Code<'_, J>,
+    input: Words,
+    ports: Slots<P>,
+    workers: u32,
+    budget: u64,
+    gate: &G,
+) -> CrewEnd<J, P>
+    requires input { input ≡ J.world.input }
+    requires ports { AllBegan J.began J.world.left (contents P.tells ports) }
+    requires open { AllOpen (contents P.tells ports) }
+    requires workers { (1 ≤ workers) × (workers ≤ 8) }
+    ensures serve { AllServe result.tables }
+    ensures within { length (part_of result.tables).fired ≤ budget }
+    ensures finish { (contents P.tells result.ports ≡ contents P.tells ports)
+        ⊎ FinishSo J.image J.world J.began budget (part_of result.tables).fired
+        (contents P.tells result.ports) result.finish }
+{
+    let tables = Tables::new(alloc);
+    fitting(&tables, &[0; 16]);
+    match Buffer::begin(alloc, code, input, ports) {
+        Ok(buffer) => {
+            let ended = run_on(rt, alloc, tables, buffer, workers, budget, code, gate);
+            finish(code, ended.tables, ended.buffer, ended.ending, budget)
+        }
+        Err(ports) => CrewEnd {
+            finish: CrewFinish::NoMemory,
+            ports,
+            tables,
+        },
+    }
+}

@@ -1,0 +1,9 @@
+//! The run of a crew: phase after phase, until nothing is owed or the budget is spent.
+#![tactic(auto)]
+
+pub mod crew;
+pub mod finish;
+pub mod judge;
+pub mod turn;
+
+pub use finish::{CrewEnd, CrewFinish};

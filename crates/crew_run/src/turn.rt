@@ -1,0 +1,98 @@
+//! A turn: the budget is shared out, tokens are dealt, and workers run.
+
+ghost use Rattle.std.specs.Prelude.{◌≡◌, ◌+◌, ◌<◌, ◌≤◌, ◌^◌, length};
+ghost use Rattle.crew_collect.specs.Together.{AllServe, part_of};
+
+use crew_collect::limits::{fitting, limits};
+use crew_tables::Tables;
+use df_job::{Code, Job, Token, TokenList};
+use fire_crew::Gate;
+use fire_crew::phase::{PhaseEnd, phase};
+use port_set::Port;
+use ready_pool::{SeatList, seats};
+use std::alloc::Global;
+use std::marker::Brand;
+use std::sync::Wait;
+use std::thread::Threads;
+use store_buf::Buffer;
+use ws_words::NoMemory;
+
+/// A phase with these tokens, in which at most so many instances fire.
+pub fn turn<J: Job + Send + Sync, P: Port + Send, G: Gate, R: Threads + Wait + Sync>(
+    rt: &R,
+    alloc: Global,
+    tables: Tables<J>,
+    buffer: Buffer<J, P>,
+    tokens: TokenList<J>,
+    workers: u32,
+    left: u64,
+    code: &Code<'_, J>,
+    gate: &G,
+) -> PhaseEnd<J, P>
+    requires serve { AllServe tables }
+    requires left { length (part_of tables).fired + left < 2 ^ 64 }
+    requires workers { (1 ≤ workers) × (workers ≤ 8) }
+    ensures serve { AllServe result.tables }
+    ensures within { length (part_of result.tables).fired ≤ length (part_of tables).fired + left }
+{
+    let mut tokens = tokens;
+    let first = first_table(&mut tokens);
+    let Ok(limits) = limits(alloc, &tables, left, first) else {
+        return stays(tables, buffer, tokens);
+    };
+    let Ok(deal) = deal(alloc, tokens, workers) else {
+        return stays(tables, buffer, TokenList::empty(alloc));
+    };
+    let after = phase::<J, Brand, P, G, R>(rt, alloc, tables, buffer, &limits, deal, code, gate);
+    fitting(&after.tables, &limits);
+    after
+}
+
+// Memory ran out before a worker could run.
+fn stays<J: Job, P: Port>(
+    tables: Tables<J>,
+    buffer: Buffer<J, P>,
+    tokens: TokenList<J>,
+) -> PhaseEnd<J, P>
+    ensures { result.tables ≡ tables }
+{
+    PhaseEnd {
+        tables,
+        buffer,
+        let_go: tokens,
+        starved: true,
+    }
+}
+
+// The number of the table of one of these tokens.
+fn first_table<J: Job>(tokens: &mut TokenList<J>) -> u64 {
+    let Some(token) = tokens.pop() else {
+        return 0;
+    };
+    let number = (token.wave() % 16 + u64::from(token.instr()) % 16) % 16;
+    let _ = tokens.push(token);
+    number
+}
+
+// Seats with these tokens, one after another.
+fn deal<J: Job>(
+    alloc: Global,
+    tokens: TokenList<J>,
+    workers: u32,
+) -> Result<SeatList<Token<J>>, NoMemory>
+    requires { (1 ≤ workers) × (workers ≤ 8) }
+{
+    let mut tokens = tokens;
+    let mut seats = seats::<Token<J>>(alloc, workers)?;
+    let mut at = 0;
+    while let Some(token) = tokens.pop() {
+        if at >= seats.len() {
+            at = 0;
+        }
+        if at < seats.len() {
+            let _ = seats[at].put(token);
+            at += 1;
+        }
+    }
+    Ok(seats)
+}
