@@ -206,7 +206,10 @@ fn events_in_any_order_come_to_what_run_answers(rt: HostRuntime) -> Result<(), F
             if comes_to_rest(&mut core, seed, instrs)? {
                 assert!(rt; is_at_end_of(&core, &run), "{text}, seed {seed}");
             } else {
-                assert!(rt; are_first(core.printed(), &walked.printed), "{text}, seed {seed}");
+                assert!(rt;
+                    are_first(core.printed(), &walked.printed),
+                    "{text}, seed {seed}"
+                );
             }
         }
     }
@@ -228,11 +231,28 @@ type Row = (u64, u32, Option<u8>);
 
 // An event of a run of that image on the word 1, behind others that may not be made before it.
 const TRACE: &[(&[Row], Row)] = &[
-    (&[(1, 1, Some(0)), (0, 1, Some(1)), (1, 2, Some(0)), (1, 2, None)], (0, 1, Some(0))),
-    (&[(0, 1, Some(0)), (1, 2, None), (1, 3, Some(1))], (1, 2, Some(0))),
+    (
+        &[
+            (1, 1, Some(0)),
+            (0, 1, Some(1)),
+            (1, 2, Some(0)),
+            (1, 2, None),
+        ],
+        (0, 1, Some(0)),
+    ),
+    (
+        &[(0, 1, Some(0)), (1, 2, None), (1, 3, Some(1))],
+        (1, 2, Some(0)),
+    ),
     (&[(1, 2, Some(0)), (2, 2, None)], (1, 2, None)),
-    (&[(1, 2, None), (1, 8, Some(0)), (1, 7, Some(0))], (1, 3, Some(0))),
-    (&[(1, 3, Some(0)), (1, 3, Some(2)), (1, 3, None)], (1, 3, Some(1))),
+    (
+        &[(1, 2, None), (1, 8, Some(0)), (1, 7, Some(0))],
+        (1, 3, Some(0)),
+    ),
+    (
+        &[(1, 3, Some(0)), (1, 3, Some(2)), (1, 3, None)],
+        (1, 3, Some(1)),
+    ),
     (&[(1, 7, Some(0)), (1, 10, Some(0))], (1, 8, Some(0))),
     (&[(1, 8, Some(0)), (1, 12, Some(0))], (1, 10, Some(0))),
     (&[(1, 10, Some(0)), (1, 12, None)], (1, 12, Some(0))),
@@ -240,7 +260,10 @@ const TRACE: &[(&[Row], Row)] = &[
     (&[(1, 12, None), (1, 6, Some(1))], (1, 5, Some(0))),
     (&[(1, 12, None), (1, 6, None)], (1, 6, Some(0))),
     (&[(1, 12, None), (1, 6, None)], (1, 6, Some(1))),
-    (&[(1, 12, None), (1, 6, Some(0)), (1, 6, Some(1))], (1, 6, None)),
+    (
+        &[(1, 12, None), (1, 6, Some(0)), (1, 6, Some(1))],
+        (1, 6, None),
+    ),
     (&[(1, 6, None), (1, 11, None)], (1, 12, None)),
     (&[(1, 12, None), (1, 11, Some(0))], (1, 9, Some(0))),
     (&[(1, 9, Some(0)), (1, 11, None)], (1, 11, Some(0))),
@@ -248,9 +271,15 @@ const TRACE: &[(&[Row], Row)] = &[
     (&[(1, 11, None), (1, 13, None)], (1, 13, Some(0))),
     (&[(1, 13, Some(0)), (1, 14, None)], (1, 14, Some(0))),
     (&[(1, 14, None), (1, 15, None)], (1, 15, Some(0))),
-    (&[(1, 14, None), (1, 15, None), (1, 15, Some(0))], (1, 13, None)),
+    (
+        &[(1, 14, None), (1, 15, None), (1, 15, Some(0))],
+        (1, 13, None),
+    ),
     (&[(1, 13, None), (1, 15, None)], (1, 14, None)),
-    (&[(1, 14, None), (2, 15, None), (1, 16, None)], (1, 15, None)),
+    (
+        &[(1, 14, None), (2, 15, None), (1, 16, None)],
+        (1, 15, None),
+    ),
 ];
 
 fn event_of(row: Row) -> Event {
