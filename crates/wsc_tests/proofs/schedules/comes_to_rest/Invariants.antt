@@ -1,0 +1,5 @@
+use Rattle.core_run.specs.Cores.{Runs}
+use Rattle.wsc_tests.proofs.schedules.comes_to_rest.Given as goal
+
+abbrev pub invariant-loop : goal.invariant-loop
+invariant-loop l = Runs l.core
