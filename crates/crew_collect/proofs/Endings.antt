@@ -4,12 +4,12 @@ use Rattle.std.proofs.lemmas.Bool.{both_ways, and_parts}
 use Rattle.ws_words.specs.Outside.{Outside, World, row}
 use Rattle.ws_isa.specs.Image.{Image, Token, ports, is_memory}
 use Rattle.ws_isa.specs.Formed.{Formed}
-use Rattle.image_walk.specs.Walk.{mem, walk}
+use Rattle.image_walk.specs.Walk.{Inst, mem, walk}
 use Rattle.image_walk.specs.Operations.{ops, effect_of, Effect}
 use Rattle.image_walk.specs.Sound.{Sound}
 use Rattle.core_law.specs.Effect.{effect_at}
 use Rattle.core_law.specs.Core.{State, Issue, Enabled, HasFired, Once, has, operands_in}
-use Rattle.core_law.specs.Fit.{Fit, NoOp}
+use Rattle.core_law.specs.Fit.{Fit, FiresAt, NoOp, RightToken}
 use Rattle.core_law.specs.Ends.{Whole, AtFault, Passed}
 use Rattle.core_law.specs.Shown.{Tables, Buffer, TablesOk, OwesNothing, NoneIssuable, owed, shown, lists, waits_if}
 use Rattle.core_law.proofs.Facts.{WalkFacts}
@@ -21,7 +21,7 @@ use Rattle.core_law.proofs.Quiet.{no_op_no_write, mem_same}
 use Rattle.core_law.proofs.Ends.{one_fault}
 use Rattle.core_law.proofs.ShownFit.{lists_true}
 use Rattle.core_run.proofs.Issuing.{printed_alike, took_alike}
-use Rattle.core_run.proofs.Firings.{none_fires}
+use Rattle.core_run.proofs.Firings.{StepsOf, none_fires, steps_of}
 use Rattle.df_job.specs.Began.{Began}
 use Rattle.df_job.specs.Rights.{IsRight}
 use Rattle.port_set.specs.Slots.{port_at}
@@ -30,7 +30,7 @@ use Rattle.store_buf.specs.Requests.{entry_of, operands_if}
 use Rattle.store_buf.specs.Contents.{Content, FaultIs, IsBuffer, buffer_in}
 use Rattle.store_buf.specs.Outdoors.{Holding, OutIs, SlotIs}
 use Rattle.crew_collect.specs.Owing.{AllKnown, HaveCome, IsMissing}
-use Rattle.crew_collect.specs.Ends.{AllRun, SomeRun, FaultRun, FrontRun}
+use Rattle.crew_collect.specs.Ends.{AllRun, SomeRun, FaultRun}
 
 -- loads neither print, nor store, nor give words to ports
 pub out_of : (began : List (Option Began)) (o : Outside) (h : Holding) → OutIs began (effect_of o) h → OutIs began o h
@@ -132,14 +132,27 @@ module _ (image : Image) (world : World) (formed : Formed image) (sound : Sound 
       let g = f.1 x.port (omega (arith, l, n)) in
       nothing g.0 (sym missing ∙ g.1)
 
+  fired_at : (w i : ℕ) → HasFired s.fired w i → (t : ℕ) × (x : Inst) × FiresAt image world w i t x
+  fired_at w i has =
+      let f = fit.fired_full w i has in
+      let g = f.1 0 f.0 in
+      let r : RightToken image world w i 0 g.0 = fit.held_right w i 0 g.0 g.1 in
+      (r.time, r.inst, r.at)
+
   pub some_run : (n : ℕ) × (length s.fired < length (walk image world n)) → (p : ℕ) × Passed image world s p → SomeRun image world began t.fired c.outside
-  some_run r q = record {
-    dear = λ cost. (let l : length t.fired < length (walk image world r.0) = subst (λ ks. length ks < length (walk image world r.0)) fired_is r.1 in let k : length (walk image world r.0) ≤ length t.fired = cost r.0 in absurd (omega (arith, l, k)));
-    front = q.1.memory.steps;
-    most = λ n f. (let k : length (ops image world n) ≤ q.0 = q.1.most n (λ u x fx mx l. subst (λ ks. HasFired ks x.wave x.instr) (sym fired_is) (f u x fx mx l)) in
-        let e : length (ops image world q.1.memory.steps) ≡ q.0 = q.1.memory.count in omega (arith, k, e));
-    left = out_at q.1.memory.steps (effect_is image world q.1.memory.steps ∙ q.1.memory.left);
-  }
+  some_run r q =
+      let of : StepsOf image world s.fired = steps_of image world facts s.fired shown_once fired_at in
+      record {
+        dear = λ cost. (let l : length t.fired < length (walk image world r.0) = subst (λ ks. length ks < length (walk image world r.0)) fired_is r.1 in let k : length (walk image world r.0) ≤ length t.fired = cost r.0 in absurd (omega (arith, l, k)));
+        steps = of.steps;
+        firing = of.firing;
+        count = of.count ∙ ap length fired_is;
+        front = q.1.memory.steps;
+        most = λ n f. (let k : length (ops image world n) ≤ q.0 = q.1.most n (λ u x fx mx l. of.only u x (f u x fx mx l) fx) in
+            let e : length (ops image world q.1.memory.steps) ≡ q.0 = q.1.memory.count in omega (arith, k, e));
+        within = q.1.within q.1.memory.steps (let e : length (ops image world q.1.memory.steps) ≡ q.0 = q.1.memory.count in omega (arith, e));
+        left = out_at q.1.memory.steps (effect_is image world q.1.memory.steps ∙ q.1.memory.left);
+      }
 
   pub stopped_so : (array : ℕ) → c.fault ≡ Some array → s.stopped ≡ true
   stopped_so array e = stopped_is ∙ ap has e
@@ -156,9 +169,3 @@ module _ (image : Image) (world : World) (formed : Formed image) (sound : Sound 
         array_is = f.2;
         left = out_at f.0 (effect_is image world f.0 ∙ same (length (ops image world f.0)) (effect_of (mem image world f.0)) s.memory here left);
       }
-
-pub front_run : (image : Image) (world : World) (began : List (Option Began)) (c : Content) (m : Outside) → IsBuffer image world began c m → FrontRun image world began c.outside
-front_run image world began c m is = record {
-  front = is.ok.legal.cut;
-  left = out_of began (mem image world is.ok.legal.cut) c.outside (subst (λ (o : Outside). OutIs began o c.outside) (is.ok.legal.ordered.memory ∙ effect_is image world is.ok.legal.cut) is.outside);
-}

@@ -1,13 +1,15 @@
 -- Where a run of a crew ends.
-use Rattle.std.specs.Prelude.{ℕ, ◌≡◌, ◌<◌, ◌≤◌, true, false, List, length, Option, Some, None}
+use Rattle.std.specs.Prelude.{ℕ, ◌≡◌, ◌≤◌, true, false, List, length, Option, Some, None}
 use Rattle.ws_words.specs.Outside.{World}
-use Rattle.ws_isa.specs.Image.{Image, is_memory, array_at}
+use Rattle.ws_isa.specs.Image.{Image, array_at, instr_at}
 use Rattle.image_walk.specs.Walk.{Inst, fires, mem, walk, CostAtMost}
 use Rattle.image_walk.specs.Operations.{ops, FaultsAt, NoFault}
 use Rattle.core_law.specs.Core.{Key, HasFired}
+use Rattle.core_law.specs.Ends.{FirstWithin}
+use Rattle.core_run.specs.Answer.{FiringSteps, FirstAmong}
 use Rattle.df_job.specs.Began.{Began}
 use Rattle.store_buf.specs.Contents.{Content}
-use Rattle.store_buf.specs.Outdoors.{Holding, OutIs}
+use Rattle.store_buf.specs.Outdoors.{Holding, OutIs, RoseSince, port_of}
 
 -- the chain isn't stopped, and no port has failed or found no memory
 abbrev pub IsGoing : Content → Type 0
@@ -23,16 +25,19 @@ pub record AllRun (image : Image) (world : World) (began : List (Option Began)) 
   pub all : (t : ℕ) (x : Inst) → fires image world t ≡ Some x → HasFired listed x.wave x.instr
   pub left : (t : ℕ) → length listed ≤ length (walk image world t) → OutIs began (mem image world t) h
 
--- the first q operations of the walk are listed
-abbrev pub FirstListed : Image → World → List Key → ℕ → Type 0
-FirstListed image world listed q = (t : ℕ) (x : Inst) → fires image world t ≡ Some x → is_memory image x.instr ≡ true → length (ops image world t) < q → HasFired listed x.wave x.instr
-
--- the walk has more instances than are listed; what is outside is what it leaves with its first operations, and these are at
--- least as many as are listed without a gap
-pub record SomeRun (image : Image) (world : World) (began : List (Option Began)) (listed : List Key) (h : Holding) : Type 0 where
+-- The walk has more instances than are listed, and at these steps of it as many fire. What is outside is what
+-- the walk leaves with its first operations, none of them past the end, and these are at least as many as fire
+-- at those steps without a gap.
+pub record SomeRun (image : Image) (world : World) (began : List (Option Began)) (listed : List Key)
+    (h : Holding) : Type 0 where
   pub dear : CostAtMost image world (length listed) → ⊥
+  pub steps : List ℕ
+  pub firing : FiringSteps image world steps
+  pub count : length steps ≡ length listed
   pub front : ℕ
-  pub most : (t : ℕ) → FirstListed image world listed (length (ops image world t)) → length (ops image world t) ≤ length (ops image world front)
+  pub most : (t : ℕ) → FirstAmong image world steps (length (ops image world t)) →
+      length (ops image world t) ≤ length (ops image world front)
+  pub within : FirstWithin image world front
   pub left : OutIs began (mem image world front) h
 
 -- the walk's first load or store past the end is on this array, and what is outside is what the walk leaves before it
@@ -42,7 +47,20 @@ pub record FaultRun (image : Image) (world : World) (began : List (Option Began)
   pub array_is : array ≡ array_at image fault.inst.instr
   pub left : OutIs began (mem image world time) h
 
--- what is outside is what the walk leaves with its first operations
+-- the operation that is next in the walk is on this port, which has failed since the run began; none before it
+-- is past the end, and what is outside is what the walk leaves before it
+pub record PortRun (image : Image) (world : World) (began : List (Option Began)) (port : ℕ) (h : Holding)
+    : Type 0 where
+  pub time : ℕ
+  pub inst : Inst
+  pub fires : fires image world time ≡ Some inst
+  pub port_is : port_of (instr_at image inst.instr).op ≡ Some port
+  pub within : FirstWithin image world time
+  pub left : OutIs began (mem image world time) h
+  pub rose : RoseSince began port h.ports
+
+-- what is outside is what the walk leaves with its first operations, none of them past the end
 pub record FrontRun (image : Image) (world : World) (began : List (Option Began)) (h : Holding) : Type 0 where
   pub front : ℕ
+  pub within : FirstWithin image world front
   pub left : OutIs began (mem image world front) h

@@ -6,7 +6,7 @@ ghost use Rattle.core_law.specs.Shown.{owed};
 ghost use Rattle.store_buf.specs.Contents.{buffer_in};
 ghost use Rattle.crew_collect.specs.Together.{AllServe, part_of};
 ghost use Rattle.crew_collect.specs.Owing.{AllKnown, HaveCome, IsMissing};
-ghost use Rattle.crew_collect.specs.Ends.{AllRun, FaultRun, FrontRun, IsGoing, SomeRun};
+ghost use Rattle.crew_collect.specs.Ends.{AllRun, FaultRun, FrontRun, IsGoing, PortRun, SomeRun};
 
 use crate::tables::facts;
 use core_law::{counts, every_list_of_events, owing_nothing_is_rest, shown_is_fit};
@@ -73,7 +73,17 @@ pub fn fault_run<J: Job, P: Port>(
     counts();
 }
 
-/// What is outside is at all times what the walk leaves with its first operations.
+/// Where a port has failed the walk's next operation is on it.
+pub fn port_run<J: Job, P: Port>(code: &Code<'_, J>, buffer: &Buffer<J, P>, port: u8)
+    requires failed { buffer.now.failed ≡ Some port }
+    ensures { PortRun J.image J.world J.began port buffer.now.outside }
+{
+    let _ = code.program();
+    buffer.facts();
+}
+
+/// What is outside is at all times what the walk leaves with its first operations, none of them past
+/// the end.
 pub fn front_run<J: Job, P: Port>(buffer: &Buffer<J, P>)
     ensures { FrontRun J.image J.world J.began buffer.now.outside }
 {

@@ -1,10 +1,11 @@
 //! The run of a crew.
 
-ghost use Rattle.std.specs.Prelude.{◌≡◌, ◌≤◌, ◌-◌, ◌⊎◌, length};
+ghost use Rattle.std.specs.Prelude.{◌≡◌, ◌≤◌, ◌-◌, length};
 ghost use Rattle.port_set.specs.Slots.{AllOpen, contents};
 ghost use Rattle.store_buf.specs.Outdoors.{AllBegan};
 ghost use Rattle.crew_collect.specs.Together.{AllServe, part_of};
-ghost use Rattle.crew_run.specs.Finishes.{FinishSo};
+ghost use Rattle.crew_run.specs.declared.finish.CrewFinish.TheVariants.{NoMemory};
+ghost use Rattle.crew_run.specs.Finishes.{EndsSo};
 ghost use Rattle.crew_run.specs.Verdicts.{EndingSo};
 
 use crate::finish::{CrewEnd, CrewFinish, finish};
@@ -103,21 +104,40 @@ pub fn run_over<J: Job + Send + Sync, P: Port + Send, G: Gate, R: Threads + Wait
     requires workers { (1 ≤ workers) × (workers ≤ 8) }
     ensures serve { AllServe result.tables }
     ensures within { length (part_of result.tables).fired ≤ budget }
-    ensures finish { (contents P.tells result.ports ≡ contents P.tells ports)
-        ⊎ FinishSo J.image J.world J.began budget (part_of result.tables).fired
-        (contents P.tells result.ports) result.finish }
+    ensures finish { EndsSo J.image J.world J.began budget (part_of result.tables).fired
+        (contents P.tells ports) (contents P.tells result.ports) result.finish }
+    ensures open { AllOpen (contents P.tells result.ports) }
 {
-    let tables = Tables::new(alloc);
-    fitting(&tables, &[0; 16]);
     match Buffer::begin(alloc, code, input, ports) {
         Ok(buffer) => {
+            let tables = no_tables(alloc);
             let ended = run_on(rt, alloc, tables, buffer, workers, budget, code, gate);
             finish(code, ended.tables, ended.buffer, ended.ending, budget)
         }
-        Err(ports) => CrewEnd {
-            finish: CrewFinish::NoMemory,
-            ports,
-            tables,
-        },
+        Err(ports) => stays(alloc, ports),
     }
+}
+
+/// For want of memory nothing was run.
+pub fn stays<J: Job, P: Port>(alloc: Global, ports: Slots<P>) -> CrewEnd<J, P>
+    ensures serve { AllServe result.tables }
+    ensures none { length (part_of result.tables).fired ≡ 0 }
+    ensures finish { result.finish ≡ NoMemory }
+    ensures ports { result.ports ≡ ports }
+{
+    CrewEnd {
+        finish: CrewFinish::NoMemory,
+        ports,
+        tables: no_tables(alloc),
+    }
+}
+
+// Tables that have had no token.
+fn no_tables<J: Job>(alloc: Global) -> Tables<J>
+    ensures serve { AllServe result }
+    ensures none { length (part_of result).fired ≡ 0 }
+{
+    let tables = Tables::new(alloc);
+    fitting(&tables, &[0; 16]);
+    tables
 }

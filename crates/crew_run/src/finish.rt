@@ -1,13 +1,13 @@
 //! What a run answers.
 
 ghost use Rattle.std.specs.Prelude.{◌≡◌, ◌≤◌, ◌-◌, length};
-ghost use Rattle.port_set.specs.Slots.{contents};
+ghost use Rattle.port_set.specs.Slots.{AllOpen, contents};
 ghost use Rattle.crew_collect.specs.Together.{AllServe, part_of};
 ghost use Rattle.crew_run.specs.Finishes.{FinishSo};
 ghost use Rattle.crew_run.specs.Verdicts.{EndingSo};
 
 use crate::judge::Ending;
-use crew_collect::ends::{fault_run, front_run};
+use crew_collect::ends::{fault_run, front_run, port_run};
 use crew_collect::limits::fired;
 use crew_tables::Tables;
 use df_job::{Code, Job};
@@ -64,6 +64,7 @@ pub fn finish<J: Job, P: Port>(
     ensures tables { result.tables ≡ tables }
     ensures finish { FinishSo J.image J.world J.began budget (part_of tables).fired
         (contents P.tells result.ports) result.finish }
+    ensures open { AllOpen (contents P.tells result.ports) }
 {
     match ending {
         Ending::Whole => {
@@ -107,6 +108,7 @@ fn stopped<J: Job, P: Port>(
     ensures tables { result.tables ≡ tables }
     ensures finish { FinishSo J.image J.world J.began budget (part_of tables).fired
         (contents P.tells result.ports) result.finish }
+    ensures open { AllOpen (contents P.tells result.ports) }
 {
     front_run(&buffer);
     match buffer.stop() {
@@ -124,6 +126,7 @@ fn stopped<J: Job, P: Port>(
             }
         }
         Some(BufFault::Stopped { port }) => {
+            port_run(code, &buffer, port);
             let end = buffer.finish();
             CrewEnd {
                 finish: CrewFinish::Port {

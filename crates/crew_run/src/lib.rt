@@ -4,6 +4,8 @@
 pub mod crew;
 pub mod finish;
 pub mod judge;
+pub mod run;
 pub mod turn;
 
 pub use finish::{CrewEnd, CrewFinish};
+pub use run::{RunEnd, crew_run, run_image};

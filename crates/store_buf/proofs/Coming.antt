@@ -2,7 +2,7 @@
 use Rattle.std.proofs.Common.{ℕ, suc, ◌≡◌, ◌<◌, ◌≤◌, ◌⊎◌, true, false, List, [], ◌∷◌, ◌++◌, length, Option, Some, None, Result, Ok, Err, slice_index_or, refl, sym, ap, ◌∙◌, subst, inl, inr, arith}
 use Rattle.std.proofs.lemmas.Bool.{both_ways}
 use Rattle.ws_words.specs.Outside.{Outside, World}
-use Rattle.ws_isa.specs.Image.{Image, Token, ports, is_load, is_past, note_of}
+use Rattle.ws_isa.specs.Image.{Image, Token, instr_at, ports, is_load, is_past, note_of}
 use Rattle.ws_isa.specs.Formed.{Formed}
 use Rattle.image_walk.specs.Sound.{Sound}
 use Rattle.core_law.specs.Core.{HasFired, IsNext, has, position_after, with_key}
@@ -22,13 +22,15 @@ use Rattle.store_buf.specs.Requests.{entry_of, kept_in, issued_in, issued_keys, 
 use Rattle.store_buf.specs.Finding.{place_in}
 use Rattle.store_buf.specs.Orders.{Going, EarlyIssued}
 use Rattle.store_buf.specs.Ordering.{no_request, OrderOk}
-use Rattle.store_buf.specs.Outdoors.{Holding, OutIs, RoseAt}
+use Rattle.store_buf.specs.Outdoors.{Holding, OutIs, RoseAt, RoseSince}
 use Rattle.store_buf.specs.Outers.{holding}
 use Rattle.store_buf.specs.Holds.{stays, waiting_in}
-use Rattle.store_buf.specs.Contents.{Content, FaultIs, IsBuffer, Arrives, Submitted, RightTokens, Idle, SubmitSo, buffer_in, with_tokens}
+use Rattle.store_buf.specs.Contents.{Content, FailedSo, FaultIs, IsBuffer, PortWaits, Arrives, Submitted, RightTokens, Idle, SubmitSo, buffer_in, with_tokens}
 use Rattle.store_buf.specs.Stores.{StandsFor, StoreOk, Keeps, Turns, SettledSo, SubmitLeads, Standing, asked_of, buffer_of, content_of}
 use Rattle.store_buf.proofs.Alike.{going_any, once_of}
 use Rattle.store_buf.proofs.Found as F
+use Rattle.store_buf.proofs.Failing.{one_failed, rose_since}
+use Rattle.store_buf.proofs.Within.{port_in}
 use Rattle.store_buf.proofs.Resting.{none_issuable}
 
 pub entry_push : (ks : List Kept) (k : Kept) → entry_of ks k.wave k.instr ≡ None → (w i : ℕ) → entry_of (ks ++ k ∷ []) w i ≡ with_key k.wave k.instr (Some k) (entry_of ks) w i
@@ -128,6 +130,9 @@ module _ (image : Image) (world : World) (began : List (Option Began)) {P : Type
     fault = fault;
   }
 
+  none_failed : (c : Content) → c.failed ≡ None → FailedSo image began c
+  none_failed c none port e = absurd (let f : None ≡ Some port = sym none ∙ e in cc)
+
   -- nothing has changed
   same_content : (old new : Store P) → Keeps old old.order.kept.items new → content_of new ≡ content_of old
   same_content old new k = λ j. record { kept = k.kept_are j; chain = chain_of (k.chain j); fault = k.fault j; failed = k.failed j; starved = k.starved j; outside = k.outer j }
@@ -141,6 +146,7 @@ module _ (image : Image) (world : World) (began : List (Option Began)) {P : Type
       memory = s.memory;
       is = subst (λ (c : Content). IsBuffer image world began c s.memory) (sym (same_content old new k)) s.is;
       idle = λ f t. subst (Idle image) (sym (same_content old new k)) (s.idle (sym k.failed ∙ f) (sym k.starved ∙ t));
+      failed = subst (FailedSo image began) (sym (same_content old new k)) s.failed;
     },
     same_content old new k,
   )
@@ -205,7 +211,7 @@ module _ (image : Image) (world : World) (began : List (Option Began)) {P : Type
       pub put_by : Standing image world began mid × RightTokens image world [] × SubmitSo image world began (content_of old) (asked_of k) (Ok []) (content_of mid)
       put_by =
           let stood : StandsFor image world began mid standing.memory = came standing.memory (stands_of old standing.early_issued standing.early_all standing.memory standing.is) in (
-            record { ok = ok; early_issued = stood.going.early_issued; early_all = stood.going.early_all; memory = standing.memory; is = is_later standing.memory standing.is; idle = λ f t. later_idle },
+            record { ok = ok; early_issued = stood.going.early_issued; early_all = stood.going.early_all; memory = standing.memory; is = is_later standing.memory standing.is; idle = λ f t. later_idle; failed = none_failed (content_of mid) (keeps.failed ∙ working) },
             (λ w i p v e. absurd e),
             (((running, working), fresh, later_submitted, keeps.fault ∙ running, keeps.failed ∙ working, keeps.starved ∙ fed), later_idle),
           )
@@ -223,15 +229,22 @@ module _ (image : Image) (world : World) (began : List (Option Began)) {P : Type
       abbrev last : Turns image world began mid standing.memory new tokens
       last = turns standing.memory standing.is
 
-      stands_now : (new.failed ≡ None → new.starved ≡ false → Idle image (content_of new)) → Standing image world began new
-      stands_now idle = record {
+      stands_now : (new.failed ≡ None → new.starved ≡ false → Idle image (content_of new)) → FailedSo image began (content_of new) → Standing image world began new
+      stands_now idle failed = record {
         ok = ok;
         early_issued = last.stands.going.early_issued;
         early_all = last.stands.going.early_all;
         memory = last.memory;
         is = is_now standing.memory standing.is;
         idle = idle;
+        failed = failed;
       }
+
+      -- in this call a port failed, and had failed no more often when the run began than before the call
+      fails_now : (port : ℕ) → new.failed ≡ Some port → RoseAt port mid.outer.ports new.outer.ports → PortWaits image new.order.kept.items (chain_of new.order.chain) port → FailedSo image began (content_of new)
+      fails_now port failed rose waits = one_failed image began (content_of new) port failed waits
+          (rose_since began standing.memory (holding old.outer) standing.is.outside port new.outer.ports (instr_at image waits.request.instr).op (port_in image waits.request.instr formed) waits.port_is
+          (subst (λ (h : Holding). RoseAt port h.ports new.outer.ports) keeps.outer rose))
 
       stopped_idle : (array : ℕ) → new.fault ≡ Some array → Idle image (content_of new)
       stopped_idle array e m w i xs asks may = both_ways (has new.fault) may.going (ap has e)
@@ -239,16 +252,16 @@ module _ (image : Image) (world : World) (began : List (Option Began)) {P : Type
       pub said : (r : Result (Unit {0}) BufFault) → SettledSo image mid r new → Standing image world began new × RightTokens image world tokens × SubmitSo image world began (content_of old) (asked_of k) (with_tokens tokens r) (content_of new)
       said (Ok u) s =
           let idle : Idle image (content_of new) = λ m. none_issuable image world began new.order (has new.fault) (holding new.outer) last.memory last.stands s.3 in
-          (stands_now (λ f t. idle), last.right, (((running, working), fresh, submitted, s.0, s.1 ∙ keeps.failed ∙ working, s.2), idle))
+          (stands_now (λ f t. idle) (none_failed (content_of new) (s.1 ∙ keeps.failed ∙ working)), last.right, (((running, working), fresh, submitted, s.0, s.1 ∙ keeps.failed ∙ working, s.2), idle))
       said (Err (fault.Index array)) s =
-          (stands_now (λ f t. stopped_idle array s.0), last.right, (tokens, ((running, working), fresh, submitted, s.0, s.1 ∙ keeps.failed ∙ working, s.2)))
+          (stands_now (λ f t. stopped_idle array s.0) (none_failed (content_of new) (s.1 ∙ keeps.failed ∙ working)), last.right, (tokens, ((running, working), fresh, submitted, s.0, s.1 ∙ keeps.failed ∙ working, s.2)))
       said (Err (fault.Port port)) s = (
-        stands_now (λ f t. absurd (let g : Some port ≡ None = sym s.1 ∙ f in cc)),
+        stands_now (λ f t. absurd (let g : Some port ≡ None = sym s.1 ∙ f in cc)) (fails_now port s.1 s.3 s.4),
         last.right,
         ((tokens, ((running, working), fresh, submitted, s.0, s.1, s.2)), subst (λ (h : Holding). RoseAt port h.ports new.outer.ports) keeps.outer s.3, s.4),
       )
       said (Err fault.NoMemory) s = (
-        stands_now (λ f t. absurd (both_ways new.starved t s.2)),
+        stands_now (λ f t. absurd (both_ways new.starved t s.2)) (none_failed (content_of new) (s.1 ∙ keeps.failed ∙ working)),
         last.right,
         inr ((tokens, ((running, working), fresh, submitted, s.0, s.1 ∙ keeps.failed ∙ working, s.2)), s.3),
       )

@@ -12,6 +12,7 @@ pub mod Counted
 pub mod Resting
 pub mod Turns
 pub mod Silence
+pub mod Failing
 pub mod Coming
 pub mod Opening
 pub mod Once

@@ -11,7 +11,7 @@ use Rattle.port_set.specs.Slots.{port_at}
 use Rattle.df_job.specs.Began.{Began}
 use Rattle.store_buf.specs.declared.store.Store.{Store}
 use Rattle.store_buf.specs.Outdoors.{more, SlotIs, BeganSo, AllBegan}
-use Rattle.store_buf.specs.Contents.{IsBuffer, Idle, Content, opening_content}
+use Rattle.store_buf.specs.Contents.{IsBuffer, FailedSo, Idle, Content, opening_content}
 use Rattle.store_buf.specs.Requests.{issued_in}
 use Rattle.store_buf.specs.Stores.{StoreOk, Standing, content_of}
 
@@ -73,4 +73,5 @@ module _ (image : Image) (world : World) (began : List (Option Began))
       memory = opening_memory image world;
       is = subst (λ (c : Content). IsBuffer image world began c (opening_memory image world)) (sym is) (opening_is ports all);
       idle = λ f t. subst (Idle image) (sym is) (λ m w i xs waits may. absurd (cc (waits)));
+      failed = subst (FailedSo image began) (sym is) (λ port e. absurd (cc (e)));
     }

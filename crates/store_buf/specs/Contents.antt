@@ -15,7 +15,7 @@ use Rattle.store_buf.specs.declared.fault.BufFault.{BufFault}
 use Rattle.store_buf.specs.declared.fault.BufFault.TheVariants.{Old, Port, Stopped, Index, Ended, NoMemory}
 use Rattle.store_buf.specs.declared.kept.Kept.{Kept}
 use Rattle.store_buf.specs.Requests.{entry_of, issued_in}
-use Rattle.store_buf.specs.Outdoors.{Holding, OutIs, RoseAt, port_of}
+use Rattle.store_buf.specs.Outdoors.{Holding, OutIs, RoseAt, RoseSince, port_of}
 use Rattle.store_buf.specs.Holds.{Issues, part}
 
 -- its requests in the order in which they came, where the chain stands, the array of the operation past the end at which
@@ -76,6 +76,12 @@ pub record PortWaits (image : Image) (kept : List Kept) (chain : Chain) (port : 
   pub current : request.wave ≡ chain.wave
   pub next : IsNext chain (note_of image request.instr)
   pub port_is : port_of (instr_at image request.instr).op ≡ Some port
+
+-- where a port has failed the operation that is next is on it and waits, and its count of faults rose since the
+-- run began
+abbrev pub FailedSo : Image → List (Option Began) → Content → Type 0
+FailedSo image began c = (port : ℕ) → c.failed ≡ Some port →
+    PortWaits image c.kept c.chain port × RoseSince began port c.outside.ports
 
 -- nothing that waits is issuable
 abbrev pub Idle : Image → Content → Type 0

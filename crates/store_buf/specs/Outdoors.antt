@@ -1,6 +1,6 @@
 -- What a buffer holds of what is outside.
-use Rattle.std.specs.Prelude.{ℕ, ◌≡◌, ◌≤◌, ◌-◌, ◌++◌, List, [], Option, Some, None}
-use Rattle.ws_words.specs.Outside.{Outside, row, printed_words}
+use Rattle.std.specs.Prelude.{ℕ, ◌≡◌, ◌≤◌, ◌-◌, ◌++◌, List, [], All, Option, Some, None, map}
+use Rattle.ws_words.specs.Outside.{Outside, World, row, printed_words}
 use Rattle.ws_words.specs.Plain.{took_words}
 use Rattle.ws_isa.specs.declared.instr.Op.{Op}
 use Rattle.ws_isa.specs.declared.instr.Op.TheVariants.{Give, Take}
@@ -27,6 +27,11 @@ SlotIs None left took (Some port) = ⊥
 SlotIs (Some began) left took None = ⊥
 SlotIs (Some began) left took (Some port) = (port.left ≡ Some left) × (port.took ≡ more began.took took) × (began.faults ≤ port.faults)
 
+-- in each slot it is so
+abbrev pub SlotsAre : List (Option Began) → Outside → List (Option Told) → Type 0
+SlotsAre began o ports = (slot : ℕ) → 1 ≤ slot → slot ≤ 7 →
+    SlotIs (port_at began slot) (row o.left (slot - 1)) (took_words slot o.acts) (port_at ports slot)
+
 -- what a buffer holds as plain data
 pub record Holding : Type 0 where
   pub cells : List (List ℕ)
@@ -38,7 +43,7 @@ pub record OutIs (began : List (Option Began)) (o : Outside) (h : Holding) : Typ
   pub cells_are : o.cells ≡ h.cells
   pub input_is : o.input ≡ h.input
   pub printed_are : printed_words o.acts ≡ h.printed
-  pub slots_are : (slot : ℕ) → 1 ≤ slot → slot ≤ 7 → SlotIs (port_at began slot) (row o.left (slot - 1)) (took_words slot o.acts) (port_at h.ports slot)
+  pub slots_are : SlotsAre began o h.ports
 
 -- the answer of a memory operation, and what it leaves
 pub record Answers (began : List (Option Began)) (op : Op) (xs : List ℕ) (o : Outside) (word : ℕ) (h : Holding) : Type 0 where
@@ -65,6 +70,15 @@ failures (Some port) = port.faults
 abbrev pub RoseAt : ℕ → List (Option Told) → List (Option Told) → Type 0
 RoseAt slot old new = Rose (failures (port_at old slot)) (failures (port_at new slot))
 
+-- how often it had failed when the run began
+abbrev pub failed_before : Option Began → ℕ
+failed_before None = 0
+failed_before (Some began) = began.faults
+
+-- the count of faults of the port in a slot rose since the run began
+abbrev pub RoseSince : List (Option Began) → ℕ → List (Option Told) → Type 0
+RoseSince began slot ports = Rose (failed_before (port_at began slot)) (failures (port_at ports slot))
+
 -- no count of faults falls
 abbrev pub FaultsGrow : List (Option Told) → List (Option Told) → Type 0
 FaultsGrow old new = (slot : ℕ) → failures (port_at old slot) ≤ failures (port_at new slot)
@@ -87,3 +101,35 @@ BeganSo (Some began) left (Some port) = (port.left ≡ Some left) × (port.took 
 
 abbrev pub AllBegan : List (Option Began) → List (List ℕ) → List (Option Told) → Type 0
 AllBegan began left ports = (slot : ℕ) → 1 ≤ slot → slot ≤ 7 → BeganSo (port_at began slot) (row left (slot - 1)) (port_at ports slot)
+
+abbrev pub began_at : Option Told → Option Began
+began_at None = None
+began_at (Some port) = Some (record { took = port.took; faults = port.faults })
+
+-- slot by slot, of each port what it had taken and how often it had failed
+abbrev pub began_of : List (Option Told) → List (Option Began)
+began_of ports = map began_at ports
+
+abbrev pub words_or_none : Option (List ℕ) → List ℕ
+words_or_none None = []
+words_or_none (Some words) = words
+
+abbrev pub left_at : Option Told → List ℕ
+left_at None = []
+left_at (Some port) = words_or_none port.left
+
+-- slot by slot the words that the port has left; none in an empty slot, and where the port doesn't tell
+abbrev pub lefts_of : List (Option Told) → List (List ℕ)
+lefts_of ports = map left_at ports
+
+abbrev pub TellsLeft : Option Told → Type 0
+TellsLeft None = Unit {0}
+TellsLeft (Some port) = (words : List ℕ) × (port.left ≡ Some words)
+
+-- each port tells the words that it has left
+abbrev pub AllTell : List (Option Told) → Type 0
+AllTell ports = All TellsLeft ports
+
+-- these input words, and the words that these ports have left
+abbrev pub world_with : List ℕ → List (Option Told) → World
+world_with input ports = record { input = input; left = lefts_of ports }

@@ -19,7 +19,7 @@ use Rattle.store_buf.specs.declared.store.Store.{Store}
 use Rattle.store_buf.specs.Requests.{issued_in}
 use Rattle.store_buf.specs.Orders.{EarlyIssued}
 use Rattle.store_buf.specs.Outdoors.{RoseAt}
-use Rattle.store_buf.specs.Contents.{Content, FaultIs, IsBuffer, Idle, PortWaits, RightTokens, SubmitSo, with_tokens}
+use Rattle.store_buf.specs.Contents.{Content, FailedSo, FaultIs, IsBuffer, Idle, PortWaits, RightTokens, SubmitSo, with_tokens}
 use Rattle.store_buf.specs.Holds.{Holds, Issued, Stopped, Issues, part}
 use Rattle.store_buf.specs.Ordering.{OrderOk, Room, NoneMay}
 use Rattle.store_buf.specs.Outers.{holding}
@@ -115,6 +115,7 @@ module _ {P : Type 0} where
     pub memory : Outside
     pub is : IsBuffer image world began (content_of s) memory
     pub idle : s.failed ≡ None → s.starved ≡ false → Idle image (content_of s)
+    pub failed : FailedSo image began (content_of s)
 
   -- a right request leads on as contracts say, and what is true of a store stays true
   abbrev pub SubmitLeads : Image → Store P → Kept → List Token → Result (Unit {0}) BufFault → Store P → Type 0

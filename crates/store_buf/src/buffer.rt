@@ -9,7 +9,7 @@ ghost use Rattle.df_job.specs.Rights.{IsAsked};
 ghost use Rattle.port_set.specs.Slots.{AllOpen, contents};
 ghost use Rattle.store_buf.specs.Requests.{entry_of};
 ghost use Rattle.store_buf.specs.Outdoors.{AllBegan};
-ghost use Rattle.store_buf.specs.Contents.{IsBuffer, Idle, SubmitSo, opening_content, answer_of, stop_of, gives_word};
+ghost use Rattle.store_buf.specs.Contents.{IsBuffer, FailedSo, Idle, SubmitSo, opening_content, answer_of, stop_of, gives_word};
 ghost use Rattle.store_buf.specs.Stores.{asked_of};
 
 use crate::fault::BufFault;
@@ -152,11 +152,13 @@ impl<J: Job, P: Port> Buffer<J, P> {
         }
     }
 
-    /// What is true of every buffer: with some memory it is one of the run, and nothing that waits is
-    /// issuable but where a port hasn't answered.
+    /// What is true of every buffer: with some memory it is one of the run, nothing that waits is
+    /// issuable but where a port hasn't answered, and where one has failed the operation that is next
+    /// is on it.
     pub fn facts(&self)
         ensures stands { (m : Outside) × IsBuffer J.image J.world J.began self.now m }
         ensures idle { self.now.failed ≡ None → self.now.starved ≡ false → Idle J.image self.now }
+        ensures failed { FailedSo J.image J.began self.now }
         ensures once { All (λ k. entry_of self.now.kept k.wave k.instr ≡ Some k) self.now.kept }
     {
         let _ = &self.store;
