@@ -28,7 +28,7 @@ module _ (image : Image) (world : World) (budget : ℕ) (listed : List Key) (han
         ports = left.slots_are;
       })
   finish_tells (Budget printed fired) f =
-      let run = f.2.2.2 in
+      let run = f.2.2 in
       (f.0, record {
         dear = λ cost. run.dear (subst (λ (n : ℕ). CostAtMost image world n) (sym f.0 ∙ f.1) cost);
         steps = run.steps;

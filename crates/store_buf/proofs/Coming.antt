@@ -29,7 +29,7 @@ use Rattle.store_buf.specs.Contents.{Content, FailedSo, FaultIs, IsBuffer, PortW
 use Rattle.store_buf.specs.Stores.{StandsFor, StoreOk, Keeps, Turns, SettledSo, SubmitLeads, Standing, asked_of, buffer_of, content_of}
 use Rattle.store_buf.proofs.Alike.{going_any, once_of}
 use Rattle.store_buf.proofs.Found as F
-use Rattle.store_buf.proofs.Failing.{one_failed, rose_since}
+use Rattle.store_buf.proofs.Failing.{none_failed, one_failed, rose_since}
 use Rattle.store_buf.proofs.Within.{port_in}
 use Rattle.store_buf.proofs.Resting.{none_issuable}
 
@@ -130,9 +130,6 @@ module _ (image : Image) (world : World) (began : List (Option Began)) {P : Type
     fault = fault;
   }
 
-  none_failed : (c : Content) → c.failed ≡ None → FailedSo image began c
-  none_failed c none port e = absurd (let f : None ≡ Some port = sym none ∙ e in cc)
-
   -- nothing has changed
   same_content : (old new : Store P) → Keeps old old.order.kept.items new → content_of new ≡ content_of old
   same_content old new k = λ j. record { kept = k.kept_are j; chain = chain_of (k.chain j); fault = k.fault j; failed = k.failed j; starved = k.starved j; outside = k.outer j }
@@ -211,7 +208,7 @@ module _ (image : Image) (world : World) (began : List (Option Began)) {P : Type
       pub put_by : Standing image world began mid × RightTokens image world [] × SubmitSo image world began (content_of old) (asked_of k) (Ok []) (content_of mid)
       put_by =
           let stood : StandsFor image world began mid standing.memory = came standing.memory (stands_of old standing.early_issued standing.early_all standing.memory standing.is) in (
-            record { ok = ok; early_issued = stood.going.early_issued; early_all = stood.going.early_all; memory = standing.memory; is = is_later standing.memory standing.is; idle = λ f t. later_idle; failed = none_failed (content_of mid) (keeps.failed ∙ working) },
+            record { ok = ok; early_issued = stood.going.early_issued; early_all = stood.going.early_all; memory = standing.memory; is = is_later standing.memory standing.is; idle = λ f t. later_idle; failed = none_failed image began (content_of mid) (keeps.failed ∙ working) },
             (λ w i p v e. absurd e),
             (((running, working), fresh, later_submitted, keeps.fault ∙ running, keeps.failed ∙ working, keeps.starved ∙ fed), later_idle),
           )
@@ -252,16 +249,16 @@ module _ (image : Image) (world : World) (began : List (Option Began)) {P : Type
       pub said : (r : Result (Unit {0}) BufFault) → SettledSo image mid r new → Standing image world began new × RightTokens image world tokens × SubmitSo image world began (content_of old) (asked_of k) (with_tokens tokens r) (content_of new)
       said (Ok u) s =
           let idle : Idle image (content_of new) = λ m. none_issuable image world began new.order (has new.fault) (holding new.outer) last.memory last.stands s.3 in
-          (stands_now (λ f t. idle) (none_failed (content_of new) (s.1 ∙ keeps.failed ∙ working)), last.right, (((running, working), fresh, submitted, s.0, s.1 ∙ keeps.failed ∙ working, s.2), idle))
+          (stands_now (λ f t. idle) (none_failed image began (content_of new) (s.1 ∙ keeps.failed ∙ working)), last.right, (((running, working), fresh, submitted, s.0, s.1 ∙ keeps.failed ∙ working, s.2), idle))
       said (Err (fault.Index array)) s =
-          (stands_now (λ f t. stopped_idle array s.0) (none_failed (content_of new) (s.1 ∙ keeps.failed ∙ working)), last.right, (tokens, ((running, working), fresh, submitted, s.0, s.1 ∙ keeps.failed ∙ working, s.2)))
+          (stands_now (λ f t. stopped_idle array s.0) (none_failed image began (content_of new) (s.1 ∙ keeps.failed ∙ working)), last.right, (tokens, ((running, working), fresh, submitted, s.0, s.1 ∙ keeps.failed ∙ working, s.2)))
       said (Err (fault.Port port)) s = (
         stands_now (λ f t. absurd (let g : Some port ≡ None = sym s.1 ∙ f in cc)) (fails_now port s.1 s.3 s.4),
         last.right,
         ((tokens, ((running, working), fresh, submitted, s.0, s.1, s.2)), subst (λ (h : Holding). RoseAt port h.ports new.outer.ports) keeps.outer s.3, s.4),
       )
       said (Err fault.NoMemory) s = (
-        stands_now (λ f t. absurd (both_ways new.starved t s.2)) (none_failed (content_of new) (s.1 ∙ keeps.failed ∙ working)),
+        stands_now (λ f t. absurd (both_ways new.starved t s.2)) (none_failed image began (content_of new) (s.1 ∙ keeps.failed ∙ working)),
         last.right,
         inr ((tokens, ((running, working), fresh, submitted, s.0, s.1 ∙ keeps.failed ∙ working, s.2)), s.3),
       )

@@ -60,6 +60,9 @@ rose_since began m h out port new op inside is rose =
     let r = in_seven op port is inside in
     rose_from _ (failures (port_at h.ports port)) _ (counted (port_at began port) _ _ (port_at h.ports port) (out.slots_are port r.0 r.1)) rose
 
+pub none_failed : (image : Image) (began : List (Option Began)) (c : Content) → c.failed ≡ None → FailedSo image began c
+none_failed image began c none port e = absurd (let f : None ≡ Some port = sym none ∙ e in cc)
+
 -- this port has failed, and no other
 pub one_failed : (image : Image) (began : List (Option Began)) (c : Content) (port : ℕ) → c.failed ≡ Some port → PortWaits image c.kept c.chain port → RoseSince began port c.outside.ports → FailedSo image began c
 one_failed image began c port is waits rose p e =
