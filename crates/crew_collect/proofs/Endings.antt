@@ -142,15 +142,19 @@ module _ (image : Image) (world : World) (formed : Formed image) (sound : Sound 
   pub some_run : (n : ℕ) × (length s.fired < length (walk image world n)) → (p : ℕ) × Passed image world s p → SomeRun image world began t.fired c.outside
   some_run r q =
       let of : StepsOf image world s.fired = steps_of image world facts s.fired shown_once fired_at in
+      let count : length (ops image world q.1.memory.steps) ≡ q.0 = q.1.memory.count in
       record {
-        dear = λ cost. (let l : length t.fired < length (walk image world r.0) = subst (λ ks. length ks < length (walk image world r.0)) fired_is r.1 in let k : length (walk image world r.0) ≤ length t.fired = cost r.0 in absurd (omega (arith, l, k)));
+        dear = λ cost. (let l : length t.fired < length (walk image world r.0) =
+            subst (λ ks. length ks < length (walk image world r.0)) fired_is r.1 in
+            let k : length (walk image world r.0) ≤ length t.fired = cost r.0 in
+            absurd (omega (arith, l, k)));
         steps = of.steps;
         firing = of.firing;
         count = of.count ∙ ap length fired_is;
         front = q.1.memory.steps;
-        most = λ n f. (let k : length (ops image world n) ≤ q.0 = q.1.most n (λ u x fx mx l. of.only u x (f u x fx mx l) fx) in
-            let e : length (ops image world q.1.memory.steps) ≡ q.0 = q.1.memory.count in omega (arith, k, e));
-        within = q.1.within q.1.memory.steps (let e : length (ops image world q.1.memory.steps) ≡ q.0 = q.1.memory.count in omega (arith, e));
+        most = λ n f. (let k : length (ops image world n) ≤ q.0 =
+            q.1.most n (λ u x fx mx l. of.only u x (f u x fx mx l) fx) in omega (arith, k, count));
+        within = q.1.within q.1.memory.steps (omega (arith, count));
         left = out_at q.1.memory.steps (effect_is image world q.1.memory.steps ∙ q.1.memory.left);
       }
 

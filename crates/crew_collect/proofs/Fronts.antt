@@ -45,8 +45,8 @@ module _ (image : Image) (world : World) (began : List (Option Began)) (c : Cont
     left = out_at is.ok.legal.cut (sym is.ok.legal.ordered.memory);
   }
 
-  module _ (formed : Formed image) (sound : Sound image) (port : ℕ) (waits : PortWaits image c.kept c.chain port)
-      where
+  module _ (formed : Formed image) (sound : Sound image) (port : ℕ)
+      (waits : PortWaits image c.kept c.chain port) where
     facts : WalkFacts image world
     facts = facts_of image world (ports_there image formed) sound
 
@@ -62,7 +62,8 @@ module _ (image : Image) (world : World) (began : List (Option Began)) (c : Cont
 
     from : is.ok.legal.cut ≤ right.time
     from = elim (cases_lt right.time is.ok.legal.cut) [
-      | inl l ↦ absurd (let e : issued_in c.kept waits.request.wave waits.request.instr ≡ Some right.inst.result =
+      | inl l ↦ absurd (let e : issued_in c.kept waits.request.wave waits.request.instr
+          ≡ Some right.inst.result =
           subst (λ (k : ℕ × ℕ). issued_in c.kept k.0 k.1 ≡ Some right.inst.result)
           (λ j. (right.at.wave j, right.at.instr j))
           (is.ok.legal.ordered.passed right.time right.inst l right.at.fires memory) in

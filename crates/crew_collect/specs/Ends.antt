@@ -25,9 +25,9 @@ pub record AllRun (image : Image) (world : World) (began : List (Option Began)) 
   pub all : (t : ℕ) (x : Inst) → fires image world t ≡ Some x → HasFired listed x.wave x.instr
   pub left : (t : ℕ) → length listed ≤ length (walk image world t) → OutIs began (mem image world t) h
 
--- The walk has more instances than are listed, and at these steps of it as many fire. What is outside is what
--- the walk leaves with its first operations, none of them past the end, and these are at least as many as fire
--- at those steps without a gap.
+-- The walk has more instances than are listed, and at these steps of it as many fire. What is outside is
+-- what the walk leaves with its first operations, none of them past the end, and these are at least as many
+-- as fire at those steps without a gap.
 pub record SomeRun (image : Image) (world : World) (began : List (Option Began)) (listed : List Key)
     (h : Holding) : Type 0 where
   pub dear : CostAtMost image world (length listed) → ⊥
@@ -47,8 +47,8 @@ pub record FaultRun (image : Image) (world : World) (began : List (Option Began)
   pub array_is : array ≡ array_at image fault.inst.instr
   pub left : OutIs began (mem image world time) h
 
--- the operation that is next in the walk is on this port, which has failed since the run began; none before it
--- is past the end, and what is outside is what the walk leaves before it
+-- the operation that is next in the walk is on this port, which has failed since the run began; none before
+-- it is past the end, and what is outside is what the walk leaves before it
 pub record PortRun (image : Image) (world : World) (began : List (Option Began)) (port : ℕ) (h : Holding)
     : Type 0 where
   pub time : ℕ

@@ -17,29 +17,34 @@ module _ (image : Image) (world : World) (budget : ℕ) (listed : List Key) (han
       CrewTells image world handed budget finish back
   finish_tells (Done printed arrays fired) f =
       let run = f.2.1 in
-      let left = run.left run.steps (let e : length listed ≡ length (walk image world run.steps) = run.count in omega (arith, e)) in
-      (f.1, record {
-        no_fault = run.no_fault;
-        time = run.steps;
-        fired_is = f.0 ∙ run.count;
-        cost = subst (λ (n : ℕ). CostAtMost image world n) (sym f.0) run.cost;
-        printed_are = sym left.printed_are;
-        cells_are = sym left.cells_are;
-        ports = left.slots_are;
-      })
+      let all : length listed ≡ length (walk image world run.steps) = run.count in
+      let left = run.left run.steps (omega (arith, all)) in (
+        f.1,
+        record {
+          no_fault = run.no_fault;
+          time = run.steps;
+          fired_is = f.0 ∙ run.count;
+          cost = subst (λ (n : ℕ). CostAtMost image world n) (sym f.0) run.cost;
+          printed_are = sym left.printed_are;
+          cells_are = sym left.cells_are;
+          ports = left.slots_are;
+        },
+      )
   finish_tells (Budget printed fired) f =
-      let run = f.2.2 in
-      (f.0, record {
-        dear = λ cost. run.dear (subst (λ (n : ℕ). CostAtMost image world n) (sym f.0 ∙ f.1) cost);
-        steps = run.steps;
-        firing = run.firing;
-        count = run.count ∙ sym f.1 ∙ f.0;
-        time = run.front;
-        most = run.most;
-        within = run.within;
-        printed_are = sym run.left.printed_are;
-        ports = run.left.slots_are;
-      })
+      let run = f.2.2 in (
+        f.0,
+        record {
+          dear = λ cost. run.dear (subst (λ (n : ℕ). CostAtMost image world n) (sym f.0 ∙ f.1) cost);
+          steps = run.steps;
+          firing = run.firing;
+          count = run.count ∙ sym f.1 ∙ f.0;
+          time = run.front;
+          most = run.most;
+          within = run.within;
+          printed_are = sym run.left.printed_are;
+          ports = run.left.slots_are;
+        },
+      )
   finish_tells (Fault array printed arrays) f =
       let run = f.1 in
       record {

@@ -11,8 +11,8 @@ use Rattle.store_buf.specs.Outdoors.{SlotsAre, RoseAt, began_of, port_of}
 use Rattle.crew_run.specs.declared.finish.CrewFinish.{CrewFinish}
 use Rattle.crew_run.specs.declared.finish.CrewFinish.TheVariants.{Done, Budget, Fault, Port, NoMemory}
 
--- No load or store of the walk is past the end. The cost has fired; what is told and what the ports have is what
--- the walk leaves.
+-- No load or store of the walk is past the end. The cost has fired; what is told and what the ports have is
+-- what the walk leaves.
 pub record Rested (image : Image) (world : World) (handed : List (Option Told)) (printed : List ℕ)
     (arrays : List (List ℕ)) (fired : ℕ) (back : List (Option Told)) : Type 0 where
   pub no_fault : NoFault image world
@@ -23,9 +23,9 @@ pub record Rested (image : Image) (world : World) (handed : List (Option Told)) 
   pub cells_are : arrays ≡ (mem image world time).cells
   pub ports : SlotsAre (began_of handed) (mem image world time) back
 
--- The walk has more instances than the budget, and exactly so many have fired, at these steps of the walk. What
--- is told and what the ports have is what the walk leaves with its first operations, none of them past the end,
--- and these are at least as many as fire at those steps without a gap.
+-- The walk has more instances than the budget, and exactly so many have fired, at these steps of the walk.
+-- What is told and what the ports have is what the walk leaves with its first operations, none of them past
+-- the end, and these are at least as many as fire at those steps without a gap.
 pub record Spent (image : Image) (world : World) (handed : List (Option Told)) (budget : ℕ)
     (printed : List ℕ) (back : List (Option Told)) : Type 0 where
   pub dear : CostAtMost image world budget → ⊥
@@ -39,8 +39,8 @@ pub record Spent (image : Image) (world : World) (handed : List (Option Told)) (
   pub printed_are : printed ≡ printed_words (mem image world time).acts
   pub ports : SlotsAre (began_of handed) (mem image world time) back
 
--- the walk's first load or store past the end is on this array; what is told and what the ports have is what the
--- walk leaves before it
+-- the walk's first load or store past the end is on this array; what is told and what the ports have is what
+-- the walk leaves before it
 pub record Tripped (image : Image) (world : World) (handed : List (Option Told)) (array : ℕ)
     (printed : List ℕ) (arrays : List (List ℕ)) (back : List (Option Told)) : Type 0 where
   pub time : ℕ
@@ -50,8 +50,8 @@ pub record Tripped (image : Image) (world : World) (handed : List (Option Told))
   pub cells_are : arrays ≡ (mem image world time).cells
   pub ports : SlotsAre (began_of handed) (mem image world time) back
 
--- the operation that is next in the walk is on this port, whose count of faults rose; none before it is past the
--- end, and what is told and what the ports have is what the walk leaves before it
+-- the operation that is next in the walk is on this port, whose count of faults rose; none before it is past
+-- the end, and what is told and what the ports have is what the walk leaves before it
 pub record PortFailed (image : Image) (world : World) (handed : List (Option Told)) (port : ℕ)
     (printed : List ℕ) (back : List (Option Told)) : Type 0 where
   pub time : ℕ
@@ -63,8 +63,8 @@ pub record PortFailed (image : Image) (world : World) (handed : List (Option Tol
   pub printed_are : printed ≡ printed_words (mem image world time).acts
   pub ports : SlotsAre (began_of handed) (mem image world time) back
 
--- the ports tell what they told before, or have what the walk leaves with its first operations, none of them past
--- the end
+-- the ports tell what they told before, or have what the walk leaves with its first operations, none of them
+-- past the end
 abbrev pub Starved : Image → World → List (Option Told) → List (Option Told) → Type 0
 Starved image world handed back = (back ≡ handed)
     ⊎ ((t : ℕ) × FirstWithin image world t × SlotsAre (began_of handed) (mem image world t) back)

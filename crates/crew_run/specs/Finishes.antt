@@ -22,12 +22,14 @@ FinishSo image world began budget listed ports (Budget printed fired) =
 FinishSo image world began budget listed ports (Fault array printed arrays) =
     (input : List ℕ) × FaultRun image world began array (holding arrays input printed ports)
 FinishSo image world began budget listed ports (Port port printed) =
-    (arrays : List (List ℕ)) × (input : List ℕ) × PortRun image world began port (holding arrays input printed ports)
+    (arrays : List (List ℕ)) × (input : List ℕ) ×
+    PortRun image world began port (holding arrays input printed ports)
 FinishSo image world began budget listed ports NoMemory =
     (arrays : List (List ℕ)) × (input : List ℕ) × (printed : List ℕ) × FrontRun image world began (holding arrays input printed ports)
 
--- for want of memory nothing was run and the ports are given back as they were handed in, or a run has ended so
-abbrev pub EndsSo : Image → World → List (Option Began) → ℕ → List Key → List (Option Told) → List (Option Told)
-    → CrewFinish → Type 0
+-- for want of memory nothing was run and the ports are given back as they were handed in, or a run has ended
+-- so
+abbrev pub EndsSo : Image → World → List (Option Began) → ℕ → List Key → List (Option Told) →
+    List (Option Told) → CrewFinish → Type 0
 EndsSo image world began budget listed handed back finish =
     ((finish ≡ NoMemory) × (back ≡ handed)) ⊎ FinishSo image world began budget listed back finish

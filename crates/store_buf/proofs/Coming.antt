@@ -208,7 +208,15 @@ module _ (image : Image) (world : World) (began : List (Option Began)) {P : Type
       pub put_by : Standing image world began mid × RightTokens image world [] × SubmitSo image world began (content_of old) (asked_of k) (Ok []) (content_of mid)
       put_by =
           let stood : StandsFor image world began mid standing.memory = came standing.memory (stands_of old standing.early_issued standing.early_all standing.memory standing.is) in (
-            record { ok = ok; early_issued = stood.going.early_issued; early_all = stood.going.early_all; memory = standing.memory; is = is_later standing.memory standing.is; idle = λ f t. later_idle; failed = none_failed image began (content_of mid) (keeps.failed ∙ working) },
+            record {
+              ok = ok;
+              early_issued = stood.going.early_issued;
+              early_all = stood.going.early_all;
+              memory = standing.memory;
+              is = is_later standing.memory standing.is;
+              idle = λ f t. later_idle;
+              failed = none_failed image began (content_of mid) (keeps.failed ∙ working);
+            },
             (λ w i p v e. absurd e),
             (((running, working), fresh, later_submitted, keeps.fault ∙ running, keeps.failed ∙ working, keeps.starved ∙ fed), later_idle),
           )
@@ -226,7 +234,8 @@ module _ (image : Image) (world : World) (began : List (Option Began)) {P : Type
       abbrev last : Turns image world began mid standing.memory new tokens
       last = turns standing.memory standing.is
 
-      stands_now : (new.failed ≡ None → new.starved ≡ false → Idle image (content_of new)) → FailedSo image began (content_of new) → Standing image world began new
+      stands_now : (new.failed ≡ None → new.starved ≡ false → Idle image (content_of new)) →
+          FailedSo image began (content_of new) → Standing image world began new
       stands_now idle failed = record {
         ok = ok;
         early_issued = last.stands.going.early_issued;
@@ -238,27 +247,37 @@ module _ (image : Image) (world : World) (began : List (Option Began)) {P : Type
       }
 
       -- in this call a port failed, and had failed no more often when the run began than before the call
-      fails_now : (port : ℕ) → new.failed ≡ Some port → RoseAt port mid.outer.ports new.outer.ports → PortWaits image new.order.kept.items (chain_of new.order.chain) port → FailedSo image began (content_of new)
+      fails_now : (port : ℕ) → new.failed ≡ Some port → RoseAt port mid.outer.ports new.outer.ports →
+          PortWaits image new.order.kept.items (chain_of new.order.chain) port →
+          FailedSo image began (content_of new)
       fails_now port failed rose waits = one_failed image began (content_of new) port failed waits
-          (rose_since began standing.memory (holding old.outer) standing.is.outside port new.outer.ports (instr_at image waits.request.instr).op (port_in image waits.request.instr formed) waits.port_is
+          (rose_since began standing.memory (holding old.outer) standing.is.outside port new.outer.ports
+          (instr_at image waits.request.instr).op (port_in image waits.request.instr formed) waits.port_is
           (subst (λ (h : Holding). RoseAt port h.ports new.outer.ports) keeps.outer rose))
+
+      none_fails : new.failed ≡ mid.failed → FailedSo image began (content_of new)
+      none_fails same = none_failed image began (content_of new) (same ∙ keeps.failed ∙ working)
 
       stopped_idle : (array : ℕ) → new.fault ≡ Some array → Idle image (content_of new)
       stopped_idle array e m w i xs asks may = both_ways (has new.fault) may.going (ap has e)
 
       pub said : (r : Result (Unit {0}) BufFault) → SettledSo image mid r new → Standing image world began new × RightTokens image world tokens × SubmitSo image world began (content_of old) (asked_of k) (with_tokens tokens r) (content_of new)
       said (Ok u) s =
-          let idle : Idle image (content_of new) = λ m. none_issuable image world began new.order (has new.fault) (holding new.outer) last.memory last.stands s.3 in
-          (stands_now (λ f t. idle) (none_failed image began (content_of new) (s.1 ∙ keeps.failed ∙ working)), last.right, (((running, working), fresh, submitted, s.0, s.1 ∙ keeps.failed ∙ working, s.2), idle))
+          let idle : Idle image (content_of new) = λ m. none_issuable image world began new.order (has new.fault) (holding new.outer) last.memory last.stands s.3 in (
+            stands_now (λ f t. idle) (none_fails s.1),
+            last.right,
+            (((running, working), fresh, submitted, s.0, s.1 ∙ keeps.failed ∙ working, s.2), idle),
+          )
       said (Err (fault.Index array)) s =
-          (stands_now (λ f t. stopped_idle array s.0) (none_failed image began (content_of new) (s.1 ∙ keeps.failed ∙ working)), last.right, (tokens, ((running, working), fresh, submitted, s.0, s.1 ∙ keeps.failed ∙ working, s.2)))
+          (stands_now (λ f t. stopped_idle array s.0) (none_fails s.1), last.right, (tokens, ((running, working), fresh, submitted, s.0, s.1 ∙ keeps.failed ∙ working, s.2)))
       said (Err (fault.Port port)) s = (
-        stands_now (λ f t. absurd (let g : Some port ≡ None = sym s.1 ∙ f in cc)) (fails_now port s.1 s.3 s.4),
+        stands_now (λ f t. absurd (let g : Some port ≡ None = sym s.1 ∙ f in cc))
+            (fails_now port s.1 s.3 s.4),
         last.right,
         ((tokens, ((running, working), fresh, submitted, s.0, s.1, s.2)), subst (λ (h : Holding). RoseAt port h.ports new.outer.ports) keeps.outer s.3, s.4),
       )
       said (Err fault.NoMemory) s = (
-        stands_now (λ f t. absurd (both_ways new.starved t s.2)) (none_failed image began (content_of new) (s.1 ∙ keeps.failed ∙ working)),
+        stands_now (λ f t. absurd (both_ways new.starved t s.2)) (none_fails s.1),
         last.right,
         inr ((tokens, ((running, working), fresh, submitted, s.0, s.1 ∙ keeps.failed ∙ working, s.2)), s.3),
       )

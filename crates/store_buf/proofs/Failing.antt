@@ -20,7 +20,8 @@ begins_so : (p : Option Told) → TellsLeft p → BeganSo (began_at p) (left_at 
 begins_so None t = refl
 begins_so (Some port) t = (told_words port.left t, refl, refl)
 
-begins_at : (ports : List (Option Told)) (k : ℕ) → AllTell ports → BeganSo (slice_index_or (began_of ports) k None) (row (lefts_of ports) k) (slice_index_or ports k None)
+begins_at : (ports : List (Option Told)) (k : ℕ) → AllTell ports →
+    BeganSo (slice_index_or (began_of ports) k None) (row (lefts_of ports) k) (slice_index_or ports k None)
 begins_at [] k all = refl
 begins_at (p ∷ ports) zero all = begins_so p (all 0 None (omega arith))
 begins_at (p ∷ ports) (suc k) all = begins_at ports k (λ j d l. all (suc j) d (omega (arith, l)))
@@ -32,16 +33,20 @@ failed_one : (p : Option Told) → failed_before (began_at p) ≡ failures p
 failed_one None = refl
 failed_one (Some port) = refl
 
-failed_at : (ports : List (Option Told)) (k : ℕ) → failed_before (slice_index_or (began_of ports) k None) ≡ failures (slice_index_or ports k None)
+failed_at : (ports : List (Option Told)) (k : ℕ) →
+    failed_before (slice_index_or (began_of ports) k None) ≡ failures (slice_index_or ports k None)
 failed_at [] k = refl
 failed_at (p ∷ ports) zero = failed_one p
 failed_at (p ∷ ports) (suc k) = failed_at ports k
 
-pub rose_at : (handed back : List (Option Told)) (port : ℕ) → RoseSince (began_of handed) port back → RoseAt port handed back
-rose_at handed back port rose = subst (λ (n : ℕ). Rose n (failures (port_at back port))) (failed_at handed (port - 1)) rose
+pub rose_at : (handed back : List (Option Told)) (port : ℕ) → RoseSince (began_of handed) port back →
+    RoseAt port handed back
+rose_at handed back port rose =
+    subst (λ (n : ℕ). Rose n (failures (port_at back port))) (failed_at handed (port - 1)) rose
 
 -- in a run counts of faults don't fall
-counted : (b : Option Began) (left took : List ℕ) (p : Option Told) → SlotIs b left took p → failed_before b ≤ failures p
+counted : (b : Option Began) (left took : List ℕ) (p : Option Told) → SlotIs b left took p →
+    failed_before b ≤ failures p
 counted None left took None h = omega arith
 counted None left took (Some port) h = absurd h
 counted (Some b) left took None h = absurd h
@@ -55,16 +60,22 @@ in_seven (Give q) p e h = let same : q ≡ p = cc in subst (λ (n : ℕ). (1 ≤
 in_seven (Take q) p e h = let same : q ≡ p = cc in subst (λ (n : ℕ). (1 ≤ n) × (n ≤ 7)) same h
 in_seven _ p e h = absurd (let f : None ≡ Some p = e in cc)
 
-pub rose_since : (began : List (Option Began)) (m : Outside) (h : Holding) → OutIs began m h → (port : ℕ) (new : List (Option Told)) (op : Op) → PortIn op → port_of op ≡ Some port → RoseAt port h.ports new → RoseSince began port new
+pub rose_since : (began : List (Option Began)) (m : Outside) (h : Holding) → OutIs began m h → (port : ℕ)
+    (new : List (Option Told)) (op : Op) → PortIn op → port_of op ≡ Some port → RoseAt port h.ports new →
+    RoseSince began port new
 rose_since began m h out port new op inside is rose =
     let r = in_seven op port is inside in
-    rose_from _ (failures (port_at h.ports port)) _ (counted (port_at began port) _ _ (port_at h.ports port) (out.slots_are port r.0 r.1)) rose
+    rose_from _ (failures (port_at h.ports port)) _
+    (counted (port_at began port) _ _ (port_at h.ports port) (out.slots_are port r.0 r.1)) rose
 
-pub none_failed : (image : Image) (began : List (Option Began)) (c : Content) → c.failed ≡ None → FailedSo image began c
+pub none_failed : (image : Image) (began : List (Option Began)) (c : Content) → c.failed ≡ None →
+    FailedSo image began c
 none_failed image began c none port e = absurd (let f : None ≡ Some port = sym none ∙ e in cc)
 
 -- this port has failed, and no other
-pub one_failed : (image : Image) (began : List (Option Began)) (c : Content) (port : ℕ) → c.failed ≡ Some port → PortWaits image c.kept c.chain port → RoseSince began port c.outside.ports → FailedSo image began c
+pub one_failed : (image : Image) (began : List (Option Began)) (c : Content) (port : ℕ) →
+    c.failed ≡ Some port → PortWaits image c.kept c.chain port → RoseSince began port c.outside.ports →
+    FailedSo image began c
 one_failed image began c port is waits rose p e =
     let same : port ≡ p = (let f : Some port ≡ Some p = sym is ∙ e in cc) in
     subst (λ (n : ℕ). PortWaits image c.kept c.chain n × RoseSince began n c.outside.ports) same (waits, rose)

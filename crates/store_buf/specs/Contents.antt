@@ -77,8 +77,8 @@ pub record PortWaits (image : Image) (kept : List Kept) (chain : Chain) (port : 
   pub next : IsNext chain (note_of image request.instr)
   pub port_is : port_of (instr_at image request.instr).op ≡ Some port
 
--- where a port has failed the operation that is next is on it and waits, and its count of faults rose since the
--- run began
+-- where a port has failed the operation that is next is on it and waits, and its count of faults rose since
+-- the run began
 abbrev pub FailedSo : Image → List (Option Began) → Content → Type 0
 FailedSo image began c = (port : ℕ) → c.failed ≡ Some port →
     PortWaits image c.kept c.chain port × RoseSince began port c.outside.ports

@@ -6,4 +6,5 @@ pub returns-in-Whole-clause-open : goal.returns-in-Whole-clause-open
 returns-in-Whole-clause-open g c = subst AllOpen (sym c.finish-end.ensures.ports) c.finish-end.ensures.open
 
 pub returns-in-Spent-clause-open : goal.returns-in-Spent-clause-open
-returns-in-Spent-clause-open g c = subst AllOpen (sym c.finish-end-in-Spent.ensures.ports) c.finish-end-in-Spent.ensures.open
+returns-in-Spent-clause-open g c =
+    subst AllOpen (sym c.finish-end-in-Spent.ensures.ports) c.finish-end-in-Spent.ensures.open

@@ -14,5 +14,6 @@ returns-clause-tells g c =
     let back = contents g.P.Port.tells end.ports in
     tells g.J.Job.image g.J.Job.world c.args.budget listed handed back
     (λ port rose. c.told_ports_begin.ensures.rose handed back port rose) end.finish
-    (subst (λ (b : List (Option Began)). EndsSo g.J.Job.image g.J.Job.world b c.args.budget listed handed back end.finish)
+    (subst (λ (b : List (Option Began)).
+    EndsSo g.J.Job.image g.J.Job.world b c.args.budget listed handed back end.finish)
     c.requires.began c.crew_run-end.ensures.finish)

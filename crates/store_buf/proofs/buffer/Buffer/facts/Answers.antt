@@ -13,4 +13,5 @@ returns-clause-once g c = subst (λ (x : Content). All (λ k. entry_of x.kept k.
     (own c.self.inside.store.order.kept.items (place_in c.self.inside.store.order.index) c.self.invariant.ok.order.index)
 
 pub returns-clause-failed : goal.returns-clause-failed
-returns-clause-failed g c = subst (FailedSo g.J.Job.image g.J.Job.began) c.self.view_is c.self.invariant.failed
+returns-clause-failed g c =
+    subst (FailedSo g.J.Job.image g.J.Job.began) c.self.view_is c.self.invariant.failed
