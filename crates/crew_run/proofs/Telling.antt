@@ -1,5 +1,5 @@
 -- What a run answers, in the words of the walk alone.
-use Rattle.std.proofs.Common.{ℕ, ◌≡◌, ◌≤◌, ◌⊎◌, List, Option, length, sym, ◌∙◌, subst, inl, inr, arith}
+use Rattle.std.proofs.Common.{ℕ, ◌≡◌, List, Option, length, sym, ◌∙◌, subst, inl, inr, arith}
 use Rattle.ws_words.specs.Outside.{World}
 use Rattle.ws_isa.specs.Image.{Image}
 use Rattle.image_walk.specs.Walk.{walk, CostAtMost}

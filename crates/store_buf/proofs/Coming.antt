@@ -22,7 +22,7 @@ use Rattle.store_buf.specs.Requests.{entry_of, kept_in, issued_in, issued_keys, 
 use Rattle.store_buf.specs.Finding.{place_in}
 use Rattle.store_buf.specs.Orders.{Going, EarlyIssued}
 use Rattle.store_buf.specs.Ordering.{no_request, OrderOk}
-use Rattle.store_buf.specs.Outdoors.{Holding, OutIs, RoseAt, RoseSince}
+use Rattle.store_buf.specs.Outdoors.{Holding, OutIs, RoseAt}
 use Rattle.store_buf.specs.Outers.{holding}
 use Rattle.store_buf.specs.Holds.{stays, waiting_in}
 use Rattle.store_buf.specs.Contents.{Content, FailedSo, FaultIs, IsBuffer, PortWaits, Arrives, Submitted, RightTokens, Idle, SubmitSo, buffer_in, with_tokens}

@@ -1,5 +1,5 @@
 -- Ports as they are handed in, and those that have failed since.
-use Rattle.std.proofs.Common.{ℕ, zero, suc, ◌-◌, ◌≡◌, ◌≤◌, List, [], ◌∷◌, length, map, Option, Some, None, slice_index_or, refl, sym, ◌∙◌, subst, inl, inr, arith}
+use Rattle.std.proofs.Common.{ℕ, zero, suc, ◌-◌, ◌≡◌, ◌≤◌, List, [], ◌∷◌, Option, Some, None, slice_index_or, refl, sym, ◌∙◌, subst, inl, inr, arith}
 use Rattle.ws_io.specs.Streams.{Rose}
 use Rattle.ws_words.specs.Outside.{Outside, row}
 use Rattle.ws_isa.specs.declared.instr.Op.{Op}

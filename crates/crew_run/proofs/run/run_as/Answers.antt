@@ -1,4 +1,4 @@
-use Rattle.std.proofs.Common.{List, Option, length, subst}
+use Rattle.std.proofs.Common.{List, Option, subst}
 use Rattle.port_set.specs.Slots.{contents}
 use Rattle.df_job.specs.Began.{Began}
 use Rattle.crew_collect.specs.Together.{part_of}
