@@ -150,6 +150,7 @@ module _ (image : Image) (world : World) (formed : Formed image) (sound : Sound 
             absurd (omega (arith, l, k)));
         steps = of.steps;
         firing = of.firing;
+        listed_there = λ n x at fx. subst (λ ks. HasFired ks x.wave x.instr) fired_is (of.only n x at fx);
         count = of.count ∙ ap length fired_is;
         front = q.1.memory.steps;
         most = λ n f. (let k : length (ops image world n) ≤ q.0 =

@@ -1,7 +1,7 @@
 -- Where a run of a crew ends.
 use Rattle.std.specs.Prelude.{ℕ, ◌≡◌, ◌≤◌, false, List, length, Option, Some, None}
 use Rattle.ws_words.specs.Outside.{World}
-use Rattle.ws_isa.specs.Image.{Image, array_at, instr_at}
+use Rattle.ws_isa.specs.Image.{Image, In, array_at, instr_at}
 use Rattle.image_walk.specs.Walk.{Inst, fires, mem, walk, CostAtMost}
 use Rattle.image_walk.specs.Operations.{ops, FaultsAt, NoFault}
 use Rattle.core_law.specs.Core.{Key, HasFired}
@@ -25,14 +25,16 @@ pub record AllRun (image : Image) (world : World) (began : List (Option Began)) 
   pub all : (t : ℕ) (x : Inst) → fires image world t ≡ Some x → HasFired listed x.wave x.instr
   pub left : (t : ℕ) → length listed ≤ length (walk image world t) → OutIs began (mem image world t) h
 
--- The walk has more instances than are listed, and at these steps of it as many fire. What is outside is
--- what the walk leaves with its first operations, none of them past the end, and these are at least as many
--- as fire at those steps without a gap.
+-- The walk has more instances than are listed, and the listed ones fire at these steps of it. What is
+-- outside is what the walk leaves with its first operations, none of them past the end, and these are at
+-- least as many as fire at those steps without a gap.
 pub record SomeRun (image : Image) (world : World) (began : List (Option Began)) (listed : List Key)
     (h : Holding) : Type 0 where
   pub dear : CostAtMost image world (length listed) → ⊥
   pub steps : List ℕ
   pub firing : FiringSteps image world steps
+  pub listed_there : (t : ℕ) (x : Inst) → In t steps → fires image world t ≡ Some x →
+      HasFired listed x.wave x.instr
   pub count : length steps ≡ length listed
   pub front : ℕ
   pub most : (t : ℕ) → FirstAmong image world steps (length (ops image world t)) →
