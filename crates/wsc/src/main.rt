@@ -1,6 +1,9 @@
 //! The program: the top call over the words of the command line, standard input and standard output.
+//! Port 1 writes to standard error.
 #![tactic(auto)]
 
+use fire_crew::Free;
+use port_set::{LinePort, Slots};
 use std::env;
 use std::env::Env;
 use std::process::ExitCode;
@@ -26,6 +29,10 @@ fn main(rt: HostRuntime) -> ExitCode {
     let words = words(&rt);
     let mut source = StdSource::new(rt.stdin());
     let mut sink = StdSink::new(rt.stdout());
-    let outcome = wsc(rt.alloc(), &words, &mut source, &mut sink);
-    ExitCode::from(outcome.status.code())
+    let mut ports = Slots::none();
+    ports.first = Some(LinePort::new(StdSink::new(rt.stderr())));
+    let outcome = wsc(&rt, rt.alloc(), &words, &mut source, &mut sink, ports, &Free);
+    let code = outcome.status.code();
+    outcome.ports.finish();
+    ExitCode::from(code)
 }

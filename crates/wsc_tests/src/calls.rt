@@ -2,8 +2,12 @@
 
 ghost use Rattle.std.specs.Prelude.{◌<◌};
 
+use fire_crew::Free;
+use port_set::PortSet;
 use std::alloc::Global;
+use std::sync::Wait;
 use std::test::Fail;
+use std::thread::Threads;
 use ws_io::{MemSink, MemSource};
 use ws_words::{Bytes, Words};
 use wsc_top::{Status, wsc};
@@ -33,7 +37,13 @@ const SOUND: Ends = Ends {
 };
 
 // A call with the words of this line, which spaces separate.
-fn called(alloc: Global, line: &str, text: &[u8], ends: Ends) -> Result<Answer, Fail>
+fn called<R: Threads + Wait + Sync>(
+    rt: &R,
+    alloc: Global,
+    line: &str,
+    text: &[u8],
+    ends: Ends,
+) -> Result<Answer, Fail>
     requires { 0 < ends.piece }
 {
     let mut words = Vec::new(alloc);
@@ -45,7 +55,8 @@ fn called(alloc: Global, line: &str, text: &[u8], ends: Ends) -> Result<Answer, 
     let write_faults = Words::from_slice(alloc, &[ends.write_fault])?;
     let mut source = MemSource::new(bytes, ends.piece, read_faults);
     let mut sink = MemSink::new(alloc, ends.piece, write_faults)?;
-    let outcome = wsc(alloc, &words, &mut source, &mut sink);
+    let ports = PortSet::none();
+    let outcome = wsc(rt, alloc, &words, &mut source, &mut sink, ports, &Free);
     Ok(Answer {
         status: outcome.status,
         text: Vec::from_slice(alloc, sink.held())?,
@@ -148,7 +159,7 @@ fn jobs_are_answered(rt: HostRuntime) -> Result<(), Fail> {
     let alloc = rt.alloc();
     for row in ROWS {
         for piece in [1, 3, 100_000] {
-            let answer = called(alloc, row.line, row.job, Ends { piece, ..SOUND })?;
+            let answer = called(&rt, alloc, row.line, row.job, Ends { piece, ..SOUND })?;
             assert_eq!(rt;
                 str::from_utf8(&answer.text),
                 Ok(row.answer),
@@ -167,10 +178,10 @@ fn jobs_are_answered(rt: HostRuntime) -> Result<(), Fail> {
 fn a_job_has_at_most_a_mebibyte(rt: HostRuntime) -> Result<(), Fail> {
     let alloc = rt.alloc();
     let mut text = vec![in alloc; b' '; 1_048_576]?;
-    let most = called(alloc, "run", &text, SOUND)?;
+    let most = called(&rt, alloc, "run", &text, SOUND)?;
     assert_eq!(rt; str::from_utf8(&most.text), Ok("refused 1:1048577 main\n"));
     text.extend_from_slice(b" and more")?;
-    let more = called(alloc, "run", &text, SOUND)?;
+    let more = called(&rt, alloc, "run", &text, SOUND)?;
     assert_eq!(rt; str::from_utf8(&more.text), Ok("refused long\n"));
     assert_eq!(rt; more.status, Status::Refused);
     assert_eq!(rt; more.left, 8);
@@ -189,7 +200,7 @@ fn nothing_is_read_where_the_words_are_no_line(rt: HostRuntime) -> Result<(), Fa
         "run --workers",
         "plan",
     ] {
-        let answer = called(alloc, line, b"proc main() { }", SOUND)?;
+        let answer = called(&rt, alloc, line, b"proc main() { }", SOUND)?;
         assert_eq!(rt; answer.status, Status::Usage, "{line}");
         assert_eq!(rt; answer.left, 15, "{line}");
     }
@@ -205,7 +216,7 @@ fn a_fault_of_the_source_is_named(rt: HostRuntime) -> Result<(), Fail> {
             read_fault: call,
             write_fault: 0,
         };
-        let answer = called(alloc, "run", b"proc main() { }", ends)?;
+        let answer = called(&rt, alloc, "run", b"proc main() { }", ends)?;
         assert_eq!(rt; answer.status, Status::ReadFault, "{call}");
         assert_eq!(rt; str::from_utf8(&answer.text), Ok("fault read\n"), "{call}");
     }
@@ -227,7 +238,7 @@ fn a_fault_of_the_sink_cuts_the_answer(rt: HostRuntime) -> Result<(), Fail> {
             read_fault: 0,
             write_fault: call,
         };
-        let answer = called(alloc, "run", b"proc main() { print 7; }", ends)?;
+        let answer = called(&rt, alloc, "run", b"proc main() { print 7; }", ends)?;
         assert_eq!(rt; answer.status, Status::WriteFault, "{call}");
         assert_eq!(rt; str::from_utf8(&answer.text), Ok(front), "{call}");
         assert_eq!(rt; answer.flushed, 0, "{call}");
@@ -237,7 +248,7 @@ fn a_fault_of_the_sink_cuts_the_answer(rt: HostRuntime) -> Result<(), Fail> {
         read_fault: 1,
         write_fault: 2,
     };
-    let answer = called(alloc, "run", b"", ends)?;
+    let answer = called(&rt, alloc, "run", b"", ends)?;
     assert_eq!(rt; answer.status, Status::WriteFault);
     assert_eq!(rt; str::from_utf8(&answer.text), Ok("f"));
     Ok(())

@@ -1,5 +1,5 @@
 -- Each text has one answer alone for each task.
-use Rattle.std.specs.Prelude.{◌≡◌, ℕ, ◌≤◌, ◌⊎◌, List, Result, Ok, Err, refl}
+use Rattle.std.specs.Prelude.{◌≡◌, ℕ, ◌≤◌, ◌⊎◌, List, Option, None, Result, Ok, Err, refl}
 use Rattle.std.proofs.Common.{ap, ◌∙◌, subst, inl, inr}
 use Rattle.ws_words.specs.Outside.{Outside, World, printed_words}
 use Rattle.src_ast.specs.declared.fault.Refusal.{Refusal}
@@ -9,6 +9,8 @@ use Rattle.src_ast.specs.Printed.{printed_form}
 use Rattle.src_ast.specs.Written.{ReadsTheSame}
 use Rattle.src_ast.specs.Once.{ExactlyOne}
 use Rattle.seq_run.specs.Laws.{HasAnswer}
+use Rattle.ws_isa.specs.Image.{Image}
+use Rattle.port_set.specs.Ports.{Told}
 use Rattle.wsc_top.specs.declared.task.JobTask.{JobTask}
 use Rattle.wsc_top.specs.declared.task.JobTask.TheVariants.{Run, Format, Compile, Plain}
 use Rattle.wsc_top.specs.declared.task.PlainOptions.{PlainOptions}
@@ -47,24 +49,25 @@ Comes (Plain options) parts input status out =
     × (out ≡ faulted_text options.memory (array_name (names_of parts) array) (names_of parts) (printed_words state.acts) state.cells))
     ⊎ ((now : Outside) × Goes parts (world_of input) options.turns now × (status ≡ Budget) × (out ≡ going_text (printed_words now.acts))))
 
-comes : (task : JobTask) (parts : List Part) (input : List ℕ) (status : Status) (out : List ℕ) → Yields task parts input status out → Comes task parts input status out
-comes task parts input status out (ran image c x e t) = tt
-comes task parts input status out (formatted r) = (refl, refl)
-comes task parts input status out (compiled image h) = refl
-comes task parts input status out (ended n end r w) = inl (n, end, r, w, refl, refl)
-comes task parts input status out (faulted n array state f w) = inr (inl (n, array, state, f, w, refl, refl))
-comes task parts input status out (going now g) = inr (inr (now, g, refl, refl))
+comes : (task : JobTask) (parts : List Part) (input : List ℕ) (handed : List (Option Told)) (status : Status) (out : List ℕ) (image : Option Image) (back : List (Option Told))
+    → Yields task parts input handed status out image back → Comes task parts input status out
+comes task parts input handed status out again back (ran image c x t) = tt
+comes task parts input handed status out image back (formatted r) = (refl, refl)
+comes task parts input handed status out again back (compiled image h) = refl
+comes task parts input handed status out image back (ended n end r w) = inl (n, end, r, w, refl, refl)
+comes task parts input handed status out image back (faulted n array state f w) = inr (inl (n, array, state, f, w, refl, refl))
+comes task parts input handed status out image back (going now g) = inr (inr (now, g, refl, refl))
 
 -- what a task yields
-abbrev IsYield : JobTask → List Part → List ℕ → Reply → Type 0
-IsYield task parts input reply = Yields task parts input reply.0 reply.1
+abbrev IsYield : JobTask → List Part → List ℕ → List (Option Told) → Reply → Type 0
+IsYield task parts input handed reply = (image : Option Image) × (back : List (Option Told)) × Yields task parts input handed reply.0 reply.1 image back
 
-module _ (law : RunsOnce) (parts : List Part) (input : List ℕ) where
-  format_once : ReadsTheSame parts → ExactlyOne (IsYield Format parts input)
+module _ (law : RunsOnce) (parts : List Part) (input : List ℕ) (handed : List (Option Told)) where
+  format_once : ReadsTheSame parts → ExactlyOne (IsYield Format parts input handed)
   format_once r = record {
     answer = (Done, printed_form parts);
-    holds = formatted r;
-    only = λ other y. let c = comes Format parts input other.0 other.1 y in same_reply other.0 Done other.1 (printed_form parts) c.0 c.1;
+    holds = (None, handed, formatted r);
+    only = λ other y. let c = comes Format parts input handed other.0 other.1 y.0 y.1 y.2 in same_reply other.0 Done other.1 (printed_form parts) c.0 c.1;
   }
 
   module _ (options : PlainOptions) where
@@ -83,11 +86,11 @@ module _ (law : RunsOnce) (parts : List Part) (input : List ℕ) where
       only_ended status out (inr (inl c)) = absurd (law.no_end_with_a_fault parts (world_of input) n c.0 c.1 end c.2 r c.3)
       only_ended status out (inr (inr c)) = absurd (law.no_end_on_the_way parts (world_of input) n options.turns end c.0 w r c.1)
 
-      ended_once : ExactlyOne (IsYield (Plain options) parts input)
+      ended_once : ExactlyOne (IsYield (Plain options) parts input handed)
       ended_once = record {
         answer = (Done, end_text);
-        holds = ended n end r w;
-        only = λ other y. only_ended other.0 other.1 (comes (Plain options) parts input other.0 other.1 y);
+        holds = (None, handed, ended n end r w);
+        only = λ other y. only_ended other.0 other.1 (comes (Plain options) parts input handed other.0 other.1 y.0 y.1 y.2);
       }
 
     -- one that meets an index fault within them
@@ -105,11 +108,11 @@ module _ (law : RunsOnce) (parts : List Part) (input : List ℕ) where
           same_reply status Fault out fault_text c.5 (c.6 ∙ text)
       only_faulted status out (inr (inr c)) = absurd (law.no_fault_on_the_way parts (world_of input) n options.turns array state c.0 w f c.1)
 
-      faulted_once : ExactlyOne (IsYield (Plain options) parts input)
+      faulted_once : ExactlyOne (IsYield (Plain options) parts input handed)
       faulted_once = record {
         answer = (Fault, fault_text);
-        holds = faulted n array state f w;
-        only = λ other y. only_faulted other.0 other.1 (comes (Plain options) parts input other.0 other.1 y);
+        holds = (None, handed, faulted n array state f w);
+        only = λ other y. only_faulted other.0 other.1 (comes (Plain options) parts input handed other.0 other.1 y.0 y.1 y.2);
       }
 
     -- one that wants more of them
@@ -124,59 +127,63 @@ module _ (law : RunsOnce) (parts : List Part) (input : List ℕ) where
           let same = law.one_going parts (world_of input) options.turns c.0 now c.1 g in
           same_reply status Budget out going_so_far c.2 (c.3 ∙ ap (λ (o : Outside). going_text (printed_words o.acts)) same)
 
-      going_once : ExactlyOne (IsYield (Plain options) parts input)
+      going_once : ExactlyOne (IsYield (Plain options) parts input handed)
       going_once = record {
         answer = (Budget, going_so_far);
-        holds = going now g;
-        only = λ other y. only_going other.0 other.1 (comes (Plain options) parts input other.0 other.1 y);
+        holds = (None, handed, going now g);
+        only = λ other y. only_going other.0 other.1 (comes (Plain options) parts input handed other.0 other.1 y.0 y.1 y.2);
       }
 
-    plain_once : HasAnswer parts (world_of input) options.turns → ExactlyOne (IsYield (Plain options) parts input)
+    plain_once : HasAnswer parts (world_of input) options.turns → ExactlyOne (IsYield (Plain options) parts input handed)
     plain_once (inl e) = ended_once e.taken e.end e.runs e.within
     plain_once (inr (inl f)) = faulted_once f.turn f.array f.state f.faults f.within
     plain_once (inr (inr g)) = going_once g.now g.goes
 
   -- one thing alone comes of a task to a program that it takes
-  yields_once : (task : JobTask) → IsFixed task → ReadsTheSame parts → ExactlyOne (IsYield task parts input)
+  yields_once : (task : JobTask) → IsFixed task → ReadsTheSame parts → ExactlyOne (IsYield task parts input handed)
   yields_once (Run options) one same = absurd one
   yields_once Format one same = format_once same
   yields_once Compile one same = absurd one
   yields_once (Plain options) one same = plain_once options (law.some parts (world_of input) options.turns)
 
 -- a refused text
-module _ (task : JobTask) (text : List ℕ) (r : Refusal) (refusal : Refuses text r)
+module _ (task : JobTask) (text : List ℕ) (handed : List (Option Told)) (r : Refusal) (refusal : Refuses text r)
     (only : (other : Result (List Part × List ℕ) Refusal) → IsTextAnswer text other → other ≡ Err r) where
-  only_refused : (status : Status) (out : List ℕ) → Answered task text status out → ◌≡◌ {A = Reply} (status, out) (Refused, refusal_text r)
-  only_refused status out (refused q h) =
+  only_refused : (status : Status) (out : List ℕ) (image : Option Image) (back : List (Option Told)) → Answered task text handed status out image back → ◌≡◌ {A = Reply} (status, out) (Refused, refusal_text r)
+  only_refused status out image back (refused q h) =
       let same = only (Err q) h in
       let here : q ≡ r = cc in
       ap (λ x. (Refused, refusal_text x)) here
-  only_refused status out (done parts input j y) = let bad = only (Ok (parts, input)) j in cc
+  only_refused status out image back (done parts input j y) = let bad = only (Ok (parts, input)) j in cc
 
-  refusal_once : ExactlyOne (IsAnswer task text)
-  refusal_once = record { answer = (Refused, refusal_text r); holds = refused r refusal; only = λ other a. only_refused other.0 other.1 a }
+  refusal_once : ExactlyOne (IsAnswer task text handed)
+  refusal_once = record { answer = (Refused, refusal_text r); holds = (None, handed, refused r refusal); only = λ other a. only_refused other.0 other.1 a.0 a.1 a.2 }
 
 -- a job
-module _ (task : JobTask) (text : List ℕ) (parts : List Part) (input : List ℕ) (job : IsJob text parts input)
-    (only : (other : Result (List Part × List ℕ) Refusal) → IsTextAnswer text other → other ≡ Ok (parts, input)) (one : ExactlyOne (IsYield task parts input)) where
+module _ (task : JobTask) (text : List ℕ) (handed : List (Option Told)) (parts : List Part) (input : List ℕ) (job : IsJob text parts input)
+    (only : (other : Result (List Part × List ℕ) Refusal) → IsTextAnswer text other → other ≡ Ok (parts, input)) (one : ExactlyOne (IsYield task parts input handed)) where
   these : (others : List Part) (words : List ℕ) → IsJob text others words → ◌≡◌ {A = List Part × List ℕ} (others, words) (parts, input)
   these others words j = let same = only (Ok (others, words)) j in cc
 
-  only_done : (status : Status) (out : List ℕ) → Answered task text status out → ◌≡◌ {A = Reply} (status, out) one.answer
-  only_done status out (refused q h) = let bad = only (Err q) h in cc
-  only_done status out (done others words j y) =
-      one.only (status, out) (subst (λ (x : List Part × List ℕ). Yields task x.0 x.1 status out) (these others words j) y)
+  only_done : (status : Status) (out : List ℕ) (image : Option Image) (back : List (Option Told)) → Answered task text handed status out image back → ◌≡◌ {A = Reply} (status, out) one.answer
+  only_done status out image back (refused q h) = let bad = only (Err q) h in cc
+  only_done status out image back (done others words j y) =
+      one.only (status, out) (image, back, subst (λ (x : List Part × List ℕ). Yields task x.0 x.1 handed status out image back) (these others words j) y)
 
-  job_once : ExactlyOne (IsAnswer task text)
-  job_once = record { answer = one.answer; holds = done parts input job one.holds; only = λ other a. only_done other.0 other.1 a }
+  job_once : ExactlyOne (IsAnswer task text handed)
+  job_once = record {
+    answer = one.answer;
+    holds = (one.holds.0, one.holds.1, done parts input job one.holds.2);
+    only = λ other a. only_done other.0 other.1 a.0 a.1 a.2;
+  }
 
 -- each text has one answer alone, since it comes to one thing alone, and one thing comes of it
 pub answered_once : (law : RunsOnce) (same : (parts : List Part) (text : List ℕ) (input : List ℕ) → IsJob text parts input → ReadsTheSame parts)
-    → (task : JobTask) (text : List ℕ) → IsFixed task → ExactlyOne (IsTextAnswer text) → ExactlyOne (IsAnswer task text)
-answered_once law same task text one e = go e.answer e.holds e.only
+    → (task : JobTask) (text : List ℕ) (handed : List (Option Told)) → IsFixed task → ExactlyOne (IsTextAnswer text) → ExactlyOne (IsAnswer task text handed)
+answered_once law same task text handed one e = go e.answer e.holds e.only
   where
     go : (found : Result (List Part × List ℕ) Refusal) → IsTextAnswer text found
-        → ((other : Result (List Part × List ℕ) Refusal) → IsTextAnswer text other → other ≡ found) → ExactlyOne (IsAnswer task text)
+        → ((other : Result (List Part × List ℕ) Refusal) → IsTextAnswer text other → other ≡ found) → ExactlyOne (IsAnswer task text handed)
     go (Ok (parts, input)) job only =
-        job_once task text parts input job only (yields_once law parts input task one (same parts text input job))
-    go (Err r) h only = refusal_once task text r h only
+        job_once task text handed parts input job only (yields_once law parts input handed task one (same parts text input job))
+    go (Err r) h only = refusal_once task text handed r h only

@@ -1,5 +1,5 @@
 -- What the text of an assembly comes to, and the answers to it.
-use Rattle.std.specs.Prelude.{◌≡◌, ℕ, ◌+◌, ◌-◌, ◌<◌, ◌≤◌, ◌⊎◌, true, false, List, [], ◌∷◌, ◌++◌, length, Some, Result, Ok, Err, refl}
+use Rattle.std.specs.Prelude.{◌≡◌, ℕ, ◌+◌, ◌-◌, ◌<◌, ◌≤◌, ◌⊎◌, true, false, List, [], ◌∷◌, ◌++◌, length, Option, Some, None, Result, Ok, Err, refl}
 use Rattle.std.proofs.Common.{sym, ap, ◌∙◌, subst, inl, inr, arith, append-nil, length-append}
 use Rattle.std.proofs.Math.Nat.{eq-or-lt_of_le}
 use Rattle.std.proofs.lemmas.Bool.{cases_lt}
@@ -23,11 +23,13 @@ use Rattle.wsc_top.specs.declared.task.AssemblyTask.TheVariants.{Check, List as 
 use Rattle.wsc_top.specs.declared.task.RunOptions.{RunOptions}
 use Rattle.wsc_top.specs.declared.status.Status.{Status}
 use Rattle.wsc_top.specs.declared.status.Status.TheVariants.{Done, Refused, Budget, Fault}
-use Rattle.wsc_top.specs.Texts.{sound_text}
+use Rattle.ws_isa.specs.Shown.{shown_cells}
+use Rattle.port_set.specs.Ports.{Told}
+use Rattle.store_buf.specs.Outdoors.{world_with}
+use Rattle.wsc_top.specs.Texts.{sound_text, shown_names, called}
 use Rattle.wsc_top.specs.Sections.{program_of, input_of, input_place, IsInputAnswer}
-use Rattle.wsc_top.specs.Job.{world_of}
 use Rattle.wsc_top.specs.Assembly.{IsAssembly, RefusesAssembly, assembly, unsound, input, IsAssemblyAnswer, IsUnsound}
-use Rattle.wsc_top.specs.Executions.{Executes, rested, spent, stopped, rested_text, stopped_text}
+use Rattle.wsc_top.specs.Executions.{Executes, rested, spent, stopped, failed, IsFailed, end_report, fault_report}
 use Rattle.wsc_top.specs.Answers.{assembly_text, AssemblyYields, checked, listed, executed, traced, replayed, AssemblyAnswered, refused, done, IsSettled, IsAssemblyReply}
 use Rattle.wsc_top.specs.Answers as answers
 use Rattle.wsc_top.proofs.Inputs.{one_list, no_fault_in_words, one_fault, one_answer}
@@ -97,7 +99,7 @@ pub record WalksOnce : Type 0 where
   pub instances : (image : Image) (world : World) (d t : ℕ) → (more : List Inst) × (walk image world (d + t) ≡ walk image world t ++ more)
   pub effects : (image : Image) (world : World) (p : ℕ) (one other : Outside) → Effect image world p one → Effect image world p other → one ≡ other
 
-either_way : (t u : ℕ) → (t ≤ u) ⊎ (u ≤ t)
+pub either_way : (t u : ℕ) → (t ≤ u) ⊎ (u ≤ t)
 either_way t u = go (cases_lt t u)
   where
     go : (t < u) ⊎ (u ≤ t) → (t ≤ u) ⊎ (u ≤ t)
@@ -123,7 +125,7 @@ module _ (known : WalksOnce) (image : Image) (world : World) where
       let none : more.0 ≡ [] = nil_from_length more.0 (omega (arith, same, ap length here, length-append (walk image world t) more.0)) in
       here ∙ ap (λ xs. walk image world t ++ xs) none ∙ append-nil (walk image world t)
 
-  one_walk : (t u : ℕ) → (t ≤ u) ⊎ (u ≤ t) → length (walk image world t) ≡ length (walk image world u) → walk image world t ≡ walk image world u
+  pub one_walk : (t u : ℕ) → (t ≤ u) ⊎ (u ≤ t) → length (walk image world t) ≡ length (walk image world u) → walk image world t ≡ walk image world u
   one_walk t u (inl le) same = sym (walk_up t u le same)
   one_walk t u (inr le) same = walk_up u t le (sym same)
 
@@ -131,15 +133,15 @@ module _ (known : WalksOnce) (image : Image) (world : World) where
   unfolding ops
   ops_same t u e = ap (λ xs. length (operations image xs)) (sym e)
 
-  one_effect : (t u : ℕ) → walk image world t ≡ walk image world u → effect_of (mem image world t) ≡ effect_of (mem image world u)
+  pub one_effect : (t u : ℕ) → walk image world t ≡ walk image world u → effect_of (mem image world t) ≡ effect_of (mem image world u)
   one_effect t u e =
       known.effects image world (length (ops image world t)) (effect_of (mem image world t)) (effect_of (mem image world u))
       (record { steps = t; count = refl; left = refl }) (record { steps = u; count = ops_same t u e; left = refl })
 
-  one_print : (t u : ℕ) → effect_of (mem image world t) ≡ effect_of (mem image world u) → printed_words (mem image world t).acts ≡ printed_words (mem image world u).acts
+  pub one_print : (t u : ℕ) → effect_of (mem image world t) ≡ effect_of (mem image world u) → printed_words (mem image world t).acts ≡ printed_words (mem image world u).acts
   one_print t u e = sym (printed_kept (mem image world t).acts) ∙ ap (λ (o : Outside). printed_words o.acts) e ∙ printed_kept (mem image world u).acts
 
-  one_cells : (t u : ℕ) → effect_of (mem image world t) ≡ effect_of (mem image world u) → (mem image world t).cells ≡ (mem image world u).cells
+  pub one_cells : (t u : ℕ) → effect_of (mem image world t) ≡ effect_of (mem image world u) → (mem image world t).cells ≡ (mem image world u).cells
   one_cells t u e = ap (λ (o : Outside). o.cells) e
 
   no_earlier : (t u : ℕ) → FaultsAt image world t → FaultsAt image world u → t < u → ⊥
@@ -159,70 +161,87 @@ module _ (known : WalksOnce) (image : Image) (world : World) where
   no_fault_here : (t : ℕ) → NoFault image world → FaultsAt image world t → ⊥
   no_fault_here t none f = let two : true ≡ false = sym f.is_past ∙ none t f.inst f.fired in cc
 
-  module _ (options : RunOptions) where
-    execs_alike : (s v : Status) (out more : List ℕ) → Executes options image world s out → Executes options image world v more → (s ≡ Budget → ⊥) → (v ≡ Budget → ⊥)
-        → ◌≡◌ {A = Reply} (s, out) (v, more)
-    execs_alike s v out more (rested t none cost within) (rested u clean whole fits) a b =
+  module _ (options : RunOptions) (handed : List (Option Told)) where
+    execs_alike : (s v : Status) (out more : List ℕ) (back other : List (Option Told)) → Executes options image world handed s out back → Executes options image world handed v more other
+        → (s ≡ Budget → ⊥) → (v ≡ Budget → ⊥) → (IsFailed s → ⊥) → (IsFailed v → ⊥) → ◌≡◌ {A = Reply} (s, out) (v, more)
+    execs_alike s v out more back other (rested t none cost within ports) (rested u clean whole fits ends) a b c d =
         let many : length (walk image world t) ≡ length (walk image world u) = omega (arith, cost u, whole t) in
         let same = one_walk t u (either_way t u) many in
         let effect = one_effect t u same in
+        let names = shown_names image.arrays in
         same_reply Done Done _ _ refl
-        (ap (λ ws. rested_text options image.arrays ws (mem image world t).cells (length (walk image world t))) (one_print t u effect)
-        ∙ ap (λ rows. rested_text options image.arrays (printed_words (mem image world u).acts) rows (length (walk image world t))) (one_cells t u effect)
-        ∙ ap (λ n. rested_text options image.arrays (printed_words (mem image world u).acts) (mem image world u).cells n) many)
-    execs_alike s v out more (rested t none cost within) (stopped u fault fits) a b = absurd (no_fault_here u none fault)
-    execs_alike s v out more (rested t none cost within) (spent u h) a b = absurd (b refl)
-    execs_alike s v out more (stopped t fault within) (rested u none cost fits) a b = absurd (no_fault_here t none fault)
-    execs_alike s v out more (stopped t fault within) (stopped u other fits) a b =
-        let same = one_time t u fault other in
+        (ap (λ ws. end_report options.report names ws (shown_cells image.arrays (mem image world t).cells) (length (walk image world t))) (one_print t u effect)
+        ∙ ap (λ rows. end_report options.report names (printed_words (mem image world u).acts) (shown_cells image.arrays rows) (length (walk image world t))) (one_cells t u effect)
+        ∙ ap (λ n. end_report options.report names (printed_words (mem image world u).acts) (shown_cells image.arrays (mem image world u).cells) n) many)
+    execs_alike s v out more back other (rested t none cost within ports) (stopped u fault ends) a b c d = absurd (no_fault_here u none fault)
+    execs_alike s v out more back other (rested t none cost within ports) (spent u h ends) a b c d = absurd (b refl)
+    execs_alike s v out more back other (rested t none cost within ports) (failed u port x e on clean rose ends) a b c d = absurd (d (port, refl))
+    execs_alike s v out more back other (stopped t fault ports) (rested u none cost fits ends) a b c d = absurd (no_fault_here t none fault)
+    execs_alike s v out more back other (stopped t fault ports) (stopped u again ends) a b c d =
+        let same = one_time t u fault again in
+        let names = shown_names image.arrays in
         same_reply Fault Fault _ _ refl
-        (ap (λ (x : Inst). stopped_text options image.arrays (array_at image x.instr) (printed_words (mem image world t).acts) (mem image world t).cells) (one_inst t u fault other same)
-        ∙ ap (λ n. stopped_text options image.arrays (array_at image other.inst.instr) (printed_words (mem image world n).acts) (mem image world n).cells) same)
-    execs_alike s v out more (stopped t fault within) (spent u h) a b = absurd (b refl)
-    execs_alike s v out more (spent t h) other a b = absurd (a refl)
+        (ap (λ (x : Inst). fault_report options.report (called image.arrays (array_at image x.instr)) names (printed_words (mem image world t).acts) (shown_cells image.arrays (mem image world t).cells)) (one_inst t u fault again same)
+        ∙ ap (λ n. fault_report options.report (called image.arrays (array_at image again.inst.instr)) names (printed_words (mem image world n).acts) (shown_cells image.arrays (mem image world n).cells)) same)
+    execs_alike s v out more back other (stopped t fault ports) (spent u h ends) a b c d = absurd (b refl)
+    execs_alike s v out more back other (stopped t fault ports) (failed u port x e on clean rose ends) a b c d = absurd (d (port, refl))
+    execs_alike s v out more back other (spent t h ports) x a b c d = absurd (a refl)
+    execs_alike s v out more back other (failed t port x e on clean rose ports) y a b c d = absurd (c (port, refl))
 
 -- what comes of a task to one image
-yields_alike : WalksOnce → (task : AssemblyTask) → IsSettled task → (text : List ℕ) (image : Image) (words : List ℕ) (s v : Status) (out more : List ℕ)
-    → AssemblyYields task text image words s out → AssemblyYields task text image words v more
-    → (s ≡ Budget → ⊥) → (v ≡ Budget → ⊥) → ◌≡◌ {A = Reply} (s, out) (v, more)
-yields_alike known task k text image words s v out more checked checked a b = refl
-yields_alike known task k text image words s v out more listed listed a b = refl
-yields_alike known task k text image words s v out more (executed {options} x) (executed y) a b = execs_alike known image (world_of words) options s v out more x y a b
-yields_alike known task k text image words s v out more (traced x) (traced y) a b = absurd k
-yields_alike known task k text image words s v out more (replayed x) (replayed y) a b = absurd k
+yields_alike : WalksOnce → (task : AssemblyTask) → IsSettled task → (text : List ℕ) (image : Image) (words : List ℕ) (handed : List (Option Told)) (s v : Status) (out more : List ℕ)
+    (one two : Option Image) (back other : List (Option Told)) → AssemblyYields task text image words handed s out one back → AssemblyYields task text image words handed v more two other
+    → (s ≡ Budget → ⊥) → (v ≡ Budget → ⊥) → (IsFailed s → ⊥) → (IsFailed v → ⊥) → ◌≡◌ {A = Reply} (s, out) (v, more)
+yields_alike known task k text image words handed s v out more one two back other checked checked a b c d = refl
+yields_alike known task k text image words handed s v out more one two back other listed listed a b c d = refl
+yields_alike known task k text image words handed s v out more one two back other (executed {options} x) (executed y) a b c d =
+    execs_alike known image (world_with words handed) options handed s v out more back other x y a b c d
+yields_alike known task k text image words handed s v out more one two back other (traced x f) (traced y g) a b c d = absurd k
+yields_alike known task k text image words handed s v out more one two back other (replayed x f) (replayed y g) a b c d = absurd k
 
--- two answers to a text that aren't cut short by the budget are one, or both say that it is refused
-pub assembly_alike : BreachesBreak → WalksOnce → (task : AssemblyTask) → IsSettled task → (text : List ℕ) (s v : Status) (out more : List ℕ)
-    → AssemblyAnswered task text s out → AssemblyAnswered task text v more
-    → (s ≡ Budget → ⊥) → (v ≡ Budget → ⊥) → (◌≡◌ {A = Reply} (s, out) (v, more)) ⊎ ((s ≡ Refused) × (v ≡ Refused))
-assembly_alike breaks known task k text s v out more (answers.AssemblyAnswered.refused q h) (answers.AssemblyAnswered.refused r i) a b = inr (refl, refl)
-assembly_alike breaks known task k text s v out more (answers.AssemblyAnswered.refused q h) (answers.AssemblyAnswered.done image words j y) a b =
+-- two answers to a text that aren't cut short are one, or both say that it is refused
+pub assembly_alike : BreachesBreak → WalksOnce → (task : AssemblyTask) → IsSettled task → (text : List ℕ) (handed : List (Option Told)) (s v : Status) (out more : List ℕ)
+    (one two : Option Image) (back other : List (Option Told)) → AssemblyAnswered task text handed s out one back → AssemblyAnswered task text handed v more two other
+    → (s ≡ Budget → ⊥) → (v ≡ Budget → ⊥) → (IsFailed s → ⊥) → (IsFailed v → ⊥) → (◌≡◌ {A = Reply} (s, out) (v, more)) ⊎ ((s ≡ Refused) × (v ≡ Refused))
+assembly_alike breaks known task k text handed s v out more one two back other (answers.AssemblyAnswered.refused q h) (answers.AssemblyAnswered.refused r i) a b c d = inr (refl, refl)
+assembly_alike breaks known task k text handed s v out more one two back other (answers.AssemblyAnswered.refused q h) (answers.AssemblyAnswered.done image words j y) a b c d =
     absurd (never_both (assembly_text task text) breaks image words q j h)
-assembly_alike breaks known task k text s v out more (answers.AssemblyAnswered.done image words j y) (answers.AssemblyAnswered.refused r i) a b =
+assembly_alike breaks known task k text handed s v out more one two back other (answers.AssemblyAnswered.done image words j y) (answers.AssemblyAnswered.refused r i) a b c d =
     absurd (never_both (assembly_text task text) breaks image words r j i)
-assembly_alike breaks known task k text s v out more (answers.AssemblyAnswered.done image words j y) (answers.AssemblyAnswered.done again others i z) a b =
+assembly_alike breaks known task k text handed s v out more one two back other (answers.AssemblyAnswered.done image words j y) (answers.AssemblyAnswered.done again others i z) a b c d =
     let same = one_assembly (assembly_text task text) image again words others j i in
-    inl (yields_alike known task k text again others s v out more
-    (subst (λ ws. AssemblyYields task text again ws s out) same.1 (subst (λ im. AssemblyYields task text im words s out) same.0 y)) z a b)
+    inl (yields_alike known task k text again others handed s v out more one two back other
+    (subst (λ ws. AssemblyYields task text again ws handed s out one back) same.1 (subst (λ im. AssemblyYields task text im words handed s out one back) same.0 y)) z a b c d)
 
 -- `check` and `list` have one answer to a sound assembly
-check_done : (text : List ℕ) (image : Image) (words : List ℕ) (s : Status) (out : List ℕ) → AssemblyYields Check text image words s out → ◌≡◌ {A = Reply} (s, out) (Done, sound_text)
-check_done text image words s out checked = refl
+check_done : (text : List ℕ) (image : Image) (words : List ℕ) (handed : List (Option Told)) (s : Status) (out : List ℕ) (one : Option Image) (back : List (Option Told))
+    → AssemblyYields Check text image words handed s out one back → ◌≡◌ {A = Reply} (s, out) (Done, sound_text)
+check_done text image words handed s out one back checked = refl
 
-list_done : (text : List ℕ) (image : Image) (words : List ℕ) (s : Status) (out : List ℕ) → AssemblyYields Listing text image words s out → ◌≡◌ {A = Reply} (s, out) (Done, listing image)
-list_done text image words s out listed = refl
+list_done : (text : List ℕ) (image : Image) (words : List ℕ) (handed : List (Option Told)) (s : Status) (out : List ℕ) (one : Option Image) (back : List (Option Told))
+    → AssemblyYields Listing text image words handed s out one back → ◌≡◌ {A = Reply} (s, out) (Done, listing image)
+list_done text image words handed s out one back listed = refl
 
-module _ (breaks : BreachesBreak) (text : List ℕ) (image : Image) (words : List ℕ) (is : IsAssembly text image words) where
-  pub checked_once : ExactlyOne (IsAssemblyReply Check text)
-  checked_once = record { answer = (Done, sound_text); holds = answers.AssemblyAnswered.done image words is checked; only = λ other h. only other.0 other.1 h }
+module _ (breaks : BreachesBreak) (text : List ℕ) (image : Image) (words : List ℕ) (handed : List (Option Told)) (is : IsAssembly text image words) where
+  pub checked_once : ExactlyOne (IsAssemblyReply Check text handed)
+  checked_once = record {
+    answer = (Done, sound_text);
+    holds = (None, handed, answers.AssemblyAnswered.done image words is checked);
+    only = λ other h. only other.0 other.1 h.0 h.1 h.2;
+  }
     where
-      only : (s : Status) (out : List ℕ) → AssemblyAnswered Check text s out → ◌≡◌ {A = Reply} (s, out) (Done, sound_text)
-      only s out (answers.AssemblyAnswered.refused r h) = absurd (never_both text breaks image words r is h)
-      only s out (answers.AssemblyAnswered.done other more j y) = check_done text other more s out y
+      only : (s : Status) (out : List ℕ) (one : Option Image) (back : List (Option Told)) → AssemblyAnswered Check text handed s out one back → ◌≡◌ {A = Reply} (s, out) (Done, sound_text)
+      only s out one back (answers.AssemblyAnswered.refused r h) = absurd (never_both text breaks image words r is h)
+      only s out one back (answers.AssemblyAnswered.done again more j y) = check_done text again more handed s out one back y
 
-  pub listed_once : ExactlyOne (IsAssemblyReply Listing text)
-  listed_once = record { answer = (Done, listing image); holds = answers.AssemblyAnswered.done image words is listed; only = λ other h. only other.0 other.1 h }
+  pub listed_once : ExactlyOne (IsAssemblyReply Listing text handed)
+  listed_once = record {
+    answer = (Done, listing image);
+    holds = (None, handed, answers.AssemblyAnswered.done image words is listed);
+    only = λ other h. only other.0 other.1 h.0 h.1 h.2;
+  }
     where
-      only : (s : Status) (out : List ℕ) → AssemblyAnswered Listing text s out → ◌≡◌ {A = Reply} (s, out) (Done, listing image)
-      only s out (answers.AssemblyAnswered.refused r h) = absurd (never_both text breaks image words r is h)
-      only s out (answers.AssemblyAnswered.done other more j y) = list_done text other more s out y ∙ ap (λ i. (Done, listing i)) (one_assembly text other image more words j is).0
+      only : (s : Status) (out : List ℕ) (one : Option Image) (back : List (Option Told)) → AssemblyAnswered Listing text handed s out one back → ◌≡◌ {A = Reply} (s, out) (Done, listing image)
+      only s out one back (answers.AssemblyAnswered.refused r h) = absurd (never_both text breaks image words r is h)
+      only s out one back (answers.AssemblyAnswered.done again more j y) =
+          list_done text again more handed s out one back y ∙ ap (λ i. (Done, listing i)) (one_assembly text again image more words j is).0

@@ -14,7 +14,7 @@ use Rattle.ws_isa.specs.declared.instr.Op.{Op}
 use Rattle.ws_isa.specs.declared.instr.Op.TheVariants.{Const, Alu, Merge, Advance, Steer, Phi, Send, Load, Store, Input, Output, Give, Take, Nop, Halt}
 use Rattle.ws_isa.specs.Formed.{Formed, OpIn}
 use Rattle.ws_isa.specs.Shown as image_shown
-use Rattle.image_walk.specs.Walk.{mem, opening_memory, has_ended}
+use Rattle.image_walk.specs.Walk.{Inst, fires, mem, opening_memory, has_ended}
 use Rattle.image_walk.specs.Operations.{FaultsAt, NoFault}
 use Rattle.image_walk.proofs.There.{all_nth}
 use Rattle.core_law.specs.Ends.{FirstWithin}
@@ -23,14 +23,19 @@ use Rattle.cfg_core.specs.Graph.{GraphArray}
 use Rattle.cfg_core.specs.Shown.{shown_arrays, shown_cells, shown_among, hidden, is_hidden}
 use Rattle.cfg_build.specs.Keeps as program
 use Rattle.wave_gen.specs.Listing.{array_of}
-use Rattle.wave_build.specs.Compiled.{in_graph, shown, ShowsArrays, WalksAsRun}
+use Rattle.wave_build.specs.Compiled.{in_graph, shown, ShowsArrays, Shows, WalksAsRun}
 use Rattle.seq_run.specs.Laws.{HasAnswer}
 use Rattle.seq_run.proofs.FirstPasts.{not_within, one_array, one_before}
 use Rattle.seq_run.proofs.OneAnswer.{fronts, some_answer, passed}
-use Rattle.wsc_top.specs.Answers.{Prints, to_end, to_fault, so_far}
+use Rattle.ws_words.specs.Plain.{took_words}
+use Rattle.df_job.specs.Began.{Began}
+use Rattle.port_set.specs.Ports.{Told}
+use Rattle.store_buf.specs.Outdoors.{SlotsAre, port_of}
+use Rattle.wsc_top.specs.Answers.{Does, to_end, to_fault, so_far, IsOnPort}
+use Rattle.wsc_top.proofs.PortActs.{ports_moved, shown_took, left_shown, port_act, within_next}
 use Rattle.wsc_top.specs.Texts.{names_of, shown_names, name_at, array_name, called, maybe_name, name_or_number}
-use Rattle.wsc_top.proofs.WalkActs.{sizes, HasArray, mem_is, mem_within, fault_is_first}
-use Rattle.wsc_top.proofs.ShownActs.{lengths, shown_place, shown_within, open_first, shown_first, shown_words, cells_after, left_cells, shown_after, words_both}
+use Rattle.wsc_top.proofs.WalkActs.{sizes, HasArray, acts_after, mem_is, mem_within, acts_next, fault_is_first}
+use Rattle.wsc_top.proofs.ShownActs.{lengths, shown_place, shown_within, open_first, shown_first, shown_words, cells_after, left_cells, shown_after, shown_both}
 
 -- arrays of images, of graphs and of programs
 
@@ -183,14 +188,15 @@ module _ (parts : List Part) (image : Image) (world : World) (formed : Formed im
   within_shown acts h = subst (λ ls. AreWithin ls (shown image acts)) shown_lengths (shown_within G acts (subst (λ ls. AreWithin ls acts) (same_sizes image.arrays) h))
 
   -- what the sequential run leaves where the walk has ended without a fault
-  pub record EndTold (printed : List ℕ) (cells : List (List ℕ)) : Type 0 where
+  pub record EndTold (t : ℕ) (printed : List ℕ) (cells : List (List ℕ)) : Type 0 where
     pub turns : ℕ
     pub end : Outside
     pub runs : Runs parts world turns end
     pub words : printed ≡ printed_words end.acts
     pub rows : image_shown.shown_cells image.arrays cells ≡ end.cells
+    pub shows : Shows image (mem image world t) end
 
-  pub end_told : (t : ℕ) → NoFault image world → has_ended image world t ≡ true → (printed : List ℕ) (cells : List (List ℕ)) → printed ≡ printed_words (mem image world t).acts → cells ≡ (mem image world t).cells → EndTold printed cells
+  pub end_told : (t : ℕ) → NoFault image world → has_ended image world t ≡ true → (printed : List ℕ) (cells : List (List ℕ)) → printed ≡ printed_words (mem image world t).acts → cells ≡ (mem image world t).cells → EndTold t printed cells
   end_told t none ended printed cells p q =
       let e = walks.ends_only t ended in
       let shows = e.3 in
@@ -203,25 +209,36 @@ module _ (parts : List Part) (image : Image) (world : World) (formed : Formed im
         };
         words = p ∙ sym (shown_words G (mem image world t).acts) ∙ ap printed_words shows.acts;
         rows = ap (image_shown.shown_cells image.arrays) q ∙ shows.cells;
+        shows = shows;
       }
 
-  -- the words that the first steps of the walk print, up to a fault, are the first that the sequential run prints
-  pub record FrontTold (printed : List ℕ) : Type 0 where
-    pub turns : ℕ
-    pub more : List ℕ
-    pub prints : Prints parts world turns (printed ++ more)
+  -- the ports are where the run leaves them that is shown
+  pub end_ports : (began : List (Option Began)) (back : List (Option Told)) (t : ℕ) (end : Outside) → Shows image (mem image world t) end → SlotsAre began (mem image world t) back → SlotsAre began end back
+  end_ports began back t end shows h =
+      ports_moved began (mem image world t) end back shows.left
+      (λ slot. sym (shown_took G slot (mem image world t).acts) ∙ ap (took_words slot) shows.acts) h
 
-  module _ (t : ℕ) (first : FirstWithin image world t) (printed : List ℕ) (p : printed ≡ printed_words (mem image world t).acts) where
+  -- and where the acts leave them that are shown
+  pub act_ports : (began : List (Option Began)) (back : List (Option Told)) (t : ℕ) → SlotsAre began (mem image world t) back
+      → SlotsAre began (after_acts (opened parts world) (shown image (mem image world t).acts)) back
+  unfolding opening_memory
+  act_ports began back t h =
+      ports_moved began (mem image world t) (after_acts (opened parts world) (shown image (mem image world t).acts)) back
+      (ap (λ (o : Outside). o.left) (mem_is image world t) ∙ left_shown G (opening_memory image world) (opened parts world) (mem image world t).acts refl)
+      (λ slot. sym (shown_took G slot (mem image world t).acts) ∙ ap (took_words slot) (sym (acts_after (opened parts world) (shown image (mem image world t).acts)))) h
+
+  -- what the first steps of the walk do, up to a fault, the sequential run does first
+  pub record FrontTold (t : ℕ) : Type 0 where
+    pub turns : ℕ
+    pub more : List Act
+    pub does : Does parts world turns (shown image (mem image world t).acts ++ more)
+
+  module _ (t : ℕ) (first : FirstWithin image world t) where
     abbrev seen : List Act
     seen = shown image (mem image world t).acts
 
     seen_within : AreWithin (lengths_of parts) seen
     seen_within = within_shown (mem image world t).acts (mem_within image world t first)
-
-    seen_words : (acts more : List Act) → acts ≡ seen ++ more → printed_words acts ≡ printed ++ printed_words more
-    seen_words acts more e =
-        ap printed_words e ∙ words_both seen more
-        ∙ ap (λ (ws : List ℕ). ws ++ printed_words more) (shown_words G (mem image world t).acts ∙ sym p)
 
     abbrev till : ℕ
     till = (walks.goes_only t).0
@@ -232,10 +249,10 @@ module _ (parts : List Part) (image : Image) (world : World) (formed : Formed im
     till_acts : acts_in parts world till ≡ seen ++ behind
     till_acts = (walks.goes_only t).1.1
 
-    told_front : (acts more : List Act) → acts ≡ seen ++ more → Prints parts world till (printed_words acts) → FrontTold printed
-    told_front acts more e prints = record { turns = till; more = printed_words more; prints = subst (Prints parts world till) (seen_words acts more e) prints }
+    told_front : (acts more : List Act) → acts ≡ seen ++ more → Does parts world till acts → FrontTold t
+    told_front acts more e does = record { turns = till; more = more; does = subst (Does parts world till) e does }
 
-    front_by : HasAnswer parts world till → FrontTold printed
+    front_by : HasAnswer parts world till → FrontTold t
     front_by (inl e) =
         let r = passed parts world e.taken e.end e.runs.passes till e.within in
         told_front e.end.acts behind (ap (λ (x : CallEnd). (outside_of x).acts) (sym r.1) ∙ till_acts) (to_end e.taken e.end e.within e.runs)
@@ -249,11 +266,40 @@ module _ (parts : List Part) (image : Image) (world : World) (formed : Formed im
         let r = within_before (lengths_of parts) there.act there.after f.array there.past seen behind f.state.acts seen_within (sym till_acts ∙ there.split) in
         told_front f.state.acts r.0 r.1 (to_fault f.turn f.array f.state f.within f.faults)
 
-    pub front_told : FrontTold printed
+    pub front_told : FrontTold t
     front_told = front_by (some_answer parts world till)
 
+  -- the words are those that the acts print that are shown
+  pub front_words : (t : ℕ) → printed_words (shown image (mem image world t).acts) ≡ printed_words (mem image world t).acts
+  front_words t = shown_words G (mem image world t).acts
+
+  -- where a step is an operation on a port, the sequential run does that next
+  pub record FailTold (t port : ℕ) : Type 0 where
+    pub turns : ℕ
+    pub act : Act
+    pub more : List Act
+    pub does : Does parts world turns (shown image (mem image world t).acts ++ act ∷ more)
+    pub on : IsOnPort port act
+
+  pub fail_told : (t port : ℕ) (x : Inst) → fires image world t ≡ Some x → port_of (instr_at image x.instr).op ≡ Some port → FirstWithin image world t → FailTold t port
+  fail_told t port x e is first =
+      let p = port_act (instr_at image x.instr).op x.operands port is in
+      let r = front_told (suc t) (within_next image world t port x e is first) in
+      let next : shown image (mem image world (suc t)).acts ≡ shown image (mem image world t).acts ++ p.act ∷ [] =
+      ap (shown image) (acts_next image world t x e ∙ ap (λ (xs : List Act). (mem image world t).acts ++ xs) p.is)
+      ∙ shown_both G (mem image world t).acts (p.act ∷ [])
+      ∙ ap (λ (xs : List Act). shown image (mem image world t).acts ++ xs) (p.shown G) in
+      record {
+        turns = r.turns;
+        act = p.act;
+        more = r.more;
+        does = subst (Does parts world r.turns)
+            (ap (λ (xs : List Act). xs ++ r.more) next ∙ append_assoc (shown image (mem image world t).acts) (p.act ∷ []) r.more) r.does;
+        on = p.on;
+      }
+
   -- what the sequential run leaves before its first index fault, where the walk has met one
-  pub record FaultTold (array : ℕ) (printed : List ℕ) (cells : List (List ℕ)) : Type 0 where
+  pub record FaultTold (t array : ℕ) (printed : List ℕ) (cells : List (List ℕ)) : Type 0 where
     pub turn : ℕ
     pub place : ℕ
     pub state : Outside
@@ -261,6 +307,7 @@ module _ (parts : List Part) (image : Image) (world : World) (formed : Formed im
     pub name : called image.arrays array ≡ array_name (names_of parts) place
     pub words : printed ≡ printed_words state.acts
     pub rows : image_shown.shown_cells image.arrays cells ≡ state.cells
+    pub ports : (began : List (Option Began)) (back : List (Option Told)) → SlotsAre began (mem image world t) back → SlotsAre began state back
 
   module _ (t : ℕ) (fault : FaultsAt image world t) where
     abbrev on : ℕ
@@ -299,7 +346,7 @@ module _ (parts : List Part) (image : Image) (world : World) (formed : Formed im
         ∙ sym (ap (λ (o : Outside). o.cells) left)
 
     told : (array : ℕ) (printed : List ℕ) (cells : List (List ℕ)) → array ≡ on → printed ≡ printed_words (mem image world t).acts → cells ≡ (mem image world t).cells
-        → HasAnswer parts world turns → FaultTold array printed cells
+        → HasAnswer parts world turns → FaultTold t array printed cells
     told array printed cells a p q (inl e) =
         let r = passed parts world e.taken e.end e.runs.passes turns e.within in
         absurd (not_within (lengths_of parts) (acts_in parts world turns) (shown image (mem image world t).acts) (shown_among on G) run_fault
@@ -323,7 +370,9 @@ module _ (parts : List Part) (image : Image) (world : World) (formed : Formed im
               ∙ ap (array_name (names_of parts)) (sym number);
           words = p ∙ sym (shown_words G (mem image world t).acts) ∙ ap printed_words (sym same);
           rows = ap (image_shown.shown_cells image.arrays) q ∙ rows_left f.state same f.faults.left;
+          ports = λ began back h. subst (λ (o : Outside). SlotsAre began o back)
+              (sym (f.faults.left ∙ ap (after_acts (opened parts world)) same)) (act_ports began back t h);
         }
 
-    pub fault_told : (array : ℕ) (printed : List ℕ) (cells : List (List ℕ)) → array ≡ on → printed ≡ printed_words (mem image world t).acts → cells ≡ (mem image world t).cells → FaultTold array printed cells
+    pub fault_told : (array : ℕ) (printed : List ℕ) (cells : List (List ℕ)) → array ≡ on → printed ≡ printed_words (mem image world t).acts → cells ≡ (mem image world t).cells → FaultTold t array printed cells
     fault_told array printed cells a p q = told array printed cells a p q (some_answer parts world turns)

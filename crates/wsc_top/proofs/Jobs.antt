@@ -1,5 +1,5 @@
 -- Why the text of a job is refused, and what it is otherwise.
-use Rattle.std.specs.Prelude.{◌≡◌, ℕ, List, Err, refl}
+use Rattle.std.specs.Prelude.{◌≡◌, ℕ, List, None, Err, refl}
 use Rattle.std.proofs.Common.{sym, subst}
 use Rattle.src_ast.specs.declared.lexeme.Place.{Place}
 use Rattle.src_ast.specs.declared.fault.Refusal.{Refusal}
@@ -17,7 +17,10 @@ use Rattle.wsc_top.specs.declared.status.Status.TheVariants.{Refused}
 use Rattle.wsc_top.specs.Sections.{program_of, input_of, input_place, InputWords, IsInputFault, AnswersWords}
 use Rattle.wsc_top.specs.Texts.{refusal_text}
 use Rattle.wsc_top.specs.Job.{ReadsAs, IsJob, Refuses, program, input, IsRefused, IsProgramFault, AnswersParts}
-use Rattle.wsc_top.specs.Answers.{Yields, EndsSo, Answered, refused, done}
+use Rattle.wsc_top.specs.declared.step.Step.{Step}
+use Rattle.wsc_top.specs.declared.step.Step.TheVariants.{Ready, Run as Due}
+use Rattle.wsc_top.specs.Answers.{Answered, refused, done}
+use Rattle.wsc_top.specs.Steps.{YieldStep, JobStep}
 
 -- a program that is refused is no job
 pub program_only : (text : List ℕ) (e : TextFault) → ((parts : List Part) → ReadsAs text parts → AnswersParts (Err e) parts)
@@ -47,13 +50,11 @@ pub job_written : (text : List ℕ) (parts : List Part) (ws : List ℕ)
     → IsJob text parts ws → IsWritten parts
 job_written text parts ws law j = let r = j.reads in law (program_of text) r.ls r.finish parts r.lex r.kept r.tree r.accepted
 
-pub refused_answers : (task : JobTask) (text out : List ℕ) (r : Refusal) → Refuses text r → out ≡ refusal_text r → Answered task text Refused out
-refused_answers task text out r h e = subst (λ o. Answered task text Refused o) (sym e) (refused r h)
+-- what is to be done where the text is refused
+pub refused_step : (task : JobTask) (text out : List ℕ) (r : Refusal) → Refuses text r → out ≡ refusal_text r → JobStep task text (Ready Refused out None)
+refused_step task text out r h e handed = subst (λ o. Answered task text handed Refused o None handed) (sym e) (refused r h)
 
-pub job_done : (task : JobTask) (text : List ℕ) (parts : List Part) (ws out : List ℕ) (status : Status) → IsJob text parts ws → Yields task parts ws status out
-    → Answered task text status out
-job_done task text parts ws out status j y = done parts ws j y
-
--- the status says of a job what it says of what was read
-pub ends_same : (task : JobTask) (parts found : List Part) (ws given : List ℕ) (status : Status) → (found ≡ parts) × (given ≡ ws) → EndsSo task found given status → EndsSo task parts ws status
-ends_same task parts found ws given status e h = subst (λ w. EndsSo task parts w status) e.1 (subst (λ ps. EndsSo task ps given status) e.0 h)
+-- and where it is a job
+pub job_step : (task : JobTask) (text : List ℕ) (parts : List Part) (ws : List ℕ) (step : Step) → IsJob text parts ws → YieldStep task parts ws step → JobStep task text step
+job_step task text parts ws (Ready status out image) j y = λ handed. done parts ws j (y handed)
+job_step task text parts ws (Due options image words) j y = (y.0, parts, subst (λ (xs : List ℕ). IsJob text parts xs) (sym y.1) j, y.2)

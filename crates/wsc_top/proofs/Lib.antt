@@ -8,6 +8,7 @@ pub mod Calls
 pub mod PlainTexts
 pub mod WalkActs
 pub mod ShownActs
+pub mod PortActs
 pub mod Headline
 pub mod Tells
 pub mod RunTexts
@@ -16,7 +17,9 @@ pub mod Outcomes
 pub mod AnswersOnce
 pub mod RunsAlike
 pub mod AssembliesOnce
-pub mod Brief
+pub mod Ends
 pub mod Bounds
 pub mod Generated
 pub mod Replays
+pub mod Due
+pub mod Benches

@@ -1,5 +1,5 @@
 -- What the statuses of `trace` and `replay` say.
-use Rattle.std.proofs.Common.{◌≡◌, ℕ, ◌+◌, ◌==◌, Bool, true, false, List, [], ◌∷◌, length, Result, Ok, Err, refl, sym, ap, ◌∙◌, subst}
+use Rattle.std.proofs.Common.{◌≡◌, ℕ, ◌+◌, ◌==◌, Bool, true, false, List, [], ◌∷◌, length, Option, Result, Ok, Err, refl, sym, ap, ◌∙◌, subst, inl}
 use Rattle.std.proofs.lemmas.Bool.{true≢false}
 use Rattle.ws_words.specs.Outside.{World}
 use Rattle.ws_isa.specs.Image.{Image}
@@ -22,27 +22,27 @@ use Rattle.wsc_top.specs.Traced as traces
 use Rattle.wsc_top.specs.Traced.{IsMade, illegal, made, IsReplayed, missing, faulty, trace_status, HasTrace, CanReplay, EndsReplay}
 use Rattle.wsc_top.proofs.Inputs.{empty_is}
 
-no_fault : (image : Image) (world : World) → NoFault image world → (t : ℕ) → FaultsAt image world t → ⊥
+pub no_fault : (image : Image) (world : World) → NoFault image world → (t : ℕ) → FaultsAt image world t → ⊥
 no_fault image world none t f = true≢false (sym f.is_past ∙ none t f.inst f.fired)
 
 module _ (image : Image) (world : World) (budget : ℕ) (events : List Event) where
   pub ends_run : (how : TraceEnd) → Traces image world budget events how → EndsRun image world budget (trace_status how)
   ends_run end.Rest t = record {
-    done = λ h. refl;
+    done = λ h. inl refl;
     only = λ e. t.rests.0 refl;
     fault = λ h. absurd (no_fault image world (t.rests.0 refl).0 h.0.0 h.0.1);
     budget = λ h. absurd (h.1 (t.rests.0 refl).1);
   }
   ends_run end.Budget t = record {
-    done = λ h. ap trace_status (t.rests.1 h);
+    done = λ h. inl (ap trace_status (t.rests.1 h));
     only = λ e. absurd cc;
-    fault = λ h. ap trace_status (t.faults h.0.0 h.0.1 h.1);
-    budget = λ h. refl;
+    fault = λ h. inl (ap trace_status (t.faults h.0.0 h.0.1 h.1));
+    budget = λ h. inl refl;
   }
   ends_run end.Fault t = record {
-    done = λ h. ap trace_status (t.rests.1 h);
+    done = λ h. inl (ap trace_status (t.rests.1 h));
     only = λ e. absurd cc;
-    fault = λ h. refl;
+    fault = λ h. inl refl;
     budget = λ h. (let f = t.only refl in absurd (no_fault image world h.0 f.0 f.1));
   }
 
@@ -58,23 +58,23 @@ module _ (text : List ℕ) (image : Image) (input : List ℕ)
   stops trace line h s r = whole r.trace r.state line r.run
       (subst (λ (t : List Lined). StopsAt image (core_opening image (world_of input)) t line) (one_trace text trace r.trace h r.has) s)
 
-  pub ends_replay : (status : Status) (out : List ℕ) → IsReplayed text image input status out → EndsReplay text image input status
-  ends_replay status out (missing e) = record {
+  pub ends_replay : (status : Status) (out : List ℕ) (again : Option Image) → IsReplayed text image input status out again → EndsReplay text image input status
+  ends_replay status out again (missing e) = record {
     done = λ r. absurd (r.has.there e);
     only = λ f. absurd cc;
     refused = λ n. refl;
   }
-  ends_replay status out (faulty kind line n e) = record {
+  ends_replay status out again (faulty kind line n e) = record {
     done = λ r. (let f : Ok r.trace ≡ Err (kind, line) = sym r.has.events ∙ e in absurd cc);
     only = λ f. absurd cc;
     refused = λ m. refl;
   }
-  ends_replay status out (traces.IsReplayed.read trace h (illegal line s)) = record {
+  ends_replay status out again (traces.IsReplayed.read trace h (illegal line s)) = record {
     done = λ r. absurd (stops trace line h s r);
     only = λ f. absurd cc;
     refused = λ m. refl;
   }
-  ends_replay status out (traces.IsReplayed.read trace h (made r p)) = record {
+  ends_replay status out again (traces.IsReplayed.read trace h (made r p)) = record {
     done = λ c. refl;
     only = λ f. record { trace = trace; has = h; state = p.state; run = p.run };
     refused = λ m. absurd (m (record { trace = trace; has = h; state = p.state; run = p.run }));

@@ -1,91 +1,124 @@
 -- What comes of the run of an image, by how the run ended.
-use Rattle.std.specs.Prelude.{◌≡◌, ℕ, ◌≤◌, List, length, Result, Ok, Err, IfOk}
-use Rattle.std.proofs.Common.{sym, ap, ◌∙◌, subst, arith}
+use Rattle.std.specs.Prelude.{◌≡◌, ◌⊎◌, ℕ, ◌≤◌, List, length, Option, Result, Ok, Err, IfOk, OnErr, refl}
+use Rattle.std.proofs.Common.{sym, ap, ◌∙◌, subst, inl, inr, arith}
 use Rattle.ws_words.specs.Outside.{World, printed_words}
-use Rattle.ws_isa.specs.Image.{Image, array_at}
+use Rattle.ws_isa.specs.Image.{Array, Image, array_at}
+use Rattle.ws_isa.specs.Shown.{shown_cells}
 use Rattle.image_walk.specs.Walk.{mem, walk, CostAtMost}
-use Rattle.image_walk.specs.Operations.{ops}
-use Rattle.core_run.specs.declared.answer.Done.{Done as Told}
-use Rattle.core_run.specs.declared.answer.Run.TheVariants as run
-use Rattle.core_run.specs.Answer.{RunSo, FirstAmong}
-use Rattle.list_out.specs.Listing.{listing}
+use Rattle.image_walk.specs.Operations.{NoFault, FaultsAt}
+use Rattle.core_law.specs.Ends.{FirstWithin}
+use Rattle.port_set.specs.Ports.{Told}
+use Rattle.crew_run.specs.declared.finish.CrewFinish.{CrewFinish}
+use Rattle.crew_run.specs.declared.finish.CrewFinish.TheVariants as finish
+use Rattle.crew_run.specs.Answer.{CrewTells, Rested, Spent, Tripped, PortFailed}
 use Rattle.wsc_top.specs.declared.status.Status.{Status}
-use Rattle.wsc_top.specs.declared.status.Status.TheVariants.{Done, Budget, Fault}
-use Rattle.wsc_top.specs.declared.task.AssemblyTask.{AssemblyTask}
-use Rattle.wsc_top.specs.declared.task.AssemblyTask.TheVariants.{Check, List as Listing, Exec, Trace, Replay}
-use Rattle.wsc_top.specs.Job.{world_of}
-use Rattle.wsc_top.specs.Answers.{AssemblyYields, checked, listed, executed, traced, replayed}
-use Rattle.wsc_top.specs.Traced.{IsTraced, IsReplayed}
+use Rattle.wsc_top.specs.declared.status.Status.TheVariants.{Done, Budget, Fault, PortFault}
+use Rattle.wsc_top.specs.declared.task.Report.{Report}
 use Rattle.wsc_top.specs.declared.task.RunOptions.{RunOptions}
-use Rattle.wsc_top.specs.Texts.{spent_text, sound_text}
-use Rattle.wsc_top.specs.Executions.{rested_text, stopped_text, Executes, rested, spent, stopped}
+use Rattle.wsc_top.specs.Texts.{shown_names, called}
+use Rattle.wsc_top.specs.Executions.{Executes, rested, spent, stopped, failed, HasBegun, Rests, Trips, Exceeds, EndsRun, OrFailed, end_report, fault_report, spent_report, failed_report}
+use Rattle.wsc_top.specs.Finished.{ReportsSo}
+use Rattle.wsc_top.proofs.Replays.{no_fault}
 
-module _ (options : RunOptions) (image : Image) (world : World) (d : Told) (out : List ℕ) where
+module _ (options : RunOptions) (image : Image) (world : World) (handed back : List (Option Told)) where
+  so : (s status : Status) (o out : List ℕ) → status ≡ s → out ≡ o → Executes options image world handed s o back → Executes options image world handed status out back
+  so s status o out e f x =
+      subst (λ (t : Status). Executes options image world handed t out back) (sym e) (subst (λ (t : List ℕ). Executes options image world handed s t back) (sym f) x)
+
   -- the whole walk has been run
-  pub rested_executes : RunSo image world options.budget (run.Rest d) → out ≡ rested_text options image.arrays d.printed d.arrays d.fired → Executes options image world Done out
-  rested_executes so e =
-      let told = so.told in
-      let t = told.steps in
-      let tells = told.left t (omega (arith, told.fired)) in
-      let text : rested_text options image.arrays d.printed d.arrays d.fired ≡ rested_text options image.arrays (printed_words (mem image world t).acts) (mem image world t).cells (length (walk image world t)) =
-      ap (λ ws. rested_text options image.arrays ws d.arrays d.fired) tells.printed
-      ∙ ap (λ rows. rested_text options image.arrays (printed_words (mem image world t).acts) rows d.fired) tells.arrays
-      ∙ ap (λ n. rested_text options image.arrays (printed_words (mem image world t).acts) (mem image world t).cells n) told.fired in
-      subst (λ o. Executes options image world Done o) (sym (e ∙ text))
-      (rested t told.no_fault (subst (λ n. CostAtMost image world n) told.fired told.cost) (subst (λ n. n ≤ options.budget) told.fired told.within))
+  rested_so : (printed : List ℕ) (rows : List (List ℕ)) (fired : ℕ) → fired ≤ options.budget → Rested image world handed printed rows fired back → (status : Status) (out : List ℕ)
+      → status ≡ Done → out ≡ end_report options.report (shown_names image.arrays) printed (shown_cells image.arrays rows) fired → Executes options image world handed status out back
+  rested_so printed rows fired le r status out e f =
+      let names = shown_names image.arrays in
+      let t = r.time in
+      so Done status _ out e
+      (f
+      ∙ ap (λ (ws : List ℕ). end_report options.report names ws (shown_cells image.arrays rows) fired) r.printed_are
+      ∙ ap (λ (cs : List (List ℕ)). end_report options.report names (printed_words (mem image world t).acts) (shown_cells image.arrays cs) fired) r.cells_are
+      ∙ ap (λ (n : ℕ). end_report options.report names (printed_words (mem image world t).acts) (shown_cells image.arrays (mem image world t).cells) n) r.fired_is)
+      (rested t r.no_fault (subst (λ (n : ℕ). CostAtMost image world n) r.fired_is r.cost) (subst (λ (n : ℕ). n ≤ options.budget) r.fired_is le) r.ports)
 
   -- the budget is spent
-  pub spent_executes : RunSo image world options.budget (run.Budget d) → out ≡ spent_text options.stats d.printed d.fired → Executes options image world Budget out
-  spent_executes so e =
-      let told = so.told in
-      let t = told.front in
-      let text : spent_text options.stats d.printed d.fired ≡ spent_text options.stats (printed_words (mem image world t).acts) options.budget =
-      ap (λ ws. spent_text options.stats ws d.fired) told.left.printed
-      ∙ ap (λ n. spent_text options.stats (printed_words (mem image world t).acts) n) told.fired in
-      subst (λ o. Executes options image world Budget o) (sym (e ∙ text))
-      (spent t (record {
-        dear = told.dear;
-        steps = told.steps;
-        firing = told.firing;
-        count = told.count;
-        first = subst (λ n. FirstAmong image world told.steps n) (sym told.front_has) told.first;
-        most = λ u h. subst (λ n. length (ops image world u) ≤ n) (sym told.front_has) (told.most u h);
-        within = told.within;
-      }))
+  spent_so : (printed : List ℕ) → Spent image world handed options.budget printed back → (status : Status) (out : List ℕ)
+      → status ≡ Budget → out ≡ spent_report options.report printed options.budget → Executes options image world handed status out back
+  spent_so printed r status out e f =
+      so Budget status _ out e (f ∙ ap (λ (ws : List ℕ). spent_report options.report ws options.budget) r.printed_are)
+      (spent r.time (record { dear = r.dear; steps = r.steps; firing = r.firing; count = r.count; most = r.most; within = r.within }) r.ports)
 
   -- a load or store past the end stopped it
-  pub stopped_executes : (array : ℕ) → RunSo image world options.budget (run.Fault array d) → out ≡ stopped_text options image.arrays array d.printed d.arrays → Executes options image world Fault out
-  stopped_executes array so e =
-      let told = so.told in
-      let t = told.time in
-      let at = array_at image told.fault.inst.instr in
-      let text : stopped_text options image.arrays array d.printed d.arrays ≡ stopped_text options image.arrays at (printed_words (mem image world t).acts) (mem image world t).cells =
-      ap (λ a. stopped_text options image.arrays a d.printed d.arrays) told.array_is
-      ∙ ap (λ ws. stopped_text options image.arrays at ws d.arrays) told.left.printed
-      ∙ ap (λ rows. stopped_text options image.arrays at (printed_words (mem image world t).acts) rows) told.left.arrays in
-      subst (λ o. Executes options image world Fault o) (sym (e ∙ text))
-      (stopped t told.fault (omega (arith, told.place, told.within)))
+  stopped_so : (array : ℕ) (printed : List ℕ) (rows : List (List ℕ)) → Tripped image world handed array printed rows back → (status : Status) (out : List ℕ)
+      → status ≡ Fault → out ≡ fault_report options.report (called image.arrays array) (shown_names image.arrays) printed (shown_cells image.arrays rows)
+      → Executes options image world handed status out back
+  stopped_so array printed rows r status out e f =
+      let names = shown_names image.arrays in
+      let t = r.time in
+      let at : ℕ = array_at image r.fault.inst.instr in
+      so Fault status _ out e
+      (f
+      ∙ ap (λ (a : ℕ). fault_report options.report (called image.arrays a) names printed (shown_cells image.arrays rows)) r.array_is
+      ∙ ap (λ (ws : List ℕ). fault_report options.report (called image.arrays at) names ws (shown_cells image.arrays rows)) r.printed_are
+      ∙ ap (λ (cs : List (List ℕ)). fault_report options.report (called image.arrays at) names (printed_words (mem image world t).acts) (shown_cells image.arrays cs)) r.cells_are)
+      (stopped t r.fault r.ports)
 
--- what comes of a task to a sound image
-pub checked_yields : (task : AssemblyTask) (text : List ℕ) (image : Image) (input out : List ℕ) → task ≡ Check → out ≡ sound_text → AssemblyYields task text image input Done out
-checked_yields task text image input out e f =
-    subst (λ t. AssemblyYields t text image input Done out) (sym e) (subst (λ o. AssemblyYields Check text image input Done o) (sym f) checked)
+  -- a port failed
+  failed_so : (port : ℕ) (printed : List ℕ) → PortFailed image world handed port printed back → (status : Status) (out : List ℕ)
+      → status ≡ PortFault port → out ≡ failed_report options.report printed port → Executes options image world handed status out back
+  failed_so port printed r status out e f =
+      so (PortFault port) status _ out e (f ∙ ap (λ (ws : List ℕ). failed_report options.report ws port) r.printed_are)
+      (failed r.time port r.inst r.fires r.port_is r.within r.rose r.ports)
 
-pub listed_yields : (task : AssemblyTask) (text : List ℕ) (image : Image) (input out : List ℕ) → task ≡ Listing → out ≡ listing image → AssemblyYields task text image input Done out
-listed_yields task text image input out e f =
-    subst (λ t. AssemblyYields t text image input Done out) (sym e) (subst (λ o. AssemblyYields Listing text image input Done o) (sym f) listed)
+  pub run_executes : (finish : CrewFinish) (status : Status) (out : List ℕ) → CrewTells image world handed options.budget finish back
+      → ReportsSo options.report options.budget image.arrays finish status out → Executes options image world handed status out back
+  run_executes (finish.Done printed rows fired) status out h r = rested_so printed rows fired h.0 h.1 status out r.0 r.1
+  run_executes (finish.Budget printed fired) status out h r = spent_so printed h.1 status out r.0 r.1
+  run_executes (finish.Fault array printed rows) status out h r = stopped_so array printed rows h status out r.0 r.1
+  run_executes (finish.Port port printed) status out h r = failed_so port printed h status out r.0 r.1
+  run_executes finish.NoMemory status out h r = absurd r
 
-pub executed_yields : {E : Type 0} (task : AssemblyTask) (options : RunOptions) (text : List ℕ) (image : Image) (input : List ℕ) (result : Result (Status × List ℕ) E) → task ≡ Exec options
-    → IfOk result (λ y. Executes options image (world_of input) y.0 y.1) → IfOk result (λ y. AssemblyYields task text image input y.0 y.1)
-executed_yields task options text image input (Ok y) e h = subst (λ t. AssemblyYields t text image input y.0 y.1) (sym e) (executed h)
-executed_yields task options text image input (Err e) f h = tt
+  -- however it ended, it had begun
+  pub run_begun : (budget : ℕ) (finish : CrewFinish) → CrewTells image world handed budget finish back → HasBegun image world handed back
+  run_begun budget (finish.Done printed rows fired) h = inr (h.1.time, (λ u x l f. h.1.no_fault u x f), h.1.ports)
+  run_begun budget (finish.Budget printed fired) h = inr (h.1.time, h.1.within, h.1.ports)
+  run_begun budget (finish.Fault array printed rows) h = inr (h.time, h.fault.first, h.ports)
+  run_begun budget (finish.Port port printed) h = inr (h.time, h.within, h.ports)
+  run_begun budget finish.NoMemory h = h
 
-pub traced_yields : {E : Type 0} (task : AssemblyTask) (budget : ℕ) (text : List ℕ) (image : Image) (input : List ℕ) (result : Result (Status × List ℕ) E) → task ≡ Trace budget
-    → IfOk result (λ y. IsTraced budget image input y.0 y.1) → IfOk result (λ y. AssemblyYields task text image input y.0 y.1)
-traced_yields task budget text image input (Ok y) e h = subst (λ t. AssemblyYields t text image input y.0 y.1) (sym e) (traced h)
-traced_yields task budget text image input (Err e) f h = tt
+  -- its status
+  pub run_ends : (status : Status) (out : List ℕ) → Executes options image world handed status out back → EndsRun image world options.budget status
+  run_ends status out (rested t none cost le ports) = record {
+    done = λ h. inl refl;
+    only = λ e. (none, λ u. (let c : length (walk image world u) ≤ length (walk image world t) = cost u in omega (arith, le)));
+    fault = λ h. absurd (no_fault image world none h.0.0 h.0.1);
+    budget = λ h. absurd (h.1 (λ u. (let c : length (walk image world u) ≤ length (walk image world t) = cost u in omega (arith, le))));
+  }
+  run_ends status out (spent t s ports) = record {
+    done = λ h. absurd (s.dear h.1);
+    only = λ e. absurd cc;
+    fault = λ h. absurd (s.dear h.1);
+    budget = λ h. inl refl;
+  }
+  run_ends status out (stopped t f ports) = record {
+    done = λ h. absurd (no_fault image world h.0 t f);
+    only = λ e. absurd cc;
+    fault = λ h. inl refl;
+    budget = λ h. absurd (no_fault image world h.0 t f);
+  }
+  run_ends status out (failed t port x fires on within rose ports) = record {
+    done = λ h. inr (port, refl);
+    only = λ e. absurd cc;
+    fault = λ h. inr (port, refl);
+    budget = λ h. inr (port, refl);
+  }
 
-pub replayed_yields : {E : Type 0} (task : AssemblyTask) (text : List ℕ) (image : Image) (input : List ℕ) (result : Result (Status × List ℕ) E) → task ≡ Replay
-    → IfOk result (λ y. IsReplayed text image input y.0 y.1) → IfOk result (λ y. AssemblyYields task text image input y.0 y.1)
-replayed_yields task text image input (Ok y) e h = subst (λ t. AssemblyYields t text image input y.0 y.1) (sym e) (replayed h)
-replayed_yields task text image input (Err e) f h = tt
+-- the answer of a run that told this
+pub executed_so : {E : Type 0} (options : RunOptions) (image : Image) (world : World) (handed back : List (Option Told)) (finish : CrewFinish) (arrays : List Array) (answer : Result (Status × List ℕ) E)
+    → CrewTells image world handed options.budget finish back → arrays ≡ image.arrays → IfOk answer (λ y. ReportsSo options.report options.budget arrays finish y.0 y.1)
+    → IfOk answer (λ y. Executes options image world handed y.0 y.1 back)
+executed_so options image world handed back finish arrays (Ok y) tells is h =
+    run_executes options image world handed back finish y.0 y.1 tells (subst (λ (xs : List Array). ReportsSo options.report options.budget xs finish y.0 y.1) is h)
+executed_so options image world handed back finish arrays (Err x) tells is h = tt
+
+-- what is so in any case
+pub where_failed : {A E : Type 0} (P : Type 0) (answer : Result A E) → P → OnErr answer P
+where_failed P (Ok y) p = tt
+where_failed P (Err x) p = p

@@ -34,7 +34,7 @@ quiet Phi xs e = refl
 quiet (Send k) xs e = refl
 
 -- the acts come after those before
-acts_after : (o : Outside) (acts : List Act) → (after_acts o acts).acts ≡ o.acts ++ acts
+pub acts_after : (o : Outside) (acts : List Act) → (after_acts o acts).acts ≡ o.acts ++ acts
 acts_after o [] = sym (append-nil o.acts)
 acts_after o (loads a i ∷ acts) = acts_after (after_act o (loads a i)) acts ∙ append_assoc o.acts (loads a i ∷ []) acts
 acts_after o (stores a i w ∷ acts) = acts_after (after_act o (stores a i w)) acts ∙ append_assoc o.acts (stores a i w ∷ []) acts
@@ -192,6 +192,12 @@ module _ (image : Image) (world : World) where
   pub mem_within : (t : ℕ) → ((u : ℕ) (x : Inst) → u < t → fires image world u ≡ Some x → is_past_inst image x ≡ false) → AreWithin (sizes image.arrays) (mem image world t).acts
   mem_within t h = subst (AreWithin (sizes image.arrays)) (sym (acts_are t)) (acts_within t h)
 
+  -- the acts of a step come behind those before it
+  pub acts_next : (t : ℕ) (x : Inst) → fires image world t ≡ Some x → (mem image world (suc t)).acts ≡ (mem image world t).acts ++ acts_of_op (instr_at image x.instr).op x.operands
+  acts_next t x e =
+      acts_are (suc t) ∙ ap (λ (o : Option Inst). acts_upto t ++ acts_at o) e
+      ∙ ap (λ (xs : List Act). xs ++ acts_of_op (instr_at image x.instr).op x.operands) (sym (acts_are t))
+
   -- the first fault is the first act past the end
   pub fault_is_first : (t : ℕ) (f : FaultsAt image world t) → HasArray (instr_at image f.inst.instr).op
       → FirstPast (sizes image.arrays) (mem image world (suc t)).acts (mem image world t).acts (array_at image f.inst.instr)
@@ -203,6 +209,5 @@ module _ (image : Image) (world : World) where
         act = p.act;
         past = p.past;
         after = [];
-        split = acts_are (suc t) ∙ ap (λ (o : Option Inst). acts_upto t ++ acts_at o) f.fired ∙ ap (λ (xs : List Act). acts_upto t ++ xs) p.is
-            ∙ ap (λ (xs : List Act). xs ++ p.act ∷ []) (sym (acts_are t));
+        split = acts_next t f.inst f.fired ∙ ap (λ (xs : List Act). (mem image world t).acts ++ xs) p.is;
       }

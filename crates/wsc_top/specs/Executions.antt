@@ -1,97 +1,102 @@
--- What comes of the run of an image: the status, and the text that goes out with it.
-use Rattle.std.specs.Prelude.{◌≡◌, ℕ, ◌<◌, ◌≤◌, List, length}
-use Rattle.ws_words.specs.Outside.{World, printed_words}
-use Rattle.ws_isa.specs.Image.{Array, Image, array_at}
+-- What comes of the run of an image: the status, the text that goes out with it, and the ports.
+use Rattle.std.specs.Prelude.{◌≡◌, ◌⊎◌, ℕ, ◌<◌, ◌≤◌, true, false, Bool, List, length, Option, Some}
+use Rattle.ws_words.specs.Outside.{Outside, World, printed_words}
+use Rattle.ws_isa.specs.Image.{Array, Image, array_at, instr_at}
 use Rattle.ws_isa.specs.Shown.{shown_cells}
-use Rattle.image_walk.specs.Walk.{mem, walk, CostAtMost}
+use Rattle.image_walk.specs.Walk.{Inst, fires, mem, walk, CostAtMost}
 use Rattle.image_walk.specs.Operations.{ops, FaultsAt, NoFault}
 use Rattle.core_law.specs.Ends.{FirstWithin}
-use Rattle.core_run.specs.declared.answer.Run.{Run}
-use Rattle.core_run.specs.declared.answer.Run.TheVariants.{Rest, Budget as Spent, Fault as Stopped}
-use Rattle.core_run.specs.Answer.{FiringSteps, FirstAmong, RunSo}
+use Rattle.core_run.specs.Answer.{FiringSteps, FirstAmong}
+use Rattle.port_set.specs.Ports.{Told}
+use Rattle.store_buf.specs.Outdoors.{RoseAt, SlotsAre, began_of, port_of}
 use Rattle.wsc_top.specs.declared.status.Status.{Status}
-use Rattle.wsc_top.specs.declared.status.Status.TheVariants.{Done, Budget, Fault}
+use Rattle.wsc_top.specs.declared.status.Status.TheVariants.{Done, Budget, Fault, PortFault}
+use Rattle.wsc_top.specs.declared.task.Report.{Report}
+use Rattle.wsc_top.specs.declared.task.Report.TheVariants.{Full, Brief}
 use Rattle.wsc_top.specs.declared.task.RunOptions.{RunOptions}
-use Rattle.wsc_top.specs.Texts.{ended_text, faulted_text, spent_text, firings_line, shown_names, called, summary_text, budget_line, fault_line}
+use Rattle.wsc_top.specs.Texts.{ended_text, faulted_text, spent_text, failed_text, firings_line, shown_names, called, summary_text, budget_line, fault_line, port_line}
 
--- the answer of a run that printed these words, left these cells of all arrays, and fired so often
-abbrev pub rested_text : RunOptions → List Array → List ℕ → List (List ℕ) → ℕ → List ℕ
-rested_text options arrays words cells fired = ended_text options.memory options.stats
-    (shown_names arrays) words (shown_cells arrays cells) (firings_line fired)
+-- what is told of a run that came to its end: of the names and the cells of the arrays that are shown,
+-- of the words that it printed, and of how often it fired
+abbrev pub end_report : Report → List (List ℕ) → List ℕ → List (List ℕ) → ℕ → List ℕ
+end_report (Full memory stats) names words rows fired =
+    ended_text memory stats names words rows (firings_line fired)
+end_report Brief names words rows fired = summary_text words
 
--- the answer of one that met an index fault on the array of this number, counted from 1
-abbrev pub stopped_text : RunOptions → List Array → ℕ → List ℕ → List (List ℕ) → List ℕ
-stopped_text options arrays array words cells =
-    faulted_text options.memory (called arrays array) (shown_names arrays) words
-    (shown_cells arrays cells)
+-- of one that met an index fault on the array that is called so
+abbrev pub fault_report : Report → List ℕ → List (List ℕ) → List ℕ → List (List ℕ) → List ℕ
+fault_report (Full memory stats) name names words rows = faulted_text memory name names words rows
+fault_report Brief name names words rows = fault_line name
 
--- the status and the text of a run that is told so
-abbrev pub status_of : Run → Status
-status_of (Rest d) = Done
-status_of (Spent d) = Budget
-status_of (Stopped array d) = Fault
+-- of one that spent its budget
+abbrev pub spent_report : Report → List ℕ → ℕ → List ℕ
+spent_report (Full memory stats) words budget = spent_text stats words budget
+spent_report Brief words budget = budget_line
 
-abbrev pub run_text : RunOptions → List Array → Run → List ℕ
-run_text options arrays (Rest d) = rested_text options arrays d.printed d.arrays d.fired
-run_text options arrays (Spent d) = spent_text options.stats d.printed d.fired
-run_text options arrays (Stopped array d) =
-    stopped_text options arrays array d.printed d.arrays
+-- of one of which a port failed
+abbrev pub failed_report : Report → List ℕ → ℕ → List ℕ
+failed_report (Full memory stats) words port = failed_text words port
+failed_report Brief words port = port_line port
 
--- the run of an image answered with this status and this text
-pub record IsRun (options : RunOptions) (image : Image) (world : World) (status : Status)
-    (out : List ℕ) : Type 0 where
-  pub run : Run
-  pub so : RunSo image world options.budget run
-  pub status_is : status ≡ status_of run
-  pub text_is : out ≡ run_text options image.arrays run
+-- whether firings are told of
+abbrev pub tells_firings : Report → Bool
+tells_firings (Full memory stats) = stats
+tells_firings Brief = false
 
--- a run that is told so, in brief
-abbrev pub brief_text : List Array → Run → List ℕ
-brief_text arrays (Rest d) = summary_text d.printed
-brief_text arrays (Spent d) = budget_line
-brief_text arrays (Stopped array d) = fault_line (called arrays array)
+-- The ports that were handed in, as they are handed back, are where this leaves them: each has left
+-- what is left there, and has taken, where it tells that, what is taken there.
+abbrev pub PortsAre : List (Option Told) → Outside → List (Option Told) → Type 0
+PortsAre handed o back = SlotsAre (began_of handed) o back
 
--- the run of an image answered with this status and this text in brief
-pub record IsBriefRun (budget : ℕ) (image : Image) (world : World) (status : Status)
-    (out : List ℕ) : Type 0 where
-  pub run : Run
-  pub so : RunSo image world budget run
-  pub status_is : status ≡ status_of run
-  pub text_is : out ≡ brief_text image.arrays run
-
--- The walk has more instances than the budget. Exactly so many have fired, at some of its steps;
--- and of the walk's operations, in their order, those before step t are the most of which all have,
+-- The walk has more instances than the budget. Exactly so many have fired, at some of its steps; of
+-- the walk's operations, in their order, those before step t are no fewer than any of which all have,
 -- and none of them is past the end.
 pub record IsSpent (image : Image) (world : World) (budget t : ℕ) : Type 0 where
   pub dear : CostAtMost image world budget → ⊥
   pub steps : List ℕ
   pub firing : FiringSteps image world steps
   pub count : length steps ≡ budget
-  pub first : FirstAmong image world steps (length (ops image world t))
   pub most : (u : ℕ) → FirstAmong image world steps (length (ops image world u))
       → length (ops image world u) ≤ length (ops image world t)
   pub within : FirstWithin image world t
 
--- What comes of the run of an image on a world within a budget.
-pub data Executes (options : RunOptions) (image : Image) (world : World) : Status → List ℕ → Type 0
-  where
-    -- the whole walk has been run, and no load or store of it is past the end
-    rested : (t : ℕ) → NoFault image world → CostAtMost image world (length (walk image world t))
-        → length (walk image world t) ≤ options.budget
-        → Executes options image world Done
-        (rested_text options image.arrays (printed_words (mem image world t).acts)
-        (mem image world t).cells (length (walk image world t)))
-    -- the budget is spent, and what the operations before step t print is told
-    spent : (t : ℕ) → IsSpent image world options.budget t
-        → Executes options image world Budget
-        (spent_text options.stats (printed_words (mem image world t).acts) options.budget)
-    -- step t of the walk fires the first load or store past the end, and what is left before it is
-    -- told
-    stopped : (t : ℕ) (fault : FaultsAt image world t)
-        → length (ops image world t) < options.budget
-        → Executes options image world Fault
-        (stopped_text options image.arrays (array_at image fault.inst.instr)
-        (printed_words (mem image world t).acts) (mem image world t).cells)
+-- What comes of the run of an image on a world within a budget, with these ports.
+pub data Executes (options : RunOptions) (image : Image) (world : World) (handed : List (Option Told))
+    : Status → List ℕ → List (Option Told) → Type 0 where
+  -- the whole walk has been run, and no load or store of it is past the end
+  rested : {back : List (Option Told)} (t : ℕ) → NoFault image world
+      → CostAtMost image world (length (walk image world t))
+      → length (walk image world t) ≤ options.budget
+      → PortsAre handed (mem image world t) back
+      → Executes options image world handed Done
+      (end_report options.report (shown_names image.arrays)
+      (printed_words (mem image world t).acts)
+      (shown_cells image.arrays (mem image world t).cells) (length (walk image world t))) back
+  -- the budget is spent, and what the operations before step t print is told
+  spent : {back : List (Option Told)} (t : ℕ) → IsSpent image world options.budget t
+      → PortsAre handed (mem image world t) back
+      → Executes options image world handed Budget
+      (spent_report options.report (printed_words (mem image world t).acts) options.budget) back
+  -- step t of the walk fires the first load or store past the end, and what is left before it is told
+  stopped : {back : List (Option Told)} (t : ℕ) (fault : FaultsAt image world t)
+      → PortsAre handed (mem image world t) back
+      → Executes options image world handed Fault
+      (fault_report options.report (called image.arrays (array_at image fault.inst.instr))
+      (shown_names image.arrays) (printed_words (mem image world t).acts)
+      (shown_cells image.arrays (mem image world t).cells)) back
+  -- step t fires an operation on a port that failed, no load or store before it is past the end, and
+  -- what is left before it is told
+  failed : {back : List (Option Told)} (t port : ℕ) (inst : Inst) → fires image world t ≡ Some inst
+      → port_of (instr_at image inst.instr).op ≡ Some port → FirstWithin image world t
+      → RoseAt port handed back → PortsAre handed (mem image world t) back
+      → Executes options image world handed (PortFault port)
+      (failed_report options.report (printed_words (mem image world t).acts) port) back
+
+-- a run has begun, and the ports are as they were handed in, or where some of the walk's first
+-- operations leave them, none of which is past the end
+abbrev pub HasBegun : Image → World → List (Option Told) → List (Option Told) → Type 0
+HasBegun image world handed back = (back ≡ handed)
+    ⊎ ((t : ℕ) × FirstWithin image world t × PortsAre handed (mem image world t) back)
 
 -- a run comes to its end within its budget
 abbrev pub Rests : Image → World → ℕ → Type 0
@@ -106,10 +111,18 @@ Trips image world budget =
 abbrev pub Exceeds : Image → World → ℕ → Type 0
 Exceeds image world budget = NoFault image world × (CostAtMost image world budget → ⊥)
 
+-- a port failed
+abbrev pub IsFailed : Status → Type 0
+IsFailed status = (port : ℕ) × (status ≡ PortFault port)
+
+-- the status is this one, unless a port failed
+abbrev pub OrFailed : Status → Status → Type 0
+OrFailed status wanted = (status ≡ wanted) ⊎ IsFailed status
+
 -- Each of the three has its status, and Done comes with the first alone. A run with a fault whose
 -- whole walk exceeds the budget is of the two other statuses.
 pub record EndsRun (image : Image) (world : World) (most : ℕ) (status : Status) : Type 0 where
-  pub done : Rests image world most → status ≡ Done
+  pub done : Rests image world most → OrFailed status Done
   pub only : status ≡ Done → Rests image world most
-  pub fault : Trips image world most → status ≡ Fault
-  pub budget : Exceeds image world most → status ≡ Budget
+  pub fault : Trips image world most → OrFailed status Fault
+  pub budget : Exceeds image world most → OrFailed status Budget

@@ -5,6 +5,8 @@ pub mod Job
 pub mod Assembly
 pub mod Texts
 pub mod Executions
+pub mod Finished
 pub mod Generated
 pub mod Answers
 pub mod Traced
+pub mod Steps

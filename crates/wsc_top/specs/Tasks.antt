@@ -6,15 +6,19 @@ use Rattle.wsc_words.specs.declared.command.Command.{Command}
 use Rattle.wsc_words.specs.declared.command.Command.TheVariants as command
 use Rattle.wsc_top.specs.declared.task.Task.{Task}
 use Rattle.wsc_top.specs.declared.task.Task.TheVariants.{Job, Assembly, Generate, Bench}
+use Rattle.wsc_top.specs.declared.task.Report.{Report}
+use Rattle.wsc_top.specs.declared.task.Report.TheVariants.{Full, Brief}
+use Rattle.wsc_top.specs.declared.task.RunOptions.{RunOptions}
 use Rattle.wsc_top.specs.declared.task.JobTask.TheVariants.{Run, Format, Compile, Plain}
 use Rattle.wsc_top.specs.declared.task.AssemblyTask.TheVariants as assembly
 
+-- how a line asks for a run of which this is told
+abbrev pub options_of : Line → Report → RunOptions
+options_of line report =
+    record { workers = line.workers; budget = line.budget; report = report }
+
 abbrev pub task_by : Command → Line → Option Task
-task_by command.Run line = Some (Job (Run (record {
-  budget = line.budget;
-  memory = line.memory;
-  stats = line.stats;
-})))
+task_by command.Run line = Some (Job (Run (options_of line (Full line.memory line.stats))))
 task_by command.Plain line = Some (Job (Plain (record {
   turns = line.turns;
   memory = line.memory;
@@ -23,17 +27,14 @@ task_by command.Plain line = Some (Job (Plain (record {
 task_by command.Format line = Some (Job Format)
 task_by command.Compile line = Some (Job Compile)
 task_by command.Check line = Some (Assembly assembly.Check)
-task_by command.Exec line = Some (Assembly (assembly.Exec (record {
-  budget = line.budget;
-  memory = line.memory;
-  stats = line.stats;
-})))
+task_by command.Exec line =
+    Some (Assembly (assembly.Exec (options_of line (Full line.memory line.stats))))
 task_by command.List line = Some (Assembly assembly.List)
 task_by command.Trace line = Some (Assembly (assembly.Trace line.budget))
 task_by command.Replay line = Some (Assembly assembly.Replay)
 task_by command.Gen line = Some (Generate line.number)
 task_by command.Bench line =
-    Some (Bench (record { number = line.number; budget = line.budget }))
+    Some (Bench (record { number = line.number; run = options_of line Brief }))
 task_by _ line = None
 
 -- what a line asks for, where that is built

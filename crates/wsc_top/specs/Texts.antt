@@ -201,3 +201,11 @@ going_text words = flat_map word_line words ++ codes "turns\n"
 abbrev pub spent_text : Bool → List ℕ → ℕ → List ℕ
 spent_text stats words budget =
     flat_map word_line words ++ codes "budget\n" ++ (if stats then firings_line budget else [])
+
+-- a line for the failure of the port with this number
+abbrev pub port_line : ℕ → List ℕ
+port_line port = codes "port " ++ decimal port ++ codes "\n"
+
+-- the answer of a run of which the port with this number failed
+abbrev pub failed_text : List ℕ → ℕ → List ℕ
+failed_text words port = flat_map word_line words ++ port_line port

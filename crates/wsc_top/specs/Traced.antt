@@ -1,5 +1,5 @@
 -- What comes of `trace` and `replay`.
-use Rattle.std.specs.Prelude.{◌≡◌, ℕ, List, [], ◌∷◌, ◌++◌, codes, decimal, flat_map, Result, Ok, Err, if◌then◌else◌}
+use Rattle.std.specs.Prelude.{◌≡◌, ℕ, List, [], ◌∷◌, ◌++◌, codes, decimal, flat_map, Option, Some, None, Result, Ok, Err, if◌then◌else◌}
 use Rattle.ws_words.specs.Outside.{World}
 use Rattle.ws_isa.specs.Image.{Image}
 use Rattle.core_law.specs.Core.{State, Run, core_opening}
@@ -67,16 +67,16 @@ pub record HasTrace (text : List ℕ) (trace : List Lined) : Type 0 where
   pub events : events_in (trace_line text) (trace_of text) ≡ Ok trace
 
 -- `replay` refuses a text that has no trace section at its end, and otherwise at the first line of
--- that section that spells no event; else it makes the events.
-pub data IsReplayed (text : List ℕ) (image : Image) (input : List ℕ) : Status → List ℕ → Type 0
-  where
-    missing : trace_section text ≡ []
-        → IsReplayed text image input Refused (asm_refusal_text (Text Line (last_line text)))
-    faulty : (kind : AsmKind) (line : ℕ) → (trace_section text ≡ [] → ⊥)
-        → events_in (trace_line text) (trace_of text) ≡ Err (kind, line)
-        → IsReplayed text image input Refused (asm_refusal_text (Text kind line))
-    read : {status : Status} {out : List ℕ} (trace : List Lined) → HasTrace text trace
-        → IsMade image input trace status out → IsReplayed text image input status out
+-- that section that spells no event; else it makes the events, and hands the image back.
+pub data IsReplayed (text : List ℕ) (image : Image) (input : List ℕ)
+    : Status → List ℕ → Option Image → Type 0 where
+  missing : trace_section text ≡ []
+      → IsReplayed text image input Refused (asm_refusal_text (Text Line (last_line text))) None
+  faulty : (kind : AsmKind) (line : ℕ) → (trace_section text ≡ [] → ⊥)
+      → events_in (trace_line text) (trace_of text) ≡ Err (kind, line)
+      → IsReplayed text image input Refused (asm_refusal_text (Text kind line)) None
+  read : {status : Status} {out : List ℕ} (trace : List Lined) → HasTrace text trace
+      → IsMade image input trace status out → IsReplayed text image input status out (Some image)
 
 -- the text has a trace, each event of which is enabled after those before it
 pub record CanReplay (text : List ℕ) (image : Image) (input : List ℕ) : Type 0 where

@@ -1,33 +1,35 @@
 //! The answer, before it is written.
 
-ghost use Rattle.std.specs.Prelude.{◌≡◌, ◌≢◌, ◌≤◌, ◌+◌, ℕ, List, Some, length, map, IfOk, OnErr, string_bytes};
-ghost use Rattle.ws_io.specs.Streams.{Rose, Takes};
-ghost use Rattle.src_ast.specs.Syntax.{Part};
+ghost use Rattle.std.specs.Prelude.{◌≡◌, ◌≤◌, ◌+◌, ℕ, List, None, length, map, IfOk, OnErr, string_bytes};
+ghost use Rattle.ws_io.specs.Streams.{Takes};
+ghost use Rattle.port_set.specs.Slots.{AllOpen, contents};
 ghost use Rattle.wsc_top.specs.declared.task.Task.{Task};
-ghost use Rattle.ws_isa.specs.Image.{Image};
-ghost use Rattle.wsc_top.specs.declared.task.BenchOptions.{BenchOptions};
-ghost use Rattle.wsc_top.specs.declared.task.JobTask.{JobTask};
-ghost use Rattle.wsc_top.specs.declared.task.AssemblyTask.{AssemblyTask};
 ghost use Rattle.wsc_top.specs.Tasks.{IsLine};
-ghost use Rattle.wsc_top.specs.declared.status.Status.{Status};
-ghost use Rattle.wsc_top.specs.Job.{job_limit, IsJob};
-ghost use Rattle.wsc_top.specs.Assembly.{assembly_limit, IsAssembly};
-ghost use Rattle.wsc_top.specs.Generated.{IsGeneratedJob};
-ghost use Rattle.wsc_top.specs.Answers.{EndsSo, Answered, AssemblyEndsSo, AssemblyAnswered, BenchEndsSo, Answers, WereRead, IsToldJob, IsToldAssembly, assembly_text};
+ghost use Rattle.wsc_top.specs.Job.{job_limit};
+ghost use Rattle.wsc_top.specs.Assembly.{assembly_limit};
+ghost use Rattle.wsc_top.specs.declared.step.Step.TheVariants.{Ready};
+ghost use Rattle.wsc_top.specs.Steps.{JobStep, AssemblyStep, StepSo};
+ghost use Rattle.wsc_top.specs.Answers.{TellWords, Answers, Starves, WereRead, assembly_text};
 
 use crate::assembly::{self, AssemblyFault};
-use crate::bench::benched;
+use crate::bench::generated;
+use crate::exec::{Reply, executed};
+use crate::laws::what_is_due_is_answered;
 use crate::sections::split_trace;
 use crate::status::Status;
+use crate::step::Step;
 use crate::task::{AssemblyTask, JobTask, Task, read_task};
 use crate::yields::{assembly_yielded, yielded};
 use crate::{job, texts};
+use fire_crew::Gate;
+use port_set::{Port, Slots};
 use src_ast::{TextFault, read_is_written};
 use std::alloc::Global;
+use std::sync::Wait;
+use std::thread::Threads;
 use work_gen::workload;
 use ws_io::{ReadEnd, Source, read_all};
 use ws_words::{Bytes, NoMemory};
-use wsc_words::words_are_one_line;
 
 /// The most bytes of a job.
 const JOB_LIMIT: usize = 1_048_576;
@@ -35,46 +37,41 @@ const JOB_LIMIT: usize = 1_048_576;
 /// The most bytes of an assembly with its sections.
 const ASSEMBLY_LIMIT: usize = 134_217_728;
 
-// The status and the text of the answer of a task to the text of a job.
-#[tactic(auto, using(crate::proofs::Jobs::refused_answers, crate::proofs::Jobs::job_done))]
-fn to_text(alloc: Global, task: JobTask, text: &[u8]) -> Result<(Status, Bytes), NoMemory>
+// An answer of this text and no image.
+fn plain(alloc: Global, status: Status, text: &[u8]) -> Result<Step, NoMemory>
+    ensures { IfOk result (λ step. step ≡ Ready status text.now None) }
+{
+    Ok(Step::Ready(status, Bytes::from_slice(alloc, text)?, None))
+}
+
+// What is to be done for a task to the text of a job.
+fn to_text(alloc: Global, task: JobTask, text: &[u8]) -> Result<Step, NoMemory>
     requires { length text.now ≤ job_limit }
-    ensures answered { IfOk result (λ a. Answered task text.now a.0 a.1) }
-    ensures job { (parts : List Part) (input : List ℕ)
-        → IsJob text.now parts input
-        → IfOk result (λ a. EndsSo task parts input a.0) }
+    ensures { IfOk result (JobStep task text.now) }
 {
     read_is_written();
     match job::read(alloc, text) {
         Ok((accepted, input)) => Ok(yielded(alloc, task, &accepted, input)?),
-        Err(TextFault::Refused(refusal)) => Ok((Status::Refused, texts::refused(alloc, refusal)?)),
+        Err(TextFault::Refused(refusal)) => {
+            let text = texts::refused(alloc, refusal)?;
+            Ok(Step::Ready(Status::Refused, text, None))
+        }
         Err(TextFault::NoMemory) => Err(NoMemory),
     }
 }
 
-// The status and the text of the answer to what the source gives, of which a job is to be read.
-fn of_job<S: Source>(
-    alloc: Global,
-    task: JobTask,
-    source: &mut S,
-) -> Result<(Status, Bytes), NoMemory>
-    ensures ok { IfOk result (λ a. (words : List (List ℕ)) → IsLine words (Task.Job task)
-        → Answers words (S.left source.old) (S.left source.new)
-        (S.faults source.old) (S.faults source.new) a.0 a.1) }
-    ensures job { (text : List ℕ) (parts : List Part) (input : List ℕ)
-        → S.left source.old ≡ Some text → length text ≤ job_limit
-        → IsJob text parts input
-        → IfOk result (λ a. a.0 ≢ Status.ReadFault → EndsSo task parts input a.0) }
+// What is to be done for what the source gives, of which a job is to be read.
+fn of_job<S: Source>(alloc: Global, task: JobTask, source: &mut S) -> Result<Step, NoMemory>
+    ensures ok { IfOk result (λ step. (words : List (List ℕ)) → IsLine words (Task.Job task)
+        → StepSo words (S.left source.old) (S.left source.new)
+        (S.faults source.old) (S.faults source.new) step) }
     ensures memory { OnErr result ((bytes : List ℕ) × (length bytes ≤ job_limit + 1)
         × Takes (S.left source.old) bytes (S.left source.new)) }
 {
     match read_all(alloc, source, JOB_LIMIT) {
-        Ok(text) => {
-            let (status, answer) = to_text(alloc, task, text.as_slice())?;
-            Ok((status, answer))
-        }
-        Err(ReadEnd::Failed) => Ok((Status::ReadFault, Bytes::from_slice(alloc, texts::FAULT)?)),
-        Err(ReadEnd::TooLong) => Ok((Status::Refused, Bytes::from_slice(alloc, texts::LONG)?)),
+        Ok(text) => Ok(to_text(alloc, task, text.as_slice())?),
+        Err(ReadEnd::Failed) => plain(alloc, Status::ReadFault, texts::FAULT),
+        Err(ReadEnd::TooLong) => plain(alloc, Status::Refused, texts::LONG),
         Err(ReadEnd::NoMemory) => Err(NoMemory),
     }
 }
@@ -93,95 +90,98 @@ fn assembly_text(task: AssemblyTask, text: &[u8]) -> &[u8]
     }
 }
 
-// The status and the text of the answer of a task to the text of an assembly.
-fn to_assembly(alloc: Global, task: AssemblyTask, text: &[u8]) -> Result<(Status, Bytes), NoMemory>
+// What is to be done for a task to the text of an assembly.
+fn to_assembly(alloc: Global, task: AssemblyTask, text: &[u8]) -> Result<Step, NoMemory>
     requires { length text.now ≤ assembly_limit }
-    ensures answered { IfOk result (λ a. AssemblyAnswered task text.now a.0 a.1) }
-    ensures ends { (image : Image) (input : List ℕ)
-        → IsAssembly (assembly_text task text.now) image input
-        → IfOk result (λ a. AssemblyEndsSo task text.now image input a.0) }
+    ensures { IfOk result (AssemblyStep task text.now) }
 {
     match assembly::read(alloc, assembly_text(task, text)) {
-        Ok((image, input)) => Ok(assembly_yielded(alloc, task, text, &image, input)?),
+        Ok((image, input)) => Ok(assembly_yielded(alloc, task, text, image, input)?),
         Err(AssemblyFault::Refused(why)) => {
-            Ok((Status::Refused, texts::asm_refused(alloc, why)?))
+            let text = texts::asm_refused(alloc, why)?;
+            Ok(Step::Ready(Status::Refused, text, None))
         }
         Err(AssemblyFault::NoMemory) => Err(NoMemory),
     }
 }
 
-// The status and the text of the answer to what the source gives, of which an assembly is to be
-// read.
+// What is to be done for what the source gives, of which an assembly is to be read.
 fn of_assembly<S: Source>(
     alloc: Global,
     task: AssemblyTask,
     source: &mut S,
-) -> Result<(Status, Bytes), NoMemory>
-    ensures ok { IfOk result (λ a. (words : List (List ℕ)) → IsLine words (Task.Assembly task)
-        → Answers words (S.left source.old) (S.left source.new)
-        (S.faults source.old) (S.faults source.new) a.0 a.1) }
-    ensures ends { (text : List ℕ) (image : Image) (input : List ℕ)
-        → S.left source.old ≡ Some text → length text ≤ assembly_limit
-        → IsAssembly (assembly_text task text) image input
-        → IfOk result (λ a. a.0 ≢ Status.ReadFault
-        → AssemblyEndsSo task text image input a.0) }
+) -> Result<Step, NoMemory>
+    ensures ok { IfOk result (λ step. (words : List (List ℕ)) → IsLine words (Task.Assembly task)
+        → StepSo words (S.left source.old) (S.left source.new)
+        (S.faults source.old) (S.faults source.new) step) }
     ensures memory { OnErr result ((bytes : List ℕ) × (length bytes ≤ assembly_limit + 1)
         × Takes (S.left source.old) bytes (S.left source.new)) }
 {
     match read_all(alloc, source, ASSEMBLY_LIMIT) {
-        Ok(text) => {
-            let (status, answer) = to_assembly(alloc, task, text.as_slice())?;
-            Ok((status, answer))
-        }
-        Err(ReadEnd::Failed) => Ok((Status::ReadFault, Bytes::from_slice(alloc, texts::FAULT)?)),
-        Err(ReadEnd::TooLong) => Ok((Status::Refused, Bytes::from_slice(alloc, texts::LONG)?)),
+        Ok(text) => Ok(to_assembly(alloc, task, text.as_slice())?),
+        Err(ReadEnd::Failed) => plain(alloc, Status::ReadFault, texts::FAULT),
+        Err(ReadEnd::TooLong) => plain(alloc, Status::Refused, texts::LONG),
         Err(ReadEnd::NoMemory) => Err(NoMemory),
     }
 }
 
-/// The status and the text of the answer to these words of the command line and what the source
-/// gives.
-pub fn to_words<S: Source>(
-    alloc: Global,
-    words: &[String],
-    source: &mut S,
-) -> Result<(Status, Bytes), NoMemory>
-    ensures ok { IfOk result (λ a.
-        Answers (map string_bytes words.now) (S.left source.old) (S.left source.new)
-        (S.faults source.old) (S.faults source.new) a.0 a.1) }
-    ensures generated { (number : ℕ)
-        → IsLine (map string_bytes words.now) (Task.Generate number)
-        → IfOk result (λ a. a.0 ≡ Status.Done) }
-    ensures benched { (options : BenchOptions) (parts : List Part)
-        → IsLine (map string_bytes words.now) (Task.Bench options)
-        → IsGeneratedJob options.number parts
-        → IfOk result (λ a. BenchEndsSo options parts a.0) }
-    ensures job { (task : JobTask) (parts : List Part) (input : List ℕ)
-        → IsToldJob (map string_bytes words.now) (S.left source.old) task parts input
-        → IfOk result (λ a. a.0 ≢ Status.ReadFault → EndsSo task parts input a.0) }
-    ensures assembled { (task : AssemblyTask) (image : Image) (input : List ℕ)
-        → (told : IsToldAssembly (map string_bytes words.now) (S.left source.old) task image input)
-        → IfOk result (λ a. a.0 ≢ Status.ReadFault
-        → AssemblyEndsSo task told.text image input a.0) }
+// What is to be done for these words of the command line and what the source gives.
+fn step<S: Source>(alloc: Global, words: &[String], source: &mut S) -> Result<Step, NoMemory>
+    ensures ok { IfOk result (StepSo (map string_bytes words.now) (S.left source.old)
+        (S.left source.new) (S.faults source.old) (S.faults source.new)) }
     ensures memory { OnErr result ((bytes : List ℕ)
         × WereRead (map string_bytes words.now) bytes
         × Takes (S.left source.old) bytes (S.left source.new)) }
 {
-    words_are_one_line();
     match read_task(alloc, words)? {
-        None => Ok((Status::Usage, Bytes::from_slice(alloc, texts::USAGE)?)),
-        Some(Task::Generate(number)) => Ok((Status::Done, workload(alloc, number)?)),
+        None => plain(alloc, Status::Usage, texts::USAGE),
+        Some(Task::Generate(number)) => {
+            let text = workload(alloc, number)?;
+            Ok(Step::Ready(Status::Done, text, None))
+        }
         Some(Task::Bench(options)) => {
-            let (status, answer) = benched(alloc, options)?;
-            Ok((status, answer))
+            let (image, input) = generated(alloc, options.number)?;
+            Ok(Step::Run(options.run, image, input))
         }
-        Some(Task::Job(task)) => {
-            let (status, answer) = of_job(alloc, task, source)?;
-            Ok((status, answer))
+        Some(Task::Job(task)) => Ok(of_job(alloc, task, source)?),
+        Some(Task::Assembly(task)) => Ok(of_assembly(alloc, task, source)?),
+    }
+}
+
+/// The answer to these words of the command line and what the source gives, and these ports.
+pub fn to_words<S: Source, P: Port + Send, G: Gate, R: Threads + Wait + Sync>(
+    rt: &R,
+    alloc: Global,
+    words: &[String],
+    source: &mut S,
+    ports: Slots<P>,
+    gate: &G,
+) -> Reply<P>
+    requires told { TellWords (contents P.tells ports) }
+    requires open { AllOpen (contents P.tells ports) }
+    ensures answered { IfOk result.answer (λ a.
+        Answers (map string_bytes words.now) (S.left source.old) (S.left source.new)
+        (S.faults source.old) (S.faults source.new) (contents P.tells ports) a.0 a.1
+        result.image (contents P.tells result.ports)) }
+    ensures memory { OnErr result.answer (Starves (map string_bytes words.now)
+        (S.left source.old) (S.left source.new) (contents P.tells ports)
+        result.image (contents P.tells result.ports)) }
+    ensures open { AllOpen (contents P.tells result.ports) }
+{
+    what_is_due_is_answered();
+    match step(alloc, words, source) {
+        Ok(Step::Ready(status, text, image)) => Reply {
+            answer: Ok((status, text)),
+            image,
+            ports,
+        },
+        Ok(Step::Run(options, image, input)) => {
+            executed(rt, alloc, options, image, input, ports, gate)
         }
-        Some(Task::Assembly(task)) => {
-            let (status, answer) = of_assembly(alloc, task, source)?;
-            Ok((status, answer))
-        }
+        Err(NoMemory) => Reply {
+            answer: Err(NoMemory),
+            image: None,
+            ports,
+        },
     }
 }

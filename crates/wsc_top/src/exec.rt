@@ -1,58 +1,71 @@
 //! The run of an image.
 
-ghost use Rattle.std.specs.Prelude.{IfOk};
-ghost use Rattle.wsc_top.specs.Job.{world_of};
-ghost use Rattle.wsc_top.specs.Executions.{IsRun, IsBriefRun, Executes, EndsRun};
+ghost use Rattle.std.specs.Prelude.{◌≡◌, Some, IfOk, OnErr};
+ghost use Rattle.port_set.specs.Slots.{AllOpen, contents};
+ghost use Rattle.store_buf.specs.Outdoors.{world_with};
+ghost use Rattle.wsc_top.specs.Executions.{Executes, HasBegun};
+ghost use Rattle.wsc_top.specs.Answers.{TellWords};
 
-use crate::run_texts::{rested, spent, stopped, tripped};
+use crate::run_texts::answer;
 use crate::status::Status;
 use crate::task::RunOptions;
-use crate::texts::{BUDGET, summary};
-use crate::world::world;
-use core_run::{Run, run_checked};
+use crew_run::run_image;
+use fire_crew::Gate;
 use image_walk::Checked;
+use port_set::{Port, Slots};
 use std::alloc::Global;
+use std::sync::Wait;
+use std::thread::Threads;
 use ws_words::{Bytes, NoMemory, Words};
 
-/// The status and the text of what comes of the run of an image on these words.
-pub fn executed(
-    alloc: Global,
-    options: RunOptions,
-    image: &Checked,
-    input: Words,
-) -> Result<(Status, Bytes), NoMemory>
-    ensures told { IfOk result (λ y. IsRun options image.now (world_of input) y.0 y.1) }
-    ensures executes { IfOk result (λ y. Executes options image.now (world_of input) y.0 y.1) }
-    ensures ends { IfOk result (λ y. EndsRun image.now (world_of input) options.budget y.0) }
-{
-    let world = world(alloc, input)?;
-    let arrays = image.image().arrays.as_slice();
-    match run_checked(alloc, image, &world, options.budget)? {
-        Run::Rest(done) => Ok((Status::Done, rested(alloc, options, arrays, &done)?)),
-        Run::Budget(done) => Ok((Status::Budget, spent(alloc, options.stats, &done)?)),
-        Run::Fault(array, done) => {
-            Ok((
-                Status::Fault,
-                stopped(alloc, options, arrays, array, &done)?,
-            ))
-        }
-    }
+/// What is to be written, the image that was run or is printed, and the ports.
+#[derive(Drop)]
+pub struct Reply<P: Port> {
+    pub answer: Result<(Status, Bytes), NoMemory>,
+    pub image: Option<Checked>,
+    pub ports: Slots<P>,
 }
 
-/// The status and the text in brief of what comes of the run of an image on these words.
-pub fn briefly(
+// A line has from 1 to 8 workers.
+const MOST_WORKERS: u32 = 8;
+
+/// Runs an image on these words with these ports.
+pub fn executed<P: Port + Send, G: Gate, R: Threads + Wait + Sync>(
+    rt: &R,
     alloc: Global,
-    budget: u64,
-    image: &Checked,
+    options: RunOptions,
+    image: Checked,
     input: Words,
-) -> Result<(Status, Bytes), NoMemory>
-    ensures told { IfOk result (λ y. IsBriefRun budget image.now (world_of input) y.0 y.1) }
+    ports: Slots<P>,
+    gate: &G,
+) -> Reply<P>
+    requires told { TellWords (contents P.tells ports) }
+    requires open { AllOpen (contents P.tells ports) }
+    ensures executes { IfOk result.answer (λ y. Executes options image
+        (world_with input (contents P.tells ports)) (contents P.tells ports) y.0 y.1
+        (contents P.tells result.ports)) }
+    ensures begun { OnErr result.answer (HasBegun image
+        (world_with input (contents P.tells ports)) (contents P.tells ports)
+        (contents P.tells result.ports)) }
+    ensures image { result.image ≡ Some image }
+    ensures open { AllOpen (contents P.tells result.ports) }
 {
-    let world = world(alloc, input)?;
+    let workers = options.workers.max(1).min(MOST_WORKERS);
+    let end = run_image(
+        rt,
+        alloc,
+        &image,
+        input,
+        ports,
+        workers,
+        options.budget,
+        gate,
+    );
     let arrays = image.image().arrays.as_slice();
-    match run_checked(alloc, image, &world, budget)? {
-        Run::Rest(done) => Ok((Status::Done, summary(alloc, &done.printed)?)),
-        Run::Budget(_) => Ok((Status::Budget, Bytes::from_slice(alloc, BUDGET)?)),
-        Run::Fault(array, _) => Ok((Status::Fault, tripped(alloc, arrays, array)?)),
+    let answer = answer(alloc, options.report, options.budget, arrays, &end.finish);
+    Reply {
+        answer,
+        image: Some(image),
+        ports: end.ports,
     }
 }

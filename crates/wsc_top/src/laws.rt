@@ -1,6 +1,8 @@
 //! What the definitions of jobs and answers come to.
 
-ghost use Rattle.std.specs.Prelude.{◌≡◌, ◌⊎◌, ℕ, List, Result, Ok};
+ghost use Rattle.std.specs.Prelude.{◌≡◌, ◌⊎◌, ℕ, List, Option, Some, Result, Ok};
+ghost use Rattle.port_set.specs.Ports.{Told};
+ghost use Rattle.store_buf.specs.Outdoors.{world_with};
 ghost use Rattle.src_ast.specs.declared.lexeme.Place.{Place};
 ghost use Rattle.src_ast.specs.Syntax.{Part};
 ghost use Rattle.src_ast.specs.Once.{ExactlyOne};
@@ -10,6 +12,8 @@ ghost use Rattle.asm_text.specs.Reading.{read};
 ghost use Rattle.annot_check.specs.declared.fault.Bad.{Bad};
 ghost use Rattle.annot_check.specs.Breach.{BadBreach};
 ghost use Rattle.wsc_top.specs.declared.status.Status.{Status};
+ghost use Rattle.wsc_top.specs.declared.task.Task.{Task};
+ghost use Rattle.wsc_top.specs.declared.task.BenchOptions.{BenchOptions};
 ghost use Rattle.wsc_top.specs.declared.task.JobTask.{JobTask};
 ghost use Rattle.wsc_top.specs.declared.task.RunOptions.{RunOptions};
 ghost use Rattle.wsc_top.specs.declared.task.AssemblyTask.{AssemblyTask};
@@ -17,8 +21,10 @@ ghost use Rattle.wsc_top.specs.declared.assembly.AsmRefusal.{AsmRefusal};
 ghost use Rattle.wsc_top.specs.Sections.{program_of, IsInputAnswer};
 ghost use Rattle.wsc_top.specs.Job.{IsJob, IsTextAnswer};
 ghost use Rattle.wsc_top.specs.Assembly.{IsAssembly, RefusesAssembly, IsAssemblyAnswer, IsUnsound};
+ghost use Rattle.wsc_top.specs.Executions.{Executes, IsFailed};
 ghost use Rattle.wsc_top.specs.Generated.{IsGeneratedJob};
-ghost use Rattle.wsc_top.specs.Answers.{EndsSo, IsFixed, IsAnswer, IsFree, IsSettled, IsAssemblyReply};
+ghost use Rattle.wsc_top.specs.Tasks.{IsLine};
+ghost use Rattle.wsc_top.specs.Answers.{TellWords, EndsSo, AssemblyEndsSo, BenchEndsSo, Answers, IsDue, IsFixed, IsAnswer, IsFree, IsSettled, IsAssemblyReply, IsToldJob, IsToldAssembly};
 
 use annot_check::breaches_break;
 use image_walk::{effects_are_one, walks_go_on};
@@ -28,6 +34,7 @@ use src_check::each_program_is_checked_once;
 use src_lex::each_text_is_lexed_once;
 use src_parse::lexemes_are_parsed_once;
 use work_gen::generated_programs_are_accepted;
+use wsc_words::words_are_one_line;
 
 /// Each input section comes to one thing alone: its words, or its first item that is no word.
 pub fn each_input_is_read_once()
@@ -46,8 +53,8 @@ pub fn each_text_is_a_job_or_refused()
 
 /// For each task but `run` and `compile` each text has one answer alone, a status and a text.
 pub fn every_text_is_answered_once()
-    ensures { (task : JobTask) (text : List ℕ) → IsFixed task
-        → ExactlyOne (IsAnswer task text) }
+    ensures { (task : JobTask) (text : List ℕ) (handed : List (Option Told)) → IsFixed task
+        → ExactlyOne (IsAnswer task text handed) }
 {
     each_text_is_a_job_or_refused();
     read_is_written();
@@ -55,19 +62,58 @@ pub fn every_text_is_answered_once()
     one_answer();
 }
 
-/// Two answers of `run` to one text are the same where nothing is left to the image: where neither is
-/// cut short by the budget and no firings are told. An answer to a job has the status that its
-/// sequential run and the budget decide.
+/// Two answers of `run` to one text, with ports that have the same left, are the same where nothing is
+/// left to the image: where neither is cut short by the budget or a port and no firings are told.
 pub fn runs_are_answered_alike()
-    ensures alike { (options : RunOptions) (text : List ℕ) (a b : Status × List ℕ)
-        → IsAnswer (JobTask.Run options) text a → IsAnswer (JobTask.Run options) text b
+    ensures { (options : RunOptions) (text : List ℕ) (handed : List (Option Told))
+        (a b : Status × List ℕ)
+        → IsAnswer (JobTask.Run options) text handed a
+        → IsAnswer (JobTask.Run options) text handed b
         → IsFree options a.0 → IsFree options b.0 → a ≡ b }
-    ensures ends { (options : RunOptions) (text : List ℕ) (parts : List Part) (input : List ℕ)
-        (answer : Status × List ℕ) → IsJob text parts input
-        → IsAnswer (JobTask.Run options) text answer
-        → EndsSo (JobTask.Run options) parts input answer.0 }
 {
     each_text_is_a_job_or_refused();
+    one_answer();
+}
+
+/// What comes of the run that is due is the answer.
+pub fn what_is_due_is_answered()
+    ensures { (words : List (List ℕ)) (left after : Option (List ℕ)) (faults counted : ℕ)
+        (handed back : List (Option Told)) (options : RunOptions) (image : Image) (input : List ℕ)
+        (status : Status) (out : List ℕ)
+        → IsDue words left after options image input → TellWords handed
+        → Executes options image (world_with input handed) handed status out back
+        → Answers words left after faults counted handed status out (Some image) back }
+{
+    walks_go_on();
+    effects_are_one();
+}
+
+/// Each answer to a job, an assembly or a generated job that was read has the status that its run
+/// decides, and that of a run the budget with it.
+pub fn each_answer_has_its_status()
+    ensures job { (words : List (List ℕ)) (left after : Option (List ℕ)) (faults counted : ℕ)
+        (handed back : List (Option Told)) (status : Status) (out : List ℕ) (image : Option Image)
+        (task : JobTask) (parts : List Part) (input : List ℕ)
+        → Answers words left after faults counted handed status out image back
+        → IsToldJob words left task parts input → TellWords handed
+        → (status ≡ Status.ReadFault → ⊥) → EndsSo task parts input handed status }
+    ensures assembly { (words : List (List ℕ)) (left after : Option (List ℕ)) (faults counted : ℕ)
+        (handed back : List (Option Told)) (status : Status) (out : List ℕ) (again : Option Image)
+        (task : AssemblyTask) (image : Image) (input : List ℕ)
+        → Answers words left after faults counted handed status out again back
+        → (told : IsToldAssembly words left task image input)
+        → (status ≡ Status.ReadFault → ⊥)
+        → AssemblyEndsSo task told.text image input handed status }
+    ensures bench { (words : List (List ℕ)) (left after : Option (List ℕ)) (faults counted : ℕ)
+        (handed back : List (Option Told)) (status : Status) (out : List ℕ) (image : Option Image)
+        (options : BenchOptions) (parts : List Part)
+        → Answers words left after faults counted handed status out image back
+        → IsLine words (Task.Bench options) → IsGeneratedJob options.number parts → TellWords handed
+        → BenchEndsSo options parts handed status }
+{
+    words_are_one_line();
+    each_text_is_a_job_or_refused();
+    breaches_break();
     one_answer();
 }
 
@@ -92,17 +138,19 @@ pub fn each_assembly_is_read_or_refused()
     breaches_break();
 }
 
-/// Two answers of `check`, `list` or `exec` to an assembly that aren't cut short by the budget are the
-/// same, or both say that it is refused; `check` and `list` have exactly one answer to a sound assembly.
+/// Two answers of `check`, `list` or `exec` to an assembly that aren't cut short by the budget or a port
+/// are the same, or both say that it is refused; `check` and `list` have exactly one answer to a sound assembly.
 pub fn assemblies_are_answered_alike()
-    ensures alike { (task : AssemblyTask) → IsSettled task → (text : List ℕ) (a b : Status × List ℕ)
-        → IsAssemblyReply task text a → IsAssemblyReply task text b
+    ensures alike { (task : AssemblyTask) → IsSettled task → (text : List ℕ)
+        (handed : List (Option Told)) (a b : Status × List ℕ)
+        → IsAssemblyReply task text handed a → IsAssemblyReply task text handed b
         → (a.0 ≡ Status.Budget → ⊥) → (b.0 ≡ Status.Budget → ⊥)
+        → (IsFailed a.0 → ⊥) → (IsFailed b.0 → ⊥)
         → (a ≡ b) ⊎ ((a.0 ≡ Status.Refused) × (b.0 ≡ Status.Refused)) }
-    ensures checked { (text : List ℕ) (image : Image) (words : List ℕ)
-        → IsAssembly text image words → ExactlyOne (IsAssemblyReply AssemblyTask.Check text) }
-    ensures listed { (text : List ℕ) (image : Image) (words : List ℕ)
-        → IsAssembly text image words → ExactlyOne (IsAssemblyReply AssemblyTask.List text) }
+    ensures checked { (text : List ℕ) (image : Image) (words : List ℕ) (handed : List (Option Told))
+        → IsAssembly text image words → ExactlyOne (IsAssemblyReply AssemblyTask.Check text handed) }
+    ensures listed { (text : List ℕ) (image : Image) (words : List ℕ) (handed : List (Option Told))
+        → IsAssembly text image words → ExactlyOne (IsAssemblyReply AssemblyTask.List text handed) }
 {
     breaches_break();
     walks_go_on();

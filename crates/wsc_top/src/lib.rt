@@ -13,6 +13,7 @@ mod laws;
 mod run_texts;
 mod sections;
 mod status;
+mod step;
 mod task;
 mod texts;
 mod traces;
@@ -21,8 +22,8 @@ mod yields;
 
 pub use call::wsc;
 pub use laws::{
-    assemblies_are_answered_alike, each_assembly_is_read_or_refused, each_generated_job_is_a_job,
-    each_input_is_read_once, each_text_is_a_job_or_refused, every_text_is_answered_once,
-    runs_are_answered_alike,
+    assemblies_are_answered_alike, each_answer_has_its_status, each_assembly_is_read_or_refused,
+    each_generated_job_is_a_job, each_input_is_read_once, each_text_is_a_job_or_refused,
+    every_text_is_answered_once, runs_are_answered_alike, what_is_due_is_answered,
 };
 pub use status::{Outcome, Status};

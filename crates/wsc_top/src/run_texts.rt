@@ -3,16 +3,18 @@
 ghost use Rattle.std.specs.Prelude.{◌≡◌, ◌++◌, ℕ, map, option_copied, slice_get, IfOk, OnOk};
 ghost use Rattle.ws_isa.specs.View as view;
 ghost use Rattle.ws_isa.specs.Shown.{shown_cells};
-ghost use Rattle.wsc_top.specs.Texts.{array_lines, shown_line, shown_names, firings_line, maybe_name, called, fault_line, spent_text};
-ghost use Rattle.wsc_top.specs.Executions.{rested_text, stopped_text};
+ghost use Rattle.wsc_top.specs.Texts.{array_lines, shown_line, shown_names, firings_line, maybe_name, called, fault_line, port_line};
+ghost use Rattle.wsc_top.specs.Executions.{end_report, fault_report, spent_report, failed_report};
+ghost use Rattle.wsc_top.specs.Finished.{ReportsSo};
 
-use crate::task::RunOptions;
-use crate::texts::{done as ended, put_array_at, put_words};
-use core_run::Done;
+use crate::status::Status;
+use crate::task::Report;
+use crate::texts::{BUDGET, done as ended, put_array_at, put_words, summary};
+use crew_run::CrewFinish;
 use std::alloc::Global;
 use ws_io::put_decimal;
 use ws_isa::ArrayDecl;
-use ws_words::{Bytes, Cells, NoMemory};
+use ws_words::{Bytes, Cells, NoMemory, Words};
 
 // Puts a line for the array of this number, counted from 0, after a text; nothing where it is hidden
 // or has no cells.
@@ -52,38 +54,70 @@ pub fn put_firings(text: &mut Bytes, firings: u64) -> Result<(), NoMemory>
     text.push(b'\n')
 }
 
-/// The answer of a run that came to its end: a line for each word, and `halt`; then, where they are
-/// asked for, a line for each shown array, and a line for the firings.
-pub fn rested(
+// The answer of a run that came to its end and fired so often.
+fn rested(
     alloc: Global,
-    options: RunOptions,
+    report: Report,
     arrays: &[ArrayDecl],
-    done: &Done,
+    words: &Words,
+    rows: &Cells,
+    fired: u64,
 ) -> Result<Bytes, NoMemory>
-    ensures { IfOk result (λ text. text ≡ rested_text options (map view.array arrays.now)
-        done.now.printed done.now.arrays done.now.fired) }
+    ensures { IfOk result (λ text. text ≡ end_report report (shown_names (map view.array arrays.now))
+        words.now (shown_cells (map view.array arrays.now) rows.now) fired) }
 {
-    let mut text = ended(alloc, &done.printed)?;
-    if options.memory {
-        put_shown(&mut text, arrays, &done.arrays)?;
+    match report {
+        Report::Brief => summary(alloc, words),
+        Report::Full { memory, stats } => {
+            let mut text = ended(alloc, words)?;
+            if memory {
+                put_shown(&mut text, arrays, rows)?;
+            }
+            if stats {
+                put_firings(&mut text, fired)?;
+            }
+            Ok(text)
+        }
     }
-    if options.stats {
-        put_firings(&mut text, done.fired)?;
-    }
-    Ok(text)
 }
 
-/// The answer of a run that spent its budget: a line for each word, and `budget`; then, where it is
-/// asked for, a line for the firings.
-pub fn spent(alloc: Global, stats: bool, done: &Done) -> Result<Bytes, NoMemory>
-    ensures { IfOk result (λ text. text ≡ spent_text stats done.now.printed done.now.fired) }
+// The answer of a run that spent its budget.
+fn spent(alloc: Global, report: Report, words: &Words, budget: u64) -> Result<Bytes, NoMemory>
+    ensures { IfOk result (λ text. text ≡ spent_report report words.now budget) }
+{
+    match report {
+        Report::Brief => Bytes::from_slice(alloc, BUDGET),
+        Report::Full { memory: _, stats } => {
+            let mut text = Bytes::empty(alloc);
+            put_words(&mut text, words)?;
+            text.extend(BUDGET)?;
+            if stats {
+                put_firings(&mut text, budget)?;
+            }
+            Ok(text)
+        }
+    }
+}
+
+// Puts a line for the failure of a port after a text.
+fn put_port(text: &mut Bytes, port: u8) -> Result<(), NoMemory>
+    ensures { OnOk result (text.new ≡ text.old ++ port_line port) }
+{
+    text.extend(b"port ")?;
+    put_decimal(text, u64::from(port))?;
+    text.push(b'\n')
+}
+
+// The answer of a run of which a port failed.
+fn failed(alloc: Global, report: Report, words: &Words, port: u8) -> Result<Bytes, NoMemory>
+    ensures { IfOk result (λ text. text ≡ failed_report report words.now port) }
 {
     let mut text = Bytes::empty(alloc);
-    put_words(&mut text, &done.printed)?;
-    text.extend(b"budget\n")?;
-    if stats {
-        put_firings(&mut text, done.fired)?;
+    match report {
+        Report::Brief => {}
+        Report::Full { .. } => put_words(&mut text, words)?,
     }
+    put_port(&mut text, port)?;
     Ok(text)
 }
 
@@ -121,33 +155,67 @@ fn put_fault(text: &mut Bytes, arrays: &[ArrayDecl], array: u32) -> Result<(), N
     text.push(b'\n')
 }
 
-/// The answer in brief of a run that met an index fault on the array of this number, counted from 1.
-pub fn tripped(alloc: Global, arrays: &[ArrayDecl], array: u32) -> Result<Bytes, NoMemory>
-    ensures { IfOk result (λ text. text ≡ fault_line (called (map view.array arrays.now) array)) }
+// The answer of a run that met an index fault on the array of this number, counted from 1.
+fn stopped(
+    alloc: Global,
+    report: Report,
+    arrays: &[ArrayDecl],
+    array: u32,
+    words: &Words,
+    rows: &Cells,
+) -> Result<Bytes, NoMemory>
+    ensures { IfOk result (λ text. text ≡ fault_report report (called (map view.array arrays.now) array)
+        (shown_names (map view.array arrays.now)) words.now
+        (shown_cells (map view.array arrays.now) rows.now)) }
 {
     let mut text = Bytes::empty(alloc);
-    put_fault(&mut text, arrays, array)?;
+    match report {
+        Report::Brief => put_fault(&mut text, arrays, array)?,
+        Report::Full { memory, stats: _ } => {
+            put_words(&mut text, words)?;
+            put_fault(&mut text, arrays, array)?;
+            if memory {
+                put_shown(&mut text, arrays, rows)?;
+            }
+        }
+    }
     Ok(text)
 }
 
-/// The answer of a run that met an index fault on the array of this number, counted from 1: a line
-/// for each word, and `fault` with what the array is called; then, where they are asked for, a line
-/// for each shown array.
-pub fn stopped(
+/// The status and the text of the answer of a run that ended so, with this budget.
+pub fn answer(
     alloc: Global,
-    options: RunOptions,
+    report: Report,
+    budget: u64,
     arrays: &[ArrayDecl],
-    array: u32,
-    done: &Done,
-) -> Result<Bytes, NoMemory>
-    ensures { IfOk result (λ text. text ≡ stopped_text options (map view.array arrays.now) array
-        done.now.printed done.now.arrays) }
+    finish: &CrewFinish,
+) -> Result<(Status, Bytes), NoMemory>
+    ensures { IfOk result (λ y. ReportsSo report budget (map view.array arrays.now) finish.now y.0 y.1) }
 {
-    let mut text = Bytes::empty(alloc);
-    put_words(&mut text, &done.printed)?;
-    put_fault(&mut text, arrays, array)?;
-    if options.memory {
-        put_shown(&mut text, arrays, &done.arrays)?;
+    match finish {
+        CrewFinish::Done {
+            printed,
+            arrays: rows,
+            fired,
+        } => Ok((
+            Status::Done,
+            rested(alloc, report, arrays, printed, rows, *fired)?,
+        )),
+        CrewFinish::Budget { printed, fired: _ } => {
+            Ok((Status::Budget, spent(alloc, report, printed, budget)?))
+        }
+        CrewFinish::Fault {
+            array,
+            printed,
+            arrays: rows,
+        } => Ok((
+            Status::Fault,
+            stopped(alloc, report, arrays, *array, printed, rows)?,
+        )),
+        CrewFinish::Port { port, printed } => Ok((
+            Status::PortFault(*port),
+            failed(alloc, report, printed, *port)?,
+        )),
+        CrewFinish::NoMemory => Err(NoMemory),
     }
-    Ok(text)
 }

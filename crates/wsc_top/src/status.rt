@@ -3,6 +3,9 @@
 ghost use Rattle.std.specs.Prelude.{◌≡◌};
 ghost use Rattle.wsc_top.specs.Codes.{code_of};
 
+use image_walk::Checked;
+use port_set::{Port, Slots};
+
 /// How a call of the program ends.
 #[derive(Clone, Copy, Debug, PartialEq, Eq)]
 pub enum Status {
@@ -45,8 +48,11 @@ impl Status {
     }
 }
 
-/// What a call of the program gives back.
-#[derive(Clone, Copy, Debug, PartialEq, Eq)]
-pub struct Outcome {
+/// What a call of the program gives back: its status, the image that it ran or printed, where it came
+/// so far, and the ports.
+#[derive(Drop)]
+pub struct Outcome<P: Port> {
     pub status: Status,
+    pub image: Option<Checked>,
+    pub ports: Slots<P>,
 }

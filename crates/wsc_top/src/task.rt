@@ -1,7 +1,8 @@
 //! What a line of the command line asks for.
 
 ghost use Rattle.std.specs.Prelude.{◌≡◌, map, string_bytes, IfOk, IfSome, IfNone};
-ghost use Rattle.wsc_top.specs.Tasks.{task_of, IsLine, IsNoLine};
+ghost use Rattle.wsc_top.specs.Tasks.{task_of, options_of, IsLine, IsNoLine};
+ghost use Rattle.wsc_top.specs.declared.task.Report.TheVariants.{Full};
 
 use std::alloc::Global;
 use ws_words::NoMemory;
@@ -18,15 +19,29 @@ pub struct PlainOptions {
     pub stats: bool,
 }
 
-/// How the run of an image is asked for. One thread runs it, for whatever number of workers is asked.
+/// What is told of the run of an image.
+#[derive(Clone, Copy, Debug, PartialEq, Eq)]
+pub enum Report {
+    /// The words that it printed, and how it ended.
+    Full {
+        /// Whether the cells of the arrays that have names are shown at its end.
+        memory: bool,
+        /// Whether the instances that fired are counted.
+        stats: bool,
+    },
+    /// How it ended, and where it came to its end how many words it printed and their sum.
+    Brief,
+}
+
+/// How the run of an image is asked for.
 #[derive(Clone, Copy, Debug, PartialEq, Eq)]
 pub struct RunOptions {
+    /// How many workers bring tokens, from 1 to 8.
+    pub workers: u32,
     /// The most instances that may fire.
     pub budget: u64,
-    /// Whether the cells of the arrays that have names are shown at its end.
-    pub memory: bool,
-    /// Whether the instances that fired are counted.
-    pub stats: bool,
+    /// What is told of it.
+    pub report: Report,
 }
 
 /// What is done with a job.
@@ -62,8 +77,7 @@ pub enum AssemblyTask {
 pub struct BenchOptions {
     /// The number of the job.
     pub number: u32,
-    /// The most instances that may fire.
-    pub budget: u64,
+    pub run: RunOptions,
 }
 
 /// What the program does, of what is built so far.
@@ -79,16 +93,22 @@ pub enum Task {
     Bench(BenchOptions),
 }
 
-// How a line asks for a run.
-fn run_options(line: &Line) -> RunOptions
-    ensures { result ≡ record {
-      budget = line.now.budget;
-      memory = line.now.memory;
-      stats = line.now.stats;
-    } }
+// How a line asks for a run of which this is told.
+fn options_of(line: &Line, report: Report) -> RunOptions
+    ensures { result ≡ options_of line.now report }
 {
     RunOptions {
+        workers: line.workers,
         budget: line.budget,
+        report,
+    }
+}
+
+// What is told in full, as far as a line asks for it.
+fn full(line: &Line) -> Report
+    ensures { result ≡ Full line.now.memory line.now.stats }
+{
+    Report::Full {
         memory: line.memory,
         stats: line.stats,
     }
@@ -99,7 +119,7 @@ fn task_of(line: &Line) -> Option<Task>
     ensures { result ≡ task_of line.now }
 {
     match line.command {
-        Command::Run => Some(Task::Job(JobTask::Run(run_options(line)))),
+        Command::Run => Some(Task::Job(JobTask::Run(options_of(line, full(line))))),
         Command::Plain => Some(Task::Job(JobTask::Plain(PlainOptions {
             turns: line.turns,
             memory: line.memory,
@@ -109,13 +129,13 @@ fn task_of(line: &Line) -> Option<Task>
         Command::Compile => Some(Task::Job(JobTask::Compile)),
         Command::Check => Some(Task::Assembly(AssemblyTask::Check)),
         Command::List => Some(Task::Assembly(AssemblyTask::List)),
-        Command::Exec => Some(Task::Assembly(AssemblyTask::Exec(run_options(line)))),
+        Command::Exec => Some(Task::Assembly(AssemblyTask::Exec(options_of(line, full(line))))),
         Command::Trace => Some(Task::Assembly(AssemblyTask::Trace(line.budget))),
         Command::Replay => Some(Task::Assembly(AssemblyTask::Replay)),
         Command::Gen => Some(Task::Generate(line.number)),
         Command::Bench => Some(Task::Bench(BenchOptions {
             number: line.number,
-            budget: line.budget,
+            run: options_of(line, Report::Brief),
         })),
         _ => None,
     }

@@ -124,29 +124,34 @@ fn last_line(text: &[u8]) -> u32
     place_after(START, text).line
 }
 
-/// The status and the text of the replay of the trace of a text.
+/// The status and the text of the replay of the trace of a text, and the image where the text has a
+/// trace.
 pub fn replayed(
     alloc: Global,
     text: &[u8],
-    image: &Checked,
+    image: Checked,
     input: Words,
-) -> Result<(Status, Bytes), NoMemory>
+) -> Result<(Status, Bytes, Option<Checked>), NoMemory>
     requires { length text.now ≤ assembly_limit }
-    ensures told { IfOk result (λ y. IsReplayed text.now image.now input y.0 y.1) }
-    ensures ends { IfOk result (λ y. EndsReplay text.now image.now input y.0) }
+    ensures told { IfOk result (λ y. IsReplayed text.now image input y.0 y.1 y.2) }
+    ensures ends { IfOk result (λ y. EndsReplay text.now image input y.0) }
 {
     traces_are_replayed_once();
     let _ = image.image();
     let (front, section) = split_trace(text);
     if section.is_empty() {
         let why = AsmRefusal::Text(AsmKind::Line, last_line(text));
-        return Ok((Status::Refused, asm_refused(alloc, why)?));
+        return Ok((Status::Refused, asm_refused(alloc, why)?, None));
     }
     match read_trace(alloc, after_line(section), last_line(front) + 1) {
-        Ok(trace) => Ok(made(alloc, image, input, &trace)?),
+        Ok(trace) => {
+            let (status, text) = made(alloc, &image, input, &trace)?;
+            Ok((status, text, Some(image)))
+        }
         Err(AsmFault::Refused { kind, line }) => Ok((
             Status::Refused,
             asm_refused(alloc, AsmRefusal::Text(kind, line))?,
+            None,
         )),
         Err(AsmFault::NoMemory) => Err(NoMemory),
     }

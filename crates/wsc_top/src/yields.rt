@@ -1,23 +1,25 @@
-//! What comes of the commands.
+//! What comes of the commands, or what is to be run for them.
 
-ghost use Rattle.std.specs.Prelude.{◌≤◌, ℕ, List, length, IfOk};
+ghost use Rattle.std.specs.Prelude.{◌≤◌, ℕ, List, Option, None, Some, length, IfOk};
 ghost use Rattle.std.specs.List.{AllByRecursion};
 ghost use Rattle.src_ast.specs.View as view;
 ghost use Rattle.src_ast.specs.Written.{IsWritten};
+ghost use Rattle.port_set.specs.Ports.{Told};
 ghost use Rattle.wave_gen.specs.Words.{IsWord};
 ghost use Rattle.wsc_top.specs.Assembly.{assembly_limit};
-ghost use Rattle.wsc_top.specs.Answers.{Yields, EndsSo, AssemblyYields, AssemblyEndsSo};
+ghost use Rattle.wsc_top.specs.Answers.{IsCompiled, Yields, AssemblyYields};
+ghost use Rattle.wsc_top.specs.Steps.{YieldStep, AssemblyYieldStep};
 ghost use Rattle.wsc_top.specs.declared.task.JobTask.{JobTask};
 ghost use Rattle.wsc_top.specs.declared.status.Status.{Status};
 
-use crate::exec::executed;
 use crate::status::Status;
-use crate::task::{AssemblyTask, JobTask, PlainOptions, RunOptions};
+use crate::step::Step;
+use crate::task::{AssemblyTask, JobTask, PlainOptions};
 use crate::texts;
 use crate::traces::{replayed, traced};
 use crate::world::world;
 use asm_text::print_asm;
-use image_walk::{Checked, walks_go_on};
+use image_walk::Checked;
 use list_out::list_image;
 use seq_run::run_plain;
 use src_ast::{print_program, printed_reads_the_same};
@@ -26,34 +28,26 @@ use std::alloc::Global;
 use wave_build::compile;
 use ws_words::{Bytes, NoMemory, Plain, Words};
 
-// What comes of the run of an image of this program on these words.
-fn ran(
-    alloc: Global,
-    options: RunOptions,
-    accepted: &Accepted,
-    input: Words,
-) -> Result<(Status, Bytes), NoMemory>
-    requires words { AllByRecursion IsWord input }
-    requires written { IsWritten (view.parts accepted.now.program.items.items) }
-    ensures yields { IfOk result (λ y. Yields (JobTask.Run options)
-        (view.parts accepted.now.program.items.items) input y.0 y.1) }
-    ensures ends { IfOk result (λ y. EndsSo (JobTask.Run options)
-        (view.parts accepted.now.program.items.items) input y.0) }
+/// The image of a program, which is formed and sound.
+pub fn image_of(alloc: Global, accepted: &Accepted) -> Result<Checked, NoMemory>
+    requires { IsWritten (view.parts accepted.now.program.items.items) }
+    ensures { IfOk result (IsCompiled (view.parts accepted.now.program.items.items)) }
 {
-    walks_go_on();
     let image = compile(alloc, accepted)?;
-    let (status, text) = executed(alloc, options, &image, input)?;
-    Ok((status, text))
+    let _ = image.image();
+    Ok(image)
 }
 
-// The text of the image of a program.
-fn compiled(alloc: Global, accepted: &Accepted) -> Result<Bytes, NoMemory>
-    requires written { IsWritten (view.parts accepted.now.program.items.items) }
-    ensures { IfOk result (λ out. (input : List ℕ) → Yields JobTask.Compile
-        (view.parts accepted.now.program.items.items) input Status.Done out) }
+// The image of a program and its text.
+fn compiled(alloc: Global, accepted: &Accepted) -> Result<(Checked, Bytes), NoMemory>
+    requires { IsWritten (view.parts accepted.now.program.items.items) }
+    ensures { IfOk result (λ x. (input : List ℕ) (handed : List (Option Told))
+        → Yields JobTask.Compile (view.parts accepted.now.program.items.items) input handed
+        Status.Done x.1 (Some x.0) handed) }
 {
-    let image = compile(alloc, accepted)?;
-    print_asm(alloc, image.image())
+    let image = image_of(alloc, accepted)?;
+    let text = print_asm(alloc, image.image())?;
+    Ok((image, text))
 }
 
 // What comes of the sequential run of this program on these words.
@@ -63,11 +57,8 @@ fn plainly(
     accepted: &Accepted,
     input: Words,
 ) -> Result<(Status, Bytes), NoMemory>
-    ensures yields { IfOk result (λ y.
-        Yields (JobTask.Plain options)
-        (view.parts accepted.now.program.items.items) input y.0 y.1) }
-    ensures ends { IfOk result (λ y.
-        EndsSo (JobTask.Plain options) (view.parts accepted.now.program.items.items) input y.0) }
+    ensures { IfOk result (λ y. (handed : List (Option Told)) → Yields (JobTask.Plain options)
+        (view.parts accepted.now.program.items.items) input handed y.0 y.1 None handed) }
 {
     let PlainOptions {
         turns,
@@ -107,47 +98,62 @@ fn plainly(
     }
 }
 
-/// The status and the text of what comes of a task to a program that it takes.
-#[tactic(auto, using(crate::proofs::Outcomes::format_yields, crate::proofs::Outcomes::format_so, crate::proofs::Outcomes::compile_so))]
+/// What comes of a task to a program that it takes, or what is to be run for it.
 pub fn yielded(
     alloc: Global,
     task: JobTask,
     accepted: &Accepted,
     input: Words,
-) -> Result<(Status, Bytes), NoMemory>
-    requires words { AllByRecursion IsWord input }
-    requires written { IsWritten (view.parts accepted.now.program.items.items) }
-    ensures yields { IfOk result (λ y.
-        Yields task (view.parts accepted.now.program.items.items) input y.0 y.1) }
-    ensures ends { IfOk result (λ y.
-        EndsSo task (view.parts accepted.now.program.items.items) input y.0) }
+) -> Result<Step, NoMemory>
+    requires { IsWritten (view.parts accepted.now.program.items.items) }
+    ensures { IfOk result (YieldStep task (view.parts accepted.now.program.items.items) input) }
 {
     printed_reads_the_same();
     match task {
-        JobTask::Run(options) => ran(alloc, options, accepted, input),
-        JobTask::Format => Ok((Status::Done, print_program(alloc, &accepted.program)?)),
-        JobTask::Compile => Ok((Status::Done, compiled(alloc, accepted)?)),
-        JobTask::Plain(options) => plainly(alloc, options, accepted, input),
+        JobTask::Run(options) => Ok(Step::Run(options, image_of(alloc, accepted)?, input)),
+        JobTask::Format => {
+            let text = print_program(alloc, &accepted.program)?;
+            Ok(Step::Ready(Status::Done, text, None))
+        }
+        JobTask::Compile => {
+            let (image, text) = compiled(alloc, accepted)?;
+            Ok(Step::Ready(Status::Done, text, Some(image)))
+        }
+        JobTask::Plain(options) => {
+            let (status, text) = plainly(alloc, options, accepted, input)?;
+            Ok(Step::Ready(status, text, None))
+        }
     }
 }
 
-/// The status and the text of what comes of a task to a sound image.
+/// What comes of a task to a sound image, or what is to be run for it.
 pub fn assembly_yielded(
     alloc: Global,
     task: AssemblyTask,
     text: &[u8],
-    image: &Checked,
+    image: Checked,
     input: Words,
-) -> Result<(Status, Bytes), NoMemory>
+) -> Result<Step, NoMemory>
     requires { length text.now ≤ assembly_limit }
-    ensures yields { IfOk result (λ y. AssemblyYields task text.now image.now input y.0 y.1) }
-    ensures ends { IfOk result (λ y. AssemblyEndsSo task text.now image.now input y.0) }
+    ensures { IfOk result (AssemblyYieldStep task text.now image input) }
 {
     match task {
-        AssemblyTask::Check => Ok((Status::Done, Bytes::from_slice(alloc, texts::SOUND)?)),
-        AssemblyTask::List => Ok((Status::Done, list_image(alloc, image)?)),
-        AssemblyTask::Exec(options) => executed(alloc, options, image, input),
-        AssemblyTask::Trace(budget) => traced(alloc, budget, image, input),
-        AssemblyTask::Replay => replayed(alloc, text, image, input),
+        AssemblyTask::Check => {
+            let sound = Bytes::from_slice(alloc, texts::SOUND)?;
+            Ok(Step::Ready(Status::Done, sound, None))
+        }
+        AssemblyTask::List => {
+            let listing = list_image(alloc, &image)?;
+            Ok(Step::Ready(Status::Done, listing, None))
+        }
+        AssemblyTask::Exec(options) => Ok(Step::Run(options, image, input)),
+        AssemblyTask::Trace(budget) => {
+            let (status, text) = traced(alloc, budget, &image, input)?;
+            Ok(Step::Ready(status, text, Some(image)))
+        }
+        AssemblyTask::Replay => {
+            let (status, text, again) = replayed(alloc, text, image, input)?;
+            Ok(Step::Ready(status, text, again))
+        }
     }
 }

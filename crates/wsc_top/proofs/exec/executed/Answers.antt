@@ -1,70 +1,16 @@
-use Rattle.std.proofs.Common.{List, map, ◌≡◌, ◌∙◌, ap, subst, refl}
+use Rattle.std.proofs.Common.{map, ◌≡◌, ◌∙◌, ap}
 use Rattle.ws_isa.specs.View as view
-use Rattle.ws_isa.specs.Image.{Array}
-use Rattle.core_run.specs.declared.answer.Run.TheVariants as run
-use Rattle.core_run.specs.Answer.{RunSo}
-use Rattle.wsc_top.specs.Job.{world_of}
-use Rattle.wsc_top.specs.Executions.{rested_text, stopped_text}
-use Rattle.wsc_top.proofs.Runs.{rested_executes, spent_executes, stopped_executes}
+use Rattle.port_set.specs.Slots.{contents}
+use Rattle.store_buf.specs.Outdoors.{world_with}
+use Rattle.wsc_top.proofs.Runs.{executed_so, run_begun, where_failed}
 use Rattle.wsc_top.proofs.exec.executed.Goals as goal
 
-pub returns-in-Rest-clause-executes : goal.returns-in-Rest-clause-executes
-returns-in-Rest-clause-executes c =
-    let options = c.args.options in
-    let d = c.in-Rest.done in
-    let so = subst (λ w. RunSo c.args.image.now w options.budget (run.Rest d)) c.in_ok-world.ensures (rw (← c.in-Rest.is) c.in_ok-done.ensures) in
-    let arrays : map view.array c.as_slice-arrays.result.now ≡ c.args.image.now.arrays = ap (map view.array) c.as_slice-arrays.ensures.value ∙ ap (λ i. i.arrays) c.image.ensures.image in
-    rested_executes options c.args.image.now (world_of c.args.input) d _ so
-    (c.in_ok-rested-in-Rest.ensures ∙ ap (λ (xs : List Array). rested_text options xs d.printed d.arrays d.fired) arrays)
-
-pub returns-in-Budget-clause-executes : goal.returns-in-Budget-clause-executes
-returns-in-Budget-clause-executes c =
-    let options = c.args.options in
-    let d = c.in-Budget.done in
-    let so = subst (λ w. RunSo c.args.image.now w options.budget (run.Budget d)) c.in_ok-world.ensures (rw (← c.in-Budget.is) c.in_ok-done.ensures) in
-    spent_executes options c.args.image.now (world_of c.args.input) d _ so c.in_ok-spent-in-Budget.ensures
-
 pub returns-clause-executes : goal.returns-clause-executes
-returns-clause-executes c =
-    let options = c.args.options in
-    let d = c.in-Fault.done in
-    let so = subst (λ w. RunSo c.args.image.now w options.budget (run.Fault c.in-Fault.array d)) c.in_ok-world.ensures (rw (← c.in-Fault.is) c.in_ok-done.ensures) in
-    let arrays : map view.array c.as_slice-arrays.result.now ≡ c.args.image.now.arrays = ap (map view.array) c.as_slice-arrays.ensures.value ∙ ap (λ i. i.arrays) c.image.ensures.image in
-    stopped_executes options c.args.image.now (world_of c.args.input) d _ c.in-Fault.array so
-    (c.in_ok-stopped-in-Fault.ensures ∙ ap (λ (xs : List Array). stopped_text options xs c.in-Fault.array d.printed d.arrays) arrays)
+returns-clause-executes g c =
+    let arrays : map view.array c.as_slice-arrays.result.now ≡ c.args.image.arrays = ap (map view.array) c.as_slice-arrays.ensures.value ∙ ap (λ i. i.arrays) c.image.ensures.image in
+    executed_so c.args.options c.args.image (world_with c.args.input (contents g.P.Port.tells c.args.ports)) (contents g.P.Port.tells c.args.ports) _ _ _ _
+    c.run_image-end.ensures.tells arrays c.answer-answer.ensures
 
-pub returns-in-Rest-clause-told : goal.returns-in-Rest-clause-told
-returns-in-Rest-clause-told c =
-    let options = c.args.options in
-    let d = c.in-Rest.done in
-    let so = subst (λ w. RunSo c.args.image.now w options.budget (run.Rest d)) c.in_ok-world.ensures (rw (← c.in-Rest.is) c.in_ok-done.ensures) in
-    let arrays : map view.array c.as_slice-arrays.result.now ≡ c.args.image.now.arrays = ap (map view.array) c.as_slice-arrays.ensures.value ∙ ap (λ i. i.arrays) c.image.ensures.image in
-    record {
-      run = run.Rest d;
-      so = so;
-      status_is = refl;
-      text_is = c.in_ok-rested-in-Rest.ensures ∙ ap (λ (xs : List Array). rested_text options xs d.printed d.arrays d.fired) arrays;
-    }
-
-pub returns-in-Budget-clause-told : goal.returns-in-Budget-clause-told
-returns-in-Budget-clause-told c =
-    let options = c.args.options in
-    let d = c.in-Budget.done in
-    record {
-      run = run.Budget d;
-      so = subst (λ w. RunSo c.args.image.now w options.budget (run.Budget d)) c.in_ok-world.ensures (rw (← c.in-Budget.is) c.in_ok-done.ensures);
-      status_is = refl;
-      text_is = c.in_ok-spent-in-Budget.ensures;
-    }
-
-pub returns-clause-told : goal.returns-clause-told
-returns-clause-told c =
-    let options = c.args.options in
-    let d = c.in-Fault.done in
-    let arrays : map view.array c.as_slice-arrays.result.now ≡ c.args.image.now.arrays = ap (map view.array) c.as_slice-arrays.ensures.value ∙ ap (λ i. i.arrays) c.image.ensures.image in
-    record {
-      run = run.Fault c.in-Fault.array d;
-      so = subst (λ w. RunSo c.args.image.now w options.budget (run.Fault c.in-Fault.array d)) c.in_ok-world.ensures (rw (← c.in-Fault.is) c.in_ok-done.ensures);
-      status_is = refl;
-      text_is = c.in_ok-stopped-in-Fault.ensures ∙ ap (λ (xs : List Array). stopped_text options xs c.in-Fault.array d.printed d.arrays) arrays;
-    }
+pub returns-clause-begun : goal.returns-clause-begun
+returns-clause-begun g c =
+    where_failed _ _ (run_begun c.args.options c.args.image (world_with c.args.input (contents g.P.Port.tells c.args.ports)) (contents g.P.Port.tells c.args.ports) _ c.args.options.budget _ c.run_image-end.ensures.tells)

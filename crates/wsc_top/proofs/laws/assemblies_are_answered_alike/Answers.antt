@@ -2,11 +2,12 @@ use Rattle.wsc_top.proofs.AssembliesOnce.{assembly_alike, checked_once, listed_o
 use Rattle.wsc_top.proofs.laws.assemblies_are_answered_alike.Goals as goal
 
 pub returns-clause-alike : goal.returns-clause-alike
-returns-clause-alike c task settled text a b h k free also =
-    assembly_alike c.breaches_break.ensures (record { instances = c.walks_go_on.ensures.instances; effects = c.effects_are_one.ensures }) task settled text a.0 b.0 a.1 b.1 h k free also
+returns-clause-alike c task settled text handed a b h k free also whole sound =
+    assembly_alike c.breaches_break.ensures (record { instances = c.walks_go_on.ensures.instances; effects = c.effects_are_one.ensures }) task settled text handed
+    a.0 b.0 a.1 b.1 h.0 k.0 h.1 k.1 h.2 k.2 free also whole sound
 
 pub returns-clause-checked : goal.returns-clause-checked
-returns-clause-checked c = checked_once c.breaches_break.ensures
+returns-clause-checked c text image words handed is = checked_once c.breaches_break.ensures text image words handed is
 
 pub returns-clause-listed : goal.returns-clause-listed
-returns-clause-listed c = listed_once c.breaches_break.ensures
+returns-clause-listed c text image words handed is = listed_once c.breaches_break.ensures text image words handed is

@@ -3,7 +3,7 @@ use Rattle.wsc_top.proofs.AnswersOnce.{answered_once}
 use Rattle.wsc_top.proofs.laws.every_text_is_answered_once.Goals as goal
 
 pub returns : goal.returns
-returns c task text one =
+returns c task text handed one =
     let runs = c.one_answer.ensures in
     answered_once
     (record {
@@ -16,4 +16,4 @@ returns c task text one =
       no_fault_on_the_way = runs.no_fault_on_the_way;
     })
     (λ parts bytes input job. c.printed_reads_the_same.ensures parts (job_written bytes parts input c.read_is_written.ensures job))
-    task text one (c.each_text_is_a_job_or_refused.ensures text)
+    task text handed one (c.each_text_is_a_job_or_refused.ensures text)

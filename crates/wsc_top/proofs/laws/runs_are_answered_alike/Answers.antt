@@ -1,10 +1,10 @@
-use Rattle.wsc_top.proofs.RunsAlike.{runs_alike, run_ends}
+use Rattle.wsc_top.proofs.RunsAlike.{runs_alike}
 use Rattle.wsc_top.proofs.laws.runs_are_answered_alike.Goals as goal
 
-pub returns-clause-alike : goal.returns-clause-alike
-returns-clause-alike c options text a b h k free also =
+pub returns : goal.returns
+returns c options text handed a b h k free also =
     let runs = c.one_answer.ensures in
-    runs_alike text (c.each_text_is_a_job_or_refused.ensures text) options
+    runs_alike text (c.each_text_is_a_job_or_refused.ensures text) options handed
     (record {
       some = runs.some;
       one_end = runs.one_end;
@@ -14,8 +14,4 @@ returns-clause-alike c options text a b h k free also =
       no_end_on_the_way = runs.no_end_on_the_way;
       no_fault_on_the_way = runs.no_fault_on_the_way;
     })
-    a.0 b.0 a.1 b.1 h k free also
-
-pub returns-clause-ends : goal.returns-clause-ends
-returns-clause-ends c options text parts input answer job h =
-    run_ends text (c.each_text_is_a_job_or_refused.ensures text) options parts input job answer.0 answer.1 h
+    a.0 b.0 a.1 b.1 h.0 k.0 h.1 k.1 h.2 k.2 free also
