@@ -1,7 +1,7 @@
 -- The status of an answer, by what its task comes to.
 use Rattle.std.specs.Prelude.{◌≡◌, ℕ, ◌+◌, ◌≤◌, List, Option, Some, length, refl}
 use Rattle.std.specs.List.{AllByRecursion}
-use Rattle.std.proofs.Common.{sym, ap, subst, inl}
+use Rattle.std.proofs.Common.{sym, subst, inl}
 use Rattle.port_set.specs.Ports.{Told}
 use Rattle.store_buf.specs.Outdoors.{world_with}
 use Rattle.src_ast.specs.Syntax.{Part}
@@ -19,8 +19,8 @@ use Rattle.wsc_top.specs.declared.task.BenchOptions.{BenchOptions}
 use Rattle.wsc_top.specs.declared.status.Status.{Status}
 use Rattle.wsc_top.specs.declared.status.Status.TheVariants.{ReadFault}
 use Rattle.wsc_top.specs.Tasks.{IsLine}
-use Rattle.wsc_top.specs.Job.{job_limit, IsJob, IsTextAnswer, world_of}
-use Rattle.wsc_top.specs.Assembly.{assembly_limit, IsAssembly}
+use Rattle.wsc_top.specs.Job.{IsJob, IsTextAnswer, world_of}
+use Rattle.wsc_top.specs.Assembly.{IsAssembly}
 use Rattle.wsc_top.specs.Generated.{IsGeneratedJob}
 use Rattle.wsc_top.specs.Answers.{TellWords, Yields, ran, formatted, compiled, ended, faulted, going, EndsSo, Answered, refused, done, assembly_text, AssemblyYields, checked, listed, executed, traced, replayed, AssemblyEndsSo, AssemblyAnswered, Benched, BenchEndsSo, IsReader, limit_of, Answers, usage, generated, benched, unread, long, read, assembled, IsToldJob, IsToldAssembly}
 use Rattle.wsc_top.specs.Answers as answers

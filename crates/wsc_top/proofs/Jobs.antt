@@ -12,7 +12,6 @@ use Rattle.src_ast.specs.Grammar.{Tree}
 use Rattle.src_ast.specs.Rules.{IsAccepted}
 use Rattle.src_ast.specs.Written.{IsWritten}
 use Rattle.wsc_top.specs.declared.task.JobTask.{JobTask}
-use Rattle.wsc_top.specs.declared.status.Status.{Status}
 use Rattle.wsc_top.specs.declared.status.Status.TheVariants.{Refused}
 use Rattle.wsc_top.specs.Sections.{program_of, input_of, input_place, InputWords, IsInputFault, AnswersWords}
 use Rattle.wsc_top.specs.Texts.{refusal_text}

@@ -1,7 +1,7 @@
 -- What comes of the commands.
-use Rattle.std.specs.Prelude.{◌≡◌, ℕ, zero, suc, ◌≤◌, ◌⊎◌, List, [], ◌∷◌, ◌++◌, Option, Some, None, refl}
+use Rattle.std.specs.Prelude.{◌≡◌, ℕ, zero, suc, ◌⊎◌, List, [], ◌∷◌, ◌++◌, Option, Some, None}
 use Rattle.std.proofs.Common.{sym, ap, ◌∙◌, subst, inl, inr}
-use Rattle.ws_words.specs.Outside.{Outside, World, printed_words}
+use Rattle.ws_words.specs.Outside.{World, printed_words}
 use Rattle.ws_words.specs.declared.plain.Plain.{Plain as Reply}
 use Rattle.ws_words.specs.declared.plain.Plain.TheVariants as replies
 use Rattle.src_ast.specs.Syntax.{Part}

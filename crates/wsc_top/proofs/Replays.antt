@@ -1,5 +1,5 @@
 -- What the statuses of `trace` and `replay` say.
-use Rattle.std.proofs.Common.{◌≡◌, ℕ, ◌+◌, ◌==◌, Bool, true, false, List, [], ◌∷◌, length, Option, Result, Ok, Err, refl, sym, ap, ◌∙◌, subst, inl}
+use Rattle.std.proofs.Common.{◌≡◌, ℕ, ◌+◌, ◌==◌, Bool, true, false, List, [], length, Option, Ok, Err, refl, sym, ap, ◌∙◌, subst, inl}
 use Rattle.std.proofs.lemmas.Bool.{true≢false}
 use Rattle.ws_words.specs.Outside.{World}
 use Rattle.ws_isa.specs.Image.{Image}
@@ -13,11 +13,9 @@ use Rattle.trace_check.specs.Recorded.{Traces}
 use Rattle.trace_check.specs.Replays.{StopsAt, events_of}
 use Rattle.trace_check.specs.Traces.{events_in}
 use Rattle.wsc_top.specs.declared.status.Status.{Status}
-use Rattle.wsc_top.specs.declared.status.Status.TheVariants.{Done}
 use Rattle.wsc_top.specs.Job.{world_of}
-use Rattle.src_ast.specs.Lexemes.{start, after}
 use Rattle.wsc_top.specs.Sections.{after_line, before_trace, trace_section, trace_of, trace_line, last_line}
-use Rattle.wsc_top.specs.Executions.{Rests, EndsRun}
+use Rattle.wsc_top.specs.Executions.{EndsRun}
 use Rattle.wsc_top.specs.Traced as traces
 use Rattle.wsc_top.specs.Traced.{IsMade, illegal, made, IsReplayed, missing, faulty, trace_status, HasTrace, CanReplay, EndsReplay}
 use Rattle.wsc_top.proofs.Inputs.{empty_is}

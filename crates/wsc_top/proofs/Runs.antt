@@ -1,22 +1,19 @@
 -- What comes of the run of an image, by how the run ended.
-use Rattle.std.specs.Prelude.{◌≡◌, ◌⊎◌, ℕ, ◌≤◌, List, length, Option, Result, Ok, Err, IfOk, OnErr, refl}
+use Rattle.std.specs.Prelude.{◌≡◌, ℕ, ◌≤◌, List, length, Option, Result, Ok, Err, IfOk, OnErr, refl}
 use Rattle.std.proofs.Common.{sym, ap, ◌∙◌, subst, inl, inr, arith}
 use Rattle.ws_words.specs.Outside.{World, printed_words}
 use Rattle.ws_isa.specs.Image.{Array, Image, array_at}
 use Rattle.ws_isa.specs.Shown.{shown_cells}
 use Rattle.image_walk.specs.Walk.{mem, walk, CostAtMost}
-use Rattle.image_walk.specs.Operations.{NoFault, FaultsAt}
-use Rattle.core_law.specs.Ends.{FirstWithin}
 use Rattle.port_set.specs.Ports.{Told}
 use Rattle.crew_run.specs.declared.finish.CrewFinish.{CrewFinish}
 use Rattle.crew_run.specs.declared.finish.CrewFinish.TheVariants as finish
 use Rattle.crew_run.specs.Answer.{CrewTells, Rested, Spent, Tripped, PortFailed}
 use Rattle.wsc_top.specs.declared.status.Status.{Status}
 use Rattle.wsc_top.specs.declared.status.Status.TheVariants.{Done, Budget, Fault, PortFault}
-use Rattle.wsc_top.specs.declared.task.Report.{Report}
 use Rattle.wsc_top.specs.declared.task.RunOptions.{RunOptions}
 use Rattle.wsc_top.specs.Texts.{shown_names, called}
-use Rattle.wsc_top.specs.Executions.{Executes, rested, spent, stopped, failed, HasBegun, Rests, Trips, Exceeds, EndsRun, OrFailed, end_report, fault_report, spent_report, failed_report}
+use Rattle.wsc_top.specs.Executions.{Executes, rested, spent, stopped, failed, HasBegun, EndsRun, end_report, fault_report, spent_report, failed_report}
 use Rattle.wsc_top.specs.Finished.{ReportsSo}
 use Rattle.wsc_top.proofs.Replays.{no_fault}
 

@@ -4,10 +4,6 @@ use Rattle.std.proofs.Common.{sym, ap, ◌∙◌, subst}
 use Rattle.wsc_words.specs.Lines as lines
 use Rattle.wsc_words.specs.declared.line.Line.{Line}
 use Rattle.wsc_top.specs.declared.task.Task.{Task}
-use Rattle.wsc_top.specs.declared.task.Task.TheVariants.{Job, Assembly, Bench}
-use Rattle.wsc_top.specs.declared.task.JobTask.{JobTask}
-use Rattle.wsc_top.specs.declared.task.AssemblyTask.{AssemblyTask}
-use Rattle.wsc_top.specs.declared.task.BenchOptions.{BenchOptions}
 use Rattle.wsc_top.specs.Tasks.{task_of, IsLine, IsNoLine}
 
 -- words are one line at most
@@ -38,21 +34,3 @@ no_task one words l (Some t) h e = tt
 pub found_line : (words : List (List ℕ)) (found : Option Task) (t : Task) → IfSome found (λ t. IsLine words t) → found ≡ Some t
     → IsLine words t
 found_line words found t h e = subst (λ f. IfSome f (λ t. IsLine words t)) e h
-
--- two lines for jobs ask for the same
-pub same_job : OneLine → (words : List (List ℕ)) (c d : JobTask) → IsLine words (Job c) → IsLine words (Job d) → c ≡ d
-same_job one words c d h k =
-    let whole : Job c ≡ Job d = same_task_by one words (Job c) (Job d) h k in
-    cc
-
--- two lines for assemblies ask for the same
-pub same_assembly : OneLine → (words : List (List ℕ)) (c d : AssemblyTask) → IsLine words (Assembly c) → IsLine words (Assembly d) → c ≡ d
-same_assembly one words c d h k =
-    let whole : Assembly c ≡ Assembly d = same_task_by one words (Assembly c) (Assembly d) h k in
-    cc
-
--- two lines for generated jobs that are run ask for the same
-pub same_bench : OneLine → (words : List (List ℕ)) (c d : BenchOptions) → IsLine words (Bench c) → IsLine words (Bench d) → c ≡ d
-same_bench one words c d h k =
-    let whole : Bench c ≡ Bench d = same_task_by one words (Bench c) (Bench d) h k in
-    cc

@@ -1,5 +1,5 @@
 -- What the run of an image of a program tells in the program's words, and its status.
-use Rattle.std.specs.Prelude.{◌≡◌, ◌⊎◌, ℕ, suc, ◌*◌, ◌≤◌, true, List, length, Option, Some, refl}
+use Rattle.std.specs.Prelude.{◌≡◌, ℕ, suc, ◌*◌, ◌≤◌, true, List, length, Option, Some, refl}
 use Rattle.std.specs.List.{AllByRecursion}
 use Rattle.std.proofs.Common.{sym, ap, ◌∙◌, subst, inl, inr, arith}
 use Rattle.ws_words.specs.Outside.{Outside, World, printed_words}
@@ -8,7 +8,7 @@ use Rattle.src_ast.specs.declared.lexeme.Place.{Place}
 use Rattle.src_ast.specs.Syntax.{Part}
 use Rattle.src_ast.specs.Bound.{bound}
 use Rattle.src_ast.specs.Meaning.{Passes}
-use Rattle.src_ast.specs.Runs.{Runs, Goes, Faults}
+use Rattle.src_ast.specs.Runs.{Goes}
 use Rattle.ws_isa.specs.Image.{Image, array_at, instr_at}
 use Rattle.ws_isa.specs.Shown.{shown_cells}
 use Rattle.image_walk.specs.Walk.{Inst, fires, mem, walk, has_ended, CostAtMost}

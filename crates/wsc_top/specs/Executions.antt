@@ -1,7 +1,7 @@
 -- What comes of the run of an image: the status, the text that goes out with it, and the ports.
-use Rattle.std.specs.Prelude.{◌≡◌, ◌⊎◌, ℕ, ◌<◌, ◌≤◌, true, false, Bool, List, length, Option, Some}
+use Rattle.std.specs.Prelude.{◌≡◌, ◌⊎◌, ℕ, ◌≤◌, false, Bool, List, length, Option, Some}
 use Rattle.ws_words.specs.Outside.{Outside, World, printed_words}
-use Rattle.ws_isa.specs.Image.{Array, Image, array_at, instr_at}
+use Rattle.ws_isa.specs.Image.{Image, array_at, instr_at}
 use Rattle.ws_isa.specs.Shown.{shown_cells}
 use Rattle.image_walk.specs.Walk.{Inst, fires, mem, walk, CostAtMost}
 use Rattle.image_walk.specs.Operations.{ops, FaultsAt, NoFault}

@@ -1,6 +1,5 @@
 -- What comes of `trace` and `replay`.
-use Rattle.std.specs.Prelude.{◌≡◌, ℕ, List, [], ◌∷◌, ◌++◌, codes, decimal, flat_map, Option, Some, None, Result, Ok, Err, if◌then◌else◌}
-use Rattle.ws_words.specs.Outside.{World}
+use Rattle.std.specs.Prelude.{◌≡◌, ℕ, List, [], ◌++◌, codes, decimal, flat_map, Option, Some, None, Ok, Err, if◌then◌else◌}
 use Rattle.ws_isa.specs.Image.{Image}
 use Rattle.core_law.specs.Core.{State, Run, core_opening}
 use Rattle.core_run.specs.declared.engine.Event.{Event}

@@ -1,8 +1,8 @@
 use Rattle.std.proofs.Common.{◌≡◌, subst}
-use Rattle.wsc_top.specs.declared.step.Step.TheVariants.{Ready, Run as Due}
+use Rattle.wsc_top.specs.declared.step.Step.TheVariants.{Run as Due}
 use Rattle.wsc_top.specs.Steps.{StepSo}
 use Rattle.wsc_top.specs.Answers.{before}
-use Rattle.wsc_top.proofs.Due.{due_reply, due_starves}
+use Rattle.wsc_top.proofs.Due.{due_starves}
 use Rattle.wsc_top.proofs.answer.to_words.Goals as goal
 
 pub returns-in-Ok-Run-clause-memory : goal.returns-in-Ok-Run-clause-memory

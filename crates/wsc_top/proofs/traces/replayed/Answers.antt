@@ -1,5 +1,4 @@
-use Rattle.std.proofs.Common.{◌≡◌, ℕ, ◌+◌, Bool, true, false, List, [], ◌∷◌, None, Result, Ok, Err, refl, sym, ap, ◌∙◌, subst}
-use Rattle.asm_text.specs.declared.fault.AsmKind.{AsmKind}
+use Rattle.std.proofs.Common.{◌≡◌, ℕ, ◌+◌, List, None, Result, Err, sym, ap, ◌∙◌, subst}
 use Rattle.asm_text.specs.declared.fault.AsmKind.TheVariants.{Line}
 use Rattle.asm_text.specs.declared.fault.AsmFault.{AsmFault}
 use Rattle.asm_text.specs.declared.fault.AsmFault.TheVariants as fault
@@ -8,7 +7,6 @@ use Rattle.trace_check.specs.declared.events.Lined.{Lined}
 use Rattle.trace_check.specs.Traces.{events_in}
 use Rattle.wsc_top.specs.declared.assembly.AsmRefusal.TheVariants.{Text}
 use Rattle.wsc_top.specs.declared.status.Status.TheVariants.{Refused}
-use Rattle.wsc_top.specs.Sections as sections
 use Rattle.wsc_top.specs.Texts.{asm_refusal_text}
 use Rattle.wsc_top.specs.Traced as traces
 use Rattle.wsc_top.specs.Traced.{IsMade, IsReplayed, HasTrace}
