@@ -4,6 +4,8 @@
 #[cfg(test)]
 mod calls;
 #[cfg(test)]
+mod crews;
+#[cfg(test)]
 mod graphs;
 #[cfg(test)]
 mod images;
