@@ -1,10 +1,11 @@
 -- Tokens that have come, and those that are missing.
-use Rattle.std.proofs.Common.{◌≡◌, inl, inr, ℕ, Bool, true, false, cond, List, [], ◌∷◌, ◌++◌, ◌+◌, ◌<◌, ◌≤◌, suc, Option, Some, None, is_some, All, length, take, slice_index_or, arith, sym, refl, ap, ◌∙◌, subst}
+use Rattle.std.proofs.Common.{◌≡◌, inl, inr, ℕ, zero, Bool, true, false, cond, List, [], ◌∷◌, ◌++◌, ◌+◌, ◌<◌, ◌≤◌, suc, Option, Some, None, is_some, All, length, take, slice_index_or, add-one, arith, sym, refl, ap, ◌∙◌, subst}
 use Rattle.std.proofs.lemmas.Bool.{cases_lt}
-use Rattle.std.proofs.lemmas.List.{take_all, append_assoc}
+use Rattle.std.proofs.lemmas.List.{take_all, append_assoc, get_or_default}
 use Rattle.std.proofs.lemmas.List.Elements.{All-get_or, All-more, All-push}
 use Rattle.ws_words.specs.Outside.{Outside}
-use Rattle.ws_isa.specs.Image.{Image, Token, or_else, ports, is_memory, result_of, sends}
+use Rattle.ws_isa.specs.declared.instr.Dest.{Dest}
+use Rattle.ws_isa.specs.Image.{Image, Token, or_else, ports, is_memory, result_of, sends, tokens_to}
 use Rattle.image_walk.specs.Walk.{Ports}
 use Rattle.core_law.specs.Core.{Key, HasFired, has, operands_in}
 use Rattle.image_walk.specs.Walk.{start_tokens}
@@ -20,7 +21,7 @@ use Rattle.store_buf.specs.Contents as buf
 use Rattle.store_buf.specs.Contents.{buffer_in}
 use Rattle.store_buf.specs.Ordering.{no_request}
 use Rattle.crew_collect.specs.Together.{content_at, all_fired, together}
-use Rattle.crew_collect.specs.Owing.{HaveCome, IsMissing, IsKnown, AllKnown, HasTold, HasAnswered}
+use Rattle.crew_collect.specs.Owing.{HaveCome, IsMissing, IsKnown, AllKnown, HasTold, ToldIn, HasAnswered}
 use Rattle.crew_collect.proofs.Listed.{none_fired, fired_place}
 use Rattle.crew_collect.proofs.Union.{listed_at}
 
@@ -61,6 +62,18 @@ module _ (held : Ports) where
   come_ops image b [] each = come_none
   come_ops image b (k ∷ ks) each = come_append _ (op_tokens image b ks) (each k.wave k.instr (inl (refl, refl))) (come_ops image b ks (λ w i h. each w i (inr h)))
 
+  sent_one : (w v : ℕ) (ds : List Dest) (k : ℕ) (d : Dest) → k < length ds → has (held w (slice_index_or ds k d).instr (slice_index_or ds k d).port) ≡ true → HaveCome held (tokens_to w v (take k ds)) → HaveCome held (tokens_to w v (take (suc k) ds))
+  sent_one w v [] k d lt h come = absurd (omega (arith, lt))
+  sent_one w v (x ∷ ds) zero d lt h come = come_more (record { wave = w; instr = x.instr; port = x.port; value = v }) [] h come_none
+  sent_one w v (x ∷ ds) (suc k) d lt h come = λ a i p u s. elim s [
+    | inl e ↦ come a i p u (inl e)
+    | inr r ↦ sent_one w v ds k d (omega (arith, lt)) h (λ b j q y z. come b j q y (inr z)) a i p u r
+  ]
+
+  -- one more of the tokens of a word has come
+  pub come_sent : (w v : ℕ) (ds : List Dest) (k : ℕ) (d : Dest) → k < length ds → has (held w (slice_index_or ds k d).instr (slice_index_or ds k d).port) ≡ true → HaveCome held (tokens_to w v (take k ds)) → HaveCome held (tokens_to w v (take (k + 1) ds))
+  come_sent w v ds k d lt h come = rw (add-one k) (sent_one w v ds k d lt h come)
+
   -- one more token has been looked at: it has come
   pub keep_come : (all front rest : List Token) (t : Token) (found : List Token) (old : List Token) → all ≡ front ++ rest → (mid : List Token) → front ≡ mid ++ t ∷ [] → has (held t.wave t.instr t.port) ≡ true → (found ≡ [] → (old ≡ []) × HaveCome held rest) →
       (more : List Token) × (all ≡ mid ++ more) × (found ≡ [] → (old ≡ []) × HaveCome held more)
@@ -80,6 +93,26 @@ one_more {X} P fs all k d is lt a p = All-more P all k d (subst (λ (l : List X)
 
 pub all_done : {X : Type 0} (P : X → Type 0) (all : List X) (k : ℕ) → length all ≤ k → All P (take k all) → All P all
 all_done {X} P all k le a = subst (λ (l : List X). All P l) (take_all k all le) a
+
+-- one more of a stretch is done
+pub told_more : (image : Image) (held : Ports) (from place : ℕ) (fs all : List Fired) (d : Fired) → fs ≡ all → place < length fs → ToldIn image held from place all → HasTold image held (slice_index_or fs place d) → ToldIn image held from (place + 1) all
+told_more image held from place fs all d is lt before now k e low high within = elim (cases_lt k place) [
+  | inl x ↦ before k e low x within
+  | inr x ↦ (let same : place ≡ k = omega (arith, high, x) in
+      let here : HasTold image held (slice_index_or all place d) = subst (λ (l : List Fired). HasTold image held (slice_index_or l place d)) is now in
+      subst (HasTold image held) (get_or_default all k d e within) (subst (λ (j : ℕ). HasTold image held (slice_index_or all j d)) same here))
+]
+
+-- one stretch after another
+pub told_join : (image : Image) (held : Ports) (from mid to : ℕ) (fs : List Fired) → ToldIn image held from mid fs → ToldIn image held mid to fs → ToldIn image held from to fs
+told_join image held from mid to fs a b k d low high within = elim (cases_lt k mid) [
+  | inl x ↦ a k d low x within
+  | inr x ↦ b k d x high within
+]
+
+-- all of a list are done
+pub told_all : (image : Image) (held : Ports) (to : ℕ) (fs : List Fired) → length fs ≤ to → ToldIn image held 0 to fs → All (HasTold image held) fs
+told_all image held to fs le told k d lt = told k d (omega arith) (omega (arith, lt, le)) lt
 
 -- one more table is done
 pub next_table : (P : Content → Type 0) (cs : List Content) (n : ℕ) (c : Content) → c ≡ content_at cs n → ((k : ℕ) → k < n → P (content_at cs k)) → P c → (k : ℕ) → k < n + 1 → P (content_at cs k)

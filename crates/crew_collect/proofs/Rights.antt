@@ -4,6 +4,7 @@ use Rattle.std.proofs.lemmas.List.Elements.{All-get_or}
 use Rattle.ws_words.specs.Outside.{Outside, World}
 use Rattle.ws_isa.specs.declared.instr.Op.{Op}
 use Rattle.ws_isa.specs.declared.instr.Op.TheVariants.{Load, Store, Input, Output, Give, Take, Nop, Halt}
+use Rattle.ws_isa.specs.declared.instr.Dest.{Dest}
 use Rattle.ws_isa.specs.Image.{Image, instr_at, ports, ports_of, is_memory, is_memory_op, is_advance_op, selector_of, result_of, result_of_op, sends, tokens_to}
 use Rattle.ws_isa.specs.Formed.{Formed}
 use Rattle.image_walk.specs.Sound.{Sound}
@@ -56,6 +57,13 @@ code_memory image im i op b is same e = memory_is_op image i ∙ ap (λ (x : Ima
 
 pub code_op : (image im : Image) (i : ℕ) (op : Op) → op ≡ (instr_at im i).op → im ≡ image → op ≡ (instr_at image i).op
 code_op image im i op is same = is ∙ ap (λ (x : Image). (instr_at x i).op) same
+
+-- the tokens of an instance by what the code looks up
+pub code_sent : (image im : Image) (w i : ℕ) (op : Op) (number word choice : ℕ) (dests : List Dest) → op ≡ (instr_at image i).op → number ≡ cond (is_advance_op op) (suc w) w → dests ≡ destinations im i choice → im ≡ image →
+    tokens_to number word dests ≡ tokens_to (cond (is_advance_op (instr_at image i).op) (suc w) w) word (destinations image i choice)
+code_sent image im w i op number word choice dests o n d same =
+    ap (λ (k : ℕ × List Dest). tokens_to k.0 word k.1)
+    (λ j. ((n ∙ ap (λ (x : Op). cond (is_advance_op x) (suc w) w) o) j, (d ∙ ap (λ (x : Image). destinations x i choice) same) j))
 
 module _ (image : Image) (w i : ℕ) where
   -- the tokens of an instance as the code makes them

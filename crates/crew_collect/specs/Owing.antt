@@ -1,5 +1,5 @@
 -- What tables and a buffer owe.
-use Rattle.std.specs.Prelude.{ℕ, ◌≡◌, true, false, List, Some, None, is_some}
+use Rattle.std.specs.Prelude.{ℕ, ◌≡◌, ◌<◌, ◌≤◌, true, false, List, length, slice_index_or, Some, None, is_some}
 use Rattle.ws_isa.specs.Image.{Image, Token, ports, is_memory, result_of, sends}
 use Rattle.image_walk.specs.Walk.{Ports}
 use Rattle.core_law.specs.Core.{HasFired, IsSent}
@@ -26,6 +26,11 @@ IsKnown image kept f = is_memory image f.instr ≡ true → is_some (entry_of ke
 abbrev pub HasTold : Image → Ports → Fired → Type 0
 HasTold image held f = is_memory image f.instr ≡ false →
     HaveCome held (sends image f.wave f.instr (listed f.operands) (result_of image f.instr (listed f.operands)))
+
+-- each of the list, from this place to before that one, has told so
+abbrev pub ToldIn : Image → Ports → ℕ → ℕ → List Fired → Type 0
+ToldIn image held from to fs = (k : ℕ) (d : Fired) → from ≤ k → k < to → k < length fs →
+    HasTold image held (slice_index_or fs k d)
 
 -- if it is issued, its result tokens have come to their tables
 abbrev pub HasAnswered : Image → Ports → Kept → Type 0

@@ -1,6 +1,6 @@
 //! Tokens that are owed.
 
-ghost use Rattle.std.specs.Prelude.{◌≡◌, ℕ, suc, [], All, OnOk, IfOk, IfSome, true, false, cond};
+ghost use Rattle.std.specs.Prelude.{◌≡◌, ◌<◌, ◌≤◌, ℕ, suc, [], All, OnOk, IfOk, IfSome, length, true, false, cond};
 ghost use Rattle.ws_words.specs.Outside.{Outside};
 ghost use Rattle.ws_isa.specs.Image.{is_memory, is_advance_op, instr_at, sends, result_of, result_of_op, selector_of, tokens_to, ports};
 ghost use Rattle.core_law.specs.Core.{IsSent};
@@ -10,17 +10,18 @@ ghost use Rattle.core_run.specs.Places.{destinations};
 ghost use Rattle.df_job.specs.Rights.{operands_of};
 ghost use Rattle.match_table.specs.Ports.{listed};
 ghost use Rattle.store_buf.specs.Contents.{buffer_in};
-ghost use Rattle.crew_collect.specs.Together.{AllServe, part_of};
-ghost use Rattle.crew_collect.specs.Owing.{HasAnswered, HasTold, HaveCome, IsMissing};
+ghost use Rattle.crew_collect.specs.Together.{AllServe, content_at, part_of};
+ghost use Rattle.crew_tables.specs.Rows.{contents};
+ghost use Rattle.crew_collect.specs.Owing.{HasAnswered, HasTold, HaveCome, IsMissing, ToldIn};
 
 use crate::tables::{facts, holds, table_at};
 use crew_tables::row::Tables;
-use df_job::{Code, Job, TokenList, start};
+use df_job::{Code, Job, Token, TokenList, start};
 use match_table::{Fired, Operands, Table};
 use port_set::Port;
 use std::alloc::Global;
 use store_buf::{Buffer, Kept};
-use ws_isa::Op;
+use ws_isa::{Dest, Op};
 use ws_words::NoMemory;
 
 /// The tokens that tables and a buffer owe and that no table has had: the start pulse's, and the
@@ -41,30 +42,72 @@ pub fn missing<J: Job, P: Port>(
     buffer.facts();
     let mut found = TokenList::empty(alloc);
     keep(tables, start(alloc, code)?, &mut found)?;
-    for number in 0..16 {
-        look_through(alloc, code, tables, table_at(tables, number), &mut found)?;
+    let longest = longest(tables);
+    let mut from = 0;
+    while from < longest {
+        let to = from.saturating_add(STRETCH);
+        look_across(code, tables, from, to, &mut found)?;
+        from = to;
     }
     look_back(alloc, code, tables, buffer, &mut found)?;
     Ok(found)
 }
 
-// Those that one table owes.
-fn look_through<J: Job>(
-    alloc: Global,
+// How many instances of each table are looked at before the next table's. What fired together in all
+// tables is looked at together, so that what they hold is near.
+const STRETCH: usize = 64;
+
+// As many as the table lists that lists the most.
+fn longest<J: Job>(tables: &Tables<J>) -> usize
+    ensures { (k : ℕ) → k < 16 → length (content_at (contents tables.now) k).fired ≤ result }
+{
+    let mut longest = 0;
+    for number in 0..16 {
+        longest = table_at(tables, number).fired().len().max(longest);
+    }
+    longest
+}
+
+// Those that each table owes for the instances that it lists from one place to before another.
+fn look_across<J: Job>(
     code: &Code<'_, J>,
     tables: &Tables<J>,
-    table: &Table<J>,
+    from: usize,
+    to: usize,
     found: &mut TokenList<J>,
 ) -> Result<(), NoMemory>
     requires { All (IsMissing (part_of tables.now).held) found.old }
     ensures missing { OnOk result (All (IsMissing (part_of tables.now).held) found.new) }
     ensures none { OnOk result (found.new ≡ [] → (found.old ≡ [])
-        × All (HasTold J.image (part_of tables.now).held) table.now.fired) }
+        × ((k : ℕ) → k < 16 → ToldIn J.image (part_of tables.now).held from to
+        (content_at (contents tables.now) k).fired)) }
+{
+    for number in 0..16 {
+        look_through(code, tables, table_at(tables, number), from, to, found)?;
+    }
+    Ok(())
+}
+
+// Those that one table owes for them.
+fn look_through<J: Job>(
+    code: &Code<'_, J>,
+    tables: &Tables<J>,
+    table: &Table<J>,
+    from: usize,
+    to: usize,
+    found: &mut TokenList<J>,
+) -> Result<(), NoMemory>
+    requires { All (IsMissing (part_of tables.now).held) found.old }
+    ensures missing { OnOk result (All (IsMissing (part_of tables.now).held) found.new) }
+    ensures none { OnOk result (found.new ≡ [] → (found.old ≡ [])
+        × ToldIn J.image (part_of tables.now).held from to table.now.fired) }
 {
     table.facts();
     let _ = code.program();
-    for fired in table.fired() {
-        look_at(alloc, code, tables, *fired, found)?;
+    let fired = table.fired();
+    let end = fired.len().min(to);
+    for place in from..end {
+        look_at(code, tables, fired[place], found)?;
     }
     Ok(())
 }
@@ -92,7 +135,6 @@ fn look_back<J: Job, P: Port>(
 
 // Those of an instance that has fired; it owes none where it is one of memory.
 fn look_at<J: Job>(
-    alloc: Global,
     code: &Code<'_, J>,
     tables: &Tables<J>,
     fired: Fired,
@@ -111,10 +153,13 @@ fn look_at<J: Job>(
     if op.is_memory() {
         return Ok(());
     }
+    let Some(number) = number_of(op, fired.wave) else {
+        return Err(NoMemory);
+    };
     let choice = choice_of(op, fired.operands);
     let word = word_of(op, fired.operands);
-    let tokens = sent(alloc, code, fired.wave, fired.instr, choice, word)?;
-    keep(tables, tokens, found)?;
+    let dests = code.program().destinations(fired.instr, choice);
+    keep_sent(tables, number, dests, word, found)?;
     Ok(())
 }
 
@@ -167,6 +212,29 @@ fn sent<J: Job>(
     let mut tokens = TokenList::empty(alloc);
     tokens.send(number, program.destinations(instr, selector), word)?;
     Ok(tokens)
+}
+
+// Puts those tokens of a word to destinations that no table has had behind the ones found.
+fn keep_sent<J: Job>(
+    tables: &Tables<J>,
+    wave: u64,
+    dests: &[Dest],
+    word: u64,
+    found: &mut TokenList<J>,
+) -> Result<(), NoMemory>
+    requires missing { All (IsMissing (part_of tables.now).held) found.old }
+    requires right { (w i p v : ℕ) → IsSent (tokens_to wave word dests.now) w i p v
+        → RightToken J.image J.world w i p v }
+    ensures missing { OnOk result (All (IsMissing (part_of tables.now).held) found.new) }
+    ensures none { OnOk result (found.new ≡ [] → (found.old ≡ [])
+        × HaveCome (part_of tables.now).held (tokens_to wave word dests.now)) }
+{
+    for dest in dests {
+        if !holds(tables, wave, dest.instr, dest.port) {
+            found.push(Token::right(wave, dest.instr, dest.port, word))?;
+        }
+    }
+    Ok(())
 }
 
 // Puts those of these tokens that no table has had behind the ones found.

@@ -7,9 +7,10 @@ use Rattle.match_table.specs.declared.entry.Entry.{Entry}
 use Rattle.match_table.specs.declared.table.Fired.{Fired}
 use Rattle.match_table.specs.declared.table.Accept.{Accept}
 use Rattle.match_table.specs.declared.table.Accept.TheVariants as accept
+use Rattle.match_table.specs.declared.table.Took.{Took}
 use Rattle.match_table.specs.declared.table.AcceptFault.{AcceptFault}
 use Rattle.match_table.specs.declared.table.AcceptFault.TheVariants as fault
-use Rattle.match_table.specs.Matching.{Arrives, Full, Accepted, Refused, has_fired, will_fire}
+use Rattle.match_table.specs.Matching.{Arrives, Full, Accepted, Refused, has_fired, will_fire, answer_of}
 use Rattle.match_table.specs.Tables.{Content, held, held_in}
 use Rattle.crew_tables.specs.Limits.{Serves}
 
@@ -42,6 +43,6 @@ module _ {J : Type 0} where
   refused_ok old new t (fault.Old back) k most s le r = (same_serves k old new s (ap (λ (c : Content). c.entries) r.1) (ap (λ (c : Content). c.fired) r.1), subst (λ (c : Content). length c.fired ≤ most) (sym r.1) le)
   refused_ok old new t (fault.NoMemory back) k most s le r = (same_serves k old new s r.1 r.2, subst (λ l. length l ≤ most) (sym r.2) le)
 
-  pub all_ok : (image : Image) (old new : Content) (t : Token) (answer : Result (Accept J) (AcceptFault J)) (fires : Bool) (k most : ℕ) → Serves k old → length old.fired ≤ most → (t.wave + t.instr) % 16 ≡ k → fires ≡ will_fire image old t → (fires ≡ true → length old.fired < most) → MatchResult answer (Accepted image old t new) (Refused old t new) → IfOk answer (λ a. has_fired a ≡ will_fire image old t) → Serves k new × (length new.fired ≤ most)
-  all_ok image old new t (Ok a) fires k most s le serves would less m h = took_ok image old new t a fires k most s le serves (h ∙ sym would) less m
-  all_ok image old new t (Err f) fires k most s le serves would less m h = refused_ok old new t f k most s le m
+  pub all_ok : (image : Image) (old new : Content) (t : Token) (answer : Result (Took J) (AcceptFault J)) (tokens : List Token) (k most : ℕ) → Serves k old → length old.fired ≤ most → (t.wave + t.instr) % 16 ≡ k → (will_fire image old t ≡ true → length old.fired < most) → MatchResult answer (λ took. Accepted image old t new (answer_of took tokens)) (Refused old t new) → IfOk answer (λ took. has_fired (answer_of took tokens) ≡ will_fire image old t) → Serves k new × (length new.fired ≤ most)
+  all_ok image old new t (Ok took) tokens k most s le serves less m h = took_ok image old new t (answer_of took tokens) (will_fire image old t) k most s le serves h less m
+  all_ok image old new t (Err f) tokens k most s le serves less m h = refused_ok old new t f k most s le m

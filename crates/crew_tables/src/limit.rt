@@ -3,9 +3,8 @@
 ghost use Rattle.std.specs.Prelude.{◌≡◌, ◌+◌, ◌<◌, ◌≤◌, ◌%◌, ℕ, List, length, slice_index};
 ghost use Rattle.crew_tables.specs.Limits.{Serves, Offered};
 
-use df_job::{Code, Job, Token};
-use match_table::{Accept, AcceptFault, Table};
-use std::alloc::Global;
+use df_job::{Code, Job, Token, TokenList};
+use match_table::{AcceptFault, Table, Took};
 use std::marker::{Brand, Model, PhantomData};
 
 /// The largest lengths of the lists of fired instances in one phase, by table.
@@ -24,7 +23,7 @@ impl Quotas for Brand {
 /// What a table of a phase answers to a token.
 #[derive(Drop)]
 pub enum Offer<J: Job> {
-    Took(Accept<J>),
+    Took(Took<J>),
     /// The quota is spent. The token is let go.
     Spent,
     Fault(AcceptFault<J>),
@@ -66,17 +65,22 @@ impl<J: Job, Q: Quotas, const K: u64> Limited<J, Q, K> {
         }
     }
 
-    /// Takes a token, unless it would fire its instance and the quota is spent.
-    pub fn offer(&mut self, alloc: Global, code: &Code<'_, J>, token: Token<J>) -> Offer<J>
+    /// Takes a token, unless it would fire its instance and the quota is spent. Result tokens stand in
+    /// the list that is lent.
+    pub fn offer(
+        &mut self,
+        code: &Code<'_, J>,
+        token: Token<J>,
+        tokens: &mut TokenList<J>,
+    ) -> Offer<J>
         requires { (token.wave + token.instr) % 16 ≡ K }
-        ensures { Offered J.image (slice_index Q.most K) self.old token self.new result }
+        ensures { Offered J.image (slice_index Q.most K) self.old token self.new tokens.new result }
     {
-        let fires = self.table.would_fire(code, &token);
-        if fires && self.table.fired().len() >= self.most {
+        if self.table.fired().len() >= self.most && self.table.would_fire(code, &token) {
             return Offer::Spent;
         }
-        match self.table.accept(alloc, code, token) {
-            Ok(answer) => Offer::Took(answer),
+        match self.table.accept_into(code, token, tokens) {
+            Ok(took) => Offer::Took(took),
             Err(fault) => Offer::Fault(fault),
         }
     }

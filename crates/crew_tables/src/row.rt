@@ -6,7 +6,7 @@ ghost use Rattle.crew_tables.specs.Rows.{Fits};
 
 use crate::limit::{Limited, Offer, Quotas};
 use crossbeam_utils::CachePadded;
-use df_job::{Code, Job, Token};
+use df_job::{Code, Job, Token, TokenList};
 use match_table::Table;
 use std::alloc::Global;
 use std::sync::{Mutex, Wait};
@@ -98,14 +98,14 @@ fn unlocked<J: Job, Q: Quotas, const K: u64>(locked: Locked<J, Q, K>) -> Table<J
 
 fn offer_at<J: Job, Q: Quotas, const K: u64, R: Wait>(
     rt: &R,
-    alloc: Global,
     locked: &Locked<J, Q, K>,
     code: &Code<'_, J>,
     token: Token<J>,
+    tokens: &mut TokenList<J>,
 ) -> Offer<J>
     requires { (token.wave + token.instr) % 16 ≡ K }
 {
-    locked.lock(rt).offer(alloc, code, token)
+    locked.lock(rt).offer(code, token, tokens)
 }
 
 // The number of the table that serves an instance.
@@ -159,31 +159,32 @@ impl<J: Job, Q: Quotas> Row<J, Q> {
         }
     }
 
-    /// Takes the token at the table that serves it, under that table's lock.
+    /// Takes the token at the table that serves it, under that table's lock. Result tokens stand in the
+    /// list that is lent.
     pub fn offer<R: Wait>(
         &self,
         rt: &R,
-        alloc: Global,
         code: &Code<'_, J>,
         token: Token<J>,
+        tokens: &mut TokenList<J>,
     ) -> Offer<J> {
         match table_of(token.wave(), token.instr()) {
-            0 => offer_at::<J, Q, 0, R>(rt, alloc, &self.t0, code, token),
-            1 => offer_at::<J, Q, 1, R>(rt, alloc, &self.t1, code, token),
-            2 => offer_at::<J, Q, 2, R>(rt, alloc, &self.t2, code, token),
-            3 => offer_at::<J, Q, 3, R>(rt, alloc, &self.t3, code, token),
-            4 => offer_at::<J, Q, 4, R>(rt, alloc, &self.t4, code, token),
-            5 => offer_at::<J, Q, 5, R>(rt, alloc, &self.t5, code, token),
-            6 => offer_at::<J, Q, 6, R>(rt, alloc, &self.t6, code, token),
-            7 => offer_at::<J, Q, 7, R>(rt, alloc, &self.t7, code, token),
-            8 => offer_at::<J, Q, 8, R>(rt, alloc, &self.t8, code, token),
-            9 => offer_at::<J, Q, 9, R>(rt, alloc, &self.t9, code, token),
-            10 => offer_at::<J, Q, 10, R>(rt, alloc, &self.t10, code, token),
-            11 => offer_at::<J, Q, 11, R>(rt, alloc, &self.t11, code, token),
-            12 => offer_at::<J, Q, 12, R>(rt, alloc, &self.t12, code, token),
-            13 => offer_at::<J, Q, 13, R>(rt, alloc, &self.t13, code, token),
-            14 => offer_at::<J, Q, 14, R>(rt, alloc, &self.t14, code, token),
-            _ => offer_at::<J, Q, 15, R>(rt, alloc, &self.t15, code, token),
+            0 => offer_at::<J, Q, 0, R>(rt, &self.t0, code, token, tokens),
+            1 => offer_at::<J, Q, 1, R>(rt, &self.t1, code, token, tokens),
+            2 => offer_at::<J, Q, 2, R>(rt, &self.t2, code, token, tokens),
+            3 => offer_at::<J, Q, 3, R>(rt, &self.t3, code, token, tokens),
+            4 => offer_at::<J, Q, 4, R>(rt, &self.t4, code, token, tokens),
+            5 => offer_at::<J, Q, 5, R>(rt, &self.t5, code, token, tokens),
+            6 => offer_at::<J, Q, 6, R>(rt, &self.t6, code, token, tokens),
+            7 => offer_at::<J, Q, 7, R>(rt, &self.t7, code, token, tokens),
+            8 => offer_at::<J, Q, 8, R>(rt, &self.t8, code, token, tokens),
+            9 => offer_at::<J, Q, 9, R>(rt, &self.t9, code, token, tokens),
+            10 => offer_at::<J, Q, 10, R>(rt, &self.t10, code, token, tokens),
+            11 => offer_at::<J, Q, 11, R>(rt, &self.t11, code, token, tokens),
+            12 => offer_at::<J, Q, 12, R>(rt, &self.t12, code, token, tokens),
+            13 => offer_at::<J, Q, 13, R>(rt, &self.t13, code, token, tokens),
+            14 => offer_at::<J, Q, 14, R>(rt, &self.t14, code, token, tokens),
+            _ => offer_at::<J, Q, 15, R>(rt, &self.t15, code, token, tokens),
         }
     }
 

@@ -85,6 +85,13 @@ impl<J: Job> TokenList<J> {
         Ok(())
     }
 
+    /// Lets all tokens go, and keeps the room.
+    pub fn clear(&mut self)
+        ensures { self.new ≡ [] }
+    {
+        self.raw.clear();
+    }
+
     /// Takes the last token.
     pub fn pop(&mut self) -> Option<Token<J>>
         ensures { MatchOption result ((self.new ≡ []) × (self.old ≡ []))

@@ -3,7 +3,7 @@
 use crate::gate::Gate;
 use crew_tables::{Offer, Quotas, Row};
 use df_job::{Code, Job, Request, Token, TokenList};
-use match_table::{Accept, AcceptFault};
+use match_table::{AcceptFault, Took};
 use port_set::Port;
 use ready_pool::Seat;
 use std::alloc::Global;
@@ -39,13 +39,23 @@ pub fn work<J: Job, Q: Quotas, P: Port, G: Gate, R: Wait>(
 ) -> Worked<J> {
     let mut seat = seat;
     let mut let_go = TokenList::empty(alloc);
+    let mut tokens = TokenList::empty(alloc);
     let mut starved = false;
     for _ in rt.forever() {
         let Some(token) = seat.find(rt) else {
             break;
         };
         gate.before(token.wave(), token.instr(), token.port());
-        match bring(rt, alloc, token, &mut seat, &mut let_go, row, buffer, code) {
+        match bring(
+            rt,
+            token,
+            &mut tokens,
+            &mut seat,
+            &mut let_go,
+            row,
+            buffer,
+            code,
+        ) {
             Next::More => {}
             Next::Ended => break,
             Next::Starved => {
@@ -57,11 +67,11 @@ pub fn work<J: Job, Q: Quotas, P: Port, G: Gate, R: Wait>(
     Worked { let_go, starved }
 }
 
-// Brings a token to its table, under that table's lock.
+// Brings a token to its table, under that table's lock. Result tokens come into the list that is lent.
 fn bring<J: Job, Q: Quotas, P: Port, R: Wait>(
     rt: &R,
-    alloc: Global,
     token: Token<J>,
+    tokens: &mut TokenList<J>,
     seat: &mut Seat<Token<J>>,
     let_go: &mut TokenList<J>,
     row: &Row<J, Q>,
@@ -69,14 +79,13 @@ fn bring<J: Job, Q: Quotas, P: Port, R: Wait>(
     code: &Code<'_, J>,
 ) -> Next {
     let again = token.again();
-    let offer = row.offer(rt, alloc, code, token);
-    match offer {
-        Offer::Took(Accept::Waits) => Next::More,
-        Offer::Took(Accept::Fires(tokens)) => {
+    match row.offer(rt, code, token, tokens) {
+        Offer::Took(Took::Waits) => Next::More,
+        Offer::Took(Took::Fires) => {
             hand_on(seat, let_go, tokens);
             Next::More
         }
-        Offer::Took(Accept::Asks(request)) => ask(rt, request, seat, let_go, buffer, code),
+        Offer::Took(Took::Asks(request)) => ask(rt, request, seat, let_go, buffer, code),
         Offer::Spent => {
             let _ = let_go.push(again);
             Next::More
@@ -98,7 +107,8 @@ fn ask<J: Job, P: Port, R: Wait>(
     let answer = buffer.lock(rt).submit(code, request);
     match answer {
         Ok(tokens) => {
-            hand_on(seat, let_go, tokens);
+            let mut tokens = tokens;
+            hand_on(seat, let_go, &mut tokens);
             Next::More
         }
         Err(BufFault::Old) => Next::More,
@@ -108,8 +118,11 @@ fn ask<J: Job, P: Port, R: Wait>(
 }
 
 // Puts tokens into a seat. Those that it refuses are let go.
-fn hand_on<J: Job>(seat: &mut Seat<Token<J>>, let_go: &mut TokenList<J>, tokens: TokenList<J>) {
-    let mut tokens = tokens;
+fn hand_on<J: Job>(
+    seat: &mut Seat<Token<J>>,
+    let_go: &mut TokenList<J>,
+    tokens: &mut TokenList<J>,
+) {
     while let Some(token) = tokens.pop() {
         if let Err(back) = seat.put(token) {
             let _ = let_go.push(back);

@@ -4,9 +4,9 @@ ghost use Rattle.std.specs.Prelude.{◌≡◌, length};
 
 use crate::tables::{DOUBLES, image_of, take_all};
 use crew_tables::{Offer, Quotas, Row, Tables};
-use df_job::{Code, Job, Token, start};
+use df_job::{Code, Job, Token, TokenList, start};
 use image_walk::Checked;
-use match_table::Accept;
+use match_table::Took;
 use std::alloc::Global;
 use std::marker::Brand;
 use std::sync::Wait;
@@ -35,13 +35,14 @@ fn phase<J: Job, Q: Quotas, R: Wait>(
         let Some(token) = way.pop() else {
             break;
         };
-        match row.offer(rt, alloc, &code, token) {
-            Offer::Took(Accept::Waits) => {}
-            Offer::Took(Accept::Fires(tokens)) => {
+        let mut tokens = TokenList::empty(alloc);
+        match row.offer(rt, &code, token, &mut tokens) {
+            Offer::Took(Took::Waits) => {}
+            Offer::Took(Took::Fires) => {
                 count.0 = count.0.wrapping_add(1);
                 take_all(tokens, &mut way)?;
             }
-            Offer::Took(Accept::Asks(_)) => count.0 = count.0.wrapping_add(1),
+            Offer::Took(Took::Asks(_)) => count.0 = count.0.wrapping_add(1),
             Offer::Spent => count.1 = count.1.wrapping_add(1),
             Offer::Fault(_) => return Err(NoMemory),
         }

@@ -5,6 +5,8 @@ use Rattle.core_law.specs.Core.{State, arrived, matched, has, is_full, with_at, 
 use Rattle.df_job.specs.Rights.{operands_of}
 use Rattle.match_table.specs.declared.table.Accept.{Accept}
 use Rattle.match_table.specs.declared.table.Accept.TheVariants.{Waits, Fires, Asks}
+use Rattle.match_table.specs.declared.table.Took.{Took}
+use Rattle.match_table.specs.declared.table.Took.TheVariants as took
 use Rattle.match_table.specs.declared.table.AcceptFault.{AcceptFault}
 use Rattle.match_table.specs.declared.table.AcceptFault.TheVariants as fault
 use Rattle.match_table.specs.declared.meeting.Seen.{Seen}
@@ -69,6 +71,12 @@ module _ {J : Type 0} where
       × (new.fired ≡ old.fired)
 
 module _ {J : Type 0} where
+  -- the answer of a table that puts its result tokens into a list, which holds these then
+  abbrev pub answer_of : Took J → List Token → Accept J
+  answer_of took.Waits tokens = Waits
+  answer_of took.Fires tokens = Fires tokens
+  answer_of (took.Asks request) tokens = Asks request
+
   -- the answer says that the instance has fired
   abbrev pub has_fired : Accept J → Bool
   has_fired Waits = false

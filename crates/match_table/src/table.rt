@@ -8,7 +8,7 @@ ghost use Rattle.core_law.specs.Core.{Once, has, is_full, operands_in};
 ghost use Rattle.core_law.specs.Shown.{TablesOk};
 ghost use Rattle.core_run.specs.Places.{ProgramIs, image_of};
 ghost use Rattle.match_table.specs.declared.meeting.Seen.TheVariants.{Waits, Fills};
-ghost use Rattle.match_table.specs.Matching.{Accepted, Arrives, Full, IfNoMemory, IsOldSo, Outcome, Refused, has_fired, will_fire};
+ghost use Rattle.match_table.specs.Matching.{Accepted, Arrives, Full, IfNoMemory, IsOldSo, Outcome, Refused, answer_of, has_fired, will_fire};
 ghost use Rattle.match_table.specs.Pages.{KeyIs, arrived_in};
 ghost use Rattle.match_table.specs.Ports.{listed, SeenSo};
 ghost use Rattle.match_table.specs.Tables.{held, part};
@@ -38,6 +38,15 @@ pub struct Fired {
 pub enum Accept<J: Job> {
     Waits,
     Fires(TokenList<J>),
+    Asks(Request<J>),
+}
+
+/// What a table answers to a token whose result tokens go into a list that the caller lends: its
+/// instance isn't full, or it has fired, and this is its request.
+#[derive(Drop)]
+pub enum Took<J: Job> {
+    Waits,
+    Fires,
     Asks(Request<J>),
 }
 
@@ -224,6 +233,32 @@ impl<J: Job> Table<J> {
             IfNoMemory fault (0 < self.old.spare → token.wave + 1 < 2 ^ 64 → ⊥)) }
         ensures spare { self.old.spare ≤ self.new.spare + 1 }
     {
+        let mut tokens = TokenList::empty(alloc);
+        match self.accept_into(code, token, &mut tokens) {
+            Ok(Took::Waits) => Ok(Accept::Waits),
+            Ok(Took::Fires) => Ok(Accept::Fires(tokens)),
+            Ok(Took::Asks(request)) => Ok(Accept::Asks(request)),
+            Err(fault) => Err(fault),
+        }
+    }
+
+    /// Does what `accept` does. Result tokens stand in the list that is lent, which is emptied first.
+    pub fn accept_into(
+        &mut self,
+        code: &Code<'_, J>,
+        token: Token<J>,
+        tokens: &mut TokenList<J>,
+    ) -> Result<Took<J>, AcceptFault<J>>
+        ensures answer { MatchResult result
+            (λ took. Accepted J.image self.old token self.new (answer_of took tokens.new))
+            (Refused self.old token self.new) }
+        ensures fires { IfOk result (λ took.
+            has_fired (answer_of took tokens.new) ≡ will_fire J.image self.old token) }
+        ensures memory { IfErr result (λ fault.
+            IfNoMemory fault (0 < self.old.spare → token.wave + 1 < 2 ^ 64 → ⊥)) }
+        ensures spare { self.old.spare ≤ self.new.spare + 1 }
+    {
+        tokens.clear();
         let program = code.program();
         let instr = token.instr();
         let op = program.op(instr);
@@ -236,10 +271,10 @@ impl<J: Job> Table<J> {
                     return Err(AcceptFault::NoMemory(token));
                 }
                 self.keep(&token, look.key, next, count);
-                Ok(Accept::Waits)
+                Ok(Took::Waits)
             }
             Seen::Fills(operands) => {
-                let Ok(outcome) = self.outcome(alloc, program, &token, operands) else {
+                let Ok(outcome) = self.outcome(program, &token, operands, tokens) else {
                     return Err(AcceptFault::NoMemory(token));
                 };
                 if self.make_room().is_err() {
@@ -254,18 +289,20 @@ impl<J: Job> Table<J> {
     // What the token's instance answers once it is full with these operands.
     fn outcome(
         &self,
-        alloc: Global,
         program: &Program<'_>,
         token: &Token<J>,
         operands: Operands,
-    ) -> Result<Accept<J>, NoMemory>
+        tokens: &mut TokenList<J>,
+    ) -> Result<Took<J>, NoMemory>
         requires program { ProgramIs program.now }
         requires image { image_of program.now ≡ J.image }
         requires formed { Formed J.image }
         requires sound { Sound J.image }
         requires seen { SeenSo (arrived_in self.now.entries token.now.wave token.now.instr)
             token.now.port token.now.value (ports J.image token.now.instr) (Fills operands) }
-        ensures outcome { IfOk result (Outcome J.image token.now (listed operands)) }
+        requires empty { tokens.old ≡ [] }
+        ensures outcome { IfOk result (λ took.
+            Outcome J.image token.now (listed operands) (answer_of took tokens.new)) }
         ensures few { token.now.wave + 1 < 2 ^ 64 → IsOk result }
     {
         let _ = &self.fired;
@@ -274,16 +311,15 @@ impl<J: Job> Table<J> {
         let op = program.op(instr);
         if op.is_memory() {
             let request = Request::right(wave, instr, operands.first(), operands.second());
-            return Ok(Accept::Asks(request));
+            return Ok(Took::Asks(request));
         }
         let Some(number) = number_of(op, wave) else {
             return Err(NoMemory);
         };
         let dests = program.destinations(instr, selector(op, operands));
         let word = result_of(op, operands);
-        let mut tokens = TokenList::empty(alloc);
         tokens.send(number, dests, word)?;
-        Ok(Accept::Fires(tokens))
+        Ok(Took::Fires)
     }
 
     // Makes room for one token.

@@ -35,9 +35,9 @@ send-requires g c = λ w i p v s. sends_right g.J.Job.image g.J.Job.world c.requ
 pub returns-clause-outcome : goal.returns-clause-outcome
 returns-clause-outcome g c = (
   (memory_is g.J.Job.image (image_of c.args.program.now) c.args.token.now c.instr-instr.result c.op-op.result c.op-op.ensures c.requires.image c.instr-instr.ensures c.is_memory.result c.is_memory.ensures ∙ c.if-is_memory.false),
-  (c.in_ok-send.ensures.ok ∙ ap (λ (ts : List Token). ts ++ tokens_to c.in-Some.number c.result_of-word.result c.destinations-dests.result.now) c.empty-tokens.ensures) ∙ sent_is g.J.Job.image (image_of c.args.program.now) c.args.token.now c.instr-instr.result c.op-op.result c.op-op.ensures c.requires.image c.instr-instr.ensures (listed c.args.operands) c.wave-wave.result c.in-Some.number c.result_of-word.result c.selector.result c.destinations-dests.result.now c.wave-wave.ensures.wave c.in-Some.ensures.number c.result_of-word.ensures c.selector.ensures c.destinations-dests.ensures,
+  (c.in_ok-send.ensures.ok ∙ ap (λ (ts : List Token). ts ++ tokens_to c.in-Some.number c.result_of-word.result c.destinations-dests.result.now) c.requires.empty) ∙ sent_is g.J.Job.image (image_of c.args.program.now) c.args.token.now c.instr-instr.result c.op-op.result c.op-op.ensures c.requires.image c.instr-instr.ensures (listed c.args.operands) c.wave-wave.result c.in-Some.number c.result_of-word.result c.selector.result c.destinations-dests.result.now c.wave-wave.ensures.wave c.in-Some.ensures.number c.result_of-word.ensures c.selector.ensures c.destinations-dests.ensures,
 )
 
 pub returns-in_err-send-clause-few : goal.returns-in_err-send-clause-few
 returns-in_err-send-clause-few g c = λ lt. absurd (true≢false (sym (subst IsOk c.in_err-send.was (c.send.ensures.few
-    (empty_few c.empty-tokens.result c.destinations-dests.result.now c.empty-tokens.ensures (subst (λ ds. length ds ≤ 8) (sym c.destinations-dests.ensures) (few (image_of c.args.program.now) (subst Formed (sym c.requires.image) c.requires.formed) c.instr-instr.result c.selector.result)))))))
+    (empty_few c.args.tokens.now c.destinations-dests.result.now c.requires.empty (subst (λ ds. length ds ≤ 8) (sym c.destinations-dests.ensures) (few (image_of c.args.program.now) (subst Formed (sym c.requires.image) c.requires.formed) c.instr-instr.result c.selector.result)))))))

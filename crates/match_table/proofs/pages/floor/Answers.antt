@@ -1,0 +1,6 @@
+use Rattle.std.proofs.Common.{arith}
+use Rattle.match_table.proofs.Spots.{below_more}
+use Rattle.match_table.proofs.pages.floor.Goals as goal
+
+pub returns-then-spots-before-clause-below : goal.returns-then-spots-before-clause-below
+returns-then-spots-before-clause-below c = below_more c.args.spots.now c.args.before c.args.wave _ c.requires c.if-before-spots.true c.if-spots-before.true
