@@ -49,7 +49,7 @@ pub fn missing<J: Job, P: Port>(
         look_across(code, tables, from, to, &mut found)?;
         from = to;
     }
-    look_back(alloc, code, tables, buffer, &mut found)?;
+    look_back(code, tables, buffer, &mut found)?;
     Ok(found)
 }
 
@@ -114,7 +114,6 @@ fn look_through<J: Job>(
 
 // Those that the buffer owes.
 fn look_back<J: Job, P: Port>(
-    alloc: Global,
     code: &Code<'_, J>,
     tables: &Tables<J>,
     buffer: &Buffer<J, P>,
@@ -128,7 +127,7 @@ fn look_back<J: Job, P: Port>(
     buffer.facts();
     let _ = code.program();
     for kept in buffer.kept() {
-        look_up(alloc, code, tables, *kept, found)?;
+        look_up(code, tables, *kept, found)?;
     }
     Ok(())
 }
@@ -165,7 +164,6 @@ fn look_at<J: Job>(
 
 // Those of a request that the buffer keeps; it owes none until it is issued.
 fn look_up<J: Job>(
-    alloc: Global,
     code: &Code<'_, J>,
     tables: &Tables<J>,
     kept: Kept,
@@ -184,34 +182,18 @@ fn look_up<J: Job>(
     let Some(word) = kept.answer else {
         return Ok(());
     };
-    let tokens = sent(alloc, code, kept.wave, kept.instr, 0, word)?;
-    keep(tables, tokens, found)?;
-    Ok(())
-}
-
-// The tokens of an instance that chooses by this operand where its result goes.
-fn sent<J: Job>(
-    alloc: Global,
-    code: &Code<'_, J>,
-    wave: u64,
-    instr: u32,
-    selector: u64,
-    word: u64,
-) -> Result<TokenList<J>, NoMemory>
-    requires { (w i p v : ℕ) → IsSent (tokens_to
-        (cond (is_advance_op (instr_at J.image instr).op) (suc wave) wave) word
-        (destinations J.image instr selector)) w i p v → RightToken J.image J.world w i p v }
-    ensures { IfOk result (λ tokens. tokens ≡ tokens_to
-        (cond (is_advance_op (instr_at J.image instr).op) (suc wave) wave) word
-        (destinations J.image instr selector)) }
-{
     let program = code.program();
-    let Some(number) = number_of(program.op(instr), wave) else {
+    let Some(number) = number_of(program.op(kept.instr), kept.wave) else {
         return Err(NoMemory);
     };
-    let mut tokens = TokenList::empty(alloc);
-    tokens.send(number, program.destinations(instr, selector), word)?;
-    Ok(tokens)
+    keep_sent(
+        tables,
+        number,
+        program.destinations(kept.instr, 0),
+        word,
+        found,
+    )?;
+    Ok(())
 }
 
 // Puts those tokens of a word to destinations that no table has had behind the ones found.

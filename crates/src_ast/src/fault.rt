@@ -54,8 +54,6 @@ pub enum RefusalKind {
     TooLong,
     /// An item of the input section that is no word.
     Input,
-    /// A program that this version doesn't run yet.
-    Unbuilt,
 }
 
 /// What is wrong, and where.

@@ -5,7 +5,7 @@ use Rattle.src_ast.specs.declared.fault.Quantity.{Quantity}
 use Rattle.src_ast.specs.declared.fault.Quantity.TheVariants.{NameBytes, Depth, Lexemes, Arrays, Length, CellSum, Procs, Params, Vars, Statements, PortNumber}
 use Rattle.src_ast.specs.declared.fault.Refusal.{Refusal}
 use Rattle.src_ast.specs.declared.fault.RefusalKind.{RefusalKind}
-use Rattle.src_ast.specs.declared.fault.RefusalKind.TheVariants.{Byte, Wide, Syntax, Unknown, Twice, Kind, Count, Main, Limit, TooLong, Input, Unbuilt}
+use Rattle.src_ast.specs.declared.fault.RefusalKind.TheVariants.{Byte, Wide, Syntax, Unknown, Twice, Kind, Count, Main, Limit, TooLong, Input}
 use Rattle.src_ast.specs.Syntax.{Part}
 use Rattle.src_ast.specs.Meaning.{arrays_of}
 use Rattle.ws_isa.specs.Image.{Array}
@@ -69,7 +69,6 @@ kind_word Main = codes "main"
 kind_word (Limit q) = codes "limit " ++ quantity_word q
 kind_word TooLong = codes "long"
 kind_word Input = codes "input"
-kind_word Unbuilt = codes "unbuilt"
 
 -- a refusal at its place
 abbrev pub refusal_text : Refusal → List ℕ

@@ -101,7 +101,6 @@ fn word(kind: RefusalKind) -> &'static [u8]
         RefusalKind::Limit(Quantity::PortNumber) => b"limit port",
         RefusalKind::TooLong => b"long",
         RefusalKind::Input => b"input",
-        RefusalKind::Unbuilt => b"unbuilt",
     }
 }
 
