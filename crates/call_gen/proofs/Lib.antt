@@ -22,7 +22,6 @@ pub mod Crossing
 pub mod Counting
 pub mod Planning
 pub mod Making
-pub mod Samples
 pub mod PartPlaces
 pub mod PartWalk
 pub mod PartRules

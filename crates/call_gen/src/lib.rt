@@ -15,6 +15,3 @@ mod spell;
 
 pub use make::{shaped_branches_stand_alone, spell_calls};
 pub use part::reached;
-
-#[cfg(test)]
-mod tests;

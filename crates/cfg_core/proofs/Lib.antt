@@ -1,6 +1,5 @@
 mod Rows
 pub mod Forward
-pub mod Kept
 pub mod Walking
 pub mod Leaving
 pub mod Acts

@@ -22,6 +22,3 @@ pub use laws::{nothing_hidden, turns_are_exact, walks_answer, weights_are_paid};
 pub use run::run_graph;
 pub use table::{Room, Spot, Table};
 pub use terms::{value, values};
-
-#[cfg(test)]
-mod tests;

@@ -17,10 +17,3 @@ pub mod GoesOn
 pub mod OneEffect
 pub mod SlotCert
 pub mod Certified
-pub mod SlotLists
-pub mod SampleIdle
-pub mod SampleA
-pub mod SampleALinks
-pub mod SampleB
-pub mod SampleBShape
-pub mod SampleBLinks

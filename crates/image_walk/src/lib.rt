@@ -15,6 +15,3 @@ mod walker;
 pub use checked::Checked;
 pub use laws::{checked_images_walk, effects_are_one, loads_have_no_effect, walks_go_on};
 pub use walk::{Walked, walk_draft, walk_image};
-
-#[cfg(test)]
-mod tests;

@@ -13,6 +13,3 @@ pub mod sets;
 
 pub use make::live;
 pub use sets::LiveSets;
-
-#[cfg(test)]
-mod tests;

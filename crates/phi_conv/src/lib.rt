@@ -12,6 +12,3 @@ mod make;
 
 pub use laws::sample_is_joined;
 pub use make::join_short;
-
-#[cfg(test)]
-mod tests;

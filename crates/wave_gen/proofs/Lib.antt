@@ -88,6 +88,4 @@ mod Keepings
 mod Framed
 mod Numberings
 pub mod LeadingAhead
-mod SampleLeads
 mod Generated
-mod Counting

@@ -30,8 +30,3 @@ mod values;
 
 pub use laws::graph_drafts_keep;
 pub use make::generate;
-
-#[cfg(test)]
-mod draft_tests;
-#[cfg(test)]
-mod tests;

@@ -17,6 +17,3 @@ pub use read::{ReadEnd, read_all};
 pub use standard::{StdSink, StdSource};
 pub use stream::{Failed, Sink, Source};
 pub use write::{WriteEnd, write_all};
-
-#[cfg(test)]
-mod tests;

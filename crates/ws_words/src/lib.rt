@@ -18,6 +18,3 @@ pub use no_memory::NoMemory;
 pub use plain::{Plain, World};
 pub use tape::Tape;
 pub use words::Words;
-
-#[cfg(test)]
-mod tests;
