@@ -45,8 +45,8 @@ use Rattle.wsc_top.specs.Generated.{IsGeneratedJob}
 use Rattle.wsc_top.specs.Traced.{IsTraced, IsReplayed, EndsReplay}
 
 -- an image of a program as the compiler gives it: a machine runs it, it does what the program does
--- within its bound, its notes are numbered and have the ripples that can be had, and it is a draft of the program with
--- no more than what these want
+-- within its bound, its notes are numbered and have the ripples that can be had, and it is a draft of
+-- the program with no more than what these want
 pub record IsCompiled (parts : List Part) (image : Image) : Type 0 where
   pub formed : Formed image
   pub sound : Sound image
