@@ -1,9 +1,7 @@
 #!/usr/bin/env python3
 """Runs the gate's proofs, tests and edits (rt ci) and prints what each crate cost, in processor minutes.
 
-    bench/gate.py [LOG [CRATE..]]
-                             at the top of the repository; the gate's own output goes to LOG (gate.log); of these
-                             crates and those below them alone, where some are named
+    bench/gate.py [LOG]      at the top of the repository; the gate's own output goes to LOG (gate.log)
 
 Each check of the prover runs under a wrapper that notes its processor time; the table has a row for each crate,
 as docs/GATE.md shows it, and the last lines the sums and how long the whole took on how many processors.
@@ -73,7 +71,7 @@ def main():
         tool.rtlib.RATTLE = wrapper
         began = time.time()
         with log.open("w") as out, redirect_stdout(out):
-            status = tool.main(["ci", *sys.argv[2:]])
+            status = tool.main(["ci"])
         took = time.time() - began
         lines = pathlib.Path(calls).read_text().splitlines()
     show(table(lines))
