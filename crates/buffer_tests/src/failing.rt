@@ -2,7 +2,7 @@
 
 use crate::compiled::compiled;
 use crate::runs::{Answer, Past, past_of};
-use crate::tapes::tapes;
+use crate::tapes::past_with;
 use image_walk::Checked;
 use port_set::{Port, PortError, Slots, TapePort};
 use std::alloc::Global;
@@ -15,6 +15,9 @@ const SEEDS: u64 = 10;
 
 // A request is answered, or waits, and is kept then.
 const KEPT: Answer = (None, Some(BufFault::Old));
+
+// A port has found no memory.
+const REFUSED: Answer = (Some(BufFault::NoMemory), Some(BufFault::Old));
 
 // Gives and takes in turn.
 const GIVES: &str =
@@ -102,20 +105,33 @@ fn fails_so(past: &Past<TapePort>, fault: BufFault, stop: BufFault) -> bool {
     past.stop == stop && past.answers.len() >= 2 && answers.starts_with(&past.answers)
 }
 
+// Whether a port that fails stops the buffer.
+fn port_stops(alloc: Global, image: &Checked, row: &Row, seed: u64) -> Result<bool, NoMemory> {
+    let port = row.port;
+    let past = past_with(alloc, image, &[], (row.first, row.second), seed)?;
+    let (fault, stop) = (BufFault::Port { port }, BufFault::Stopped { port });
+    Ok(fails_so(&past, fault, stop) && is_so(&past, row))
+}
+
 #[test]
 fn each_call_of_a_port_that_fails_stops_the_buffer(rt: HostRuntime) -> Result<(), Fail> {
     let alloc = rt.alloc();
     let image = compiled(alloc, GIVES)?;
     for row in ROWS {
         for seed in 0..SEEDS {
-            let port = row.port;
-            let ports = tapes(alloc, row.first, row.second)?;
-            let past = past_of(alloc, &image, Words::empty(alloc), ports, seed)?;
-            let (fault, stop) = (BufFault::Port { port }, BufFault::Stopped { port });
-            assert!(rt; fails_so(&past, fault, stop) && is_so(&past, row), "{port}, {seed}");
+            let stops = port_stops(alloc, &image, row, seed)?;
+            assert!(rt; stops, "{seed}");
         }
     }
     Ok(())
+}
+
+// Whether a store past the end of array 2 ends the buffer.
+fn array_ends(alloc: Global, image: &Checked, seed: u64) -> Result<bool, NoMemory> {
+    let array = 2;
+    let past = past_with(alloc, image, &[], (0, 0), seed)?;
+    let (fault, stop) = (BufFault::Index { array }, BufFault::Ended { array });
+    Ok(fails_so(&past, fault, stop) && past.end.printed.as_slice() == [5].as_slice())
 }
 
 #[test]
@@ -124,11 +140,8 @@ fn an_index_fault_ends_the_buffer(rt: HostRuntime) -> Result<(), Fail> {
     let text = "array a[1]; array b[2]; proc main() { print 5; b[2] = 1; print 6; }";
     let image = compiled(alloc, text)?;
     for seed in 0..SEEDS {
-        let past = past_of(alloc, &image, Words::empty(alloc), tapes(alloc, 0, 0)?, seed)?;
-        let array = 2;
-        let (fault, stop) = (BufFault::Index { array }, BufFault::Ended { array });
-        assert!(rt; fails_so(&past, fault, stop), "{seed}");
-        assert_eq!(rt; past.end.printed.as_slice(), [5].as_slice());
+        let ends = array_ends(alloc, &image, seed)?;
+        assert!(rt; ends, "{seed}");
     }
     Ok(())
 }
@@ -170,32 +183,66 @@ impl Port for Scarce {
 }
 
 // A run in which port 1 finds no memory at its first calls, so many.
-fn starved(alloc: Global, image: &Checked, calls: u64, seed: u64) -> Result<Past<Scarce>, NoMemory> {
-    let mut ports = Slots::none();
-    ports.first = Some(Scarce {
+fn starved(
+    alloc: Global,
+    image: &Checked,
+    calls: u64,
+    seed: u64,
+) -> Result<Past<Scarce>, NoMemory> {
+    let port = Scarce {
         calls,
         took: 0,
         closed: false,
-    });
+    };
+    let ports = Slots {
+        first: Some(port),
+        second: None,
+        third: None,
+        fourth: None,
+        fifth: None,
+        sixth: None,
+        seventh: None,
+    };
     past_of(alloc, image, Words::empty(alloc), ports, seed)
+}
+
+// Whether the request of a port that found no memory has waited.
+fn waits(alloc: Global, image: &Checked, seed: u64) -> Result<bool, NoMemory> {
+    let past = starved(alloc, image, 1_000, seed)?;
+    let answers = [KEPT, REFUSED];
+    Ok(
+        past.stop == Some(BufFault::NoMemory)
+            && past.answers.as_slice() == answers.as_slice()
+            && past.end.printed.as_slice() == [5].as_slice(),
+    )
+}
+
+// Whether it has waited until there was memory.
+fn goes_on(alloc: Global, image: &Checked, seed: u64) -> Result<bool, NoMemory> {
+    let past = starved(alloc, image, 1, seed)?;
+    let answers = [KEPT, REFUSED, KEPT];
+    let took = match &past.end.ports.first {
+        Some(port) => port.took,
+        None => 0,
+    };
+    Ok(
+        past.stop.is_none()
+            && past.answers.as_slice() == answers.as_slice()
+            && past.end.printed.as_slice() == [5, 6].as_slice()
+            && took == 7,
+    )
 }
 
 #[test]
 fn a_request_waits_while_a_port_finds_no_memory(rt: HostRuntime) -> Result<(), Fail> {
     let alloc = rt.alloc();
     let image = compiled(alloc, "proc main() { print 5; take 1, 7; print 6; }")?;
-    let refused = (Some(BufFault::NoMemory), Some(BufFault::Old));
     let mut went_on = 0u32;
     for seed in 0..SEEDS {
-        let past = starved(alloc, &image, 1000, seed)?;
-        assert_eq!(rt; past.answers.as_slice(), [KEPT, refused].as_slice(), "{seed}");
-        assert_eq!(rt; past.stop, Some(BufFault::NoMemory));
-        assert_eq!(rt; past.end.printed.as_slice(), [5].as_slice());
-        let past = starved(alloc, &image, 1, seed)?;
-        if past.stop.is_none() {
+        let waits = waits(alloc, &image, seed)?;
+        assert!(rt; waits, "{seed}");
+        if goes_on(alloc, &image, seed)? {
             went_on = went_on.wrapping_add(1);
-            assert_eq!(rt; past.answers.as_slice(), [KEPT, refused, KEPT].as_slice(), "{seed}");
-            assert_eq!(rt; past.end.printed.as_slice(), [5, 6].as_slice());
         }
     }
     assert!(rt; went_on > 0);

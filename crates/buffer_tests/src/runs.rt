@@ -44,10 +44,11 @@ struct Run<J: Job, P: Port> {
 // Puts all tokens of a list behind others.
 fn take_all<J: Job>(tokens: TokenList<J>, bag: &mut Vec<Token<J>>) -> Result<(), NoMemory> {
     let mut tokens = tokens;
-    for _ in 0..tokens.len() {
-        if let Some(token) = tokens.pop() {
-            bag.push(token)?;
-        }
+    for _ in 0..1_000 {
+        let Some(token) = tokens.pop() else {
+            break;
+        };
+        bag.push(token)?;
     }
     Ok(())
 }
@@ -140,6 +141,56 @@ fn words<J: Job, P: Port>(
     Ok(words)
 }
 
+// A run with no tokens.
+fn begun<J: Job, P: Port>(alloc: Global, buffer: Buffer<J, P>) -> Run<J, P> {
+    Run {
+        table: Table::new(alloc),
+        buffer,
+        bag: Vec::new(alloc),
+        tokens: Vec::new(alloc),
+        answers: Vec::new(alloc),
+    }
+}
+
+// Carries a run out, and answers the words of what was issued.
+fn carry_out<J: Job, P: Port>(
+    alloc: Global,
+    code: &Code<'_, J>,
+    run: &mut Run<J, P>,
+    seed: u64,
+) -> Result<Vec<u64>, NoMemory> {
+    let tokens = start(alloc, code)?;
+    take_all(tokens, &mut run.bag)?;
+    bring_all(alloc, code, run, seed)?;
+    words(alloc, code, &run.buffer)
+}
+
+// What has come of a run.
+fn what_came<J: Job, P: Port>(run: Run<J, P>, words: Vec<u64>) -> Past<P> {
+    Past {
+        tokens: run.tokens,
+        answers: run.answers,
+        words,
+        stop: run.buffer.stop(),
+        is_whole: run.bag.len() == 0,
+        end: run.buffer.finish(),
+    }
+}
+
+// A whole run of a buffer.
+fn run_on<J: Job, P: Port>(
+    alloc: Global,
+    code: &Code<'_, J>,
+    buffer: Buffer<J, P>,
+    seed: u64,
+) -> Result<Past<P>, NoMemory> {
+    let mut run = begun(alloc, buffer);
+    match carry_out(alloc, code, &mut run, seed) {
+        Ok(words) => Ok(what_came(run, words)),
+        Err(_) => Err(NoMemory),
+    }
+}
+
 // The same as `past_of`, as a job.
 fn run_as<J: Job, P: Port>(
     alloc: Global,
@@ -155,27 +206,13 @@ fn run_as<J: Job, P: Port>(
     requires open { AllOpen (contents P.tells ports) }
 {
     told_ports_begin();
-    let code: Code<'_, J> = Code::of(alloc, image)?;
-    let Ok(buffer) = Buffer::begin(alloc, &code, input, ports) else {
+    let Ok(code) = Code::<'_, J>::of(alloc, image) else {
         return Err(NoMemory);
     };
-    let mut run = Run {
-        table: Table::new(alloc),
-        buffer,
-        bag: Vec::new(alloc),
-        tokens: Vec::new(alloc),
-        answers: Vec::new(alloc),
-    };
-    take_all(start(alloc, &code)?, &mut run.bag)?;
-    bring_all(alloc, &code, &mut run, seed)?;
-    Ok(Past {
-        tokens: run.tokens,
-        answers: run.answers,
-        words: words(alloc, &code, &run.buffer)?,
-        stop: run.buffer.stop(),
-        is_whole: run.bag.len() == 0,
-        end: run.buffer.finish(),
-    })
+    match Buffer::begin(alloc, &code, input, ports) {
+        Ok(buffer) => run_on(alloc, &code, buffer, seed),
+        Err(_) => Err(NoMemory),
+    }
 }
 
 /// Runs an image on a table and a buffer. Tokens come in an order that the seed makes.
