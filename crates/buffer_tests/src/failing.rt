@@ -105,12 +105,20 @@ fn fails_so(past: &Past<TapePort>, fault: BufFault, stop: BufFault) -> bool {
     past.stop == stop && past.answers.len() >= 2 && answers.starts_with(&past.answers)
 }
 
+// Whether a buffer has told of a port that fails.
+fn port_fails(past: &Past<TapePort>, port: u8) -> bool {
+    fails_so(past, BufFault::Port { port }, BufFault::Stopped { port })
+}
+
+// Whether a buffer has told of an index fault.
+fn index_fails(past: &Past<TapePort>, array: u32) -> bool {
+    fails_so(past, BufFault::Index { array }, BufFault::Ended { array })
+}
+
 // Whether a port that fails stops the buffer.
 fn port_stops(alloc: Global, image: &Checked, row: &Row, seed: u64) -> Result<bool, NoMemory> {
-    let port = row.port;
     let past = past_with(alloc, image, &[], (row.first, row.second), seed)?;
-    let (fault, stop) = (BufFault::Port { port }, BufFault::Stopped { port });
-    Ok(fails_so(&past, fault, stop) && is_so(&past, row))
+    Ok(port_fails(&past, row.port) && is_so(&past, row))
 }
 
 #[test]
@@ -128,10 +136,8 @@ fn each_call_of_a_port_that_fails_stops_the_buffer(rt: HostRuntime) -> Result<()
 
 // Whether a store past the end of array 2 ends the buffer.
 fn array_ends(alloc: Global, image: &Checked, seed: u64) -> Result<bool, NoMemory> {
-    let array = 2;
     let past = past_with(alloc, image, &[], (0, 0), seed)?;
-    let (fault, stop) = (BufFault::Index { array }, BufFault::Ended { array });
-    Ok(fails_so(&past, fault, stop) && past.end.printed.as_slice() == [5].as_slice())
+    Ok(index_fails(&past, 2) && past.end.printed.as_slice() == [5].as_slice())
 }
 
 #[test]
