@@ -4,7 +4,7 @@ ghost use Rattle.std.specs.Prelude.{◌≤◌};
 ghost use Rattle.core_run.specs.Cores.{Runs};
 
 use crate::compiled::compiled;
-use crate::runs::Past;
+use crate::runs::{Past, let_go};
 use crate::tapes::past_with;
 use core_run::{Core, Event};
 use image_walk::Checked;
@@ -125,11 +125,24 @@ fn keeps_once(past: &Past<TapePort>) -> bool {
     kept && (past.answers.len() == 1 || past.stop.is_some())
 }
 
+// Whether the core comes to the same as a run.
+fn core_is_so(
+    alloc: Global,
+    image: &Checked,
+    world: &World,
+    past: &Past<TapePort>,
+) -> Result<bool, NoMemory> {
+    let mut core = Core::begin(alloc, image, world)?;
+    Ok(can_match(&mut core, &past.tokens) && ends_so(&core, past))
+}
+
 // Whether the buffer and the core come to the same in an order of tokens.
 fn is_alike(alloc: Global, image: &Checked, world: &World, seed: u64) -> Result<bool, NoMemory> {
     let past = past_with(alloc, image, INPUT, (0, 0), seed)?;
-    let mut core = Core::begin(alloc, image, world)?;
-    Ok(can_match(&mut core, &past.tokens) && ends_so(&core, &past) && keeps_once(&past))
+    let keeps = keeps_once(&past);
+    let answer = core_is_so(alloc, image, world, &past);
+    let_go(past);
+    Ok(answer? && keeps)
 }
 
 // Whether they do so in each of some orders.

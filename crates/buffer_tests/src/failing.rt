@@ -1,7 +1,7 @@
 //! Buffers that stop.
 
 use crate::compiled::compiled;
-use crate::runs::{Answer, Past, past_of};
+use crate::runs::{Answer, Past, let_go, past_of};
 use crate::tapes::past_with;
 use image_walk::Checked;
 use port_set::{Port, PortError, Slots, TapePort};
@@ -118,7 +118,9 @@ fn index_fails(past: &Past<TapePort>, array: u32) -> bool {
 // Whether a port that fails stops the buffer.
 fn port_stops(alloc: Global, image: &Checked, row: &Row, seed: u64) -> Result<bool, NoMemory> {
     let past = past_with(alloc, image, &[], (row.first, row.second), seed)?;
-    Ok(port_fails(&past, row.port) && is_so(&past, row))
+    let stops = port_fails(&past, row.port) && is_so(&past, row);
+    let_go(past);
+    Ok(stops)
 }
 
 #[test]
@@ -137,7 +139,9 @@ fn each_call_of_a_port_that_fails_stops_the_buffer(rt: HostRuntime) -> Result<()
 // Whether a store past the end of array 2 ends the buffer.
 fn array_ends(alloc: Global, image: &Checked, seed: u64) -> Result<bool, NoMemory> {
     let past = past_with(alloc, image, &[], (0, 0), seed)?;
-    Ok(index_fails(&past, 2) && past.end.printed.as_slice() == [5].as_slice())
+    let ends = index_fails(&past, 2) && past.end.printed.as_slice() == [5].as_slice();
+    let_go(past);
+    Ok(ends)
 }
 
 #[test]
