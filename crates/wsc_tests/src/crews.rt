@@ -1,81 +1,26 @@
 //! Whole calls whose images a crew runs.
 
-ghost use Rattle.std.specs.Prelude.{IfOk};
-ghost use Rattle.port_set.specs.Slots.{AllOpen, contents};
-ghost use Rattle.wsc_top.specs.Answers.{TellWords};
-
+use crate::replies::{Reply, call};
 use fire_crew::{Free, Gate};
-use image_walk::Checked;
-use port_set::{Port, Slots, TapePort};
+use port_set::Slots;
 use std::alloc::Global;
 use std::sync::Wait;
 use std::sync::atomic::{AtomicBool, AtomicU64, Ordering};
 use std::test::Fail;
 use std::thread;
 use std::thread::Threads;
-use ws_io::{MemSink, MemSource};
 use ws_isa::Image;
-use ws_words::{Bytes, NoMemory, Words};
-use wsc_top::{Outcome, Status, wsc};
+use ws_words::NoMemory;
+use wsc_top::Status;
 
-// What went out, and what a call gave back.
-#[derive(Drop)]
-pub struct Reply<P: Port> {
-    pub bytes: Vec<u8>,
-    pub status: Status,
-    pub image: Option<Checked>,
-    pub ports: Slots<P>,
-}
-
-impl<P: Port> Reply<P> {
-    // What went out, as text.
-    pub fn text(&self) -> &str {
-        str::from_utf8(&self.bytes).unwrap_or("")
-    }
-}
-
-// A call with the words of this line, which spaces separate, where the source and the sink don't fail.
-pub fn call<P: Port + Send, G: Gate, R: Threads + Wait + Sync>(
-    rt: &R,
-    alloc: Global,
-    line: &str,
-    text: &str,
-    ports: Slots<P>,
-    gate: &G,
-) -> Result<Reply<P>, Fail>
-    requires told { TellWords (contents P.tells ports) }
-    requires open { AllOpen (contents P.tells ports) }
-    ensures { IfOk result (λ reply. AllOpen (contents P.tells reply.ports)) }
-{
-    let mut words = Vec::new(alloc);
-    for word in line.split(' ') {
-        words.push(String::from_str(alloc, word)?)?;
-    }
-    let bytes = Bytes::from_slice(alloc, text.as_bytes())?;
-    let mut source = MemSource::new(bytes, 100_000, Words::empty(alloc));
-    let mut sink = MemSink::new(alloc, 100_000, Words::empty(alloc))?;
-    let outcome = wsc(rt, alloc, &words, &mut source, &mut sink, ports, gate);
-    let Outcome {
-        status,
-        image,
-        ports,
-    } = outcome;
-    Ok(Reply {
-        bytes: Vec::from_slice(alloc, sink.held())?,
-        status,
-        image,
-        ports,
-    })
-}
-
-// The same without ports.
+// A call without ports.
 fn call_alone<G: Gate, R: Threads + Wait + Sync>(
     rt: &R,
     alloc: Global,
     line: &str,
     text: &str,
     gate: &G,
-) -> Result<Reply<TapePort>, Fail> {
+) -> Result<Reply, Fail> {
     call(rt, alloc, line, text, Slots::none(), gate)
 }
 
