@@ -1,6 +1,6 @@
 //! Calls over memory with tapes as ports, and what they give back.
 
-ghost use Rattle.std.specs.Prelude.{IfOk};
+ghost use Rattle.std.specs.Prelude.{◌≡◌, IfOk};
 ghost use Rattle.std.specs.List.{AllByRecursion};
 ghost use Rattle.port_set.specs.Slots.{AllOpen, IsOpen, contents, told};
 ghost use Rattle.port_set.specs.Tape.{tape_tells};
@@ -13,17 +13,15 @@ use image_walk::Checked;
 use port_set::{Slots, TapePort};
 use std::alloc::Global;
 use std::sync::Wait;
-use std::test::Fail;
 use std::thread::Threads;
-use ws_io::{MemSink, MemSource};
-use ws_words::{Bytes, Words};
+use ws_io::{MemSink, MemSource, Sink, Source};
+use ws_words::{Bytes, NoMemory, Words};
 use wsc_top::{Outcome, Status, wsc};
 
 // The items of a slice are words.
 fn are_words(words: &[u64])
     ensures { AllByRecursion IsWord words.now }
-{
-}
+{}
 
 // What a tape in a slot has left are words.
 fn slot_has_words(slot: &Option<TapePort>)
@@ -51,15 +49,13 @@ fn tell_words(ports: &Slots<TapePort>)
 fn are_open(ports: &Slots<TapePort>)
     requires { AllByRecursion IsOpen (contents tape_tells ports.now) }
     ensures { AllOpen (contents tape_tells ports.now) }
-{
-}
+{}
 
 // And the other way round.
 fn stay_open(ports: &Slots<TapePort>)
     requires { AllOpen (contents tape_tells ports.now) }
     ensures { AllByRecursion IsOpen (contents tape_tells ports.now) }
-{
-}
+{}
 
 // What went out, and what a call gave back.
 #[derive(Drop)]
@@ -75,9 +71,94 @@ impl Reply {
     pub fn text(&self) -> &str {
         str::from_utf8(&self.bytes).unwrap_or("")
     }
+
+    // The ports alone.
+    pub fn into_ports(self) -> Slots<TapePort>
+        ensures { result ≡ self.ports }
+    {
+        self.ports
+    }
 }
 
-// A call with the words of this line, which spaces separate, where the source and the sink don't fail.
+// The call of the program, of which no more is said than that no port is closed.
+fn brief<S: Source, K: Sink, G: Gate, R: Threads + Wait + Sync>(
+    rt: &R,
+    alloc: Global,
+    words: &[String],
+    source: &mut S,
+    sink: &mut K,
+    ports: Slots<TapePort>,
+    gate: &G,
+) -> Outcome<TapePort>
+    requires told { TellWords (contents tape_tells ports) }
+    requires open { AllOpen (contents tape_tells ports) }
+    ensures { AllOpen (contents tape_tells result.ports) }
+{
+    wsc(rt, alloc, words, source, sink, ports, gate)
+}
+
+// The same with tapes, whose words are known to be words.
+pub fn run_words<S: Source, K: Sink, G: Gate, R: Threads + Wait + Sync>(
+    rt: &R,
+    alloc: Global,
+    words: &[String],
+    source: &mut S,
+    sink: &mut K,
+    ports: Slots<TapePort>,
+    gate: &G,
+) -> Outcome<TapePort>
+    requires { AllByRecursion IsOpen (contents tape_tells ports) }
+    ensures { AllByRecursion IsOpen (contents tape_tells result.ports) }
+{
+    tell_words(&ports);
+    are_open(&ports);
+    let outcome = brief(rt, alloc, words, source, sink, ports, gate);
+    stay_open(&outcome.ports);
+    outcome
+}
+
+// The words of a line, which spaces separate.
+pub fn words_of(alloc: Global, line: &str) -> Result<Vec<String>, NoMemory> {
+    let mut words = Vec::new(alloc);
+    for word in line.split(' ') {
+        words.push(String::from_str(alloc, word)?)?;
+    }
+    Ok(words)
+}
+
+// The words of this line, a source of this text, and a sink, which don't fail.
+fn prepared(
+    alloc: Global,
+    line: &str,
+    text: &str,
+) -> Result<(Vec<String>, MemSource, MemSink), NoMemory> {
+    let words = words_of(alloc, line)?;
+    let bytes = Bytes::from_slice(alloc, text.as_bytes())?;
+    let source = MemSource::new(bytes, 100_000, Words::empty(alloc));
+    let sink = MemSink::new(alloc, 100_000, Words::empty(alloc))?;
+    Ok((words, source, sink))
+}
+
+// What went out, beside what a call gave back.
+fn replied(alloc: Global, sink: &MemSink, outcome: Outcome<TapePort>) -> Result<Reply, NoMemory>
+    requires { AllByRecursion IsOpen (contents tape_tells outcome.ports) }
+    ensures { IfOk result (λ reply. AllByRecursion IsOpen (contents tape_tells reply.ports)) }
+{
+    let bytes = Vec::from_slice(alloc, sink.held())?;
+    let Outcome {
+        status,
+        image,
+        ports,
+    } = outcome;
+    Ok(Reply {
+        bytes,
+        status,
+        image,
+        ports,
+    })
+}
+
+// A call with the words of this line, where the source and the sink don't fail.
 pub fn call<G: Gate, R: Threads + Wait + Sync>(
     rt: &R,
     alloc: Global,
@@ -85,29 +166,12 @@ pub fn call<G: Gate, R: Threads + Wait + Sync>(
     text: &str,
     ports: Slots<TapePort>,
     gate: &G,
-) -> Result<Reply, Fail>
+) -> Result<Reply, NoMemory>
     requires { AllByRecursion IsOpen (contents tape_tells ports) }
     ensures { IfOk result (λ reply. AllByRecursion IsOpen (contents tape_tells reply.ports)) }
 {
-    let mut words = Vec::new(alloc);
-    for word in line.split(' ') {
-        words.push(String::from_str(alloc, word)?)?;
-    }
-    let bytes = Bytes::from_slice(alloc, text.as_bytes())?;
-    let mut source = MemSource::new(bytes, 100_000, Words::empty(alloc));
-    let mut sink = MemSink::new(alloc, 100_000, Words::empty(alloc))?;
-    tell_words(&ports);
-    are_open(&ports);
-    let Outcome {
-        status,
-        image,
-        ports,
-    } = wsc(rt, alloc, &words, &mut source, &mut sink, ports, gate);
-    stay_open(&ports);
-    Ok(Reply {
-        bytes: Vec::from_slice(alloc, sink.held())?,
-        status,
-        image,
-        ports,
-    })
+    let (words, source, sink) = prepared(alloc, line, text)?;
+    let (mut source, mut sink) = (source, sink);
+    let outcome = run_words(rt, alloc, &words, &mut source, &mut sink, ports, gate);
+    replied(alloc, &sink, outcome)
 }

@@ -145,14 +145,16 @@ fn ends_so<R: Threads + Wait + Sync>(
     alloc: Global,
     line: &str,
     row: &Row,
-) -> Result<bool, Fail> {
+) -> Result<bool, NoMemory> {
     let (fails, text, status, lists) = row;
     let reply = call(rt, alloc, line, JOB, tapes(alloc, *fails)?, &Free)?;
     let failed = if *status == Status::Done { 0 } else { 1 };
-    Ok(reply.text() == *text
-        && reply.status == *status
-        && are_at(&reply.ports, lists)
-        && faults(&reply.ports) == failed)
+    Ok(
+        reply.text() == *text
+            && reply.status == *status
+            && are_at(&reply.ports, lists)
+            && faults(&reply.ports) == failed,
+    )
 }
 
 // A run ends at the first call of a port that fails, with what came before it.
@@ -179,17 +181,46 @@ fn swapped(ports: &mut Slots<TapePort>, tape: TapePort) -> Option<TapePort>
 // A word from port 1 goes to port 2.
 const STEP: &str = "proc main() { var x; give 1, x; take 2, x; print x; }";
 
-// Two runs over the same ports, with another tape in slot 2 for the second.
-fn goes_on<R: Threads + Wait + Sync>(rt: &R, alloc: Global, line: &str) -> Result<bool, Fail> {
-    let first = call(rt, alloc, line, STEP, tapes(alloc, [0, 0, 0])?, &Free)?;
-    let five = first.text() == "5\nhalt\n";
-    let mut ports = first.ports;
-    let old = swapped(&mut ports, tape(alloc, &[], 0)?);
-    let second = call(rt, alloc, line, STEP, ports, &Free)?;
-    Ok(five
-        && is_at(&old, &[40], &[5])
-        && second.text() == "6\nhalt\n"
-        && are_at(&second.ports, &[&[7], &[], &[], &[6], &[11], &[]]))
+// Whether a run of that program answers so, and the ports that it hands back.
+fn stepped<R: Threads + Wait + Sync>(
+    rt: &R,
+    alloc: Global,
+    line: &str,
+    ports: Slots<TapePort>,
+    text: &str,
+) -> Result<(bool, Slots<TapePort>), NoMemory>
+    requires { AllByRecursion IsOpen (contents tape_tells ports) }
+    ensures { IfOk result (λ answer. AllByRecursion IsOpen (contents tape_tells answer.1)) }
+{
+    let reply = call(rt, alloc, line, STEP, ports, &Free)?;
+    let said = reply.text() == text;
+    Ok((said, reply.into_ports()))
+}
+
+// Whether a second run goes on, with another tape in slot 2.
+fn goes_on_with<R: Threads + Wait + Sync>(
+    rt: &R,
+    alloc: Global,
+    line: &str,
+    ports: Slots<TapePort>,
+    other: TapePort,
+) -> Result<bool, NoMemory>
+    requires ports { AllByRecursion IsOpen (contents tape_tells ports) }
+    requires other { other.closed ≡ false }
+{
+    let mut ports = ports;
+    let old = swapped(&mut ports, other);
+    let (six, ports) = stepped(rt, alloc, line, ports, "6\nhalt\n")?;
+    Ok(six && is_at(&old, &[40], &[5]) && are_at(&ports, &[&[7], &[], &[], &[6], &[11], &[]]))
+}
+
+// Two runs over the same ports, but for one that is swapped.
+fn goes_on<R: Threads + Wait + Sync>(rt: &R, alloc: Global, line: &str) -> Result<bool, NoMemory> {
+    let other = tape(alloc, &[], 0)?;
+    let ports = tapes(alloc, [0, 0, 0])?;
+    let (five, ports) = stepped(rt, alloc, line, ports, "5\nhalt\n")?;
+    let rest = goes_on_with(rt, alloc, line, ports, other)?;
+    Ok(five && rest)
 }
 
 // Two runs over the same ports, where port 2 fails in the first.
@@ -197,13 +228,11 @@ fn goes_on_after_a_fault<R: Threads + Wait + Sync>(
     rt: &R,
     alloc: Global,
     line: &str,
-) -> Result<bool, Fail> {
-    let first = call(rt, alloc, line, STEP, tapes(alloc, [0, 1, 0])?, &Free)?;
-    let failed = first.text() == "port 2\n";
-    let second = call(rt, alloc, line, STEP, first.ports, &Free)?;
-    Ok(failed
-        && second.text() == "6\nhalt\n"
-        && are_at(&second.ports, &[&[7], &[], &[40], &[6], &[11], &[]]))
+) -> Result<bool, NoMemory> {
+    let ports = tapes(alloc, [0, 1, 0])?;
+    let (failed, ports) = stepped(rt, alloc, line, ports, "port 2\n")?;
+    let (six, ports) = stepped(rt, alloc, line, ports, "6\nhalt\n")?;
+    Ok(failed && six && are_at(&ports, &[&[7], &[], &[40], &[6], &[11], &[]]))
 }
 
 #[test]
