@@ -1,4 +1,4 @@
-use Rattle.std.proofs.lemmas.List.Elements.{All-from_recursion, recursion_from_All}
+use Rattle.std.proofs.lemmas.List.Elements.{All-from_recursion}
 use Rattle.port_set.specs.Slots.{IsOpen, contents}
 use Rattle.port_set.specs.Tape.{tape_tells}
 use Rattle.wsc_tests.proofs.replies.are_open.Goals as goal

@@ -1,5 +1,5 @@
 use Rattle.std.specs.List.{AllByRecursion}
-use Rattle.std.proofs.Common.{Some, List, Option, sym, subst}
+use Rattle.std.proofs.Common.{List, Option, sym, subst}
 use Rattle.port_set.specs.Slots.{IsOpen, told_all}
 use Rattle.port_set.specs.Tape.{Tape, tape_tells}
 use Rattle.wsc_tests.proofs.tapes.swapped.Goals as goal
