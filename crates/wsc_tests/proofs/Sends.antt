@@ -1,5 +1,4 @@
 -- Graphs without Sends.
-use Rattle.std.specs.Prelude.{◌≡◌, ℕ}
 use Rattle.std.proofs.Common.{sym, subst, inl, inr}
 use Rattle.cfg_core.specs.Graph.{Exit, Goto, Branch, Call, Return, Send, Stop, Graph, Spot, spots, spot_at, no_spot, block_at}
 use Rattle.cfg_core.proofs.Total.{each_at}

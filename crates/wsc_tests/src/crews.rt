@@ -1,81 +1,27 @@
 //! Whole calls whose images a crew runs.
 
-ghost use Rattle.std.specs.Prelude.{IfOk};
-ghost use Rattle.port_set.specs.Slots.{AllOpen, contents};
-ghost use Rattle.wsc_top.specs.Answers.{TellWords};
-
+use crate::replies::{Reply, call};
 use fire_crew::{Free, Gate};
 use image_walk::Checked;
-use port_set::{Port, Slots, TapePort};
+use port_set::Slots;
 use std::alloc::Global;
 use std::sync::Wait;
 use std::sync::atomic::{AtomicBool, AtomicU64, Ordering};
 use std::test::Fail;
 use std::thread;
 use std::thread::Threads;
-use ws_io::{MemSink, MemSource};
 use ws_isa::Image;
-use ws_words::{Bytes, NoMemory, Words};
-use wsc_top::{Outcome, Status, wsc};
+use ws_words::NoMemory;
+use wsc_top::Status;
 
-// What went out, and what a call gave back.
-#[derive(Drop)]
-pub struct Reply<P: Port> {
-    pub bytes: Vec<u8>,
-    pub status: Status,
-    pub image: Option<Checked>,
-    pub ports: Slots<P>,
-}
-
-impl<P: Port> Reply<P> {
-    // What went out, as text.
-    pub fn text(&self) -> &str {
-        str::from_utf8(&self.bytes).unwrap_or("")
-    }
-}
-
-// A call with the words of this line, which spaces separate, where the source and the sink don't fail.
-pub fn call<P: Port + Send, G: Gate, R: Threads + Wait + Sync>(
-    rt: &R,
-    alloc: Global,
-    line: &str,
-    text: &str,
-    ports: Slots<P>,
-    gate: &G,
-) -> Result<Reply<P>, Fail>
-    requires told { TellWords (contents P.tells ports) }
-    requires open { AllOpen (contents P.tells ports) }
-    ensures { IfOk result (λ reply. AllOpen (contents P.tells reply.ports)) }
-{
-    let mut words = Vec::new(alloc);
-    for word in line.split(' ') {
-        words.push(String::from_str(alloc, word)?)?;
-    }
-    let bytes = Bytes::from_slice(alloc, text.as_bytes())?;
-    let mut source = MemSource::new(bytes, 100_000, Words::empty(alloc));
-    let mut sink = MemSink::new(alloc, 100_000, Words::empty(alloc))?;
-    let outcome = wsc(rt, alloc, &words, &mut source, &mut sink, ports, gate);
-    let Outcome {
-        status,
-        image,
-        ports,
-    } = outcome;
-    Ok(Reply {
-        bytes: Vec::from_slice(alloc, sink.held())?,
-        status,
-        image,
-        ports,
-    })
-}
-
-// The same without ports.
+// A call without ports.
 fn call_alone<G: Gate, R: Threads + Wait + Sync>(
     rt: &R,
     alloc: Global,
     line: &str,
     text: &str,
     gate: &G,
-) -> Result<Reply<TapePort>, Fail> {
+) -> Result<Reply, NoMemory> {
     call(rt, alloc, line, text, Slots::none(), gate)
 }
 
@@ -145,16 +91,36 @@ impl Gate for Held {
     }
 }
 
+// Whether a gate let its token of that image go before the others had come; nothing where the image
+// wasn't run as it should be.
+fn lateness(reply: &Reply, gate: &Held) -> Option<bool> {
+    if reply.text() == "7\nhalt\nfirings 6\n" && gate.have_come() {
+        Some(gate.was_late())
+    } else {
+        None
+    }
+}
+
+// The same of a run with this line, where the token of this instruction is held for so many turns.
+fn was_late<R: Threads + Wait + Sync>(
+    rt: &R,
+    alloc: Global,
+    line: &str,
+    instr: u32,
+    turns: u32,
+) -> Result<Option<bool>, NoMemory> {
+    let gate = Held::new(instr, turns);
+    let reply = call_alone(rt, alloc, line, IMAGE, &gate)?;
+    Ok(lateness(&reply, &gate))
+}
+
 // A worker whose token is held leaves the other tokens of its seat to the other worker.
 #[test]
 fn one_worker_steals_from_another(rt: HostRuntime) -> Result<(), Fail> {
     let alloc = rt.alloc();
     let line = "exec --workers 2 --budget 6 --stats";
     for instr in 1..4 {
-        let gate = Held::new(instr, 1_000_000);
-        let reply = call_alone(&rt, alloc, line, IMAGE, &gate)?;
-        assert_eq!(rt; reply.text(), "7\nhalt\nfirings 6\n");
-        assert!(rt; gate.have_come() && !gate.was_late(), "{instr}");
+        assert_eq!(rt; was_late(&rt, alloc, line, instr, 1_000_000)?, Some(false));
     }
     Ok(())
 }
@@ -166,12 +132,10 @@ fn one_worker_alone_waits_in_vain(rt: HostRuntime) -> Result<(), Fail> {
     let line = "exec --workers 1 --budget 6 --stats";
     let mut late = 0u32;
     for instr in 1..4 {
-        let gate = Held::new(instr, 1_000);
-        let reply = call_alone(&rt, alloc, line, IMAGE, &gate)?;
-        assert_eq!(rt; reply.text(), "7\nhalt\nfirings 6\n");
-        assert!(rt; gate.have_come(), "{instr}");
-        if gate.was_late() {
-            late = late.wrapping_add(1);
+        match was_late(&rt, alloc, line, instr, 1_000)? {
+            Some(true) => late = late.wrapping_add(1),
+            Some(false) => {}
+            None => late = 9,
         }
     }
     assert_eq!(rt; late, 2);
@@ -273,17 +237,32 @@ const TOKENS: &[(u64, u32, u8)] = &[
     (1, 15, 0),
 ];
 
+// Whether each token of that run came once to a gate, and nothing else.
+fn had_each_once(gate: &Counts) -> bool {
+    for (wave, instr, port) in TOKENS {
+        if gate.of(*wave, *instr, *port) != 1 {
+            return false;
+        }
+    }
+    gate.all() == 16
+}
+
+// Whether it is so with this line.
+fn comes_once<R: Threads + Wait + Sync>(
+    rt: &R,
+    alloc: Global,
+    line: &str,
+) -> Result<bool, NoMemory> {
+    let gate = Counts::new(alloc)?;
+    let reply = call_alone(rt, alloc, line, STORES, &gate)?;
+    Ok(reply.text() == "5\n0\nhalt\n" && had_each_once(&gate))
+}
+
 #[test]
 fn each_token_comes_once_to_the_gate(rt: HostRuntime) -> Result<(), Fail> {
     let alloc = rt.alloc();
     for line in ["exec --workers 1", "exec --workers 2", "exec --workers 8"] {
-        let gate = Counts::new(alloc)?;
-        let reply = call_alone(&rt, alloc, line, STORES, &gate)?;
-        assert_eq!(rt; reply.text(), "5\n0\nhalt\n");
-        assert_eq!(rt; gate.all(), 16, "{line}");
-        for (wave, instr, port) in TOKENS {
-            assert_eq!(rt; gate.of(*wave, *instr, *port), 1, "{line}, {instr}.{port}");
-        }
+        assert!(rt; comes_once(&rt, alloc, line)?, "{line}");
     }
     Ok(())
 }
@@ -316,23 +295,40 @@ fn once(gate: &Counts, instr: u32, ports: u8) -> u64 {
     count
 }
 
+// How many tokens a gate was called for, where it was once for each of these ports of instructions in
+// their order, and for nothing else.
+fn tokens_of(gate: &Counts, ports: &[u8]) -> Option<u64> {
+    let (mut instr, mut all) = (0u32, 0u64);
+    for ports in ports {
+        instr = instr.wrapping_add(1);
+        all = all.wrapping_add(*ports as u64);
+        if once(gate, instr, *ports) != *ports as u64 {
+            return None;
+        }
+    }
+    if gate.all() == all { Some(all) } else { None }
+}
+
+// The same where they are the ports of an image.
+fn tokens_at(
+    alloc: Global,
+    gate: &Counts,
+    image: &Option<Checked>,
+) -> Result<Option<u64>, NoMemory> {
+    let Some(image) = image else {
+        return Ok(None);
+    };
+    let ports = ports_of(alloc, image.image())?;
+    Ok(tokens_of(gate, &ports))
+}
+
 #[test]
 fn each_port_of_a_compiled_program_has_one_token(rt: HostRuntime) -> Result<(), Fail> {
     let alloc = rt.alloc();
     let gate = Counts::new(alloc)?;
     let reply = call_alone(&rt, alloc, "run", JOB, &gate)?;
-    let Some(image) = &reply.image else {
-        assert!(rt; false);
-        return Ok(());
-    };
-    let (mut instr, mut all) = (0u32, 0u64);
-    for ports in ports_of(alloc, image.image())? {
-        instr = instr.wrapping_add(1);
-        all = all.wrapping_add(ports as u64);
-        assert_eq!(rt; once(&gate, instr, ports), ports as u64, "{instr}");
-    }
-    assert!(rt; all > 0);
-    assert_eq!(rt; gate.all(), all);
+    let tokens = tokens_at(alloc, &gate, &reply.image)?;
+    assert!(rt; tokens.unwrap_or(0) > 0);
     Ok(())
 }
 
@@ -391,17 +387,23 @@ const ROWS: &[Row] = &[
     },
 ];
 
+// Whether this is answered, with this status, and an image comes back.
+fn is_answered<R: Threads + Wait + Sync>(
+    rt: &R,
+    alloc: Global,
+    line: &str,
+    row: &Row,
+) -> Result<bool, NoMemory> {
+    let reply = call_alone(rt, alloc, line, row.text, &Free)?;
+    Ok(reply.text() == row.answer && reply.status == row.status && reply.image.is_some())
+}
+
 #[test]
 fn any_number_of_workers_answers_alike(rt: HostRuntime) -> Result<(), Fail> {
     let alloc = rt.alloc();
     for row in ROWS {
         for line in row.lines {
-            let reply = call_alone(&rt, alloc, line, row.text, &Free)?;
-            assert_eq!(rt; reply.text(), row.answer, "{line}");
-            assert!(rt;
-                reply.status == row.status && reply.image.is_some(),
-                "{line}"
-            );
+            assert!(rt; is_answered(&rt, alloc, line, row)?, "{line}");
         }
     }
     Ok(())
@@ -430,12 +432,21 @@ const IMAGES: &[(&str, &str, bool)] = &[
     ("Run", JOB, false),
 ];
 
+// Whether an image comes back.
+fn gives_image<R: Threads + Wait + Sync>(
+    rt: &R,
+    alloc: Global,
+    line: &str,
+    text: &str,
+) -> Result<bool, NoMemory> {
+    Ok(call_alone(rt, alloc, line, text, &Free)?.image.is_some())
+}
+
 #[test]
 fn an_image_that_was_run_or_printed_comes_back(rt: HostRuntime) -> Result<(), Fail> {
     let alloc = rt.alloc();
     for (line, text, image) in IMAGES {
-        let reply = call_alone(&rt, alloc, line, text, &Free)?;
-        assert_eq!(rt; reply.image.is_some(), *image, "{line}");
+        assert!(rt; gives_image(&rt, alloc, line, text)? == *image, "{line}");
     }
     Ok(())
 }

@@ -10,6 +10,7 @@ ghost use Rattle.cfg_build.specs.Keeps.{IsFirstForm};
 use call_gen::{reached, spell_calls};
 use cfg_build::lower;
 use cfg_core::{Graph, run_graph};
+use image_walk::Checked;
 use live_vars::live;
 use phi_conv::join_short;
 use seq_run::run_plain;
@@ -18,8 +19,8 @@ use src_check::{Accepted, check};
 use src_lex::lex;
 use src_parse::parse;
 use std::alloc::Global;
-use std::process::Abort;
 use std::test::Fail;
+use wave_build::compile;
 use wave_cut::cut;
 use ws_words::{Cells, NoMemory, Words, World};
 
@@ -200,6 +201,12 @@ pub fn accepted(alloc: Global, text: &str) -> Result<Accepted, Fail>
     Ok(accepted)
 }
 
+// The image of a program.
+pub fn compiled(alloc: Global, text: &str) -> Result<Checked, Fail> {
+    let accepted = accepted(alloc, text)?;
+    Ok(compile(alloc, &accepted)?)
+}
+
 // Ports 1, 2 and 3 have words left, the others none.
 pub fn world(alloc: Global, input: &[u64]) -> Result<World, NoMemory> {
     let mut left = Cells::empty(alloc);
@@ -239,33 +246,35 @@ fn passed(alloc: Global, lowered: &Graph) -> Result<(Graph, Graph), NoMemory>
     Ok((joined, spelled))
 }
 
-// The walks of the graphs of a program answer as its run, whole, on each input and number of turns.
-fn walk_so(
-    rt: &impl Abort,
+// Whether a graph walks as a program runs, on each number of turns.
+fn walks_on(
     alloc: Global,
     accepted: &Accepted,
-    lowered: &Graph,
-    joined: &Graph,
-    spelled: &Graph,
-    text: &str,
-) -> Result<(), Fail>
-    requires lowered { IsGraph (view.graph lowered.now) }
-    requires joined { IsGraph (view.graph joined.now) }
-    requires spelled { IsGraph (view.graph spelled.now) }
+    graph: &Graph,
+    world: &World,
+) -> Result<bool, NoMemory>
+    requires { IsGraph (view.graph graph.now) }
+{
+    for turns in TURNS {
+        let run = run_plain(alloc, accepted, world, *turns)?;
+        if run_graph(alloc, graph, world, *turns)? != run {
+            return Ok(false);
+        }
+    }
+    Ok(true)
+}
+
+// The same, whole, on each input.
+fn walks_as(alloc: Global, accepted: &Accepted, graph: &Graph) -> Result<bool, NoMemory>
+    requires { IsGraph (view.graph graph.now) }
 {
     for input in INPUTS {
         let world = world(alloc, input)?;
-        for turns in TURNS {
-            let run = run_plain(alloc, accepted, &world, *turns)?;
-            let walk = run_graph(alloc, lowered, &world, *turns)?;
-            assert_eq!(rt; walk, run, "{text}");
-            let walk = run_graph(alloc, joined, &world, *turns)?;
-            assert_eq!(rt; walk, run, "{text}, joined");
-            let walk = run_graph(alloc, spelled, &world, *turns)?;
-            assert_eq!(rt; walk, run, "{text}, spelled");
+        if !walks_on(alloc, accepted, graph, &world)? {
+            return Ok(false);
         }
     }
-    Ok(())
+    Ok(true)
 }
 
 #[test]
@@ -274,9 +283,11 @@ fn graphs_walk_as_programs_run(rt: HostRuntime) -> Result<(), Fail> {
     for (text, count) in PROGRAMS {
         let accepted = accepted(alloc, text)?;
         let lowered = lower(alloc, &accepted)?;
-        assert_eq!(rt; blocks(&lowered), *count, "{text}");
         let (joined, spelled) = passed(alloc, &lowered)?;
-        walk_so(&rt, alloc, &accepted, &lowered, &joined, &spelled, text)?;
+        assert!(rt; blocks(&lowered) == *count, "{text}");
+        assert!(rt; walks_as(alloc, &accepted, &lowered)?, "{text}, lowered");
+        assert!(rt; walks_as(alloc, &accepted, &joined)?, "{text}, joined");
+        assert!(rt; walks_as(alloc, &accepted, &spelled)?, "{text}, spelled");
     }
     Ok(())
 }

@@ -1,12 +1,12 @@
 //! The images of programs walk as the programs run.
 
-use crate::graphs::{INPUTS, PROGRAMS, accepted, world};
-use image_walk::{Walked, walk_image};
+use crate::graphs::{INPUTS, PROGRAMS, accepted, compiled, world};
+use image_walk::{Checked, Walked, walk_image};
 use seq_run::run_plain;
+use src_check::Accepted;
 use std::alloc::Global;
 use std::test::Fail;
-use wave_build::compile;
-use ws_words::{Cells, Plain, Words, World};
+use ws_words::{Cells, NoMemory, Plain, Words};
 
 // The most turns and firings that a test takes.
 const TURNS: u64 = 150;
@@ -59,18 +59,26 @@ fn is_walk_of(walked: &Walked, ran: &Plain) -> bool {
     }
 }
 
+// Whether an image walks as a program runs, on each input.
+fn walks_as(alloc: Global, accepted: &Accepted, image: &Checked) -> Result<bool, NoMemory> {
+    for input in INPUTS {
+        let world = world(alloc, input)?;
+        let walked = walk_image(alloc, image, &world, FIRINGS)?;
+        let ran = run_plain(alloc, accepted, &world, TURNS)?;
+        if !is_walk_of(&walked, &ran) {
+            return Ok(false);
+        }
+    }
+    Ok(true)
+}
+
 #[test]
 fn images_walk_as_programs_run(rt: HostRuntime) -> Result<(), Fail> {
     let alloc = rt.alloc();
     for (text, _) in PROGRAMS {
         let accepted = accepted(alloc, text)?;
-        let image = compile(alloc, &accepted)?;
-        for input in INPUTS {
-            let world = world(alloc, input)?;
-            let walked = walk_image(alloc, &image, &world, FIRINGS)?;
-            let ran = run_plain(alloc, &accepted, &world, TURNS)?;
-            assert!(rt; is_walk_of(&walked, &ran), "{text}");
-        }
+        let image = compiled(alloc, text)?;
+        assert!(rt; walks_as(alloc, &accepted, &image)?, "{text}");
     }
     Ok(())
 }

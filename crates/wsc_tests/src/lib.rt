@@ -10,4 +10,8 @@ mod graphs;
 #[cfg(test)]
 mod images;
 #[cfg(test)]
+mod replies;
+#[cfg(test)]
 mod schedules;
+#[cfg(test)]
+mod tapes;

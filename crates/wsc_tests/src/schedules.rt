@@ -2,15 +2,14 @@
 
 ghost use Rattle.core_run.specs.Cores.{Runs};
 
-use crate::graphs::{accepted, world};
+use crate::graphs::{compiled, world};
 use annot_check::check_image;
 use asm_text::read_asm;
 use core_run::{Core, Event, Run, StepFault, run_checked};
 use image_walk::{Checked, walk_image};
 use std::alloc::Global;
 use std::test::Fail;
-use wave_build::compile;
-use ws_words::{Cells, NoMemory, Words};
+use ws_words::{Cells, NoMemory, Words, World};
 
 // How often each program is run at random.
 const SEEDS: u64 = 20;
@@ -192,26 +191,52 @@ fn are_first(words: &[u64], all: &Words) -> bool {
     true
 }
 
+// Whether a core that makes its events in some order comes to what `run` answers.
+fn comes_to(
+    alloc: Global,
+    image: &Checked,
+    world: &World,
+    run: &Run,
+    printed: &Words,
+    seed: u64,
+) -> Result<bool, NoMemory> {
+    let mut core = Core::begin(alloc, image, world)?;
+    if comes_to_rest(&mut core, seed, count_instrs(image))? {
+        Ok(is_at_end_of(&core, run))
+    } else {
+        Ok(are_first(core.printed(), printed))
+    }
+}
+
+// How many of the seeds come to that before one doesn't.
+fn seeds(
+    alloc: Global,
+    image: &Checked,
+    world: &World,
+    run: &Run,
+    printed: &Words,
+) -> Result<u64, NoMemory> {
+    for seed in 0..SEEDS {
+        if !comes_to(alloc, image, world, run, printed, seed)? {
+            return Ok(seed);
+        }
+    }
+    Ok(SEEDS)
+}
+
+fn seeds_of(alloc: Global, image: &Checked) -> Result<u64, NoMemory> {
+    let world = world(alloc, INPUT)?;
+    let run = run_checked(alloc, image, &world, FIRINGS)?;
+    let walked = walk_image(alloc, image, &world, FIRINGS)?;
+    seeds(alloc, image, &world, &run, &walked.printed)
+}
+
 #[test]
 fn events_in_any_order_come_to_what_run_answers(rt: HostRuntime) -> Result<(), Fail> {
     let alloc = rt.alloc();
     for text in PROGRAMS {
-        let image = compile(alloc, &accepted(alloc, text)?)?;
-        let world = world(alloc, INPUT)?;
-        let run = run_checked(alloc, &image, &world, FIRINGS)?;
-        let walked = walk_image(alloc, &image, &world, FIRINGS)?;
-        let instrs = count_instrs(&image);
-        for seed in 0..SEEDS {
-            let mut core = Core::begin(alloc, &image, &world)?;
-            if comes_to_rest(&mut core, seed, instrs)? {
-                assert!(rt; is_at_end_of(&core, &run), "{text}, seed {seed}");
-            } else {
-                assert!(rt;
-                    are_first(core.printed(), &walked.printed),
-                    "{text}, seed {seed}"
-                );
-            }
-        }
+        let image = compiled(alloc, text)?;
+        assert_eq!(rt; seeds_of(alloc, &image)?, SEEDS, "{text}");
     }
     Ok(())
 }
@@ -315,18 +340,29 @@ fn refuses(core: &mut Core<'_>, rows: &[Row]) -> bool
     true
 }
 
+// How many events of a trace are made, each behind others that may not be made before it.
+fn follows(core: &mut Core<'_>, trace: &[(&[Row], Row)]) -> usize
+    requires { Runs core.old }
+    ensures { Runs core.new }
+{
+    let mut count = 0usize;
+    for (refused, row) in trace {
+        if !refuses(core, refused) || core.step(event_of(*row)).is_err() {
+            return count;
+        }
+        count = count.wrapping_add(1);
+    }
+    count
+}
+
 #[test]
 fn events_are_made_one_by_one(rt: HostRuntime) -> Result<(), Fail> {
     let alloc = rt.alloc();
     let image = checked(alloc, IMAGE)?;
     let world = world(alloc, &[1])?;
     let mut core = Core::begin(alloc, &image, &world)?;
-    for (refused, row) in TRACE {
-        assert!(rt; refuses(&mut core, refused), "before {row:?}");
-        assert!(rt; core.step(event_of(*row)).is_ok(), "{row:?}");
-    }
-    assert!(rt; core.pick().is_none());
-    assert_eq!(rt; core.printed(), [5, 0].as_slice());
-    assert_eq!(rt; core.fired(), 14);
+    assert_eq!(rt; follows(&mut core, TRACE), TRACE.len());
+    assert!(rt; core.pick().is_none() && core.fired() == 14);
+    assert!(rt; core.printed() == [5, 0].as_slice());
     Ok(())
 }

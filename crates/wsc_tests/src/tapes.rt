@@ -1,0 +1,246 @@
+//! Whole calls with ports: tapes that give words, keep what they take, and fail at a call.
+
+ghost use Rattle.std.specs.Prelude.{◌≡◌, false, IfOk};
+ghost use Rattle.std.specs.List.{AllByRecursion};
+ghost use Rattle.port_set.specs.Slots.{IsOpen, contents};
+ghost use Rattle.port_set.specs.Tape.{tape_tells};
+
+use crate::replies::call;
+use fire_crew::Free;
+use port_set::{Slots, TapePort};
+use std::alloc::Global;
+use std::sync::Wait;
+use std::test::Fail;
+use std::thread::Threads;
+use ws_words::{NoMemory, Words};
+use wsc_top::Status;
+
+// A tape that has these words left, and whose call with this number, counted from 1, fails.
+fn tape(alloc: Global, left: &[u64], fails: u64) -> Result<TapePort, NoMemory>
+    ensures { IfOk result (λ tape. tape.closed ≡ false) }
+{
+    Ok(TapePort::new(
+        alloc,
+        Words::from_slice(alloc, left)?,
+        Words::from_slice(alloc, &[fails])?,
+    ))
+}
+
+// Tapes in the first three slots, with one call of each that fails.
+fn tapes(alloc: Global, fails: [u64; 3]) -> Result<Slots<TapePort>, NoMemory>
+    ensures { IfOk result (λ ports. AllByRecursion IsOpen (contents tape_tells ports)) }
+{
+    let first = tape(alloc, &[5, 6, 7], fails[0])?;
+    let second = tape(alloc, &[40], fails[1])?;
+    let third = tape(alloc, &[11], fails[2])?;
+    Ok(Slots {
+        first: Some(first),
+        second: Some(second),
+        third: Some(third),
+        fourth: None,
+        fifth: None,
+        sixth: None,
+        seventh: None,
+    })
+}
+
+// Of each of the first three ports the words that it has left, and those that it took.
+type Lists = [&'static [u64]; 6];
+
+// Whether the tape in a slot has left and took these words.
+fn is_at(slot: &Option<TapePort>, left: &[u64], took: &[u64]) -> bool {
+    match slot {
+        Some(tape) => tape.left() == left && tape.took() == took,
+        None => false,
+    }
+}
+
+fn are_at(ports: &Slots<TapePort>, lists: &Lists) -> bool {
+    is_at(&ports.first, lists[0], lists[1])
+        && is_at(&ports.second, lists[2], lists[3])
+        && is_at(&ports.third, lists[4], lists[5])
+}
+
+// How often tapes have failed, all together.
+fn faults(ports: &Slots<TapePort>) -> u64 {
+    let mut count = 0u64;
+    for slot in [&ports.first, &ports.second, &ports.third] {
+        if let Some(tape) = slot {
+            count = count.wrapping_add(tape.faults());
+        }
+    }
+    count
+}
+
+const LINES: [&str; 2] = ["run --workers 1", "run --workers 4"];
+
+// Port 1 gives, gives and takes; port 2 takes three times; port 3 gives; slot 5 is empty.
+const JOB: &str = "proc main() { var x, y; give 1, x; print x; take 2, x + 1; give 1, y; \
+    take 1, x * y; print y; take 2, y + 10; take 5, 9; give 3, x; print x; take 2, x + y; \
+    print 8; }";
+
+// Of each port the number of the call that fails; what goes out, the status, and where the ports are.
+type Row = ([u64; 3], &'static str, Status, Lists);
+
+const ROWS: &[Row] = &[
+    (
+        [4, 4, 2],
+        "5\n6\n11\n8\nhalt\n",
+        Status::Done,
+        [&[7], &[30], &[40], &[6, 16, 17], &[], &[]],
+    ),
+    (
+        [1, 0, 0],
+        "port 1\n",
+        Status::PortFault(1),
+        [&[5, 6, 7], &[], &[40], &[], &[11], &[]],
+    ),
+    (
+        [0, 1, 0],
+        "5\nport 2\n",
+        Status::PortFault(2),
+        [&[6, 7], &[], &[40], &[], &[11], &[]],
+    ),
+    (
+        [2, 0, 0],
+        "5\nport 1\n",
+        Status::PortFault(1),
+        [&[6, 7], &[], &[40], &[6], &[11], &[]],
+    ),
+    (
+        [3, 0, 0],
+        "5\nport 1\n",
+        Status::PortFault(1),
+        [&[7], &[], &[40], &[6], &[11], &[]],
+    ),
+    (
+        [0, 2, 0],
+        "5\n6\nport 2\n",
+        Status::PortFault(2),
+        [&[7], &[30], &[40], &[6], &[11], &[]],
+    ),
+    (
+        [0, 0, 1],
+        "5\n6\nport 3\n",
+        Status::PortFault(3),
+        [&[7], &[30], &[40], &[6, 16], &[11], &[]],
+    ),
+    (
+        [0, 3, 0],
+        "5\n6\n11\nport 2\n",
+        Status::PortFault(2),
+        [&[7], &[30], &[40], &[6, 16], &[], &[]],
+    ),
+    (
+        [2, 2, 1],
+        "5\nport 1\n",
+        Status::PortFault(1),
+        [&[6, 7], &[], &[40], &[6], &[11], &[]],
+    ),
+];
+
+// Whether a call ends as a row says.
+fn ends_so<R: Threads + Wait + Sync>(
+    rt: &R,
+    alloc: Global,
+    line: &str,
+    row: &Row,
+) -> Result<bool, NoMemory> {
+    let (fails, text, status, lists) = row;
+    let reply = call(rt, alloc, line, JOB, tapes(alloc, *fails)?, &Free)?;
+    let failed = if *status == Status::Done { 0 } else { 1 };
+    Ok(
+        reply.text() == *text
+            && reply.status == *status
+            && are_at(&reply.ports, lists)
+            && faults(&reply.ports) == failed,
+    )
+}
+
+// A run ends at the first call of a port that fails, with what came before it.
+#[test]
+fn ports_give_and_take_until_one_fails(rt: HostRuntime) -> Result<(), Fail> {
+    let alloc = rt.alloc();
+    for row in ROWS {
+        for line in LINES {
+            assert!(rt; ends_so(&rt, alloc, line, row)?, "{line}, {}", row.1);
+        }
+    }
+    Ok(())
+}
+
+// Puts a tape into slot 2, and hands out what was there.
+fn swapped(ports: &mut Slots<TapePort>, tape: TapePort) -> Option<TapePort>
+    requires open { AllByRecursion IsOpen (contents tape_tells ports.old) }
+    requires tape { tape.closed ≡ false }
+    ensures { AllByRecursion IsOpen (contents tape_tells ports.new) }
+{
+    ports.swap(2, Some(tape))
+}
+
+// A word from port 1 goes to port 2.
+const STEP: &str = "proc main() { var x; give 1, x; take 2, x; print x; }";
+
+// Whether a run of that program answers so, and the ports that it hands back.
+fn stepped<R: Threads + Wait + Sync>(
+    rt: &R,
+    alloc: Global,
+    line: &str,
+    ports: Slots<TapePort>,
+    text: &str,
+) -> Result<(bool, Slots<TapePort>), NoMemory>
+    requires { AllByRecursion IsOpen (contents tape_tells ports) }
+    ensures { IfOk result (λ answer. AllByRecursion IsOpen (contents tape_tells answer.1)) }
+{
+    let reply = call(rt, alloc, line, STEP, ports, &Free)?;
+    let said = reply.text() == text;
+    Ok((said, reply.into_ports()))
+}
+
+// Whether a second run goes on, with another tape in slot 2.
+fn goes_on_with<R: Threads + Wait + Sync>(
+    rt: &R,
+    alloc: Global,
+    line: &str,
+    ports: Slots<TapePort>,
+    other: TapePort,
+) -> Result<bool, NoMemory>
+    requires ports { AllByRecursion IsOpen (contents tape_tells ports) }
+    requires other { other.closed ≡ false }
+{
+    let mut ports = ports;
+    let old = swapped(&mut ports, other);
+    let (six, ports) = stepped(rt, alloc, line, ports, "6\nhalt\n")?;
+    Ok(six && is_at(&old, &[40], &[5]) && are_at(&ports, &[&[7], &[], &[], &[6], &[11], &[]]))
+}
+
+// Two runs over the same ports, but for one that is swapped.
+fn goes_on<R: Threads + Wait + Sync>(rt: &R, alloc: Global, line: &str) -> Result<bool, NoMemory> {
+    let other = tape(alloc, &[], 0)?;
+    let ports = tapes(alloc, [0, 0, 0])?;
+    let (five, ports) = stepped(rt, alloc, line, ports, "5\nhalt\n")?;
+    let rest = goes_on_with(rt, alloc, line, ports, other)?;
+    Ok(five && rest)
+}
+
+// Two runs over the same ports, where port 2 fails in the first.
+fn goes_on_after_a_fault<R: Threads + Wait + Sync>(
+    rt: &R,
+    alloc: Global,
+    line: &str,
+) -> Result<bool, NoMemory> {
+    let ports = tapes(alloc, [0, 1, 0])?;
+    let (failed, ports) = stepped(rt, alloc, line, ports, "port 2\n")?;
+    let (six, ports) = stepped(rt, alloc, line, ports, "6\nhalt\n")?;
+    Ok(failed && six && are_at(&ports, &[&[7], &[], &[40], &[6], &[11], &[]]))
+}
+
+#[test]
+fn a_second_run_goes_on_where_the_first_left_the_ports(rt: HostRuntime) -> Result<(), Fail> {
+    let alloc = rt.alloc();
+    for line in LINES {
+        assert!(rt; goes_on(&rt, alloc, line)?, "{line}");
+        assert!(rt; goes_on_after_a_fault(&rt, alloc, line)?, "{line}");
+    }
+    Ok(())
+}
