@@ -16,41 +16,68 @@ use ws_words::NoMemory;
 // How many instances have fired, and how many tokens were let go.
 type Count = (usize, usize);
 
+// What comes of a token. The tokens that are sent stand behind others.
+fn offered<J: Job, Q: Quotas, R: Wait>(
+    rt: &R,
+    row: &Row<J, Q>,
+    code: &Code<'_, J>,
+    token: Token<J>,
+    way: &mut Vec<Token<J>>,
+    alloc: Global,
+) -> Result<Count, NoMemory> {
+    let mut tokens = TokenList::empty(alloc);
+    let offer = row.offer(rt, code, token, &mut tokens);
+    take_all(tokens, way)?;
+    match offer {
+        Offer::Took(Took::Waits) => Ok((0, 0)),
+        Offer::Took(_) => Ok((1, 0)),
+        Offer::Spent => Ok((0, 1)),
+        Offer::Fault(_) => Err(NoMemory),
+    }
+}
+
+// Fires what can be fired.
+fn fire_all<J: Job, Q: Quotas, R: Wait>(
+    rt: &R,
+    row: &Row<J, Q>,
+    code: &Code<'_, J>,
+    way: &mut Vec<Token<J>>,
+    alloc: Global,
+) -> Result<Count, NoMemory> {
+    let (mut fired, mut spent) = (0usize, 0usize);
+    for _ in 0..10_000 {
+        let Some(token) = way.pop() else {
+            break;
+        };
+        let count = offered(rt, row, code, token, way, alloc)?;
+        fired = fired.wrapping_add(count.0);
+        spent = spent.wrapping_add(count.1);
+    }
+    Ok((fired, spent))
+}
+
+// The greater of what the first and the last table fired.
+fn most_of<J: Job>(tables: Tables<J>) -> usize {
+    tables.t0.fired().len().max(tables.t15.fired().len())
+}
+
 // Fires what can be fired in one phase with these quotas.
 fn phase<J: Job, Q: Quotas, R: Wait>(
     rt: &R,
     alloc: Global,
     image: &Checked,
     limits: &[usize],
-) -> Result<Count, NoMemory>
+) -> Result<(Count, usize), NoMemory>
     requires image { image.now ≡ J.image }
     requires limits { (limits.now ≡ Q.most) × (length limits.now ≡ 16) }
 {
     let code: Code<'_, J> = Code::of(alloc, image)?;
-    let row: Row<J, Q> = Row::new(Tables::new(alloc), limits);
     let mut way: Vec<Token<J>> = Vec::new(alloc);
     take_all(start(alloc, &code)?, &mut way)?;
-    let mut count = (0usize, 0usize);
-    for _ in 0..10_000 {
-        let Some(token) = way.pop() else {
-            break;
-        };
-        let mut tokens = TokenList::empty(alloc);
-        match row.offer(rt, &code, token, &mut tokens) {
-            Offer::Took(Took::Waits) => {}
-            Offer::Took(Took::Fires) => {
-                count.0 = count.0.wrapping_add(1);
-                take_all(tokens, &mut way)?;
-            }
-            Offer::Took(Took::Asks(_)) => count.0 = count.0.wrapping_add(1),
-            Offer::Spent => count.1 = count.1.wrapping_add(1),
-            Offer::Fault(_) => return Err(NoMemory),
-        }
-    }
-    let tables = row.gather();
-    let first = tables.t0.fired().len();
-    let last = tables.t15.fired().len();
-    Ok(if first > 3 || last > 3 { (0, 0) } else { count })
+    let row: Row<J, Q> = Row::new(Tables::new(alloc), limits);
+    let count = fire_all(rt, &row, &code, &mut way, alloc);
+    let most = most_of(row.gather());
+    Ok((count?, most))
 }
 
 #[test]
@@ -60,9 +87,7 @@ fn tables_fire_within_their_quotas(rt: HostRuntime) -> Result<(), Fail> {
         return Ok(());
     };
     let limits = [3usize; 16];
-    let (fired, spent) = phase::<Brand, Brand, _>(&rt, rt.alloc(), &image, &limits)?;
-    assert!(rt; fired > 16);
-    assert!(rt; fired <= 48);
-    assert!(rt; spent > 0);
+    let ((fired, spent), most) = phase::<Brand, Brand, _>(&rt, rt.alloc(), &image, &limits)?;
+    assert!(rt; fired > 16 && fired <= 48 && spent > 0 && most <= 3);
     Ok(())
 }

@@ -24,17 +24,21 @@ fn tape(alloc: Global, left: &[u64], fail_at: &[u64]) -> Result<TapePort, NoMemo
 #[test]
 fn a_tape_gives_and_takes(rt: HostRuntime) -> Result<(), Fail> {
     let mut port = tape(rt.alloc(), &[4, 5], &[])?;
-    assert_eq!(rt; port.give(), Ok(4));
-    assert_eq!(rt; port.take(7), Ok(()));
-    assert_eq!(rt; port.give(), Ok(5));
-    assert_eq!(rt; port.give(), Ok(0));
-    assert_eq!(rt; port.take(8), Ok(()));
-    assert_eq!(rt; port.left(), [].as_slice());
-    assert_eq!(rt; port.took(), [7, 8].as_slice());
-    assert_eq!(rt; port.faults(), 0);
-    assert!(rt; !port.is_closed());
+    let answers = (
+        port.give(),
+        port.take(7),
+        port.give(),
+        port.give(),
+        port.take(8),
+    );
+    assert_eq!(rt; answers, (Ok(4), Ok(()), Ok(5), Ok(0), Ok(())));
+    assert_eq!(rt;
+        (port.left(), port.took()),
+        ([].as_slice(), [7, 8].as_slice())
+    );
+    let before = port.is_closed();
     port.close();
-    assert!(rt; port.is_closed());
+    assert_eq!(rt; (port.faults(), before, port.is_closed()), (0, false, true));
     Ok(())
 }
 
@@ -42,13 +46,16 @@ fn a_tape_gives_and_takes(rt: HostRuntime) -> Result<(), Fail> {
 fn each_failing_call_leaves_the_lists(rt: HostRuntime) -> Result<(), Fail> {
     for number in 1..5u64 {
         let mut port = tape(rt.alloc(), &[4, 5], &[number])?;
-        assert_eq!(rt; port.give().is_err(), number == 1);
-        assert_eq!(rt; port.take(7).is_err(), number == 2);
-        assert_eq!(rt; port.give().is_err(), number == 3);
-        assert_eq!(rt; port.take(8).is_err(), number == 4);
-        assert_eq!(rt; port.left().len(), (number % 2) as usize);
-        assert_eq!(rt; port.took().len() as u64, 1 + number % 2);
-        assert_eq!(rt; port.faults(), 1);
+        let gives = (port.give().is_err(), port.take(7).is_err());
+        let takes = (port.give().is_err(), port.take(8).is_err());
+        let wanted = ((number == 1, number == 2), (number == 3, number == 4));
+        assert_eq!(rt; (gives, takes), wanted);
+        let lists = (
+            port.left().len() as u64,
+            port.took().len() as u64,
+            port.faults(),
+        );
+        assert_eq!(rt; lists, (number % 2, 1 + number % 2, 1));
     }
     Ok(())
 }
@@ -57,10 +64,13 @@ fn each_failing_call_leaves_the_lists(rt: HostRuntime) -> Result<(), Fail> {
 fn a_line_each(rt: HostRuntime) -> Result<(), Fail> {
     let sink = MemSink::new(rt.alloc(), 3, Words::empty(rt.alloc()))?;
     let mut port = LinePort::new(sink);
-    assert_eq!(rt; port.take(0), Ok(()));
-    assert_eq!(rt; port.take(42), Ok(()));
-    assert_eq!(rt; port.give(), Ok(0));
-    assert_eq!(rt; port.take(u64::MAX), Ok(()));
+    let answers = (
+        port.take(0),
+        port.take(42),
+        port.give(),
+        port.take(u64::MAX),
+    );
+    assert_eq!(rt; answers, (Ok(()), Ok(()), Ok(0), Ok(())));
     assert_eq!(rt;
         port.sink.held(),
         b"0\n42\n18446744073709551615\n".as_slice()
@@ -76,47 +86,69 @@ fn each_failing_call_of_the_sink(rt: HostRuntime) -> Result<(), Fail> {
         let fail_at = Words::from_slice(rt.alloc(), &[number])?;
         let sink = MemSink::new(rt.alloc(), 1, fail_at)?;
         let mut port = LinePort::new(sink);
-        assert_eq!(rt; port.take(42), Err(PortError::Failed));
-        assert_eq!(rt; port.sink.held(), held);
-        assert_eq!(rt; port.sink.faults(), 1);
-        assert_eq!(rt; port.take(43), Ok(()));
+        let first = port.take(42);
+        assert_eq!(rt; (port.sink.held(), port.sink.faults()), (held, 1));
+        assert_eq!(rt; (first, port.take(43)), (Err(PortError::Failed), Ok(())));
     }
     Ok(())
+}
+
+// What a slot gives before a port is put there and then, whether it was empty before and at the end,
+// and the port that comes back.
+fn swapped(port: TapePort) -> ([Result<u64, PortError>; 2], [bool; 2], Option<TapePort>)
+    requires { port.closed ≡ false }
+{
+    let mut ports: Slots<TapePort> = Slots::none();
+    let before = ports.give(3);
+    let first = ports.swap(3, Some(port));
+    let then = ports.give(3);
+    let back = ports.swap(3, None);
+    let last = ports.swap(3, None);
+    ports.finish();
+    ([before, then], [first.is_none(), last.is_none()], back)
 }
 
 #[test]
 fn a_slot_is_swapped(rt: HostRuntime) -> Result<(), Fail> {
-    let mut ports: Slots<TapePort> = Slots::none();
-    assert_eq!(rt; ports.give(3), Ok(0));
-    assert!(rt; ports.swap(3, Some(tape(rt.alloc(), &[4], &[])?)).is_none());
-    assert_eq!(rt; ports.give(3), Ok(4));
-    let Some(back) = ports.swap(3, None) else {
+    let (words, empty, back) = swapped(tape(rt.alloc(), &[4], &[])?);
+    assert_eq!(rt; (words, empty), ([Ok(0), Ok(4)], [true, true]));
+    let Some(back) = back else {
         assert!(rt; false);
         return Ok(());
     };
     assert_eq!(rt; back.left(), [].as_slice());
-    assert!(rt; ports.swap(3, None).is_none());
-    ports.finish();
     Ok(())
+}
+
+// Whether each slot of a set gives what it has and takes a word, what the third gives then, and its
+// port.
+fn given(port: TapePort) -> (bool, [Result<u64, PortError>; 2], Option<TapePort>)
+    requires { port.closed ≡ false }
+{
+    let mut ports: Slots<TapePort> = Slots::none();
+    ports.third = Some(port);
+    let mut open = OpenSet::new(ports);
+    let mut alike = true;
+    for slot in 1..8u8 {
+        let word = if slot == 3 { 4 } else { 0 };
+        alike &= (open.give(slot), open.take(slot, 9)) == (Ok(word), Ok(()));
+    }
+    let then = [open.give(3), open.give(3)];
+    let mut slots = open.into_slots();
+    let back = slots.swap(3, None);
+    slots.finish();
+    (alike, then, back)
 }
 
 #[test]
 fn open_slots_give_and_take(rt: HostRuntime) -> Result<(), Fail> {
-    let mut ports: Slots<TapePort> = Slots::none();
-    ports.third = Some(tape(rt.alloc(), &[4, 5], &[3])?);
-    let mut open = OpenSet::new(ports);
-    for slot in 1..8u8 {
-        assert_eq!(rt; open.give(slot), Ok(if slot == 3 { 4 } else { 0 }));
-        assert_eq!(rt; open.take(slot, 9), Ok(()));
-    }
-    assert_eq!(rt; open.give(3), Err(PortError::Failed));
-    assert_eq!(rt; open.give(3), Ok(5));
-    let slots = open.into_slots();
-    if let Some(port) = &slots.third {
-        assert_eq!(rt; port.took(), [9].as_slice());
-    }
-    assert!(rt; slots.third.is_some());
-    slots.finish();
+    let (alike, then, back) = given(tape(rt.alloc(), &[4, 5], &[3])?);
+    assert_eq!(rt; (alike, then), (true, [Err(PortError::Failed), Ok(5)]));
+    let Some(back) = back else {
+        assert!(rt; false);
+        return Ok(());
+    };
+    assert_eq!(rt; back.took(), [9].as_slice());
     Ok(())
 }
 
@@ -163,14 +195,13 @@ fn boxed_ports_are_closed_and_dropped_once(rt: HostRuntime) -> Result<(), Fail> 
             closed: false,
         };
         let mut boxed: Box<dyn Port + Send> = Box::new(alloc, port)?;
-        assert_eq!(rt; boxed.give(), Ok(slot as u64));
-        assert_eq!(rt; boxed.take(1), Err(PortError::NoMemory));
+        let answers = (boxed.give(), boxed.take(1));
+        assert_eq!(rt; answers, (Ok(slot as u64), Err(PortError::NoMemory)));
         assert!(rt; ports.swap(slot, Some(boxed)).is_none());
     }
-    assert_eq!(rt; closes.load(Ordering::SeqCst), 0);
-    assert_eq!(rt; Arc::strong_count(&closes), 4);
+    let before = (closes.load(Ordering::SeqCst), Arc::strong_count(&closes));
     ports.finish();
-    assert_eq!(rt; closes.load(Ordering::SeqCst), 257);
-    assert_eq!(rt; Arc::strong_count(&closes), 1);
+    let after = (closes.load(Ordering::SeqCst), Arc::strong_count(&closes));
+    assert_eq!(rt; (before, after), ((0, 4), (257, 1)));
     Ok(())
 }

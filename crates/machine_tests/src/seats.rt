@@ -75,20 +75,32 @@ fn work_and_settle<R: Threads + Wait + Sync>(
     settle_all(alloc, seats)
 }
 
+// Whether each item that so many threads put has left once, and none is left.
+fn each_leaves_once<R: Threads + Wait + Sync>(
+    rt: &R,
+    alloc: Global,
+    count: u32,
+) -> Result<bool, NoMemory>
+    requires { (1 ≤ count) × (count ≤ 8) }
+{
+    let tally = Tally {
+        count: AtomicU64::new(0),
+        sum: AtomicU64::new(0),
+    };
+    let left = work_and_settle(rt, alloc, count, &tally)?;
+    let found = (
+        tally.count.load(Ordering::SeqCst),
+        tally.sum.load(Ordering::SeqCst),
+    );
+    let wanted = (1994 * count as u64, 667604 * count as u64);
+    Ok(left.len() == count as usize && [0usize; 8].starts_with(&left) && found == wanted)
+}
+
 #[test]
 fn each_item_leaves_once(rt: HostRuntime) -> Result<(), Fail> {
     for count in 1..9 {
-        let tally = Tally {
-            count: AtomicU64::new(0),
-            sum: AtomicU64::new(0),
-        };
-        let left = work_and_settle(&rt, rt.alloc(), count, &tally)?;
-        assert_eq!(rt; left.len(), count as usize);
-        for items in left {
-            assert_eq!(rt; items, 0);
-        }
-        assert_eq!(rt; tally.count.load(Ordering::SeqCst), 1994 * count as u64);
-        assert_eq!(rt; tally.sum.load(Ordering::SeqCst), 667604 * count as u64);
+        let once = each_leaves_once(&rt, rt.alloc(), count)?;
+        assert!(rt; once, "{count}");
     }
     Ok(())
 }
@@ -96,11 +108,10 @@ fn each_item_leaves_once(rt: HostRuntime) -> Result<(), Fail> {
 #[test]
 fn first_in_first_out(rt: HostRuntime) -> Result<(), Fail> {
     let mut seats: SeatList<u64> = seats(rt.alloc(), 2)?;
-    assert!(rt; seats[0].put(3).is_ok());
-    assert!(rt; seats[0].put(5).is_ok());
-    assert_eq!(rt; seats[1].drain(), None);
-    assert_eq!(rt; seats[1].find(&rt), Some(3));
-    assert_eq!(rt; seats[0].drain(), Some(5));
-    assert_eq!(rt; seats[0].find(&rt), None);
+    let put = (seats[0].put(3).is_ok(), seats[0].put(5).is_ok());
+    let first = (seats[1].drain(), seats[1].find(&rt));
+    let second = (seats[0].drain(), seats[0].find(&rt));
+    assert_eq!(rt; put, (true, true));
+    assert_eq!(rt; (first, second), ((None, Some(3)), (Some(5), None)));
     Ok(())
 }

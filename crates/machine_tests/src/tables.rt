@@ -16,7 +16,17 @@ use ws_words::NoMemory;
 pub(crate) const DOUBLES: &str =
     "wavescalar 1\nwave 1\nblock 1\npad 0 1.0\n1: advance -> 2.0 3.0 4.0\n2: nop <., 1, .>.0\n3: const 0 -> 5.0\n4: const 1 -> 6.0\ngo 2\nwave 2\nblock 2\n5: advance -> 7.0 8.0\n6: advance -> 9.0 9.1 10.1 10.2\n7: nop <., 1, .>.0\n8: merge -> 5.0\n9: add -> 10.0\n10: phi -> 6.0\ngo 2\nend\n";
 
-// How many ports an instruction of it has.
+// A port of an instance: a wave, an instruction and a port.
+type Place = (u64, u32, u8);
+
+// What is said of a token: what comes of it, whether its port had one before and has one then, whether
+// it would fire its instance, and how many have fired then.
+type Said = (&'static str, bool, bool, bool, usize);
+
+// An instance that has fired, and its operands.
+type Instance = (u64, u32, Operands);
+
+// How many ports an instruction of the loop has.
 fn ports_of(instr: u32) -> usize {
     match instr {
         9 => 2,
@@ -25,10 +35,21 @@ fn ports_of(instr: u32) -> usize {
     }
 }
 
-// The number that it has in a wave.
+// The number that the loop has in a wave.
 fn doubled(wave: u64) -> u64 {
     let times = wave.wrapping_sub(2);
     if times < 64 { 1 << times } else { 0 }
+}
+
+// The operands that an instance has in the loop.
+fn operands_of(wave: u64, instr: u32) -> Operands {
+    let (now, then) = (doubled(wave), doubled(wave.wrapping_add(1)));
+    match instr {
+        9 => Operands::Two(now, now),
+        10 => Operands::Three(then, now, now),
+        6 => Operands::One(then),
+        _ => Operands::One(0),
+    }
 }
 
 // The image of this text.
@@ -51,19 +72,14 @@ fn next(number: u64) -> u64 {
         .wrapping_add(1442695040888963407)
 }
 
-// The ports of instances that have had a token, each once.
+// The ports of instances that have had a token, each once, and the instances that have fired.
 #[derive(Drop)]
 struct Plain {
-    ports: Vec<(u64, u32, u8)>,
-    fired: usize,
+    ports: Vec<Place>,
+    fired: Vec<Instance>,
 }
 
 impl Plain {
-    // Whether a port is listed.
-    fn has(&self, wave: u64, instr: u32, port: u8) -> bool {
-        self.ports.contains(&(wave, instr, port))
-    }
-
     // How many ports of an instance are listed.
     fn count(&self, wave: u64, instr: u32) -> usize {
         let mut count = 0usize;
@@ -74,75 +90,65 @@ impl Plain {
         }
         count
     }
-}
 
-// Whether the last instance that fired is this one, with the operands that it has in this loop.
-fn fired_so(fired: &[Fired], wave: u64, instr: u32) -> bool {
-    match fired.last() {
-        None => false,
-        Some(last) => {
-            let operands = match instr {
-                9 => Operands::Two(doubled(wave), doubled(wave)),
-                10 => Operands::Three(doubled(wave.wrapping_add(1)), doubled(wave), doubled(wave)),
-                6 => Operands::One(doubled(wave.wrapping_add(1))),
-                _ => Operands::One(0),
-            };
-            last.wave == wave && last.instr == instr && last.operands == operands
+    // What the list says of a token to a port.
+    fn says(&mut self, place: Place) -> Result<Said, NoMemory> {
+        let (wave, instr, _) = place;
+        if self.ports.contains(&place) {
+            return Ok(("old", true, true, false, self.fired.len()));
         }
+        self.ports.push(place)?;
+        if self.count(wave, instr) != ports_of(instr) {
+            return Ok(("waits", false, true, false, self.fired.len()));
+        }
+        self.fired.push((wave, instr, operands_of(wave, instr)))?;
+        let comes = if instr == 2 || instr == 7 {
+            "asks"
+        } else {
+            "fires"
+        };
+        Ok((comes, false, true, true, self.fired.len()))
     }
 }
 
-// Puts a token into the table and into the list, and the tokens that are sent behind others. Whether
-// both say the same of it.
-fn call<J: Job>(
+fn place_of<J: Job>(token: &Token<J>) -> Place {
+    (token.wave(), token.instr(), token.port())
+}
+
+// What comes of a token to a port, by the table's answer. The tokens that are sent stand behind others.
+fn comes<J: Job>(
+    answer: Result<Accept<J>, AcceptFault<J>>,
+    place: Place,
+    way: &mut Vec<Token<J>>,
+) -> Result<&'static str, NoMemory> {
+    match answer {
+        Ok(Accept::Waits) => Ok("waits"),
+        Ok(Accept::Fires(tokens)) => {
+            take_all(tokens, way)?;
+            Ok("fires")
+        }
+        Ok(Accept::Asks(request)) if (request.wave(), request.instr(), 0) == place => Ok("asks"),
+        Err(AcceptFault::Old(token)) if place_of(&token) == place => Ok("old"),
+        Err(AcceptFault::NoMemory(_)) => Err(NoMemory),
+        _ => Ok("another's"),
+    }
+}
+
+// What a table says of a token.
+fn table_says<J: Job>(
     alloc: Global,
     code: &Code<'_, J>,
     table: &mut Table<J>,
-    plain: &mut Plain,
     token: Token<J>,
     way: &mut Vec<Token<J>>,
-) -> Result<bool, NoMemory> {
-    let (wave, instr, port) = (token.wave(), token.instr(), token.port());
-    let was = plain.has(wave, instr, port);
-    let fires = !was && plain.count(wave, instr).wrapping_add(1) == ports_of(instr);
-    if table.holds(wave, instr, port) != was || table.would_fire(code, &token) != fires {
-        return Ok(false);
-    }
-    match table.accept(alloc, code, token) {
-        Err(AcceptFault::Old(token)) => {
-            return Ok(
-                was && token.wave() == wave && token.instr() == instr && token.port() == port,
-            );
-        }
-        Err(AcceptFault::NoMemory(_)) => return Err(NoMemory),
-        Ok(Accept::Waits) => {
-            if was || fires {
-                return Ok(false);
-            }
-        }
-        Ok(Accept::Fires(tokens)) => {
-            if was || !fires || instr == 2 || instr == 7 {
-                return Ok(false);
-            }
-            take_all(tokens, way)?;
-        }
-        Ok(Accept::Asks(request)) => {
-            let nop = instr == 2 || instr == 7;
-            if was || !fires || !nop || request.wave() != wave || request.instr() != instr {
-                return Ok(false);
-            }
-        }
-    }
-    plain.ports.push((wave, instr, port))?;
-    if fires {
-        plain.fired = plain.fired.wrapping_add(1);
-    }
-    let fired = table.fired();
-    Ok(
-        fired.len() == plain.fired
-            && (!fires || fired_so(fired, wave, instr))
-            && table.holds(wave, instr, port),
-    )
+) -> Result<Said, NoMemory> {
+    let place = place_of(&token);
+    let had = table.holds(place.0, place.1, place.2);
+    let fires = table.would_fire(code, &token);
+    let answer = table.accept(alloc, code, token);
+    let comes = comes(answer, place, way)?;
+    let has = table.holds(place.0, place.1, place.2);
+    Ok((comes, had, has, fires, table.fired().len()))
 }
 
 // Puts all tokens of a list behind others.
@@ -159,38 +165,85 @@ pub(crate) fn take_all<J: Job>(
     Ok(())
 }
 
-// Whether a table and a list say the same of 2,000 tokens, of which every other one or so came
-// before.
+// Takes one of the tokens that are on their way, or one that came before, once more.
+fn drawn<J: Job>(way: &mut Vec<Token<J>>, past: &[Token<J>], number: u64) -> Option<Token<J>> {
+    let place = (number >> 33) as usize;
+    if number >> 63 == 0 && past.len() > 0 {
+        return Some(past[place % past.len()].again());
+    }
+    if way.len() == 0 {
+        return None;
+    }
+    Some(way.swap_remove(place % way.len()))
+}
+
+// The instances that a table says have fired.
+fn instances(alloc: Global, fired: &[Fired]) -> Result<Vec<Instance>, NoMemory> {
+    let mut instances = Vec::new(alloc);
+    for one in fired {
+        instances.push((one.wave, one.instr, one.operands))?;
+    }
+    Ok(instances)
+}
+
+// Whether a table and a list say the same of a token.
+fn is_alike<J: Job>(
+    alloc: Global,
+    code: &Code<'_, J>,
+    table: &mut Table<J>,
+    plain: &mut Plain,
+    token: Token<J>,
+    way: &mut Vec<Token<J>>,
+) -> Result<bool, NoMemory> {
+    let wanted = plain.says(place_of(&token))?;
+    Ok(table_says(alloc, code, table, token, way)? == wanted)
+}
+
+// Whether they say the same of 2,000 tokens, of which every other one or so came before.
+fn all_alike<J: Job>(
+    alloc: Global,
+    code: &Code<'_, J>,
+    table: &mut Table<J>,
+    plain: &mut Plain,
+    way: &mut Vec<Token<J>>,
+) -> Result<bool, NoMemory> {
+    let mut past: Vec<Token<J>> = Vec::new(alloc);
+    let mut number = 7;
+    let mut alike = true;
+    for _ in 0..2000 {
+        number = next(number);
+        if let Some(token) = drawn(way, &past, number) {
+            past.push(token.again())?;
+            alike &= is_alike(alloc, code, table, plain, token, way)?;
+        }
+    }
+    Ok(alike)
+}
+
+// Whether they do so from no tokens on, and list the same instances then.
+fn lists_alike<J: Job>(
+    alloc: Global,
+    code: &Code<'_, J>,
+    way: &mut Vec<Token<J>>,
+) -> Result<bool, NoMemory> {
+    let mut table: Table<J> = Table::new(alloc);
+    let mut plain = Plain {
+        ports: Vec::new(alloc),
+        fired: Vec::new(alloc),
+    };
+    let alike = all_alike(alloc, code, &mut table, &mut plain, way)?;
+    let same = instances(alloc, table.fired())? == plain.fired;
+    Ok(alike && same && plain.ports.len() > 500 && plain.fired.len() > 300)
+}
+
+// Whether a table and a list are alike in a run of an image.
 fn are_alike<J: Job>(alloc: Global, image: &Checked) -> Result<bool, NoMemory>
     requires { image.now ≡ J.image }
 {
     let code: Code<'_, J> = Code::of(alloc, image)?;
-    let mut table: Table<J> = Table::new(alloc);
-    let mut plain = Plain {
-        ports: Vec::new(alloc),
-        fired: 0,
-    };
     let mut way: Vec<Token<J>> = Vec::new(alloc);
-    let mut past: Vec<Token<J>> = Vec::new(alloc);
     take_all(start(alloc, &code)?, &mut way)?;
-    let mut number = 7;
-    for _ in 0..2000 {
-        number = next(number);
-        let place = (number >> 33) as usize;
-        if number >> 63 == 0 && past.len() > 0 {
-            let token = past[place % past.len()].again();
-            if !call(alloc, &code, &mut table, &mut plain, token, &mut way)? {
-                return Ok(false);
-            }
-        } else if way.len() > 0 {
-            let token = way.swap_remove(place % way.len());
-            past.push(token.again())?;
-            if !call(alloc, &code, &mut table, &mut plain, token, &mut way)? {
-                return Ok(false);
-            }
-        }
-    }
-    Ok(plain.ports.len() > 500 && plain.fired > 300)
+    lists_alike(alloc, &code, &mut way)
 }
 
 #[test]
