@@ -1,20 +1,18 @@
 -- The operands that a table lists are those that it holds.
-use Rattle.std.proofs.Common.{◌≡◌, ◌+◌, ◌<◌, ℕ, zero, suc, Bool, true, false, cond, ◌&&◌, List, [], ◌∷◌, Option, Some, length, All, get_or, slice_index_or, inl, inr, ◌⊎◌, sym, refl, ap, ◌∙◌, subst, arith, eqb, eq-eqb, eqb-true}
+use Rattle.std.proofs.Common.{◌≡◌, ◌+◌, ◌<◌, ℕ, zero, suc, cond, ◌&&◌, List, [], ◌∷◌, Option, Some, length, All, get_or, inl, inr, sym, refl, ap, ◌∙◌, subst, arith, eqb, eq-eqb, eqb-true}
 use Rattle.std.proofs.lemmas.Bool.{cases_Bool, and_parts}
 use Rattle.std.proofs.lemmas.List.Elements.{All-from_get_or}
 use Rattle.ws_words.specs.Outside.{World}
-use Rattle.ws_isa.specs.Image.{Image, nth, ports}
+use Rattle.ws_isa.specs.Image.{Image, nth}
 use Rattle.image_walk.specs.Walk.{gather}
-use Rattle.core_law.specs.Core.{Key, HasFired, Once, same_key, operands_in}
+use Rattle.core_law.specs.Core.{HasFired, Once, same_key, operands_in}
 use Rattle.core_law.proofs.Ports.{gather_is}
 use Rattle.match_table.specs.declared.entry.Arrived.{Arrived}
-use Rattle.match_table.specs.declared.entry.Arrived.TheVariants.{Spent}
 use Rattle.match_table.specs.declared.entry.Entry.{Entry}
 use Rattle.match_table.specs.declared.meeting.Operands.TheVariants.{One}
 use Rattle.match_table.specs.declared.table.Fired.{Fired}
-use Rattle.match_table.specs.Pages.{arrived_in}
 use Rattle.match_table.specs.Ports.{listed, held_at}
-use Rattle.match_table.specs.Tables.{key_of, keys, fired_operands, held_in, TableOk}
+use Rattle.match_table.specs.Tables.{keys, fired_operands, held_in, TableOk}
 
 abbrev none_fired : Fired
 none_fired = record { wave = 0; instr = 0; operands = One 0 }

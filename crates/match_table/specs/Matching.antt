@@ -77,6 +77,11 @@ module _ {J : Type 0} where
   answer_of took.Fires tokens = Fires tokens
   answer_of (took.Asks request) tokens = Asks request
 
+  -- the list that is lent has tokens after a firing alone
+  abbrev pub LentSo : Took J → List Token → Type 0
+  LentSo took.Fires tokens = Unit {0}
+  LentSo answer tokens = tokens ≡ []
+
   -- the answer says that the instance has fired
   abbrev pub has_fired : Accept J → Bool
   has_fired Waits = false

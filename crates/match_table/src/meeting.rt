@@ -26,6 +26,7 @@ pub enum Seen {
 }
 
 // Whether a port has had its value.
+#[inline(always)]
 pub(crate) fn is_taken(arrived: Option<Arrived>, port: u8) -> bool
     ensures { result ≡ is_taken arrived port }
 {
@@ -42,6 +43,7 @@ pub(crate) fn is_taken(arrived: Option<Arrived>, port: u8) -> bool
 }
 
 // With a value at one more port.
+#[inline(always)]
 fn with_port(arrived: Option<Arrived>, port: u8, value: u64) -> Arrived
     requires { port < 3 }
     ensures { result ≡ with_port arrived port value }
@@ -59,6 +61,7 @@ fn with_port(arrived: Option<Arrived>, port: u8, value: u64) -> Arrived
 }
 
 // The operands of a waiting instance, if it has a value at each of so many ports.
+#[inline(always)]
 fn operands_of(arrived: Arrived, ports: u8) -> Option<Operands>
     requires ports { (1 ≤ ports) × (ports ≤ 3) }
     requires waiting { (n : ℕ) → arrived ≡ Spent n → ⊥ }
@@ -77,6 +80,7 @@ fn operands_of(arrived: Arrived, ports: u8) -> Option<Operands>
 }
 
 // A value comes to a port of an instance with so many.
+#[inline(always)]
 pub(crate) fn meet(arrived: Option<Arrived>, port: u8, value: u64, ports: u8) -> Seen
     requires ports { (port < ports) × (ports ≤ 3) }
     requires spent { (n : ℕ) → arrived ≡ Some (Spent n) → port < n }

@@ -42,6 +42,7 @@ impl Operands {
 }
 
 // The operand by which an instance chooses where its result goes.
+#[inline(always)]
 pub(crate) fn selector(op: Op, operands: Operands) -> u64
     ensures { result ≡ selector_of op (listed operands) }
 {
@@ -53,6 +54,7 @@ pub(crate) fn selector(op: Op, operands: Operands) -> u64
 }
 
 // The result of an operation that isn't memory's.
+#[inline(always)]
 pub(crate) fn result_of(op: Op, operands: Operands) -> u64
     ensures { result ≡ result_of_op op (listed operands) }
 {

@@ -8,7 +8,7 @@ ghost use Rattle.core_law.specs.Core.{Once, has, is_full, operands_in};
 ghost use Rattle.core_law.specs.Shown.{TablesOk};
 ghost use Rattle.core_run.specs.Places.{ProgramIs, image_of};
 ghost use Rattle.match_table.specs.declared.meeting.Seen.TheVariants.{Waits, Fills};
-ghost use Rattle.match_table.specs.Matching.{Accepted, Arrives, Full, IfNoMemory, IsOldSo, Outcome, Refused, answer_of, has_fired, will_fire};
+ghost use Rattle.match_table.specs.Matching.{Accepted, Arrives, Full, IfNoMemory, IsOldSo, LentSo, Outcome, Refused, answer_of, has_fired, will_fire};
 ghost use Rattle.match_table.specs.Pages.{KeyIs, arrived_in};
 ghost use Rattle.match_table.specs.Ports.{listed, SeenSo};
 ghost use Rattle.match_table.specs.Tables.{held, part};
@@ -81,9 +81,10 @@ impl<J: Job> Model for Table<J> {
     ghost invariant = { λ t. TableOk J.image J.world t.pages.entries t.fired.items };
 }
 
-// The key of an instance's entry, and what a token finds at its port.
+// The place of an instance's page, the key of its entry, and what a token finds at its port.
 #[derive(Clone, Copy)]
 struct Look {
+    place: usize,
     key: Option<usize>,
     seen: Seen,
 }
@@ -118,7 +119,17 @@ impl<J: Job> Table<J> {
     pub fn holds(&self, wave: u64, instr: u32, port: u8) -> bool
         ensures { result ≡ has (held self.now wave instr port) }
     {
-        is_taken(self.pages.look(wave, instr).arrived, port)
+        self.holds_near(self.pages.near(), wave, instr, port).0
+    }
+
+    /// The same, and the place at which the instance's page stands or would stand among the pages. It is
+    /// looked for from a place on that may be any; from a near one it is found sooner.
+    #[inline(always)]
+    pub fn holds_near(&self, near: usize, wave: u64, instr: u32, port: u8) -> (bool, usize)
+        ensures { result.0 ≡ has (held self.now wave instr port) }
+    {
+        let found = self.pages.look(near, wave, instr);
+        (is_taken(found.arrived, port), found.place)
     }
 
     /// The instances that fired here, in the order of firing.
@@ -140,6 +151,7 @@ impl<J: Job> Table<J> {
     }
 
     // What a token finds here.
+    #[inline(always)]
     fn look(&self, token: &Token<J>, count: u8) -> Look
         requires formed { Formed J.image }
         requires sound { Sound J.image }
@@ -149,9 +161,11 @@ impl<J: Job> Table<J> {
             token.now.port token.now.value count result.seen }
         ensures old { IsOldSo self.now token.now result.seen }
     {
-        let found = self.pages.look(token.wave(), token.instr());
+        let near = self.pages.near();
+        let found = self.pages.look(near, token.wave(), token.instr());
         let seen = meet(found.arrived, token.port(), token.value(), count);
         Look {
+            place: found.place,
             key: found.key,
             seen,
         }
@@ -174,7 +188,8 @@ impl<J: Job> Table<J> {
     }
 
     // The token waits at its port.
-    fn keep(&mut self, token: &Token<J>, key: Option<usize>, next: Arrived, count: u8)
+    #[inline(always)]
+    fn keep(&mut self, token: &Token<J>, place: usize, key: Option<usize>, next: Arrived, count: u8)
         requires formed { Formed J.image }
         requires sound { Sound J.image }
         requires ports { (count ≡ ports J.image token.now.instr) × (count ≤ 3) }
@@ -190,11 +205,19 @@ impl<J: Job> Table<J> {
     {
         let wave = token.wave();
         let instr = token.instr();
-        self.pages.put(key, wave, instr, next);
+        self.pages.put(place, key, wave, instr, next);
     }
 
     // The token's instance is full, and fires.
-    fn fire(&mut self, token: &Token<J>, key: Option<usize>, operands: Operands, count: u8)
+    #[inline(always)]
+    fn fire(
+        &mut self,
+        token: &Token<J>,
+        place: usize,
+        key: Option<usize>,
+        operands: Operands,
+        count: u8,
+    )
         requires formed { Formed J.image }
         requires sound { Sound J.image }
         requires ports { (count ≡ ports J.image token.now.instr) × (count ≤ 3) }
@@ -208,7 +231,8 @@ impl<J: Job> Table<J> {
     {
         let wave = token.wave();
         let instr = token.instr();
-        self.pages.put(key, wave, instr, Arrived::Spent(count));
+        self.pages
+            .put(place, key, wave, instr, Arrived::Spent(count));
         self.fired.push_reserved(Fired {
             wave,
             instr,
@@ -242,7 +266,8 @@ impl<J: Job> Table<J> {
         }
     }
 
-    /// Does what `accept` does. Result tokens stand in the list that is lent, which is emptied first.
+    /// Does what `accept` does. After a firing the result tokens stand in the list that is lent, and after
+    /// any other answer none do.
     pub fn accept_into(
         &mut self,
         code: &Code<'_, J>,
@@ -257,6 +282,7 @@ impl<J: Job> Table<J> {
         ensures memory { IfErr result (λ fault.
             IfNoMemory fault (0 < self.old.spare → token.wave + 1 < 2 ^ 64 → ⊥)) }
         ensures spare { self.old.spare ≤ self.new.spare + 1 }
+        ensures lent { MatchResult result (λ took. LentSo took tokens.new) (λ _. tokens.new ≡ []) }
     {
         tokens.clear();
         let program = code.program();
@@ -270,23 +296,26 @@ impl<J: Job> Table<J> {
                 if self.make_room().is_err() {
                     return Err(AcceptFault::NoMemory(token));
                 }
-                self.keep(&token, look.key, next, count);
+                self.keep(&token, look.place, look.key, next, count);
                 Ok(Took::Waits)
             }
             Seen::Fills(operands) => {
                 let Ok(outcome) = self.outcome(program, &token, operands, tokens) else {
+                    tokens.clear();
                     return Err(AcceptFault::NoMemory(token));
                 };
                 if self.make_room().is_err() {
+                    tokens.clear();
                     return Err(AcceptFault::NoMemory(token));
                 }
-                self.fire(&token, look.key, operands, count);
+                self.fire(&token, look.place, look.key, operands, count);
                 Ok(outcome)
             }
         }
     }
 
     // What the token's instance answers once it is full with these operands.
+    #[inline(always)]
     fn outcome(
         &self,
         program: &Program<'_>,
@@ -304,6 +333,7 @@ impl<J: Job> Table<J> {
         ensures outcome { IfOk result (λ took.
             Outcome J.image token.now (listed operands) (answer_of took tokens.new)) }
         ensures few { token.now.wave + 1 < 2 ^ 64 → IsOk result }
+        ensures lent { IfOk result (λ took. LentSo took tokens.new) }
     {
         let _ = &self.fired;
         let wave = token.wave();
@@ -323,6 +353,7 @@ impl<J: Job> Table<J> {
     }
 
     // Makes room for one token.
+    #[inline(always)]
     fn make_room(&mut self) -> Result<(), NoMemory>
         ensures entries { self.new.entries ≡ self.old.entries }
         ensures fired { self.new.fired ≡ self.old.fired }
@@ -335,6 +366,7 @@ impl<J: Job> Table<J> {
 }
 
 // The wave number of an instance's results, where there is one.
+#[inline(always)]
 fn number_of(op: Op, wave: u64) -> Option<u64>
     ensures number { IfSome result (λ number. number ≡ cond (is_advance_op op) (suc wave) wave) }
     ensures some { wave + 1 < 2 ^ 64 → IsSome result }

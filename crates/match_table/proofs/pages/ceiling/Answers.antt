@@ -1,4 +1,3 @@
-use Rattle.std.proofs.Common.{arith}
 use Rattle.match_table.proofs.Spots.{above_more}
 use Rattle.match_table.proofs.pages.ceiling.Goals as goal
 

@@ -1,4 +1,3 @@
-use Rattle.std.proofs.Common.{arith}
 use Rattle.match_table.proofs.Spots.{below_more}
 use Rattle.match_table.proofs.pages.floor.Goals as goal
 
