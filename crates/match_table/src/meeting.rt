@@ -3,10 +3,10 @@
 ghost use Rattle.std.specs.Prelude.{◌≡◌, ◌<◌, ◌≤◌, ℕ, Some, true, false, not, MatchOption};
 ghost use Rattle.image_walk.specs.Walk.{gather};
 ghost use Rattle.core_law.specs.Core.{has, is_full};
-ghost use Rattle.match_table.specs.declared.entry.Arrived.TheVariants.{Spent};
+ghost use Rattle.match_table.specs.declared.entry.Arrived.TheVariants.{Waiting, Spent};
 ghost use Rattle.match_table.specs.Ports.{listed, is_taken, with_port, alone, SeenSo};
 
-use crate::entry::Arrived;
+use crate::entry::{Arrived, Had};
 
 /// The operands of an instance, by port.
 #[derive(Clone, Copy, Debug, PartialEq, Eq)]
@@ -25,6 +25,12 @@ pub enum Seen {
     Fills(Operands),
 }
 
+const NONE_HAD: Had = Had {
+    first: false,
+    second: false,
+    third: false,
+};
+
 // Whether a port has had its value.
 #[inline(always)]
 pub(crate) fn is_taken(arrived: Option<Arrived>, port: u8) -> bool
@@ -32,10 +38,10 @@ pub(crate) fn is_taken(arrived: Option<Arrived>, port: u8) -> bool
 {
     match arrived {
         None => false,
-        Some(Arrived::Waiting(first, second, third)) => match port {
-            0 => first.is_some(),
-            1 => second.is_some(),
-            2 => third.is_some(),
+        Some(Arrived::Waiting(had, _, _, _)) => match port {
+            0 => had.first,
+            1 => had.second,
+            2 => had.third,
             _ => false,
         },
         Some(Arrived::Spent(ports)) => port < ports,
@@ -48,15 +54,36 @@ fn with_port(arrived: Option<Arrived>, port: u8, value: u64) -> Arrived
     requires { port < 3 }
     ensures { result ≡ with_port arrived port value }
 {
-    let (first, second, third) = match arrived {
-        None => (None, None, None),
-        Some(Arrived::Waiting(first, second, third)) => (first, second, third),
+    let (had, first, second, third) = match arrived {
+        None => (NONE_HAD, 0, 0, 0),
+        Some(Arrived::Waiting(had, first, second, third)) => (had, first, second, third),
         Some(Arrived::Spent(ports)) => return Arrived::Spent(ports),
     };
     match port {
-        0 => Arrived::Waiting(Some(value), second, third),
-        1 => Arrived::Waiting(first, Some(value), third),
-        _ => Arrived::Waiting(first, second, Some(value)),
+        0 => Arrived::Waiting(Had { first: true, ..had }, value, second, third),
+        1 => Arrived::Waiting(
+            Had {
+                second: true,
+                ..had
+            },
+            first,
+            value,
+            third,
+        ),
+        _ => Arrived::Waiting(Had { third: true, ..had }, first, second, value),
+    }
+}
+
+// Whether all of so many ports have had values.
+#[inline(always)]
+fn have_all(had: Had, ports: u8) -> bool
+    requires { (1 ≤ ports) × (ports ≤ 3) }
+    ensures { (a b c : ℕ) → is_full (alone (Waiting had a b c)) 0 0 ports ≡ result }
+{
+    match ports {
+        1 => had.first,
+        2 => had.first && had.second,
+        _ => had.first && had.second && had.third,
     }
 }
 
@@ -69,13 +96,18 @@ fn operands_of(arrived: Arrived, ports: u8) -> Option<Operands>
         (λ operands. (is_full (alone arrived) 0 0 ports ≡ true)
         × (listed operands ≡ gather (alone arrived) 0 0 0 ports)) }
 {
-    let Arrived::Waiting(first, second, third) = arrived else {
+    let Arrived::Waiting(had, first, second, third) = arrived else {
         return None;
     };
-    match ports {
-        1 => Some(Operands::One(first?)),
-        2 => Some(Operands::Two(first?, second?)),
-        _ => Some(Operands::Three(first?, second?, third?)),
+    if !have_all(had, ports) {
+        return None;
+    }
+    if ports == 1 {
+        Some(Operands::One(first))
+    } else if ports == 2 {
+        Some(Operands::Two(first, second))
+    } else {
+        Some(Operands::Three(first, second, third))
     }
 }
 
