@@ -1,8 +1,9 @@
 -- Tokens that have come, and those that are missing.
 use Rattle.std.proofs.Common.{◌≡◌, inl, inr, ℕ, zero, Bool, true, false, cond, List, [], ◌∷◌, ◌++◌, ◌+◌, ◌<◌, ◌≤◌, suc, Option, Some, None, is_some, All, length, take, slice_index_or, add-one, arith, sym, refl, ap, ◌∙◌, subst}
 use Rattle.std.proofs.lemmas.Bool.{cases_lt}
-use Rattle.std.proofs.lemmas.List.{take_all, append_assoc, get_or_default}
+use Rattle.std.proofs.lemmas.List.{take_all, append_assoc, get_or_default, get_or-map}
 use Rattle.std.proofs.lemmas.List.Elements.{All-get_or, All-more, All-push}
+use Rattle.std.specs.Borrow.{Bor}
 use Rattle.ws_words.specs.Outside.{Outside}
 use Rattle.ws_isa.specs.declared.instr.Dest.{Dest}
 use Rattle.ws_isa.specs.Image.{Image, Token, or_else, ports, is_memory, result_of, sends, tokens_to}
@@ -20,7 +21,7 @@ use Rattle.store_buf.specs.Requests.{entry_of, issued_keys, key_if, operands_if,
 use Rattle.store_buf.specs.Contents as buf
 use Rattle.store_buf.specs.Contents.{buffer_in}
 use Rattle.store_buf.specs.Ordering.{no_request}
-use Rattle.crew_collect.specs.Together.{content_at, all_fired, together}
+use Rattle.crew_collect.specs.Together.{all_fired, behind, content_at, no_content, together}
 use Rattle.crew_collect.specs.Owing.{HaveCome, IsMissing, IsKnown, AllKnown, HasTold, ToldIn, HasAnswered}
 use Rattle.crew_collect.proofs.Listed.{none_fired, fired_place}
 use Rattle.crew_collect.proofs.Union.{listed_at}
@@ -120,6 +121,10 @@ next_table P cs n c is before now k lt = elim (cases_lt k n) [
   | inl x ↦ before k x
   | inr x ↦ (let e : n ≡ k = omega (arith, lt, x) in subst (λ (j : ℕ). P (content_at cs j)) e (subst P is now))
 ]
+
+-- or one more that stands behind a reference
+pub next_behind : (P : Content → Type 0) (rs : List (Bor Content)) (n : ℕ) (d : Bor Content) → n < length rs → ((k : ℕ) → k < n → P (content_at (behind rs) k)) → P (slice_index_or rs n d).now → (k : ℕ) → k < n + 1 → P (content_at (behind rs) k)
+next_behind P rs n d lt before now = next_table P (behind rs) n (slice_index_or rs n d).now (sym (get_or-map (λ (r : Bor Content). r.now) rs n d no_content lt)) before now
 
 pub known_all : (image : Image) (kept : List Kept) (cs : List Content) → length cs ≡ 16 → ((k : ℕ) → k < 16 → All (IsKnown image kept) (content_at cs k).fired) → AllKnown image (together cs) kept
 known_all image kept cs count each w i h m =

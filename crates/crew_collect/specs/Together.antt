@@ -1,5 +1,6 @@
 -- Sixteen tables as one part of the core's state.
-use Rattle.std.specs.Prelude.{ℕ, suc, ◌+◌, ◌%◌, List, [], ◌∷◌, ◌++◌, slice_index_or}
+use Rattle.std.specs.Prelude.{ℕ, suc, ◌+◌, ◌%◌, List, [], ◌∷◌, ◌++◌, map, slice_index_or}
+use Rattle.std.specs.Borrow.{Bor}
 use Rattle.core_law.specs.Core.{Key}
 use Rattle.core_law.specs.Shown.{Tables as Part}
 use Rattle.match_table.specs.Tables.{Content, held, keys}
@@ -30,6 +31,13 @@ together cs = record { held = λ w i p. held (content_at cs ((w + i) % 16)) w i 
 
 abbrev pub part_of : {J : Type 0} → Tables J → Part
 part_of ts = together (contents ts)
+
+-- what stands behind references to tables, in order
+abbrev pub behind : List (Bor Content) → List Content
+behind rs = map (λ r. r.now) rs
+
+abbrev pub part_behind : List (Bor Content) → Part
+part_behind rs = together (behind rs)
 
 -- each table holds tokens of the instances alone that it serves
 abbrev pub AllServe : {J : Type 0} → Tables J → Type 0

@@ -10,11 +10,11 @@ ghost use Rattle.core_run.specs.Places.{destinations};
 ghost use Rattle.df_job.specs.Rights.{operands_of};
 ghost use Rattle.match_table.specs.Ports.{listed};
 ghost use Rattle.store_buf.specs.Contents.{buffer_in};
-ghost use Rattle.crew_collect.specs.Together.{AllServe, content_at, part_of};
+ghost use Rattle.crew_collect.specs.Together.{AllServe, behind, content_at, part_behind, part_of};
 ghost use Rattle.crew_tables.specs.Rows.{contents};
 ghost use Rattle.crew_collect.specs.Owing.{HasAnswered, HasTold, HaveCome, IsMissing, ToldIn};
 
-use crate::tables::{facts, holds, table_at};
+use crate::tables::{all_of, facts, holds, table_at};
 use crew_tables::row::Tables;
 use df_job::{Code, Job, Token, TokenList, start};
 use match_table::{Fired, Operands, Table};
@@ -41,15 +41,17 @@ pub fn missing<J: Job, P: Port>(
     facts(tables);
     buffer.facts();
     let mut found = TokenList::empty(alloc);
-    keep(tables, start(alloc, code)?, &mut found)?;
+    let all = &all_of(tables);
+    let mut near = 0;
+    keep(all, &mut near, start(alloc, code)?, &mut found)?;
     let longest = longest(tables);
     let mut from = 0;
     while from < longest {
         let to = from.saturating_add(STRETCH);
-        look_across(code, tables, from, to, &mut found)?;
+        look_across(code, all, &mut near, from, to, &mut found)?;
         from = to;
     }
-    look_back(code, tables, buffer, &mut found)?;
+    look_back(code, all, &mut near, buffer, &mut found)?;
     Ok(found)
 }
 
@@ -71,19 +73,20 @@ fn longest<J: Job>(tables: &Tables<J>) -> usize
 // Those that each table owes for the instances that it lists from one place to before another.
 fn look_across<J: Job>(
     code: &Code<'_, J>,
-    tables: &Tables<J>,
+    tables: &[&Table<J>; 16],
+    near: &mut usize,
     from: usize,
     to: usize,
     found: &mut TokenList<J>,
 ) -> Result<(), NoMemory>
-    requires { All (IsMissing (part_of tables.now).held) found.old }
-    ensures missing { OnOk result (All (IsMissing (part_of tables.now).held) found.new) }
+    requires { All (IsMissing (part_behind tables.now).held) found.old }
+    ensures missing { OnOk result (All (IsMissing (part_behind tables.now).held) found.new) }
     ensures none { OnOk result (found.new ≡ [] → (found.old ≡ [])
-        × ((k : ℕ) → k < 16 → ToldIn J.image (part_of tables.now).held from to
-        (content_at (contents tables.now) k).fired)) }
+        × ((k : ℕ) → k < 16 → ToldIn J.image (part_behind tables.now).held from to
+        (content_at (behind tables.now) k).fired)) }
 {
     for number in 0..16 {
-        look_through(code, tables, table_at(tables, number), from, to, found)?;
+        look_through(code, tables, near, tables[number], from, to, found)?;
     }
     Ok(())
 }
@@ -91,23 +94,24 @@ fn look_across<J: Job>(
 // Those that one table owes for them.
 fn look_through<J: Job>(
     code: &Code<'_, J>,
-    tables: &Tables<J>,
+    tables: &[&Table<J>; 16],
+    near: &mut usize,
     table: &Table<J>,
     from: usize,
     to: usize,
     found: &mut TokenList<J>,
 ) -> Result<(), NoMemory>
-    requires { All (IsMissing (part_of tables.now).held) found.old }
-    ensures missing { OnOk result (All (IsMissing (part_of tables.now).held) found.new) }
+    requires { All (IsMissing (part_behind tables.now).held) found.old }
+    ensures missing { OnOk result (All (IsMissing (part_behind tables.now).held) found.new) }
     ensures none { OnOk result (found.new ≡ [] → (found.old ≡ [])
-        × ToldIn J.image (part_of tables.now).held from to table.now.fired) }
+        × ToldIn J.image (part_behind tables.now).held from to table.now.fired) }
 {
     table.facts();
     let _ = code.program();
     let fired = table.fired();
     let end = fired.len().min(to);
     for place in from..end {
-        look_at(code, tables, fired[place], found)?;
+        look_at(code, tables, near, fired[place], found)?;
     }
     Ok(())
 }
@@ -115,38 +119,41 @@ fn look_through<J: Job>(
 // Those that the buffer owes.
 fn look_back<J: Job, P: Port>(
     code: &Code<'_, J>,
-    tables: &Tables<J>,
+    tables: &[&Table<J>; 16],
+    near: &mut usize,
     buffer: &Buffer<J, P>,
     found: &mut TokenList<J>,
 ) -> Result<(), NoMemory>
-    requires { All (IsMissing (part_of tables.now).held) found.old }
-    ensures missing { OnOk result (All (IsMissing (part_of tables.now).held) found.new) }
+    requires { All (IsMissing (part_behind tables.now).held) found.old }
+    ensures missing { OnOk result (All (IsMissing (part_behind tables.now).held) found.new) }
     ensures none { OnOk result (found.new ≡ [] → (found.old ≡ [])
-        × All (HasAnswered J.image (part_of tables.now).held) buffer.now.kept) }
+        × All (HasAnswered J.image (part_behind tables.now).held) buffer.now.kept) }
 {
     buffer.facts();
     let _ = code.program();
     for kept in buffer.kept() {
-        look_up(code, tables, *kept, found)?;
+        look_up(code, tables, near, *kept, found)?;
     }
     Ok(())
 }
 
 // Those of an instance that has fired; it owes none where it is one of memory.
+#[inline(always)]
 fn look_at<J: Job>(
     code: &Code<'_, J>,
-    tables: &Tables<J>,
+    tables: &[&Table<J>; 16],
+    near: &mut usize,
     fired: Fired,
     found: &mut TokenList<J>,
 ) -> Result<(), NoMemory>
-    requires missing { All (IsMissing (part_of tables.now).held) found.old }
+    requires missing { All (IsMissing (part_behind tables.now).held) found.old }
     requires right { is_memory J.image fired.instr ≡ false → (w i p v : ℕ)
         → IsSent (sends J.image fired.wave fired.instr (listed fired.operands)
         (result_of J.image fired.instr (listed fired.operands))) w i p v
         → RightToken J.image J.world w i p v }
-    ensures missing { OnOk result (All (IsMissing (part_of tables.now).held) found.new) }
+    ensures missing { OnOk result (All (IsMissing (part_behind tables.now).held) found.new) }
     ensures none { OnOk result (found.new ≡ [] → (found.old ≡ [])
-        × HasTold J.image (part_of tables.now).held fired) }
+        × HasTold J.image (part_behind tables.now).held fired) }
 {
     let op = code.program().op(fired.instr);
     if op.is_memory() {
@@ -158,26 +165,28 @@ fn look_at<J: Job>(
     let choice = choice_of(op, fired.operands);
     let word = word_of(op, fired.operands);
     let dests = code.program().destinations(fired.instr, choice);
-    keep_sent(tables, number, dests, word, found)?;
+    keep_sent(tables, near, number, dests, word, found)?;
     Ok(())
 }
 
 // Those of a request that the buffer keeps; it owes none until it is issued.
+#[inline(always)]
 fn look_up<J: Job>(
     code: &Code<'_, J>,
-    tables: &Tables<J>,
+    tables: &[&Table<J>; 16],
+    near: &mut usize,
     kept: Kept,
     found: &mut TokenList<J>,
 ) -> Result<(), NoMemory>
-    requires missing { All (IsMissing (part_of tables.now).held) found.old }
+    requires missing { All (IsMissing (part_behind tables.now).held) found.old }
     requires memory { is_memory J.image kept.instr ≡ true }
     requires right { (a w i p v : ℕ) → kept.answer ≡ Some a
         → IsSent (sends J.image kept.wave kept.instr
         (operands_of (ports J.image kept.instr) kept.first kept.second) a) w i p v
         → RightToken J.image J.world w i p v }
-    ensures missing { OnOk result (All (IsMissing (part_of tables.now).held) found.new) }
+    ensures missing { OnOk result (All (IsMissing (part_behind tables.now).held) found.new) }
     ensures none { OnOk result (found.new ≡ [] → (found.old ≡ [])
-        × HasAnswered J.image (part_of tables.now).held kept) }
+        × HasAnswered J.image (part_behind tables.now).held kept) }
 {
     let Some(word) = kept.answer else {
         return Ok(());
@@ -188,6 +197,7 @@ fn look_up<J: Job>(
     };
     keep_sent(
         tables,
+        near,
         number,
         program.destinations(kept.instr, 0),
         word,
@@ -198,21 +208,22 @@ fn look_up<J: Job>(
 
 // Puts those tokens of a word to destinations that no table has had behind the ones found.
 fn keep_sent<J: Job>(
-    tables: &Tables<J>,
+    tables: &[&Table<J>; 16],
+    near: &mut usize,
     wave: u64,
     dests: &[Dest],
     word: u64,
     found: &mut TokenList<J>,
 ) -> Result<(), NoMemory>
-    requires missing { All (IsMissing (part_of tables.now).held) found.old }
+    requires missing { All (IsMissing (part_behind tables.now).held) found.old }
     requires right { (w i p v : ℕ) → IsSent (tokens_to wave word dests.now) w i p v
         → RightToken J.image J.world w i p v }
-    ensures missing { OnOk result (All (IsMissing (part_of tables.now).held) found.new) }
+    ensures missing { OnOk result (All (IsMissing (part_behind tables.now).held) found.new) }
     ensures none { OnOk result (found.new ≡ [] → (found.old ≡ [])
-        × HaveCome (part_of tables.now).held (tokens_to wave word dests.now)) }
+        × HaveCome (part_behind tables.now).held (tokens_to wave word dests.now)) }
 {
     for dest in dests {
-        if !holds(tables, wave, dest.instr, dest.port) {
+        if !holds(tables, near, wave, dest.instr, dest.port) {
             found.push(Token::right(wave, dest.instr, dest.port, word))?;
         }
     }
@@ -221,18 +232,19 @@ fn keep_sent<J: Job>(
 
 // Puts those of these tokens that no table has had behind the ones found.
 fn keep<J: Job>(
-    tables: &Tables<J>,
+    tables: &[&Table<J>; 16],
+    near: &mut usize,
     tokens: TokenList<J>,
     found: &mut TokenList<J>,
 ) -> Result<(), NoMemory>
-    requires { All (IsMissing (part_of tables.now).held) found.old }
-    ensures missing { OnOk result (All (IsMissing (part_of tables.now).held) found.new) }
+    requires { All (IsMissing (part_behind tables.now).held) found.old }
+    ensures missing { OnOk result (All (IsMissing (part_behind tables.now).held) found.new) }
     ensures none { OnOk result (found.new ≡ [] → (found.old ≡ [])
-        × HaveCome (part_of tables.now).held tokens) }
+        × HaveCome (part_behind tables.now).held tokens) }
 {
     let mut tokens = tokens;
     while let Some(token) = tokens.pop() {
-        if !holds(tables, token.wave(), token.instr(), token.port()) {
+        if !holds(tables, near, token.wave(), token.instr(), token.port()) {
             found.push(token)?;
         }
     }
@@ -240,6 +252,7 @@ fn keep<J: Job>(
 }
 
 // The wave number of an instance's results, where there is one.
+#[inline(always)]
 fn number_of(op: Op, wave: u64) -> Option<u64>
     ensures { IfSome result (λ number. number ≡ cond (is_advance_op op) (suc wave) wave) }
 {
@@ -251,6 +264,7 @@ fn number_of(op: Op, wave: u64) -> Option<u64>
 }
 
 // The operand by which an instance chooses where its result goes.
+#[inline(always)]
 fn choice_of(op: Op, operands: Operands) -> u64
     ensures { result ≡ selector_of op (listed operands) }
 {
@@ -262,6 +276,7 @@ fn choice_of(op: Op, operands: Operands) -> u64
 }
 
 // The result of an operation that isn't memory's.
+#[inline(always)]
 fn word_of(op: Op, operands: Operands) -> u64
     ensures { result ≡ result_of_op op (listed operands) }
 {

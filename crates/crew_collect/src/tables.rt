@@ -4,7 +4,7 @@ ghost use Rattle.std.specs.Prelude.{◌≡◌, ◌+◌, ◌<◌, ◌%◌, ℕ, A
 ghost use Rattle.core_law.specs.Core.{Once, has, operands_in};
 ghost use Rattle.core_law.specs.Shown.{TablesOk};
 ghost use Rattle.match_table.specs.Ports.{listed};
-ghost use Rattle.crew_collect.specs.Together.{AllServe, content_at, part_of};
+ghost use Rattle.crew_collect.specs.Together.{AllServe, behind, content_at, part_behind, part_of};
 ghost use Rattle.crew_tables.specs.Rows.{contents};
 
 use crew_tables::row::Tables;
@@ -36,14 +36,51 @@ pub fn table_at<J: Job>(tables: &Tables<J>, number: u64) -> &Table<J>
     }
 }
 
-/// Whether a port of an instance has had its token.
-pub fn holds<J: Job>(tables: &Tables<J>, wave: u64, instr: u32, port: u8) -> bool
-    ensures { result ≡ has ((part_of tables.now).held wave instr port) }
+/// The tables in order.
+pub fn all_of<J: Job>(tables: &Tables<J>) -> [&Table<J>; 16]
+    ensures { behind result ≡ contents tables.now }
 {
-    table_at(tables, table_of(wave, instr)).holds(wave, instr, port)
+    [
+        &tables.t0,
+        &tables.t1,
+        &tables.t2,
+        &tables.t3,
+        &tables.t4,
+        &tables.t5,
+        &tables.t6,
+        &tables.t7,
+        &tables.t8,
+        &tables.t9,
+        &tables.t10,
+        &tables.t11,
+        &tables.t12,
+        &tables.t13,
+        &tables.t14,
+        &tables.t15,
+    ]
+}
+
+/// Whether a port of an instance has had its token. Its page is looked for from place `near` of its
+/// table's list of pages on, which may be any number, and `near` becomes the place at which it
+/// stands or would stand.
+#[inline(always)]
+pub fn holds<J: Job>(
+    tables: &[&Table<J>; 16],
+    near: &mut usize,
+    wave: u64,
+    instr: u32,
+    port: u8,
+) -> bool
+    ensures { result ≡ has ((part_behind tables.now).held wave instr port) }
+{
+    let table = tables[table_of(wave, instr) as usize];
+    let (held, place) = table.holds_near(*near, wave, instr, port);
+    *near = place;
+    held
 }
 
 // The number of the table that serves an instance.
+#[inline(always)]
 fn table_of(wave: u64, instr: u32) -> u64
     ensures number { result ≡ (wave + instr) % 16 }
     ensures below { result < 16 }

@@ -2,7 +2,7 @@ use Rattle.std.proofs.Common.{◌≡◌, ◌++◌, ◌∷◌, [], List, All, sli
 use Rattle.ws_isa.specs.declared.instr.Dest.{Dest}
 use Rattle.ws_isa.specs.Image.{Token}
 use Rattle.df_job.proofs.Sends.{sent_at}
-use Rattle.crew_collect.specs.Together.{part_of}
+use Rattle.crew_collect.specs.Together.{part_behind}
 use Rattle.crew_collect.specs.Owing.{IsMissing}
 use Rattle.crew_collect.proofs.Paid.{come_sent, found_missing, not_empty}
 use Rattle.crew_collect.proofs.missing.keep_sent.Goals.{then-not-holds+in_ok-push, else-not-holds}
@@ -13,7 +13,7 @@ right-requires g c = c.requires.right _ _ _ _ (sent_at c.args.wave c.args.word c
 
 pub loop-dest-preserved : goal.loop-dest-preserved
 loop-dest-preserved g c =
-    let held = (part_of c.args.tables.now).held in
+    let held = (part_behind c.args.tables.now).held in
     let d : Dest = slice_index_or c.args.dests.now c.loop-dest.dest-index (record { instr = 0; port = 0 }) in
     let t : Token = record { wave = c.args.wave; instr = d.instr; port = d.port; value = c.args.word } in
     elim c.if-not-holds.branch [

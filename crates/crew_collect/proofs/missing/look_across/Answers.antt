@@ -1,16 +1,16 @@
 use Rattle.std.proofs.Common.{arith}
 use Rattle.match_table.specs.Tables.{Content}
-use Rattle.crew_collect.specs.Together.{part_of}
-use Rattle.crew_tables.specs.Rows.{contents}
+use Rattle.crew_collect.specs.Together.{part_behind}
 use Rattle.crew_collect.specs.Owing.{ToldIn}
-use Rattle.crew_collect.proofs.Paid.{next_table}
+use Rattle.crew_collect.proofs.Paid.{next_behind}
 use Rattle.crew_collect.proofs.missing.look_across.Goals as goal
 
 pub loop-number-preserved : goal.loop-number-preserved
 loop-number-preserved g c = (
   c.in_ok-look_through.ensures.missing,
   λ e. (let a = c.in_ok-look_through.ensures.none e in let b = c.loop-number.invariant.1 a.0 in
-      (b.0, next_table (λ (x : Content). ToldIn g.J.Job.image (part_of c.args.tables.now).held c.args.from c.args.to x.fired) (contents c.args.tables.now) c.loop-number.number c.table_at.result.now c.table_at.ensures b.1 a.1)),
+      let t = c.loop-number-test.true in let l = c.told-tables in
+      (b.0, next_behind (λ (x : Content). ToldIn g.J.Job.image (part_behind c.args.tables.now).held c.args.from c.args.to x.fired) c.args.tables.now c.loop-number.number c.index-tables-number.result (omega (arith, t, l)) b.1 a.1)),
 )
 
 pub returns-clause-none : goal.returns-clause-none

@@ -1,8 +1,7 @@
 use Rattle.std.proofs.Common.{◌≡◌, ◌<◌, ℕ, [], All}
-use Rattle.crew_collect.specs.Together.{content_at, part_of}
-use Rattle.crew_tables.specs.Rows.{contents}
+use Rattle.crew_collect.specs.Together.{behind, content_at, part_behind}
 use Rattle.crew_collect.specs.Owing.{IsMissing, ToldIn}
 use Rattle.crew_collect.proofs.missing.look_across.Given as goal
 
 abbrev pub invariant-loop-number : goal.invariant-loop-number
-invariant-loop-number g l = All (IsMissing (part_of l.tables).held) l.found × (l.found ≡ [] → (l.initial.found ≡ []) × ((k : ℕ) → k < l.number → ToldIn g.J.Job.image (part_of l.tables).held l.from l.to (content_at (contents l.tables) k).fired))
+invariant-loop-number g l = All (IsMissing (part_behind l.tables).held) l.found × (l.found ≡ [] → (l.initial.found ≡ []) × ((k : ℕ) → k < l.number → ToldIn g.J.Job.image (part_behind l.tables).held l.from l.to (content_at (behind l.tables) k).fired))
