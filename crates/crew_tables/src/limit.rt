@@ -24,8 +24,8 @@ impl Quotas for Brand {
 #[derive(Drop)]
 pub enum Offer<J: Job> {
     Took(Took<J>),
-    /// The quota is spent. The token is let go.
-    Spent,
+    /// The token would fire its instance, and the quota is spent. It is handed back.
+    Spent(Token<J>),
     Fault(AcceptFault<J>),
 }
 
@@ -67,6 +67,7 @@ impl<J: Job, Q: Quotas, const K: u64> Limited<J, Q, K> {
 
     /// Takes a token, unless it would fire its instance and the quota is spent. Result tokens stand in
     /// the list that is lent.
+    #[inline(always)]
     pub fn offer(
         &mut self,
         code: &Code<'_, J>,
@@ -77,7 +78,8 @@ impl<J: Job, Q: Quotas, const K: u64> Limited<J, Q, K> {
         ensures { Offered J.image (slice_index Q.most K) self.old token self.new tokens.new result }
     {
         if self.table.fired().len() >= self.most && self.table.would_fire(code, &token) {
-            return Offer::Spent;
+            tokens.clear();
+            return Offer::Spent(token);
         }
         match self.table.accept_into(code, token, tokens) {
             Ok(took) => Offer::Took(took),

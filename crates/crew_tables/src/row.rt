@@ -96,6 +96,7 @@ fn unlocked<J: Job, Q: Quotas, const K: u64>(locked: Locked<J, Q, K>) -> Table<J
     locked.into_inner().into_inner().into_table()
 }
 
+#[inline(always)]
 fn offer_at<J: Job, Q: Quotas, const K: u64, R: Wait>(
     rt: &R,
     locked: &Locked<J, Q, K>,
