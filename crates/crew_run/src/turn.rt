@@ -2,6 +2,8 @@
 
 ghost use Rattle.std.specs.Prelude.{◌≡◌, ◌+◌, ◌<◌, ◌≤◌, ◌^◌, length};
 ghost use Rattle.crew_collect.specs.Together.{AllServe, part_of};
+ghost use Rattle.crew_tables.specs.Growth.{AllGrow};
+ghost use Rattle.crew_tables.specs.Rows.{contents};
 
 use crew_collect::limits::{fitting, limits};
 use crew_tables::Tables;
@@ -17,7 +19,7 @@ use std::thread::Threads;
 use store_buf::Buffer;
 use ws_words::NoMemory;
 
-/// A phase with these tokens, in which at most so many instances fire.
+/// A phase with these tokens, in which at most so many instances fire. No table loses anything.
 pub fn turn<J: Job + Send + Sync, P: Port + Send, G: Gate, R: Threads + Wait + Sync>(
     rt: &R,
     alloc: Global,
@@ -34,6 +36,7 @@ pub fn turn<J: Job + Send + Sync, P: Port + Send, G: Gate, R: Threads + Wait + S
     requires workers { (1 ≤ workers) × (workers ≤ 8) }
     ensures serve { AllServe result.tables }
     ensures within { length (part_of result.tables).fired ≤ length (part_of tables).fired + left }
+    ensures grow { AllGrow (contents tables) (contents result.tables) }
 {
     let mut tokens = tokens;
     let first = first_table(&mut tokens);

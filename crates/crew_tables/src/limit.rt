@@ -1,36 +1,43 @@
 //! A table of one phase.
 
 ghost use Rattle.std.specs.Prelude.{◌≡◌, ◌+◌, ◌<◌, ◌≤◌, ◌%◌, ℕ, List, length, slice_index};
+ghost use Rattle.crew_tables.specs.Growth.{Grows, content_at};
 ghost use Rattle.crew_tables.specs.Limits.{Serves, Offered};
 
 use df_job::{Code, Job, Token, TokenList};
 use match_table::{AcceptFault, Table, Took};
 use std::marker::{Brand, Model, PhantomData};
 
-/// The largest lengths of the lists of fired instances in one phase, by table.
+/// The largest lengths of the lists of fired instances in one phase, by table, and what the tables
+/// hold and list when it begins.
 pub trait Quotas {
     ghost use Rattle.std.specs.Prelude.{ℕ, List};
+    ghost use Rattle.match_table.specs.Tables.{Content};
 
     ghost most: { List ℕ };
+
+    ghost began: { List Content };
 }
 
 impl Quotas for Brand {
     ghost use Rattle.std.specs.Prelude.{[]};
 
     ghost most = { [] };
+
+    ghost began = { [] };
 }
 
 /// What a table of a phase answers to a token.
 #[derive(Drop)]
 pub enum Offer<J: Job> {
     Took(Took<J>),
-    /// The quota is spent. The token is let go.
-    Spent,
+    /// The token would fire its instance, and the quota is spent. It is handed back.
+    Spent(Token<J>),
     Fault(AcceptFault<J>),
 }
 
 /// A table of one phase. It serves the instances whose wave number plus instruction is K modulo 16,
-/// and lists no more that fired than its quota allows.
+/// and lists no more that fired than its quota allows. It has grown from what it was when the phase began.
 #[derive(Drop)]
 pub struct Limited<J: Job, Q: Quotas, const K: u64> {
     table: Table<J>,
@@ -41,6 +48,7 @@ pub struct Limited<J: Job, Q: Quotas, const K: u64> {
 impl<J: Job, Q: Quotas, const K: u64> Model for Limited<J, Q, K> {
     ghost use Rattle.std.specs.Prelude.{◌≡◌, ◌≤◌, length, slice_index};
     ghost use Rattle.match_table.specs.Tables.{Content};
+    ghost use Rattle.crew_tables.specs.Growth.{Grows, content_at};
     ghost use Rattle.crew_tables.specs.Limits.{Serves};
 
     ghost Value = { Content };
@@ -48,7 +56,7 @@ impl<J: Job, Q: Quotas, const K: u64> Model for Limited<J, Q, K> {
     ghost view = { λ l. l.table };
 
     ghost invariant = { λ l. Serves K l.table × (l.most ≡ slice_index Q.most K)
-        × (length l.table.fired ≤ l.most) };
+        × (length l.table.fired ≤ l.most) × Grows (content_at Q.began K) l.table };
 }
 
 impl<J: Job, Q: Quotas, const K: u64> Limited<J, Q, K> {
@@ -56,6 +64,7 @@ impl<J: Job, Q: Quotas, const K: u64> Limited<J, Q, K> {
     pub fn new(table: Table<J>, most: usize) -> Limited<J, Q, K>
         requires serves { Serves K table }
         requires most { (most ≡ slice_index Q.most K) × (length table.fired ≤ most) }
+        requires began { table ≡ content_at Q.began K }
         ensures { result ≡ table }
     {
         Limited {
@@ -67,6 +76,7 @@ impl<J: Job, Q: Quotas, const K: u64> Limited<J, Q, K> {
 
     /// Takes a token, unless it would fire its instance and the quota is spent. Result tokens stand in
     /// the list that is lent.
+    #[inline(always)]
     pub fn offer(
         &mut self,
         code: &Code<'_, J>,
@@ -77,7 +87,8 @@ impl<J: Job, Q: Quotas, const K: u64> Limited<J, Q, K> {
         ensures { Offered J.image (slice_index Q.most K) self.old token self.new tokens.new result }
     {
         if self.table.fired().len() >= self.most && self.table.would_fire(code, &token) {
-            return Offer::Spent;
+            tokens.clear();
+            return Offer::Spent(token);
         }
         match self.table.accept_into(code, token, tokens) {
             Ok(took) => Offer::Took(took),
@@ -90,6 +101,7 @@ impl<J: Job, Q: Quotas, const K: u64> Limited<J, Q, K> {
         ensures same { result ≡ self }
         ensures serves { Serves K self }
         ensures within { length self.fired ≤ slice_index Q.most K }
+        ensures grows { Grows (content_at Q.began K) self }
     {
         self.table
     }

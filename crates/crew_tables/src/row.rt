@@ -1,8 +1,9 @@
 //! Sixteen tables, each behind a lock of its own.
 
 ghost use Rattle.std.specs.Prelude.{◌≡◌, ◌+◌, ◌≤◌, ◌%◌, ℕ, List, length, slice_index};
+ghost use Rattle.crew_tables.specs.Growth.{Grows, GrowFrom, content_at};
 ghost use Rattle.crew_tables.specs.Limits.{Serves};
-ghost use Rattle.crew_tables.specs.Rows.{Fits};
+ghost use Rattle.crew_tables.specs.Rows.{Fits, contents};
 
 use crate::limit::{Limited, Offer, Quotas};
 use crossbeam_utils::CachePadded;
@@ -85,6 +86,7 @@ impl<J: Job> Tables<J> {
 fn locked<J: Job, Q: Quotas, const K: u64>(table: Table<J>, most: usize) -> Locked<J, Q, K>
     requires serves { Serves K table }
     requires most { (most ≡ slice_index Q.most K) × (length table.fired ≤ most) }
+    requires began { table ≡ content_at Q.began K }
 {
     CachePadded::new(Mutex::new(Limited::new(table, most)))
 }
@@ -92,10 +94,12 @@ fn locked<J: Job, Q: Quotas, const K: u64>(table: Table<J>, most: usize) -> Lock
 fn unlocked<J: Job, Q: Quotas, const K: u64>(locked: Locked<J, Q, K>) -> Table<J>
     ensures serves { Serves K result }
     ensures within { length result.fired ≤ slice_index Q.most K }
+    ensures grows { Grows (content_at Q.began K) result }
 {
     locked.into_inner().into_inner().into_table()
 }
 
+#[inline(always)]
 fn offer_at<J: Job, Q: Quotas, const K: u64, R: Wait>(
     rt: &R,
     locked: &Locked<J, Q, K>,
@@ -116,10 +120,11 @@ fn table_of(wave: u64, instr: u32) -> u64
 }
 
 impl<J: Job, Q: Quotas> Row<J, Q> {
-    /// Tables with these limits, which the phase names.
+    /// Tables with these limits. The phase names both.
     pub fn new(tables: Tables<J>, limits: &[usize]) -> Row<J, Q>
         requires limits { (limits.now ≡ Q.most) × (length limits.now ≡ 16) }
         requires fits { Fits tables limits.now }
+        requires began { contents tables ≡ Q.began }
     {
         let Tables {
             t0,
@@ -190,7 +195,8 @@ impl<J: Job, Q: Quotas> Row<J, Q> {
 
     /// The tables, once no thread shares them.
     pub fn gather(self) -> Tables<J>
-        ensures { Fits result Q.most }
+        ensures fits { Fits result Q.most }
+        ensures grow { GrowFrom 0 Q.began (contents result) }
     {
         Tables {
             t0: unlocked::<J, Q, 0>(self.t0),

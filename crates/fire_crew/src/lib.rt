@@ -3,6 +3,7 @@
 
 pub mod gate;
 pub mod phase;
+mod pour;
 pub mod work;
 
 pub use gate::{Free, Gate};

@@ -1,9 +1,11 @@
 //! One phase of a run.
 
 ghost use Rattle.std.specs.Prelude.{◌≡◌, length};
-ghost use Rattle.crew_tables.specs.Rows.{Fits};
+ghost use Rattle.crew_tables.specs.Growth.{AllGrow};
+ghost use Rattle.crew_tables.specs.Rows.{Fits, contents};
 
 use crate::gate::Gate;
+use crate::pour::pour;
 use crate::work::{Worked, work};
 use crew_tables::{Quotas, Row, Tables};
 use df_job::{Code, Job, Token, TokenList};
@@ -24,8 +26,8 @@ pub struct PhaseEnd<J: Job, P: Port> {
     pub starved: bool,
 }
 
-/// A worker for each seat, until none finds a token. Each table keeps within its limit. Where no
-/// thread can be started the caller's does all.
+/// A worker for each seat, until none finds a token. Each table keeps within its limit and loses
+/// nothing. Where no thread can be started the caller's does all.
 pub fn phase<
     J: Job + Send + Sync,
     Q: Quotas + Send + Sync,
@@ -44,7 +46,9 @@ pub fn phase<
 ) -> PhaseEnd<J, P>
     requires limits { (limits.now ≡ Q.most) × (length limits.now ≡ 16) }
     requires fits { Fits tables limits.now }
-    ensures { Fits result.tables limits.now }
+    requires began { contents tables ≡ Q.began }
+    ensures fits { Fits result.tables limits.now }
+    ensures grow { AllGrow (contents tables) (contents result.tables) }
 {
     let row: Row<J, Q> = Row::new(tables, limits);
     let lock = Mutex::new(buffer);
@@ -76,12 +80,4 @@ fn gather<J: Job>(alloc: Global, all: Vec<Worked<J>>) -> (TokenList<J>, bool) {
         pour(worked.let_go, &mut let_go);
     }
     (let_go, starved)
-}
-
-// Puts tokens behind others, as far as there is memory.
-fn pour<J: Job>(from: TokenList<J>, to: &mut TokenList<J>) {
-    let mut from = from;
-    while let Some(token) = from.pop() {
-        let _ = to.push(token);
-    }
 }

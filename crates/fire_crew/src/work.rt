@@ -1,6 +1,7 @@
 //! A worker.
 
 use crate::gate::Gate;
+use crate::pour::pour;
 use crew_tables::{Offer, Quotas, Row};
 use df_job::{Code, Job, Request, Token, TokenList};
 use match_table::{AcceptFault, Took};
@@ -18,6 +19,25 @@ pub struct Worked<J: Job> {
     pub starved: bool,
 }
 
+// How many tokens in a row a worker takes from its hand. Then all that it has go into its seat, so that
+// it runs along no chain of instances for ever while older tokens wait.
+const STREAK: u32 = 64;
+
+// What a worker has in hand: the result tokens of its last firing, of which at most one is left between
+// two turns.
+#[derive(Drop)]
+struct Hand<J: Job> {
+    tokens: TokenList<J>,
+    streak: u32,
+}
+
+impl<J: Job> Hand<J> {
+    // How many tokens may stay in hand.
+    fn kept(&self) -> usize {
+        if self.streak < STREAK { 1 } else { 0 }
+    }
+}
+
 // Whether a worker goes on.
 #[derive(Clone, Copy)]
 enum Next {
@@ -27,7 +47,7 @@ enum Next {
 }
 
 /// Brings tokens to their tables until none is found, the buffer takes no more requests, or memory
-/// runs out. Result tokens go into the worker's seat.
+/// runs out. A worker goes on with one result token of a firing, and the others go into its seat.
 pub fn work<J: Job, Q: Quotas, P: Port, G: Gate, R: Wait>(
     rt: &R,
     alloc: Global,
@@ -39,17 +59,20 @@ pub fn work<J: Job, Q: Quotas, P: Port, G: Gate, R: Wait>(
 ) -> Worked<J> {
     let mut seat = seat;
     let mut let_go = TokenList::empty(alloc);
-    let mut tokens = TokenList::empty(alloc);
+    let mut hand = Hand {
+        tokens: TokenList::empty(alloc),
+        streak: 0,
+    };
     let mut starved = false;
     for _ in rt.forever() {
-        let Some(token) = seat.find(rt) else {
+        let Some(token) = next_token(rt, &mut hand, &mut seat) else {
             break;
         };
         gate.before(token.wave(), token.instr(), token.port());
         match bring(
             rt,
             token,
-            &mut tokens,
+            &mut hand,
             &mut seat,
             &mut let_go,
             row,
@@ -64,30 +87,47 @@ pub fn work<J: Job, Q: Quotas, P: Port, G: Gate, R: Wait>(
             }
         }
     }
+    pour(hand.tokens, &mut let_go);
     Worked { let_go, starved }
 }
 
-// Brings a token to its table, under that table's lock. Result tokens come into the list that is lent.
+// The token in hand, or else one of a seat.
+#[inline(always)]
+fn next_token<J: Job, R: Wait>(
+    rt: &R,
+    hand: &mut Hand<J>,
+    seat: &mut Seat<Token<J>>,
+) -> Option<Token<J>> {
+    if let Some(token) = hand.tokens.pop() {
+        hand.streak = hand.streak.saturating_add(1);
+        return Some(token);
+    }
+    hand.streak = 0;
+    seat.find(rt)
+}
+
+// Brings a token to its table, under that table's lock.
+#[inline(always)]
 fn bring<J: Job, Q: Quotas, P: Port, R: Wait>(
     rt: &R,
     token: Token<J>,
-    tokens: &mut TokenList<J>,
+    hand: &mut Hand<J>,
     seat: &mut Seat<Token<J>>,
     let_go: &mut TokenList<J>,
     row: &Row<J, Q>,
     buffer: &Mutex<Buffer<J, P>>,
     code: &Code<'_, J>,
 ) -> Next {
-    let again = token.again();
-    match row.offer(rt, code, token, tokens) {
+    match row.offer(rt, code, token, &mut hand.tokens) {
         Offer::Took(Took::Waits) => Next::More,
         Offer::Took(Took::Fires) => {
-            hand_on(seat, let_go, tokens);
+            let kept = hand.kept();
+            hand_on(seat, let_go, &mut hand.tokens, kept);
             Next::More
         }
         Offer::Took(Took::Asks(request)) => ask(rt, request, seat, let_go, buffer, code),
-        Offer::Spent => {
-            let _ = let_go.push(again);
+        Offer::Spent(back) => {
+            let _ = let_go.push(back);
             Next::More
         }
         Offer::Fault(AcceptFault::Old(_)) => Next::More,
@@ -108,7 +148,7 @@ fn ask<J: Job, P: Port, R: Wait>(
     match answer {
         Ok(tokens) => {
             let mut tokens = tokens;
-            hand_on(seat, let_go, &mut tokens);
+            hand_on(seat, let_go, &mut tokens, 0);
             Next::More
         }
         Err(BufFault::Old) => Next::More,
@@ -117,13 +157,18 @@ fn ask<J: Job, P: Port, R: Wait>(
     }
 }
 
-// Puts tokens into a seat. Those that it refuses are let go.
+// Puts tokens into a seat, until so many are left. Those that it refuses are let go.
+#[inline(always)]
 fn hand_on<J: Job>(
     seat: &mut Seat<Token<J>>,
     let_go: &mut TokenList<J>,
     tokens: &mut TokenList<J>,
+    kept: usize,
 ) {
-    while let Some(token) = tokens.pop() {
+    while tokens.len() > kept {
+        let Some(token) = tokens.pop() else {
+            break;
+        };
         if let Err(back) = seat.put(token) {
             let _ = let_go.push(back);
         }

@@ -1,6 +1,7 @@
 //! Sixteen tables of a phase, each within its quota.
 
 ghost use Rattle.std.specs.Prelude.{◌≡◌, length};
+ghost use Rattle.crew_tables.specs.Rows.{Fits, contents};
 
 use crate::tables::{DOUBLES, image_of, take_all};
 use crew_tables::{Offer, Quotas, Row, Tables};
@@ -31,7 +32,7 @@ fn offered<J: Job, Q: Quotas, R: Wait>(
     match offer {
         Offer::Took(Took::Waits) => Ok((0, 0)),
         Offer::Took(_) => Ok((1, 0)),
-        Offer::Spent => Ok((0, 1)),
+        Offer::Spent(_) => Ok((0, 1)),
         Offer::Fault(_) => Err(NoMemory),
     }
 }
@@ -66,15 +67,18 @@ fn phase<J: Job, Q: Quotas, R: Wait>(
     rt: &R,
     alloc: Global,
     image: &Checked,
+    tables: Tables<J>,
     limits: &[usize],
 ) -> Result<(Count, usize), NoMemory>
     requires image { image.now ≡ J.image }
     requires limits { (limits.now ≡ Q.most) × (length limits.now ≡ 16) }
+    requires fits { Fits tables limits.now }
+    requires began { contents tables ≡ Q.began }
 {
     let code: Code<'_, J> = Code::of(alloc, image)?;
     let mut way: Vec<Token<J>> = Vec::new(alloc);
     take_all(start(alloc, &code)?, &mut way)?;
-    let row: Row<J, Q> = Row::new(Tables::new(alloc), limits);
+    let row: Row<J, Q> = Row::new(tables, limits);
     let count = fire_all(rt, &row, &code, &mut way, alloc);
     let most = most_of(row.gather());
     Ok((count?, most))
@@ -87,7 +91,9 @@ fn tables_fire_within_their_quotas(rt: HostRuntime) -> Result<(), Fail> {
         return Ok(());
     };
     let limits = [3usize; 16];
-    let ((fired, spent), most) = phase::<Brand, Brand, _>(&rt, rt.alloc(), &image, &limits)?;
+    let tables = Tables::new(rt.alloc());
+    let ((fired, spent), most) =
+        phase::<Brand, Brand, _>(&rt, rt.alloc(), &image, tables, &limits)?;
     assert!(rt; fired > 16 && fired <= 48 && spent > 0 && most <= 3);
     Ok(())
 }

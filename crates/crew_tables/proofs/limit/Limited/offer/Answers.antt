@@ -1,5 +1,7 @@
 use Rattle.std.proofs.Common.{◌≡◌, ◌<◌, true, true≢false, length, sym, ap, ◌∙◌, arith}
 use Rattle.match_table.specs.Matching.{will_fire}
+use Rattle.crew_tables.specs.Growth.{content_at}
+use Rattle.crew_tables.proofs.Growth.{grows_on, all_grows}
 use Rattle.crew_tables.proofs.Served.{all_ok}
 use Rattle.crew_tables.proofs.limit.Limited.offer.Goals.{else-fired-self-via-then-fired-self+else-would_fire, else-fired-self-via-else-fired-self}
 use Rattle.crew_tables.proofs.limit.Limited.offer.Goals as goal
@@ -11,4 +13,5 @@ invariant_of-self g c =
       | else-fired-self-via-else-fired-self w ↦ (let f = w.if-fired-self.false in let l = ap length c.fired.ensures in omega (arith, f, l))
     ] in
     let x = all_ok g.J.Job.image c.self.inside.table c.accept_into.new.self c.args.token c.accept_into.result c.accept_into.new.tokens g.row.K c.self.inside.most c.self.invariant.0 c.self.invariant.2 c.requires less c.accept_into.ensures.answer c.accept_into.ensures.fires in
-    (x.0, c.self.invariant.1, x.1)
+    let y = all_grows g.J.Job.image c.self.inside.table c.accept_into.new.self c.args.token c.accept_into.result c.accept_into.new.tokens c.accept_into.ensures.answer in
+    (x.0, c.self.invariant.1, x.1, grows_on (content_at g.Q.Quotas.began g.row.K) c.self.inside.table c.accept_into.new.self c.self.invariant.3 y)
