@@ -21,7 +21,8 @@ use Rattle.store_buf.specs.Requests.{entry_of, issued_keys, key_if, operands_if,
 use Rattle.store_buf.specs.Contents as buf
 use Rattle.store_buf.specs.Contents.{buffer_in}
 use Rattle.store_buf.specs.Ordering.{no_request}
-use Rattle.crew_collect.specs.Together.{all_fired, behind, content_at, no_content, together}
+use Rattle.crew_collect.specs.Together.{all_fired, behind, together}
+use Rattle.crew_tables.specs.Growth.{content_at, no_content}
 use Rattle.crew_collect.specs.Owing.{HaveCome, IsMissing, IsKnown, AllKnown, HasTold, ToldIn, HasAnswered}
 use Rattle.crew_collect.proofs.Listed.{none_fired, fired_place}
 use Rattle.crew_collect.proofs.Union.{listed_at}

@@ -6,7 +6,8 @@ use Rattle.std.proofs.lemmas.List.{length-map, take_all, get_or_append_left, get
 use Rattle.std.proofs.lemmas.List.Sums.{sum_by-cons, sum_by_push}
 use Rattle.match_table.specs.Tables.{Content, keys, key_of}
 use Rattle.crew_tables.specs.Rows.{FitFrom}
-use Rattle.crew_collect.specs.Together.{content_at, ServeFrom, all_fired}
+use Rattle.crew_collect.specs.Together.{ServeFrom, all_fired}
+use Rattle.crew_tables.specs.Growth.{content_at}
 
 -- how many are listed
 abbrev pub total : List Content → ℕ

@@ -12,7 +12,8 @@ use Rattle.match_table.specs.Ports.{listed}
 use Rattle.match_table.specs.Tables.{Content, held, keys, part}
 use Rattle.crew_tables.specs.Limits.{Serves}
 use Rattle.crew_collect.proofs.Listed.{none_fired, fired_there}
-use Rattle.crew_collect.specs.Together.{content_at, all_fired, together}
+use Rattle.crew_collect.specs.Together.{all_fired, together}
+use Rattle.crew_tables.specs.Growth.{content_at}
 
 pub fired_left : (ks ls : List Key) (w i : ℕ) → HasFired ks w i → HasFired (ks ++ ls) w i
 fired_left [] ls w i h = absurd h

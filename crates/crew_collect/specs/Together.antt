@@ -1,19 +1,13 @@
 -- Sixteen tables as one part of the core's state.
-use Rattle.std.specs.Prelude.{ℕ, suc, ◌+◌, ◌%◌, List, [], ◌∷◌, ◌++◌, map, slice_index_or}
+use Rattle.std.specs.Prelude.{ℕ, suc, ◌+◌, ◌%◌, List, [], ◌∷◌, ◌++◌, map}
 use Rattle.std.specs.Borrow.{Bor}
 use Rattle.core_law.specs.Core.{Key}
 use Rattle.core_law.specs.Shown.{Tables as Part}
 use Rattle.match_table.specs.Tables.{Content, held, keys}
 use Rattle.crew_tables.specs.declared.row.Tables.{Tables}
+use Rattle.crew_tables.specs.Growth.{content_at}
 use Rattle.crew_tables.specs.Limits.{Serves}
 use Rattle.crew_tables.specs.Rows.{contents}
-
--- stands for a table that isn't there
-abbrev pub no_content : Content
-no_content = record { entries = []; fired = []; spare = 0 }
-
-abbrev pub content_at : List Content → ℕ → Content
-content_at cs k = slice_index_or cs k no_content
 
 -- the tables serve, from this number on, the instances whose wave number plus instruction is their number modulo 16
 abbrev pub ServeFrom : ℕ → List Content → Type 0

@@ -2,7 +2,8 @@
 
 ghost use Rattle.std.specs.Prelude.{◌≡◌, ◌+◌, ◌<◌, ◌≤◌, ◌^◌, ℕ, IfOk, length, slice_index, sum};
 ghost use Rattle.crew_tables.specs.Rows.{Fits};
-ghost use Rattle.crew_collect.specs.Together.{AllServe, content_at, part_of};
+ghost use Rattle.crew_collect.specs.Together.{AllServe, part_of};
+ghost use Rattle.crew_tables.specs.Growth.{content_at};
 ghost use Rattle.crew_tables.specs.Rows.{contents};
 
 use crate::tables::table_at;

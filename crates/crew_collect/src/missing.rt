@@ -10,7 +10,8 @@ ghost use Rattle.core_run.specs.Places.{destinations};
 ghost use Rattle.df_job.specs.Rights.{operands_of};
 ghost use Rattle.match_table.specs.Ports.{listed};
 ghost use Rattle.store_buf.specs.Contents.{buffer_in};
-ghost use Rattle.crew_collect.specs.Together.{AllServe, behind, content_at, part_behind, part_of};
+ghost use Rattle.crew_collect.specs.Together.{AllServe, behind, part_behind, part_of};
+ghost use Rattle.crew_tables.specs.Growth.{content_at};
 ghost use Rattle.crew_tables.specs.Rows.{contents};
 ghost use Rattle.crew_collect.specs.Owing.{HasAnswered, HasTold, HaveCome, IsMissing, ToldIn};
 

@@ -4,7 +4,8 @@ ghost use Rattle.std.specs.Prelude.{◌≡◌, ◌+◌, ◌<◌, ◌%◌, ℕ, A
 ghost use Rattle.core_law.specs.Core.{Once, has, operands_in};
 ghost use Rattle.core_law.specs.Shown.{TablesOk};
 ghost use Rattle.match_table.specs.Ports.{listed};
-ghost use Rattle.crew_collect.specs.Together.{AllServe, behind, content_at, part_behind, part_of};
+ghost use Rattle.crew_collect.specs.Together.{AllServe, behind, part_behind, part_of};
+ghost use Rattle.crew_tables.specs.Growth.{content_at};
 ghost use Rattle.crew_tables.specs.Rows.{contents};
 
 use crew_tables::row::Tables;

@@ -1,7 +1,7 @@
 use Rattle.std.proofs.Common.{◌≡◌, inl, inr, ℕ, length, ap, arith}
 use Rattle.std.proofs.lemmas.Bool.{cases_lt}
 use Rattle.match_table.specs.Tables.{Content}
-use Rattle.crew_collect.specs.Together.{content_at}
+use Rattle.crew_tables.specs.Growth.{content_at}
 use Rattle.crew_tables.specs.Rows.{contents}
 use Rattle.crew_collect.proofs.missing.longest.Goals as goal
 

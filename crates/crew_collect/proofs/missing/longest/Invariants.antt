@@ -1,5 +1,5 @@
 use Rattle.std.proofs.Common.{◌<◌, ◌≤◌, ℕ, length}
-use Rattle.crew_collect.specs.Together.{content_at}
+use Rattle.crew_tables.specs.Growth.{content_at}
 use Rattle.crew_tables.specs.Rows.{contents}
 use Rattle.crew_collect.proofs.missing.longest.Given as goal
 

@@ -1,5 +1,6 @@
 use Rattle.std.proofs.Common.{◌≡◌, ◌<◌, ℕ, [], All}
-use Rattle.crew_collect.specs.Together.{behind, content_at, part_behind}
+use Rattle.crew_collect.specs.Together.{behind, part_behind}
+use Rattle.crew_tables.specs.Growth.{content_at}
 use Rattle.crew_collect.specs.Owing.{IsMissing, ToldIn}
 use Rattle.crew_collect.proofs.missing.look_across.Given as goal
 

@@ -1,7 +1,8 @@
 use Rattle.std.proofs.Common.{All, List, refl, subst, arith}
 use Rattle.image_walk.specs.Walk.{start_tokens}
 use Rattle.match_table.specs.Tables.{Content}
-use Rattle.crew_collect.specs.Together.{behind, content_at, part_behind, part_of, together}
+use Rattle.crew_collect.specs.Together.{behind, part_behind, part_of, together}
+use Rattle.crew_tables.specs.Growth.{content_at}
 use Rattle.crew_tables.specs.Rows.{contents}
 use Rattle.crew_collect.specs.Owing.{HasAnswered, HaveCome, IsMissing, ToldIn}
 use Rattle.crew_collect.proofs.Paid.{told_join, told_all, all_come}

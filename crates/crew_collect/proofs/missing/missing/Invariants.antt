@@ -1,6 +1,7 @@
 use Rattle.std.proofs.Common.{◌≡◌, ◌<◌, ◌-◌, ℕ, [], All}
 use Rattle.image_walk.specs.Walk.{start_tokens}
-use Rattle.crew_collect.specs.Together.{behind, content_at, part_behind}
+use Rattle.crew_collect.specs.Together.{behind, part_behind}
+use Rattle.crew_tables.specs.Growth.{content_at}
 use Rattle.crew_collect.specs.Owing.{HaveCome, IsMissing, ToldIn}
 use Rattle.crew_collect.proofs.missing.missing.Given as goal
 

@@ -1,5 +1,5 @@
 use Rattle.std.proofs.Common.{◌≡◌, ◌<◌, ℕ, [], All}
-use Rattle.crew_collect.specs.Together.{content_at}
+use Rattle.crew_tables.specs.Growth.{content_at}
 use Rattle.crew_tables.specs.Rows.{contents}
 use Rattle.crew_collect.specs.Owing.{IsKnown}
 use Rattle.crew_collect.proofs.unknown.unknown.Given as goal
