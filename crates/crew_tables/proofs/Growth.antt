@@ -19,9 +19,9 @@ grows_same c = record { keeps = λ w i p v e. e; goes_on = ([], sym (append-nil 
 
 pub grows_on : (a b c : Content) → Grows a b → Grows b c → Grows a c
 grows_on a b c g h = record {
-    keeps = λ w i p v e. h.keeps w i p v (g.keeps w i p v e);
-    goes_on = (g.goes_on.0 ++ h.goes_on.0, h.goes_on.1 ∙ ap (λ (xs : List Fired). xs ++ h.goes_on.0) g.goes_on.1 ∙ append_assoc a.fired g.goes_on.0 h.goes_on.0)
-  }
+  keeps = λ w i p v e. h.keeps w i p v (g.keeps w i p v e);
+  goes_on = (g.goes_on.0 ++ h.goes_on.0, h.goes_on.1 ∙ ap (λ (xs : List Fired). xs ++ h.goes_on.0) g.goes_on.1 ∙ append_assoc a.fired g.goes_on.0 h.goes_on.0);
+}
 
 pub all_grow_same : (cs : List Content) → AllGrow cs cs
 all_grow_same [] = tt
@@ -38,7 +38,7 @@ all_grow_on (x ∷ xs) (y ∷ ys) (z ∷ zs) g h = (grows_on x y z g.0 h.0, all_
 arrives_keeps : (old new : Content) (t : Token) → Arrives old t new → (w i p v : ℕ) → held old w i p ≡ Some v → held new w i p ≡ Some v
 arrives_keeps old new t a w i p v e = ⊎_elim
     (λ (y : SamePlace t.wave t.instr t.port w i p × (with_at t.wave t.instr t.port (Some t.value) (held old) w i p ≡ Some t.value)).
-        absurd (let here : held old t.wave t.instr t.port ≡ held old w i p = λ j. held old (y.0.wave j) (y.0.instr j) (y.0.port j) in let g : None ≡ Some v = sym a.free ∙ here ∙ e in cc))
+    absurd (let here : held old t.wave t.instr t.port ≡ held old w i p = λ j. held old (y.0.wave j) (y.0.instr j) (y.0.port j) in let g : None ≡ Some v = sym a.free ∙ here ∙ e in cc))
     (λ (n : (SamePlace t.wave t.instr t.port w i p → ⊥) × (with_at t.wave t.instr t.port (Some t.value) (held old) w i p ≡ held old w i p)). a.more w i p ∙ n.1 ∙ e)
     (with_at_cases t.wave t.instr t.port (Some t.value) (held old) w i p)
 

@@ -92,8 +92,13 @@ fn tables_fire_within_their_quotas(rt: HostRuntime) -> Result<(), Fail> {
     };
     let limits = [3usize; 16];
     let tables = Tables::new(rt.alloc());
-    let ((fired, spent), most) =
-        phase::<Brand, Brand, _>(&rt, rt.alloc(), &image, tables, &limits)?;
+    let ((fired, spent), most) = phase::<Brand, Brand, _>(
+        &rt,
+        rt.alloc(),
+        &image,
+        tables,
+        &limits,
+    )?;
     assert!(rt; fired > 16 && fired <= 48 && spent > 0 && most <= 3);
     Ok(())
 }
