@@ -62,7 +62,39 @@ fn most_of<J: Job>(tables: Tables<J>) -> usize {
     tables.t0.fired().len().max(tables.t15.fired().len())
 }
 
-// Fires what can be fired in one phase with these quotas.
+// The code of an image, and its start pulse's tokens.
+fn prepared<'i, J: Job>(
+    alloc: Global,
+    image: &'i Checked,
+) -> Result<(Code<'i, J>, Vec<Token<J>>), NoMemory>
+    requires { image.now ≡ J.image }
+{
+    let code: Code<'i, J> = Code::of(alloc, image)?;
+    let mut way: Vec<Token<J>> = Vec::new(alloc);
+    take_all(start(alloc, &code)?, &mut way)?;
+    Ok((code, way))
+}
+
+// Fires what can be fired in one phase with these quotas, and the greater of what the first and the last
+// table list then.
+fn counted<J: Job, Q: Quotas, R: Wait>(
+    rt: &R,
+    alloc: Global,
+    tables: Tables<J>,
+    limits: &[usize],
+    code: &Code<'_, J>,
+    way: &mut Vec<Token<J>>,
+) -> (Result<Count, NoMemory>, usize)
+    requires limits { (limits.now ≡ Q.most) × (length limits.now ≡ 16) }
+    requires fits { Fits tables limits.now }
+    requires began { contents tables ≡ Q.began }
+{
+    let row: Row<J, Q> = Row::new(tables, limits);
+    let count = fire_all(rt, &row, code, way, alloc);
+    (count, most_of(row.gather()))
+}
+
+// The same for an image whose code is made first.
 fn phase<J: Job, Q: Quotas, R: Wait>(
     rt: &R,
     alloc: Global,
@@ -75,13 +107,14 @@ fn phase<J: Job, Q: Quotas, R: Wait>(
     requires fits { Fits tables limits.now }
     requires began { contents tables ≡ Q.began }
 {
-    let code: Code<'_, J> = Code::of(alloc, image)?;
-    let mut way: Vec<Token<J>> = Vec::new(alloc);
-    take_all(start(alloc, &code)?, &mut way)?;
-    let row: Row<J, Q> = Row::new(tables, limits);
-    let count = fire_all(rt, &row, &code, &mut way, alloc);
-    let most = most_of(row.gather());
-    Ok((count?, most))
+    match prepared::<J>(alloc, image) {
+        Ok((code, way)) => {
+            let mut way = way;
+            let (count, most) = counted::<J, Q, R>(rt, alloc, tables, limits, &code, &mut way);
+            Ok((count?, most))
+        }
+        Err(fault) => Err(fault),
+    }
 }
 
 #[test]
