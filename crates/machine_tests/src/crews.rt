@@ -62,19 +62,6 @@ fn most_of<J: Job>(tables: Tables<J>) -> usize {
     tables.t0.fired().len().max(tables.t15.fired().len())
 }
 
-// The code of an image, and its start pulse's tokens.
-fn prepared<'i, J: Job>(
-    alloc: Global,
-    image: &'i Checked,
-) -> Result<(Code<'i, J>, Vec<Token<J>>), NoMemory>
-    requires { image.now ≡ J.image }
-{
-    let code: Code<'i, J> = Code::of(alloc, image)?;
-    let mut way: Vec<Token<J>> = Vec::new(alloc);
-    take_all(start(alloc, &code)?, &mut way)?;
-    Ok((code, way))
-}
-
 // Fires what can be fired in one phase with these quotas, and the greater of what the first and the last
 // table list then.
 fn counted<J: Job, Q: Quotas, R: Wait>(
@@ -94,27 +81,22 @@ fn counted<J: Job, Q: Quotas, R: Wait>(
     (count, most_of(row.gather()))
 }
 
-// The same for an image whose code is made first.
-fn phase<J: Job, Q: Quotas, R: Wait>(
+// Fires what can be fired in one phase of a job with these quotas.
+fn phase<J: Job, R: Wait>(
     rt: &R,
     alloc: Global,
     image: &Checked,
-    tables: Tables<J>,
     limits: &[usize],
 ) -> Result<(Count, usize), NoMemory>
     requires image { image.now ≡ J.image }
-    requires limits { (limits.now ≡ Q.most) × (length limits.now ≡ 16) }
-    requires fits { Fits tables limits.now }
-    requires began { contents tables ≡ Q.began }
+    requires limits { length limits.now ≡ 16 }
 {
-    match prepared::<J>(alloc, image) {
-        Ok((code, way)) => {
-            let mut way = way;
-            let (count, most) = counted::<J, Q, R>(rt, alloc, tables, limits, &code, &mut way);
-            Ok((count?, most))
-        }
-        Err(fault) => Err(fault),
-    }
+    let code: Code<'_, J> = Code::of(alloc, image)?;
+    let mut way: Vec<Token<J>> = Vec::new(alloc);
+    take_all(start(alloc, &code)?, &mut way)?;
+    let tables: Tables<J> = Tables::new(alloc);
+    let (count, most) = counted::<J, Brand, R>(rt, alloc, tables, limits, &code, &mut way);
+    Ok((count?, most))
 }
 
 #[test]
@@ -124,14 +106,7 @@ fn tables_fire_within_their_quotas(rt: HostRuntime) -> Result<(), Fail> {
         return Ok(());
     };
     let limits = [3usize; 16];
-    let tables = Tables::new(rt.alloc());
-    let ((fired, spent), most) = phase::<Brand, Brand, _>(
-        &rt,
-        rt.alloc(),
-        &image,
-        tables,
-        &limits,
-    )?;
+    let ((fired, spent), most) = phase::<Brand, _>(&rt, rt.alloc(), &image, &limits)?;
     assert!(rt; fired > 16 && fired <= 48 && spent > 0 && most <= 3);
     Ok(())
 }

@@ -1,0 +1,4 @@
+use Rattle.machine_tests.proofs.crews.phase.Goals as goal
+
+pub counted-count-requires-clause-fits : goal.counted-count-requires-clause-fits
+counted-count-requires-clause-fits g c = c.new-tables.ensures c.args.limits.now

@@ -1,0 +1,5 @@
+use Rattle.crew_tables.specs.Rows.{contents}
+use Rattle.machine_tests.proofs.crews.phase.Given as goal
+
+abbrev pub ghosts-counted : goal.ghosts-counted
+ghosts-counted g a = record { most = a.limits.now; began = contents a.tables }
