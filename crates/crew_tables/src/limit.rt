@@ -4,8 +4,8 @@ ghost use Rattle.std.specs.Prelude.{◌≡◌, ◌+◌, ◌<◌, ◌≤◌, ◌%
 ghost use Rattle.crew_tables.specs.Growth.{Grows, content_at};
 ghost use Rattle.crew_tables.specs.Limits.{Serves, Offered};
 
-use df_job::{Code, Job, Token, TokenList};
-use match_table::{AcceptFault, Table, Took};
+use df_job::{Code, Job, Token};
+use match_table::{Results, Table, Took};
 use std::marker::{Brand, Model, PhantomData};
 
 /// The largest lengths of the lists of fired instances in one phase, by table, and what the tables
@@ -27,13 +27,12 @@ impl Quotas for Brand {
     ghost began = { [] };
 }
 
-/// What a table of a phase answers to a token.
-#[derive(Drop)]
-pub enum Offer<J: Job> {
-    Took(Took<J>),
-    /// The token would fire its instance, and the quota is spent. It is handed back.
-    Spent(Token<J>),
-    Fault(AcceptFault<J>),
+/// What a table of a phase does with a token: what a table does, or nothing, since the token would fire
+/// its instance and the quota is spent.
+#[derive(Clone, Copy, Debug, PartialEq, Eq)]
+pub enum Offer {
+    Took(Took),
+    Spent,
 }
 
 /// A table of one phase. It serves the instances whose wave number plus instruction is K modulo 16,
@@ -74,26 +73,23 @@ impl<J: Job, Q: Quotas, const K: u64> Limited<J, Q, K> {
         }
     }
 
-    /// Takes a token, unless it would fire its instance and the quota is spent. Result tokens stand in
-    /// the list that is lent.
+    /// Takes a token, unless it would fire its instance and the quota is spent. What the instance hands
+    /// on stands in the place that is lent.
     #[inline(always)]
     pub fn offer(
         &mut self,
         code: &Code<'_, J>,
-        token: Token<J>,
-        tokens: &mut TokenList<J>,
-    ) -> Offer<J>
-        requires { (token.wave + token.instr) % 16 ≡ K }
-        ensures { Offered J.image (slice_index Q.most K) self.old token self.new tokens.new result }
+        token: &Token<J>,
+        results: &mut Results<J>,
+    ) -> Offer
+        requires { (token.now.wave + token.now.instr) % 16 ≡ K }
+        ensures { Offered J.image (slice_index Q.most K) self.old token.now self.new results.new result }
     {
-        if self.table.fired().len() >= self.most && self.table.would_fire(code, &token) {
-            tokens.clear();
-            return Offer::Spent(token);
+        if self.table.fired().len() >= self.most && self.table.would_fire(code, token) {
+            results.clear();
+            return Offer::Spent;
         }
-        match self.table.accept_into(code, token, tokens) {
-            Ok(took) => Offer::Took(took),
-            Err(fault) => Offer::Fault(fault),
-        }
+        Offer::Took(self.table.accept_into(code, token, results))
     }
 
     /// The table, at the end of the phase.

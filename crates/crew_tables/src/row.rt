@@ -7,8 +7,8 @@ ghost use Rattle.crew_tables.specs.Rows.{Fits, contents};
 
 use crate::limit::{Limited, Offer, Quotas};
 use crossbeam_utils::CachePadded;
-use df_job::{Code, Job, Token, TokenList};
-use match_table::Table;
+use df_job::{Code, Job, Token};
+use match_table::{Results, Table};
 use std::alloc::Global;
 use std::sync::{Mutex, Wait};
 
@@ -104,12 +104,12 @@ fn offer_at<J: Job, Q: Quotas, const K: u64, R: Wait>(
     rt: &R,
     locked: &Locked<J, Q, K>,
     code: &Code<'_, J>,
-    token: Token<J>,
-    tokens: &mut TokenList<J>,
-) -> Offer<J>
-    requires { (token.wave + token.instr) % 16 ≡ K }
+    token: &Token<J>,
+    results: &mut Results<J>,
+) -> Offer
+    requires { (token.now.wave + token.now.instr) % 16 ≡ K }
 {
-    locked.lock(rt).offer(code, token, tokens)
+    locked.lock(rt).offer(code, token, results)
 }
 
 // The number of the table that serves an instance.
@@ -164,32 +164,32 @@ impl<J: Job, Q: Quotas> Row<J, Q> {
         }
     }
 
-    /// Takes the token at the table that serves it, under that table's lock. Result tokens stand in the
-    /// list that is lent.
+    /// Takes the token at the table that serves it, under that table's lock. What its instance hands
+    /// on stands in the place that is lent.
     pub fn offer<R: Wait>(
         &self,
         rt: &R,
         code: &Code<'_, J>,
-        token: Token<J>,
-        tokens: &mut TokenList<J>,
-    ) -> Offer<J> {
+        token: &Token<J>,
+        results: &mut Results<J>,
+    ) -> Offer {
         match table_of(token.wave(), token.instr()) {
-            0 => offer_at::<J, Q, 0, R>(rt, &self.t0, code, token, tokens),
-            1 => offer_at::<J, Q, 1, R>(rt, &self.t1, code, token, tokens),
-            2 => offer_at::<J, Q, 2, R>(rt, &self.t2, code, token, tokens),
-            3 => offer_at::<J, Q, 3, R>(rt, &self.t3, code, token, tokens),
-            4 => offer_at::<J, Q, 4, R>(rt, &self.t4, code, token, tokens),
-            5 => offer_at::<J, Q, 5, R>(rt, &self.t5, code, token, tokens),
-            6 => offer_at::<J, Q, 6, R>(rt, &self.t6, code, token, tokens),
-            7 => offer_at::<J, Q, 7, R>(rt, &self.t7, code, token, tokens),
-            8 => offer_at::<J, Q, 8, R>(rt, &self.t8, code, token, tokens),
-            9 => offer_at::<J, Q, 9, R>(rt, &self.t9, code, token, tokens),
-            10 => offer_at::<J, Q, 10, R>(rt, &self.t10, code, token, tokens),
-            11 => offer_at::<J, Q, 11, R>(rt, &self.t11, code, token, tokens),
-            12 => offer_at::<J, Q, 12, R>(rt, &self.t12, code, token, tokens),
-            13 => offer_at::<J, Q, 13, R>(rt, &self.t13, code, token, tokens),
-            14 => offer_at::<J, Q, 14, R>(rt, &self.t14, code, token, tokens),
-            _ => offer_at::<J, Q, 15, R>(rt, &self.t15, code, token, tokens),
+            0 => offer_at::<J, Q, 0, R>(rt, &self.t0, code, token, results),
+            1 => offer_at::<J, Q, 1, R>(rt, &self.t1, code, token, results),
+            2 => offer_at::<J, Q, 2, R>(rt, &self.t2, code, token, results),
+            3 => offer_at::<J, Q, 3, R>(rt, &self.t3, code, token, results),
+            4 => offer_at::<J, Q, 4, R>(rt, &self.t4, code, token, results),
+            5 => offer_at::<J, Q, 5, R>(rt, &self.t5, code, token, results),
+            6 => offer_at::<J, Q, 6, R>(rt, &self.t6, code, token, results),
+            7 => offer_at::<J, Q, 7, R>(rt, &self.t7, code, token, results),
+            8 => offer_at::<J, Q, 8, R>(rt, &self.t8, code, token, results),
+            9 => offer_at::<J, Q, 9, R>(rt, &self.t9, code, token, results),
+            10 => offer_at::<J, Q, 10, R>(rt, &self.t10, code, token, results),
+            11 => offer_at::<J, Q, 11, R>(rt, &self.t11, code, token, results),
+            12 => offer_at::<J, Q, 12, R>(rt, &self.t12, code, token, results),
+            13 => offer_at::<J, Q, 13, R>(rt, &self.t13, code, token, results),
+            14 => offer_at::<J, Q, 14, R>(rt, &self.t14, code, token, results),
+            _ => offer_at::<J, Q, 15, R>(rt, &self.t15, code, token, results),
         }
     }
 

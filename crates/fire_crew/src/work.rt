@@ -4,7 +4,7 @@ use crate::gate::Gate;
 use crate::pour::pour;
 use crew_tables::{Offer, Quotas, Row};
 use df_job::{Code, Job, Request, Token, TokenList};
-use match_table::{AcceptFault, Took};
+use match_table::{Results, Took};
 use port_set::Port;
 use ready_pool::Seat;
 use std::alloc::Global;
@@ -23,11 +23,11 @@ pub struct Worked<J: Job> {
 // it runs along no chain of instances for ever while older tokens wait.
 const STREAK: u32 = 64;
 
-// What a worker has in hand: the result tokens of its last firing, of which at most one is left between
+// What a worker has in hand: the results of its last firing, of which at most one token is left between
 // two turns.
 #[derive(Drop)]
 struct Hand<J: Job> {
-    tokens: TokenList<J>,
+    results: Results<J>,
     streak: u32,
 }
 
@@ -60,7 +60,7 @@ pub fn work<J: Job, Q: Quotas, P: Port, G: Gate, R: Wait>(
     let mut seat = seat;
     let mut let_go = TokenList::empty(alloc);
     let mut hand = Hand {
-        tokens: TokenList::empty(alloc),
+        results: Results::none(alloc),
         streak: 0,
     };
     let mut starved = false;
@@ -87,7 +87,7 @@ pub fn work<J: Job, Q: Quotas, P: Port, G: Gate, R: Wait>(
             }
         }
     }
-    pour(hand.tokens, &mut let_go);
+    pour(hand.results.tokens, &mut let_go);
     Worked { let_go, starved }
 }
 
@@ -98,7 +98,7 @@ fn next_token<J: Job, R: Wait>(
     hand: &mut Hand<J>,
     seat: &mut Seat<Token<J>>,
 ) -> Option<Token<J>> {
-    if let Some(token) = hand.tokens.pop() {
+    if let Some(token) = hand.results.tokens.pop() {
         hand.streak = hand.streak.saturating_add(1);
         return Some(token);
     }
@@ -118,20 +118,22 @@ fn bring<J: Job, Q: Quotas, P: Port, R: Wait>(
     buffer: &Mutex<Buffer<J, P>>,
     code: &Code<'_, J>,
 ) -> Next {
-    match row.offer(rt, code, token, &mut hand.tokens) {
-        Offer::Took(Took::Waits) => Next::More,
+    match row.offer(rt, code, &token, &mut hand.results) {
+        Offer::Took(Took::Waits) | Offer::Took(Took::Old) => Next::More,
         Offer::Took(Took::Fires) => {
             let kept = hand.kept();
-            hand_on(seat, let_go, &mut hand.tokens, kept);
+            hand_on(seat, let_go, &mut hand.results.tokens, kept);
             Next::More
         }
-        Offer::Took(Took::Asks(request)) => ask(rt, request, seat, let_go, buffer, code),
-        Offer::Spent(back) => {
-            let _ = let_go.push(back);
+        Offer::Took(Took::Asks) => match hand.results.request.take() {
+            Some(request) => ask(rt, request, seat, let_go, buffer, code),
+            None => Next::More,
+        },
+        Offer::Took(Took::NoMemory) => Next::Starved,
+        Offer::Spent => {
+            let _ = let_go.push(token);
             Next::More
         }
-        Offer::Fault(AcceptFault::Old(_)) => Next::More,
-        Offer::Fault(AcceptFault::NoMemory(_)) => Next::Starved,
     }
 }
 

@@ -30,7 +30,10 @@ use Rattle.match_table.specs.Tables.{Content, held, held_in, fired_operands, Tab
 use Rattle.match_table.specs.declared.meeting.Seen.{Seen}
 use Rattle.match_table.specs.declared.table.Accept.{Accept}
 use Rattle.match_table.specs.declared.table.Accept.TheVariants as accept
-use Rattle.match_table.specs.Matching.{Arrives, Full, Outcome, Accepted, IsOldSo, has_fired, will_fire}
+use Rattle.match_table.specs.declared.table.Results.{Results}
+use Rattle.match_table.specs.declared.table.Took.{Took}
+use Rattle.match_table.specs.declared.table.Took.TheVariants as took
+use Rattle.match_table.specs.Matching.{Arrives, Full, Outcome, HandedOn, Accepted, Answered, FiresSo, IsOldSo, will_fire}
 use Rattle.match_table.proofs.Held.{full_same, taken_has}
 use Rattle.match_table.proofs.Kept.{with_next, full_operands, free_port, kept_ok, kept_held, kept_waits, fired_ok, fired_held, fired_full, fired_listed}
 
@@ -117,15 +120,28 @@ pub waits_false : (image : Image) (old mid new : Content) (t : Token) → mid.en
 waits_false image old mid new t e f a unfilled = open_false image old t (with_full image old new t (arrives_from old mid new t e f a) ∙ unfilled)
 
 module _ {J : Type 0} where
-  answers : (image : Image) (t : Token) (xs : List ℕ) (answer : Accept J) → Outcome image t xs answer → has_fired answer ≡ true
-  answers image t xs accept.Waits o = absurd o
-  answers image t xs (accept.Fires tokens) o = refl
-  answers image t xs (accept.Asks request) o = refl
+  pub answered : (image : Image) (old mid new : Content) (t : Token) (xs : List ℕ) (rs : Results J) (did : Took) → mid.entries ≡ old.entries → mid.fired ≡ old.fired → Arrives mid t new → Full image mid t new xs → HandedOn image t xs rs did → Answered image old t new rs did
+  answered image old mid new t xs rs took.Waits e f a b o = absurd o
+  answered image old mid new t xs rs took.Fires e f a b o = (accepted {J = J} image old mid new t xs (accept.Fires rs.tokens) e f a b o.0, o.1)
+  answered image old mid new t xs rs took.Asks e f a b o = (o.0, o.1, o.2, accepted {J = J} image old mid new t xs (accept.Asks o.0) e f a b o.3)
+  answered image old mid new t xs rs took.Old e f a b o = absurd o
+  answered image old mid new t xs rs took.NoMemory e f a b o = absurd o
 
-  pub fired_true : (image : Image) (old mid new : Content) (t : Token) (xs : List ℕ) (answer : Accept J) → mid.entries ≡ old.entries → mid.fired ≡ old.fired → Arrives mid t new → Full image mid t new xs → Outcome image t xs answer → has_fired answer ≡ will_fire image old t
-  fired_true image old mid new t xs answer e f a b o =
-      let arrives : Arrives old t new = arrives_from old mid new t e f a in
-      answers image t xs answer o ∙ fires_true image old t arrives.free (with_full image old new t arrives ∙ b.full)
+  pub fires_so : (image : Image) (old mid new : Content) (t : Token) (xs : List ℕ) (rs : Results J) (did : Took) → mid.entries ≡ old.entries → mid.fired ≡ old.fired → Arrives mid t new → Full image mid t new xs → HandedOn image t xs rs did → FiresSo did (will_fire image old t)
+  fires_so image old mid new t xs rs did e f a b o = go did o
+    where
+      arrives : Arrives old t new
+      arrives = arrives_from old mid new t e f a
+
+      fires : will_fire image old t ≡ true
+      fires = sym (fires_true image old t arrives.free (with_full image old new t arrives ∙ b.full))
+
+      go : (k : Took) → HandedOn image t xs rs k → FiresSo k (will_fire image old t)
+      go took.Waits h = absurd h
+      go took.Fires h = fires
+      go took.Asks h = fires
+      go took.Old h = absurd h
+      go took.NoMemory h = absurd h
 
 pub old_so : (c : Content) (t : Token) (n : ℕ) (seen : Seen) → SeenSo (arrived_in c.entries t.wave t.instr) t.port t.value n seen → (is_taken (arrived_in c.entries t.wave t.instr) t.port ≡ true → has (held c t.wave t.instr t.port) ≡ true) → IsOldSo c t seen
 old_so c t n Old s h = h s

@@ -2,11 +2,12 @@
 use Rattle.std.specs.Prelude.{◌≡◌, ℕ, Bool, true, false, not, ◌&&◌, List, [], ◌∷◌, ◌++◌, slice_index, Some, None}
 use Rattle.ws_isa.specs.Image.{Image, Token, ports, is_memory, result_of, sends}
 use Rattle.core_law.specs.Core.{State, arrived, matched, has, is_full, with_at, operands_in}
-use Rattle.df_job.specs.Rights.{operands_of}
+use Rattle.df_job.specs.Rights.{Asked, operands_of}
 use Rattle.match_table.specs.declared.table.Accept.{Accept}
 use Rattle.match_table.specs.declared.table.Accept.TheVariants.{Waits, Fires, Asks}
 use Rattle.match_table.specs.declared.table.Took.{Took}
 use Rattle.match_table.specs.declared.table.Took.TheVariants as took
+use Rattle.match_table.specs.declared.table.Results.{Results}
 use Rattle.match_table.specs.declared.table.AcceptFault.{AcceptFault}
 use Rattle.match_table.specs.declared.table.AcceptFault.TheVariants as fault
 use Rattle.match_table.specs.declared.meeting.Seen.{Seen}
@@ -71,16 +72,25 @@ module _ {J : Type 0} where
       × (new.fired ≡ old.fired)
 
 module _ {J : Type 0} where
-  -- the answer of a table that puts its result tokens into a list, which holds these then
-  abbrev pub answer_of : Took J → List Token → Accept J
-  answer_of took.Waits tokens = Waits
-  answer_of took.Fires tokens = Fires tokens
-  answer_of (took.Asks request) tokens = Asks request
+  -- nothing is handed on
+  abbrev pub NoResults : Results J → Type 0
+  NoResults rs = (rs.tokens ≡ []) × (rs.request ≡ None)
 
-  -- the list that is lent has tokens after a firing alone
-  abbrev pub LentSo : Took J → List Token → Type 0
-  LentSo took.Fires tokens = Unit {0}
-  LentSo answer tokens = tokens ≡ []
+  -- what an instance hands on that is full with these operands, and nothing else
+  abbrev pub HandedOn : Image → Token → List ℕ → Results J → Took → Type 0
+  HandedOn image t operands rs took.Fires = Outcome {J = J} image t operands (Fires rs.tokens) × (rs.request ≡ None)
+  HandedOn image t operands rs took.Asks = (request : Asked) × (rs.request ≡ Some request) × (rs.tokens ≡ [])
+      × Outcome {J = J} image t operands (Asks request)
+  HandedOn image t operands rs answer = ⊥
+
+  -- what `accept` answers, where the caller keeps the token and lends a place for what is handed on: nothing else stands there
+  abbrev pub Answered : Image → Content → Token → Content → Results J → Took → Type 0
+  Answered image old t new rs took.Waits = Accepted {J = J} image old t new Waits × NoResults rs
+  Answered image old t new rs took.Fires = Accepted {J = J} image old t new (Fires rs.tokens) × (rs.request ≡ None)
+  Answered image old t new rs took.Asks = (request : Asked) × (rs.request ≡ Some request) × (rs.tokens ≡ [])
+      × Accepted {J = J} image old t new (Asks request)
+  Answered image old t new rs took.Old = Refused {J = J} old t new (fault.Old t) × NoResults rs
+  Answered image old t new rs took.NoMemory = Refused {J = J} old t new (fault.NoMemory t) × NoResults rs
 
   -- the answer says that the instance has fired
   abbrev pub has_fired : Accept J → Bool
@@ -92,6 +102,13 @@ module _ {J : Type 0} where
   abbrev pub IfNoMemory : AcceptFault J → Type 0 → Type 0
   IfNoMemory (fault.Old back) holds = Unit {0}
   IfNoMemory (fault.NoMemory back) holds = holds
+
+-- where the token was taken the instance fires exactly if this is so
+abbrev pub FiresSo : Took → Bool → Type 0
+FiresSo took.Waits fires = fires ≡ false
+FiresSo took.Fires fires = fires ≡ true
+FiresSo took.Asks fires = fires ≡ true
+FiresSo answer fires = Unit {0}
 
 -- the state holds at the ports of the token's instance what the table holds
 abbrev pub Agrees : State → Content → Token → Type 0

@@ -10,4 +10,4 @@ pub mod table;
 
 pub use entry::Arrived;
 pub use meeting::Operands;
-pub use table::{Accept, AcceptFault, Fired, Table, Took};
+pub use table::{Accept, AcceptFault, Fired, Results, Table, Took};

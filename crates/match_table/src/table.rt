@@ -8,7 +8,8 @@ ghost use Rattle.core_law.specs.Core.{Once, has, is_full, operands_in};
 ghost use Rattle.core_law.specs.Shown.{TablesOk};
 ghost use Rattle.core_run.specs.Places.{ProgramIs, image_of};
 ghost use Rattle.match_table.specs.declared.meeting.Seen.TheVariants.{Waits, Fills};
-ghost use Rattle.match_table.specs.Matching.{Accepted, Arrives, Full, IfNoMemory, IsOldSo, LentSo, Outcome, Refused, answer_of, has_fired, will_fire};
+ghost use Rattle.match_table.specs.declared.table.Took.TheVariants as took;
+ghost use Rattle.match_table.specs.Matching.{Accepted, Answered, Arrives, FiresSo, Full, HandedOn, IfNoMemory, IsOldSo, NoResults, Refused, has_fired, will_fire};
 ghost use Rattle.match_table.specs.Pages.{KeyIs, arrived_in};
 ghost use Rattle.match_table.specs.Ports.{listed, SeenSo};
 ghost use Rattle.match_table.specs.Tables.{held, part};
@@ -41,13 +42,43 @@ pub enum Accept<J: Job> {
     Asks(Request<J>),
 }
 
-/// What a table answers to a token whose result tokens go into a list that the caller lends: its
-/// instance isn't full, or it has fired, and this is its request.
-#[derive(Drop)]
-pub enum Took<J: Job> {
+/// What a table does with a token that the caller keeps: its instance isn't full; it has fired, and hands
+/// on result tokens or its request; its port had it before; or memory ran out.
+#[derive(Clone, Copy, Debug, PartialEq, Eq)]
+pub enum Took {
     Waits,
     Fires,
-    Asks(Request<J>),
+    Asks,
+    Old,
+    NoMemory,
+}
+
+/// What an instance hands on when it fires: its result tokens, or its request.
+#[derive(Drop)]
+pub struct Results<J: Job> {
+    pub tokens: TokenList<J>,
+    pub request: Option<Request<J>>,
+}
+
+impl<J: Job> Results<J> {
+    /// Nothing is handed on.
+    pub fn none(alloc: Global) -> Results<J>
+        ensures { NoResults result }
+    {
+        Results {
+            tokens: TokenList::empty(alloc),
+            request: None,
+        }
+    }
+
+    /// Lets all go, and keeps the room.
+    #[inline(always)]
+    pub fn clear(&mut self)
+        ensures { NoResults self.new }
+    {
+        self.tokens.clear();
+        self.request = None;
+    }
 }
 
 /// Why a table doesn't take a token, which it hands back: its port had it before, or memory ran out.
@@ -257,83 +288,82 @@ impl<J: Job> Table<J> {
             IfNoMemory fault (0 < self.old.spare → token.wave + 1 < 2 ^ 64 → ⊥)) }
         ensures spare { self.old.spare ≤ self.new.spare + 1 }
     {
-        let mut tokens = TokenList::empty(alloc);
-        match self.accept_into(code, token, &mut tokens) {
-            Ok(Took::Waits) => Ok(Accept::Waits),
-            Ok(Took::Fires) => Ok(Accept::Fires(tokens)),
-            Ok(Took::Asks(request)) => Ok(Accept::Asks(request)),
-            Err(fault) => Err(fault),
+        let mut results = Results::none(alloc);
+        let took = self.accept_into(code, &token, &mut results);
+        let Results { tokens, request } = results;
+        match took {
+            Took::Waits => Ok(Accept::Waits),
+            Took::Fires => Ok(Accept::Fires(tokens)),
+            Took::Asks => match request {
+                Some(request) => Ok(Accept::Asks(request)),
+                None => unreachable!(),
+            },
+            Took::Old => Err(AcceptFault::Old(token)),
+            Took::NoMemory => Err(AcceptFault::NoMemory(token)),
         }
     }
 
-    /// Does what `accept` does. After a firing the result tokens stand in the list that is lent, and after
-    /// any other answer none do.
+    /// Does what `accept` does. The caller lends a place for what the instance hands on when it fires;
+    /// nothing else stands there then.
     pub fn accept_into(
         &mut self,
         code: &Code<'_, J>,
-        token: Token<J>,
-        tokens: &mut TokenList<J>,
-    ) -> Result<Took<J>, AcceptFault<J>>
-        ensures answer { MatchResult result
-            (λ took. Accepted J.image self.old token self.new (answer_of took tokens.new))
-            (Refused self.old token self.new) }
-        ensures fires { IfOk result (λ took.
-            has_fired (answer_of took tokens.new) ≡ will_fire J.image self.old token) }
-        ensures memory { IfErr result (λ fault.
-            IfNoMemory fault (0 < self.old.spare → token.wave + 1 < 2 ^ 64 → ⊥)) }
+        token: &Token<J>,
+        results: &mut Results<J>,
+    ) -> Took
+        ensures answer { Answered J.image self.old token.now self.new results.new result }
+        ensures fires { FiresSo result (will_fire J.image self.old token.now) }
+        ensures memory { result ≡ took.NoMemory → 0 < self.old.spare → token.now.wave + 1 < 2 ^ 64 → ⊥ }
         ensures spare { self.old.spare ≤ self.new.spare + 1 }
-        ensures lent { MatchResult result (λ took. LentSo took tokens.new) (λ _. tokens.new ≡ []) }
     {
-        tokens.clear();
+        results.clear();
         let program = code.program();
         let instr = token.instr();
         let op = program.op(instr);
         let count = op.ports();
-        let look = self.look(&token, count);
+        let look = self.look(token, count);
         match look.seen {
-            Seen::Old => Err(AcceptFault::Old(token)),
+            Seen::Old => Took::Old,
             Seen::Waits(next) => {
                 if self.make_room().is_err() {
-                    return Err(AcceptFault::NoMemory(token));
+                    return Took::NoMemory;
                 }
-                self.keep(&token, look.place, look.key, next, count);
-                Ok(Took::Waits)
+                self.keep(token, look.place, look.key, next, count);
+                Took::Waits
             }
             Seen::Fills(operands) => {
-                let Ok(outcome) = self.outcome(program, &token, operands, tokens) else {
-                    tokens.clear();
-                    return Err(AcceptFault::NoMemory(token));
+                let Ok(took) = self.hand_on(program, token, operands, results) else {
+                    results.clear();
+                    return Took::NoMemory;
                 };
                 if self.make_room().is_err() {
-                    tokens.clear();
-                    return Err(AcceptFault::NoMemory(token));
+                    results.clear();
+                    return Took::NoMemory;
                 }
-                self.fire(&token, look.place, look.key, operands, count);
-                Ok(outcome)
+                self.fire(token, look.place, look.key, operands, count);
+                took
             }
         }
     }
 
-    // What the token's instance answers once it is full with these operands.
+    // Hands on what the token's instance does once it is full with these operands.
     #[inline(always)]
-    fn outcome(
+    fn hand_on(
         &self,
         program: &Program<'_>,
         token: &Token<J>,
         operands: Operands,
-        tokens: &mut TokenList<J>,
-    ) -> Result<Took<J>, NoMemory>
+        results: &mut Results<J>,
+    ) -> Result<Took, NoMemory>
         requires program { ProgramIs program.now }
         requires image { image_of program.now ≡ J.image }
         requires formed { Formed J.image }
         requires sound { Sound J.image }
         requires seen { SeenSo (arrived_in self.now.entries token.now.wave token.now.instr)
             token.now.port token.now.value (ports J.image token.now.instr) (Fills operands) }
-        requires empty { tokens.old ≡ [] }
-        ensures outcome { IfOk result (λ took.
-            Outcome J.image token.now (listed operands) (answer_of took tokens.new)) }
+        requires empty { NoResults results.old }
+        ensures outcome { IfOk result (HandedOn J.image token.now (listed operands) results.new) }
         ensures few { token.now.wave + 1 < 2 ^ 64 → IsOk result }
-        ensures lent { IfOk result (λ took. LentSo took tokens.new) }
     {
         let _ = &self.fired;
         let wave = token.wave();
@@ -341,14 +371,15 @@ impl<J: Job> Table<J> {
         let op = program.op(instr);
         if op.is_memory() {
             let request = Request::right(wave, instr, operands.first(), operands.second());
-            return Ok(Took::Asks(request));
+            results.request = Some(request);
+            return Ok(Took::Asks);
         }
         let Some(number) = number_of(op, wave) else {
             return Err(NoMemory);
         };
         let dests = program.destinations(instr, selector(op, operands));
         let word = result_of(op, operands);
-        tokens.send(number, dests, word)?;
+        results.tokens.send(number, dests, word)?;
         Ok(Took::Fires)
     }
 
