@@ -1,16 +1,14 @@
 -- A table grows where it takes a token.
-use Rattle.std.proofs.Common.{◌≡◌, ⊎_elim, ℕ, List, [], ◌∷◌, ◌++◌, Option, Some, None, Result, Ok, Err, MatchResult, append-nil, append_assoc, sym, ap, ◌∙◌, subst}
+use Rattle.std.proofs.Common.{◌≡◌, ⊎_elim, ℕ, List, [], ◌∷◌, ◌++◌, Option, Some, None, append-nil, append_assoc, sym, ap, ◌∙◌, subst}
 use Rattle.ws_isa.specs.Image.{Image, Token}
 use Rattle.core_law.specs.Core.{with_at}
 use Rattle.core_law.proofs.Ports.{SamePlace, with_at_cases}
 use Rattle.match_table.specs.declared.entry.Entry.{Entry}
 use Rattle.match_table.specs.declared.table.Fired.{Fired}
-use Rattle.match_table.specs.declared.table.Accept.{Accept}
-use Rattle.match_table.specs.declared.table.Accept.TheVariants as accept
+use Rattle.match_table.specs.declared.table.Results.{Results}
 use Rattle.match_table.specs.declared.table.Took.{Took}
-use Rattle.match_table.specs.declared.table.AcceptFault.{AcceptFault}
-use Rattle.match_table.specs.declared.table.AcceptFault.TheVariants as fault
-use Rattle.match_table.specs.Matching.{Arrives, Accepted, Refused, answer_of}
+use Rattle.match_table.specs.declared.table.Took.TheVariants as took
+use Rattle.match_table.specs.Matching.{Arrives, Answered}
 use Rattle.match_table.specs.Tables.{Content, held, held_in}
 use Rattle.crew_tables.specs.Growth.{Grows, AllGrow}
 
@@ -46,15 +44,9 @@ same_keeps : (old new : Content) → new.entries ≡ old.entries → new.fired �
 same_keeps old new e f w i p v h = ap (λ (x : List (Option Entry) × List Fired). held_in x.0 x.1 w i p) (λ j. (e j, f j)) ∙ h
 
 module _ {J : Type 0} where
-  took_grows : (image : Image) (old new : Content) (t : Token) (answer : Accept J) → Accepted image old t new answer → Grows old new
-  took_grows image old new t accept.Waits acc = record { keeps = arrives_keeps old new t acc.0; goes_on = ([], acc.2 ∙ sym (append-nil old.fired)) }
-  took_grows image old new t (accept.Fires tokens) acc = record { keeps = arrives_keeps old new t acc.0; goes_on = (acc.1.1.entry ∷ [], acc.1.1.fired) }
-  took_grows image old new t (accept.Asks request) acc = record { keeps = arrives_keeps old new t acc.0; goes_on = (acc.1.1.entry ∷ [], acc.1.1.fired) }
-
-  refused_grows : (old new : Content) (t : Token) (answer : AcceptFault J) → Refused old t new answer → Grows old new
-  refused_grows old new t (fault.Old back) r = subst (λ (c : Content). Grows old c) (sym r.1) (grows_same old)
-  refused_grows old new t (fault.NoMemory back) r = record { keeps = same_keeps old new r.1 r.2; goes_on = ([], r.2 ∙ sym (append-nil old.fired)) }
-
-  pub all_grows : (image : Image) (old new : Content) (t : Token) (answer : Result (Took J) (AcceptFault J)) (tokens : List Token) → MatchResult answer (λ took. Accepted image old t new (answer_of took tokens)) (Refused old t new) → Grows old new
-  all_grows image old new t (Ok took) tokens m = took_grows image old new t (answer_of took tokens) m
-  all_grows image old new t (Err f) tokens m = refused_grows old new t f m
+  pub all_grows : (image : Image) (old new : Content) (t : Token) (rs : Results J) (answer : Took) → Answered image old t new rs answer → Grows old new
+  all_grows image old new t rs took.Waits m = record { keeps = arrives_keeps old new t m.0.0; goes_on = ([], m.0.2 ∙ sym (append-nil old.fired)) }
+  all_grows image old new t rs took.Fires m = record { keeps = arrives_keeps old new t m.0.0; goes_on = (m.0.1.1.entry ∷ [], m.0.1.1.fired) }
+  all_grows image old new t rs took.Asks m = record { keeps = arrives_keeps old new t m.3.0; goes_on = (m.3.1.1.entry ∷ [], m.3.1.1.fired) }
+  all_grows image old new t rs took.Old m = subst (λ (c : Content). Grows old c) (sym m.0.1) (grows_same old)
+  all_grows image old new t rs took.NoMemory m = record { keeps = same_keeps old new m.0.1 m.0.2; goes_on = ([], m.0.2 ∙ sym (append-nil old.fired)) }

@@ -1,16 +1,14 @@
 -- A table of a phase keeps its facts where it takes a token.
-use Rattle.std.proofs.Common.{◌≡◌, ◌+◌, ◌<◌, ◌≤◌, ◌%◌, ⊎_elim, ℕ, Bool, true, List, [], ◌∷◌, Option, Some, None, Result, Ok, Err, IfOk, MatchResult, length, length-append, sym, ap, ◌∙◌, subst, arith}
+use Rattle.std.proofs.Common.{◌≡◌, ◌+◌, ◌<◌, ◌≤◌, ◌%◌, ⊎_elim, ℕ, Bool, true, List, [], ◌∷◌, Option, Some, None, length, length-append, sym, ap, ◌∙◌, subst, arith}
 use Rattle.ws_isa.specs.Image.{Image, Token}
 use Rattle.core_law.specs.Core.{with_at}
 use Rattle.core_law.proofs.Ports.{SamePlace, with_at_cases}
 use Rattle.match_table.specs.declared.entry.Entry.{Entry}
 use Rattle.match_table.specs.declared.table.Fired.{Fired}
-use Rattle.match_table.specs.declared.table.Accept.{Accept}
-use Rattle.match_table.specs.declared.table.Accept.TheVariants as accept
+use Rattle.match_table.specs.declared.table.Results.{Results}
 use Rattle.match_table.specs.declared.table.Took.{Took}
-use Rattle.match_table.specs.declared.table.AcceptFault.{AcceptFault}
-use Rattle.match_table.specs.declared.table.AcceptFault.TheVariants as fault
-use Rattle.match_table.specs.Matching.{Arrives, Full, Accepted, Refused, has_fired, will_fire, answer_of}
+use Rattle.match_table.specs.declared.table.Took.TheVariants as took
+use Rattle.match_table.specs.Matching.{Arrives, Full, Answered, FiresSo, will_fire}
 use Rattle.match_table.specs.Tables.{Content, held, held_in}
 use Rattle.crew_tables.specs.Limits.{Serves}
 
@@ -34,15 +32,9 @@ within : (image : Image) (old new : Content) (t : Token) (xs : List ℕ) (fires 
 within image old new t xs fires most f is less = let l = one_longer image old new t xs f in let m = less (sym is) in omega (arith, l, m)
 
 module _ {J : Type 0} where
-  pub took_ok : (image : Image) (old new : Content) (t : Token) (answer : Accept J) (fires : Bool) (k most : ℕ) → Serves k old → length old.fired ≤ most → (t.wave + t.instr) % 16 ≡ k → has_fired answer ≡ fires → (fires ≡ true → length old.fired < most) → Accepted image old t new answer → Serves k new × (length new.fired ≤ most)
-  took_ok image old new t accept.Waits fires k most s le serves would less acc = (arrives_serves k old new t s serves acc.0, subst (λ l. length l ≤ most) (sym acc.2) le)
-  took_ok image old new t (accept.Fires tokens) fires k most s le serves would less acc = (arrives_serves k old new t s serves acc.0, within image old new t acc.1.0 fires most acc.1.1 would less)
-  took_ok image old new t (accept.Asks request) fires k most s le serves would less acc = (arrives_serves k old new t s serves acc.0, within image old new t acc.1.0 fires most acc.1.1 would less)
-
-  pub refused_ok : (old new : Content) (t : Token) (answer : AcceptFault J) (k most : ℕ) → Serves k old → length old.fired ≤ most → Refused old t new answer → Serves k new × (length new.fired ≤ most)
-  refused_ok old new t (fault.Old back) k most s le r = (same_serves k old new s (ap (λ (c : Content). c.entries) r.1) (ap (λ (c : Content). c.fired) r.1), subst (λ (c : Content). length c.fired ≤ most) (sym r.1) le)
-  refused_ok old new t (fault.NoMemory back) k most s le r = (same_serves k old new s r.1 r.2, subst (λ l. length l ≤ most) (sym r.2) le)
-
-  pub all_ok : (image : Image) (old new : Content) (t : Token) (answer : Result (Took J) (AcceptFault J)) (tokens : List Token) (k most : ℕ) → Serves k old → length old.fired ≤ most → (t.wave + t.instr) % 16 ≡ k → (will_fire image old t ≡ true → length old.fired < most) → MatchResult answer (λ took. Accepted image old t new (answer_of took tokens)) (Refused old t new) → IfOk answer (λ took. has_fired (answer_of took tokens) ≡ will_fire image old t) → Serves k new × (length new.fired ≤ most)
-  all_ok image old new t (Ok took) tokens k most s le serves less m h = took_ok image old new t (answer_of took tokens) (will_fire image old t) k most s le serves h less m
-  all_ok image old new t (Err f) tokens k most s le serves less m h = refused_ok old new t f k most s le m
+  pub all_ok : (image : Image) (old new : Content) (t : Token) (rs : Results J) (answer : Took) (k most : ℕ) → Serves k old → length old.fired ≤ most → (t.wave + t.instr) % 16 ≡ k → (will_fire image old t ≡ true → length old.fired < most) → Answered image old t new rs answer → FiresSo answer (will_fire image old t) → Serves k new × (length new.fired ≤ most)
+  all_ok image old new t rs took.Waits k most s le serves less m h = (arrives_serves k old new t s serves m.0.0, subst (λ l. length l ≤ most) (sym m.0.2) le)
+  all_ok image old new t rs took.Fires k most s le serves less m h = (arrives_serves k old new t s serves m.0.0, within image old new t m.0.1.0 (will_fire image old t) most m.0.1.1 (sym h) less)
+  all_ok image old new t rs took.Asks k most s le serves less m h = (arrives_serves k old new t s serves m.3.0, within image old new t m.3.1.0 (will_fire image old t) most m.3.1.1 (sym h) less)
+  all_ok image old new t rs took.Old k most s le serves less m h = (same_serves k old new s (ap (λ (c : Content). c.entries) m.0.1) (ap (λ (c : Content). c.fired) m.0.1), subst (λ (c : Content). length c.fired ≤ most) (sym m.0.1) le)
+  all_ok image old new t rs took.NoMemory k most s le serves less m h = (same_serves k old new s m.0.1 m.0.2, subst (λ l. length l ≤ most) (sym m.0.2) le)

@@ -5,9 +5,9 @@ ghost use Rattle.crew_tables.specs.Rows.{Fits, contents};
 
 use crate::tables::{DOUBLES, image_of, take_all};
 use crew_tables::{Offer, Quotas, Row, Tables};
-use df_job::{Code, Job, Token, TokenList, start};
+use df_job::{Code, Job, Token, start};
 use image_walk::Checked;
-use match_table::Took;
+use match_table::{Results, Took};
 use std::alloc::Global;
 use std::marker::Brand;
 use std::sync::Wait;
@@ -26,14 +26,14 @@ fn offered<J: Job, Q: Quotas, R: Wait>(
     way: &mut Vec<Token<J>>,
     alloc: Global,
 ) -> Result<Count, NoMemory> {
-    let mut tokens = TokenList::empty(alloc);
-    let offer = row.offer(rt, code, token, &mut tokens);
-    take_all(tokens, way)?;
+    let mut results = Results::none(alloc);
+    let offer = row.offer(rt, code, &token, &mut results);
+    take_all(results.tokens, way)?;
     match offer {
         Offer::Took(Took::Waits) => Ok((0, 0)),
-        Offer::Took(_) => Ok((1, 0)),
-        Offer::Spent(_) => Ok((0, 1)),
-        Offer::Fault(_) => Err(NoMemory),
+        Offer::Took(Took::Fires) | Offer::Took(Took::Asks) => Ok((1, 0)),
+        Offer::Took(Took::Old) | Offer::Took(Took::NoMemory) => Err(NoMemory),
+        Offer::Spent => Ok((0, 1)),
     }
 }
 
