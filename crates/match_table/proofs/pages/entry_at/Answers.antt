@@ -1,13 +1,13 @@
-use Rattle.std.proofs.Common.{sym, ◌∙◌}
-use Rattle.match_table.proofs.Store.{if_none, none_map, no_page, not_in_page}
+use Rattle.std.proofs.Common.{sym, ap, ◌∙◌}
+use Rattle.match_table.specs.Pages.{page_key}
+use Rattle.match_table.proofs.Arrivals.{absent_arrived}
+use Rattle.match_table.proofs.Store.{if_none, none_map, no_page}
 use Rattle.match_table.proofs.pages.entry_at.Goals as goal
 
 pub returns-in_err-key-clause-none : goal.returns-in_err-key-clause-none
 returns-in_err-key-clause-none c = if_none c.from_residual.result
-    (no_page c.args.spots.now c.args.pages.now.slots c.args.entries.now.slots c.args.wave c.args.instr c.requires.pages (sym c.key_at.ensures ∙ c.in_err-key.was))
+    (no_page c.args.spots.now c.args.pages.now.slots c.args.entries.now.slots c.args.wave c.args.instr c.requires.pages
+    (ap (page_key c.args.spots.now) (sym c.requires.number) ∙ sym c.key_at.ensures ∙ c.in_err-key.was))
 
 pub returns-clause-none : goal.returns-clause-none
-returns-clause-none c = none_map c.entry_of.result
-    (λ none. not_in_page c.args.spots.now c.args.pages.now.slots c.args.entries.now.slots c.args.wave c.args.instr c.in_ok-key.key c.in_ok-page.page.now c.requires.pages
-    (sym c.key_at.ensures ∙ c.in_ok-key.was) (sym c.in_ok-page.ensures) none)
-    c.entry_of.ensures.none
+returns-clause-none c = none_map c.entry_of.result (λ none. absent_arrived c.args.entries.now.slots c.args.wave c.args.instr none) c.entry_of.ensures.none
