@@ -392,6 +392,9 @@ impl<J: Job> Table<J> {
         ensures succeeds { 0 < self.old.spare → IsOk result }
         ensures kept { self.old.spare ≤ self.new.spare }
     {
+        if self.pages.has_room() && self.fired.len() < self.fired.capacity() {
+            return Ok(());
+        }
         self.reserve(1)
     }
 }

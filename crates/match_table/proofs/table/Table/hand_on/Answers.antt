@@ -19,24 +19,32 @@ right-request-requires g c = subst (λ (k : ℕ × ℕ × ℕ × ℕ). RightRequ
     (request_right g.J.Job.image g.J.Job.world c.requires.formed c.requires.sound c.self.inside.pages.entries c.self.inside.fired.items c.self.invariant c.args.token.now c.wave-wave.ensures.right c.args.operands (fills g.J.Job.image g.J.Job.world c.requires.formed c.requires.sound c.self.inside.pages.entries c.self.inside.fired.items c.self.invariant c.args.token.now c.wave-wave.ensures.right c.args.operands (subst (λ (s : Content). SeenSo (arrived_in s.entries c.args.token.now.wave c.args.token.now.instr) c.args.token.now.port c.args.token.now.value (ports g.J.Job.image c.args.token.now.instr) (Fills c.args.operands)) (sym c.self.view_is) c.requires.seen)) (memory_is g.J.Job.image (image_of c.args.program.now) c.args.token.now c.instr-instr.result c.op-op.result c.op-op.ensures c.requires.image c.instr-instr.ensures c.is_memory.result c.is_memory.ensures ∙ c.if-is_memory.true))
 
 pub returns-then-is_memory-clause-outcome : goal.returns-then-is_memory-clause-outcome
-returns-then-is_memory-clause-outcome g c = (c.right-request.result, refl, c.requires.empty.0, (
-  (memory_is g.J.Job.image (image_of c.args.program.now) c.args.token.now c.instr-instr.result c.op-op.result c.op-op.ensures c.requires.image c.instr-instr.ensures c.is_memory.result c.is_memory.ensures ∙ c.if-is_memory.true),
-  ap (λ (r : Asked). r.wave) c.right-request.ensures ∙ c.wave-wave.ensures.wave,
-  ap (λ (r : Asked). r.instr) c.right-request.ensures ∙ c.instr-instr.ensures,
-  ap (λ (r : Asked). r.second) c.right-request.ensures ∙ c.second.ensures,
-  ap (λ (k : ℕ × ℕ). operands_of (ports g.J.Job.image c.args.token.now.instr) k.0 k.1) (λ j. ((ap (λ (r : Asked). r.first) c.right-request.ensures ∙ c.first.ensures) j, (ap (λ (r : Asked). r.second) c.right-request.ensures ∙ c.second.ensures) j))
-      ∙ asks_right g.J.Job.image g.J.Job.world c.requires.formed c.requires.sound c.self.inside.pages.entries c.self.inside.fired.items c.self.invariant c.args.token.now c.wave-wave.ensures.right c.args.operands (fills g.J.Job.image g.J.Job.world c.requires.formed c.requires.sound c.self.inside.pages.entries c.self.inside.fired.items c.self.invariant c.args.token.now c.wave-wave.ensures.right c.args.operands (subst (λ (s : Content). SeenSo (arrived_in s.entries c.args.token.now.wave c.args.token.now.instr) c.args.token.now.port c.args.token.now.value (ports g.J.Job.image c.args.token.now.instr) (Fills c.args.operands)) (sym c.self.view_is) c.requires.seen)) (memory_is g.J.Job.image (image_of c.args.program.now) c.args.token.now c.instr-instr.result c.op-op.result c.op-op.ensures c.requires.image c.instr-instr.ensures c.is_memory.result c.is_memory.ensures ∙ c.if-is_memory.true),
-))
+returns-then-is_memory-clause-outcome g c = (
+  c.right-request.result,
+  refl,
+  c.requires.empty.0,
+  (
+    (memory_is g.J.Job.image (image_of c.args.program.now) c.args.token.now c.instr-instr.result c.op-op.result c.op-op.ensures c.requires.image c.instr-instr.ensures c.is_memory.result c.is_memory.ensures ∙ c.if-is_memory.true),
+    ap (λ (r : Asked). r.wave) c.right-request.ensures ∙ c.wave-wave.ensures.wave,
+    ap (λ (r : Asked). r.instr) c.right-request.ensures ∙ c.instr-instr.ensures,
+    ap (λ (r : Asked). r.second) c.right-request.ensures ∙ c.second.ensures,
+    ap (λ (k : ℕ × ℕ). operands_of (ports g.J.Job.image c.args.token.now.instr) k.0 k.1) (λ j. ((ap (λ (r : Asked). r.first) c.right-request.ensures ∙ c.first.ensures) j, (ap (λ (r : Asked). r.second) c.right-request.ensures ∙ c.second.ensures) j))
+        ∙ asks_right g.J.Job.image g.J.Job.world c.requires.formed c.requires.sound c.self.inside.pages.entries c.self.inside.fired.items c.self.invariant c.args.token.now c.wave-wave.ensures.right c.args.operands (fills g.J.Job.image g.J.Job.world c.requires.formed c.requires.sound c.self.inside.pages.entries c.self.inside.fired.items c.self.invariant c.args.token.now c.wave-wave.ensures.right c.args.operands (subst (λ (s : Content). SeenSo (arrived_in s.entries c.args.token.now.wave c.args.token.now.instr) c.args.token.now.port c.args.token.now.value (ports g.J.Job.image c.args.token.now.instr) (Fills c.args.operands)) (sym c.self.view_is) c.requires.seen)) (memory_is g.J.Job.image (image_of c.args.program.now) c.args.token.now c.instr-instr.result c.op-op.result c.op-op.ensures c.requires.image c.instr-instr.ensures c.is_memory.result c.is_memory.ensures ∙ c.if-is_memory.true),
+  ),
+)
 
 pub send-requires : goal.send-requires
 send-requires g c = λ w i p v s. sends_right g.J.Job.image g.J.Job.world c.requires.formed c.requires.sound c.self.inside.pages.entries c.self.inside.fired.items c.self.invariant c.args.token.now c.wave-wave.ensures.right (listed c.args.operands) (fills g.J.Job.image g.J.Job.world c.requires.formed c.requires.sound c.self.inside.pages.entries c.self.inside.fired.items c.self.invariant c.args.token.now c.wave-wave.ensures.right c.args.operands (subst (λ (s : Content). SeenSo (arrived_in s.entries c.args.token.now.wave c.args.token.now.instr) c.args.token.now.port c.args.token.now.value (ports g.J.Job.image c.args.token.now.instr) (Fills c.args.operands)) (sym c.self.view_is) c.requires.seen)) (memory_is g.J.Job.image (image_of c.args.program.now) c.args.token.now c.instr-instr.result c.op-op.result c.op-op.ensures c.requires.image c.instr-instr.ensures c.is_memory.result c.is_memory.ensures ∙ c.if-is_memory.false) w i p v
     (subst (λ (ts : List Token). IsSent ts w i p v) (sent_is g.J.Job.image (image_of c.args.program.now) c.args.token.now c.instr-instr.result c.op-op.result c.op-op.ensures c.requires.image c.instr-instr.ensures (listed c.args.operands) c.wave-wave.result c.in-Some.number c.result_of-word.result c.selector.result c.destinations-dests.result.now c.wave-wave.ensures.wave c.in-Some.ensures.number c.result_of-word.ensures c.selector.ensures c.destinations-dests.ensures) s)
 
 pub returns-clause-outcome : goal.returns-clause-outcome
-returns-clause-outcome g c = ((
-  (memory_is g.J.Job.image (image_of c.args.program.now) c.args.token.now c.instr-instr.result c.op-op.result c.op-op.ensures c.requires.image c.instr-instr.ensures c.is_memory.result c.is_memory.ensures ∙ c.if-is_memory.false),
-  (c.in_ok-send.ensures.ok ∙ ap (λ (ts : List Token). ts ++ tokens_to c.in-Some.number c.result_of-word.result c.destinations-dests.result.now) c.requires.empty.0) ∙ sent_is g.J.Job.image (image_of c.args.program.now) c.args.token.now c.instr-instr.result c.op-op.result c.op-op.ensures c.requires.image c.instr-instr.ensures (listed c.args.operands) c.wave-wave.result c.in-Some.number c.result_of-word.result c.selector.result c.destinations-dests.result.now c.wave-wave.ensures.wave c.in-Some.ensures.number c.result_of-word.ensures c.selector.ensures c.destinations-dests.ensures,
-), c.requires.empty.1)
+returns-clause-outcome g c = (
+  (
+    (memory_is g.J.Job.image (image_of c.args.program.now) c.args.token.now c.instr-instr.result c.op-op.result c.op-op.ensures c.requires.image c.instr-instr.ensures c.is_memory.result c.is_memory.ensures ∙ c.if-is_memory.false),
+    (c.in_ok-send.ensures.ok ∙ ap (λ (ts : List Token). ts ++ tokens_to c.in-Some.number c.result_of-word.result c.destinations-dests.result.now) c.requires.empty.0) ∙ sent_is g.J.Job.image (image_of c.args.program.now) c.args.token.now c.instr-instr.result c.op-op.result c.op-op.ensures c.requires.image c.instr-instr.ensures (listed c.args.operands) c.wave-wave.result c.in-Some.number c.result_of-word.result c.selector.result c.destinations-dests.result.now c.wave-wave.ensures.wave c.in-Some.ensures.number c.result_of-word.ensures c.selector.ensures c.destinations-dests.ensures,
+  ),
+  c.requires.empty.1,
+)
 
 pub returns-in_err-send-clause-few : goal.returns-in_err-send-clause-few
 returns-in_err-send-clause-few g c = λ lt. absurd (true≢false (sym (subst IsOk c.in_err-send.was (c.send.ensures.few
