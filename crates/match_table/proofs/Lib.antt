@@ -1,4 +1,4 @@
-pub mod Spots
+pub mod Numbers
 pub mod Chains
 pub mod Arrivals
 pub mod Search
