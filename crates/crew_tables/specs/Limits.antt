@@ -1,5 +1,5 @@
 -- A table of a phase.
-use Rattle.std.specs.Prelude.{◌≡◌, ◌+◌, ◌≤◌, ◌%◌, ℕ, true, List, length, Some}
+use Rattle.std.specs.Prelude.{◌≡◌, ◌+◌, ◌≤◌, ◌%◌, ℕ, true, length, Some}
 use Rattle.ws_isa.specs.Image.{Image, Token}
 use Rattle.match_table.specs.declared.table.Results.{Results}
 use Rattle.match_table.specs.Matching.{Answered, NoResults, will_fire}
