@@ -25,18 +25,11 @@ def wide(count):
     return f"proc main() {{\n  var i, {', '.join(names)};\n  while (i < 1000000) {{\n{body}    i = i + 1;\n  }}\n}}\n"
 
 
-def long_wave(statements):
-    """One block, and so one wave, of some 140 instructions for each statement."""
-    sums = f"  print {' + '.join(['x'] * 120)};\n" * statements
-    return f"proc main() {{\n  var x;\n  x = 1;\n{sums}}}\n"
-
-
 JOBS = {
     "loop": "proc main() {\n  var i, s;\n  while (i < 1000000) {\n    s = s + i;\n    i = i + 1;\n  }\n}\n",
     "wide loop": wide(16),
     "stores and loads": "array a[64];\nproc main() {\n  var i, s;\n  while (i < 1000000) {\n"
     "    a[i % 64] = i;\n    s = s + a[(i * 7) % 64];\n    i = i + 1;\n  }\n}\n",
-    "one long wave": long_wave(2000),
 }
 
 
