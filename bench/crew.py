@@ -1,10 +1,11 @@
 #!/usr/bin/env python3
-"""Times `wsc run` and `wsc bench` with 1, 2, 4 and 8 workers.
+"""Times `wsc run` with 1, 2, 4 and 8 workers.
 
     bench/crew.py [PROGRAM]        at the top of the repository, over the program that ./wsc builds
 
 For each program the table has the firings of a run and, for each number of workers, the millions of them
-in a second by the clock: the best of three runs, less a run that fires nothing.
+in a second by the clock: the best of three runs, less a run that fires nothing. All but one of the programs
+end where the budget is spent.
 """
 
 import pathlib
@@ -18,6 +19,12 @@ WORKERS = (1, 2, 4, 8)
 MOST = "4000000"
 
 
+def loop(turns):
+    return (
+        f"proc main() {{\n  var i, s;\n  while (i < {turns}) {{\n    s = s + i;\n    i = i + 1;\n  }}\n}}\n"
+    )
+
+
 def wide(count):
     """A loop that does many sums which need nothing of each other."""
     names = [f"v{k}" for k in range(count)]
@@ -26,7 +33,8 @@ def wide(count):
 
 
 JOBS = {
-    "loop": "proc main() {\n  var i, s;\n  while (i < 1000000) {\n    s = s + i;\n    i = i + 1;\n  }\n}\n",
+    "loop": loop(1000000),
+    "loop to its end": loop(330000),
     "wide loop": wide(16),
     "stores and loads": "array a[64];\nproc main() {\n  var i, s;\n  while (i < 1000000) {\n"
     "    a[i % 64] = i;\n    s = s + a[(i * 7) % 64];\n    i = i + 1;\n  }\n}\n",

@@ -1,7 +1,7 @@
 -- Tokens that have come, and those that are missing.
 use Rattle.std.proofs.Common.{◌≡◌, inl, inr, ℕ, zero, Bool, true, false, cond, List, [], ◌∷◌, ◌++◌, ◌+◌, ◌<◌, ◌≤◌, suc, Option, Some, None, is_some, All, length, take, slice_index_or, add-one, arith, sym, refl, ap, ◌∙◌, subst}
 use Rattle.std.proofs.lemmas.Bool.{cases_lt}
-use Rattle.std.proofs.lemmas.List.{take_all, append_assoc, get_or_default, get_or-map}
+use Rattle.std.proofs.lemmas.List.{take_all, append_assoc, get_or-map}
 use Rattle.std.proofs.lemmas.List.Elements.{All-get_or, All-more, All-push}
 use Rattle.std.specs.Borrow.{Bor}
 use Rattle.ws_words.specs.Outside.{Outside}
@@ -15,7 +15,7 @@ use Rattle.core_law.proofs.Slots.{is_sent_append_cases}
 use Rattle.df_job.specs.Rights.{operands_of}
 use Rattle.match_table.specs.declared.table.Fired.{Fired}
 use Rattle.match_table.specs.Ports.{listed}
-use Rattle.match_table.specs.Tables.{Content}
+use Rattle.match_table.specs.Tables.{Content, held, key_of, of_memory}
 use Rattle.store_buf.specs.declared.kept.Kept.{Kept}
 use Rattle.store_buf.specs.Requests.{entry_of, issued_keys, key_if, operands_if, answer_if}
 use Rattle.store_buf.specs.Contents as buf
@@ -24,7 +24,7 @@ use Rattle.store_buf.specs.Ordering.{no_request}
 use Rattle.crew_collect.specs.Together.{all_fired, behind, together}
 use Rattle.crew_tables.specs.Growth.{content_at, no_content}
 use Rattle.crew_collect.specs.Owing.{HaveCome, IsMissing, IsKnown, AllKnown, HasTold, ToldIn, HasAnswered}
-use Rattle.crew_collect.proofs.Listed.{none_fired, fired_place}
+use Rattle.crew_collect.proofs.Listed.{none_fired, fired_place, asked_there}
 use Rattle.crew_collect.proofs.Union.{listed_at}
 
 pub has_some : (o : Option ℕ) → has o ≡ true → (u : ℕ) × (o ≡ Some u)
@@ -97,24 +97,29 @@ pub all_done : {X : Type 0} (P : X → Type 0) (all : List X) (k : ℕ) → leng
 all_done {X} P all k le a = subst (λ (l : List X). All P l) (take_all k all le) a
 
 -- one more of a stretch is done
-pub told_more : (image : Image) (held : Ports) (from place : ℕ) (fs all : List Fired) (d : Fired) → fs ≡ all → place < length fs → ToldIn image held from place all → HasTold image held (slice_index_or fs place d) → ToldIn image held from (place + 1) all
-told_more image held from place fs all d is lt before now k e low high within = elim (cases_lt k place) [
-  | inl x ↦ before k e low x within
+pub told_more : (image : Image) (all : Ports) (from place : ℕ) (c : Content) (f : Fired) → ((d : Key) → slice_index_or c.fired place d ≡ key_of f) → listed f.operands ≡ operands_in image (held c) f.wave f.instr → ToldIn image all from place c → HasTold image all (listed f.operands) (key_of f) → ToldIn image all from (place + 1) c
+told_more image all from place c f at operands before now k d low high within = elim (cases_lt k place) [
+  | inl x ↦ before k d low x within
   | inr x ↦ (let same : place ≡ k = omega (arith, high, x) in
-      let here : HasTold image held (slice_index_or all place d) = subst (λ (l : List Fired). HasTold image held (slice_index_or l place d)) is now in
-      subst (HasTold image held) (get_or_default all k d e within) (subst (λ (j : ℕ). HasTold image held (slice_index_or all j d)) same here))
+      let key : key_of f ≡ slice_index_or c.fired k d = sym (at d) ∙ ap (λ (j : ℕ). slice_index_or c.fired j d) same in
+      subst (λ (y : Key). HasTold image all (operands_in image (held c) y.wave y.instr) y) key
+      (subst (λ (xs : List ℕ). HasTold image all xs (key_of f)) operands now))
 ]
 
 -- one stretch after another
-pub told_join : (image : Image) (held : Ports) (from mid to : ℕ) (fs : List Fired) → ToldIn image held from mid fs → ToldIn image held mid to fs → ToldIn image held from to fs
-told_join image held from mid to fs a b k d low high within = elim (cases_lt k mid) [
+pub told_join : (image : Image) (all : Ports) (from mid to : ℕ) (c : Content) → ToldIn image all from mid c → ToldIn image all mid to c → ToldIn image all from to c
+told_join image all from mid to c a b k d low high within = elim (cases_lt k mid) [
   | inl x ↦ a k d low x within
   | inr x ↦ b k d x high within
 ]
 
+-- each that the table lists has told so
+abbrev pub AllTold : Image → Ports → Content → Type 0
+AllTold image all c = All (λ (k : Key). HasTold image all (operands_in image (held c) k.wave k.instr) k) c.fired
+
 -- all of a list are done
-pub told_all : (image : Image) (held : Ports) (to : ℕ) (fs : List Fired) → length fs ≤ to → ToldIn image held 0 to fs → All (HasTold image held) fs
-told_all image held to fs le told k d lt = told k d (omega arith) (omega (arith, lt, le)) lt
+pub told_all : (image : Image) (all : Ports) (to : ℕ) (c : Content) → length c.fired ≤ to → ToldIn image all 0 to c → AllTold image all c
+told_all image all to c le told k d lt = told k d (omega arith) (omega (arith, lt, le)) lt
 
 -- one more table is done
 pub next_table : (P : Content → Type 0) (cs : List Content) (n : ℕ) (c : Content) → c ≡ content_at cs n → ((k : ℕ) → k < n → P (content_at cs k)) → P c → (k : ℕ) → k < n + 1 → P (content_at cs k)
@@ -127,13 +132,14 @@ next_table P cs n c is before now k lt = elim (cases_lt k n) [
 pub next_behind : (P : Content → Type 0) (rs : List (Bor Content)) (n : ℕ) (d : Bor Content) → n < length rs → ((k : ℕ) → k < n → P (content_at (behind rs) k)) → P (slice_index_or rs n d).now → (k : ℕ) → k < n + 1 → P (content_at (behind rs) k)
 next_behind P rs n d lt before now = next_table P (behind rs) n (slice_index_or rs n d).now (sym (get_or-map (λ (r : Bor Content). r.now) rs n d no_content lt)) before now
 
-pub known_all : (image : Image) (kept : List Kept) (cs : List Content) → length cs ≡ 16 → ((k : ℕ) → k < 16 → All (IsKnown image kept) (content_at cs k).fired) → AllKnown image (together cs) kept
+pub known_all : (image : Image) (kept : List Kept) (cs : List Content) → length cs ≡ 16 → ((k : ℕ) → k < 16 → All (IsKnown kept) (of_memory image (content_at cs k).fired)) → AllKnown image (together cs) kept
 known_all image kept cs count each w i h m =
     let r = listed_at cs w i h in
-    let p = fired_place (content_at cs r.0).fired w i r.2 in
+    let asked : List Key = of_memory image (content_at cs r.0).fired in
+    let p = fired_place asked w i (asked_there image (content_at cs r.0).fired w i r.2 m) in
     let b = r.1 in
-    let k : IsKnown image kept (slice_index_or (content_at cs r.0).fired p.place none_fired) = All-get_or (IsKnown image kept) (content_at cs r.0).fired p.place none_fired p.below (each r.0 (omega (arith, b, count))) in
-    subst (λ (x : ℕ × ℕ). is_memory image x.1 ≡ true → is_some (entry_of kept x.0 x.1) ≡ true) (λ j. (p.wave j, p.instr j)) k m
+    let k : IsKnown kept (slice_index_or asked p.place none_fired) = All-get_or (IsKnown kept) asked p.place none_fired p.below (each r.0 (omega (arith, b, count))) in
+    subst (λ (x : ℕ × ℕ). is_some (entry_of kept x.0 x.1) ≡ true) (λ j. (p.wave j, p.instr j)) k
 
 record Answered (ks : List Kept) (w i : ℕ) : Type 0 where
   pub place : ℕ
@@ -155,20 +161,20 @@ answered_at (k ∷ ks) w i h = go k.answer refl h (λ x. answered_at ks w i x)
     go (Some a) e (inl x) ih = record { place = 0; below = omega arith; wave = x.0; instr = x.1; word = a; answer = e }
     go (Some a) e (inr x) ih = later (ih x)
 
-module _ (image : Image) (cs : List Content) (count : length cs ≡ 16) (tells : (k : ℕ) → k < 16 → All (λ (f : Fired). listed f.operands ≡ operands_in image (together cs).held f.wave f.instr) (content_at cs k).fired) where
+module _ (image : Image) (cs : List Content) (count : length cs ≡ 16) (same : (k : ℕ) → k < 16 → All (λ (f : Key). operands_in image (held (content_at cs k)) f.wave f.instr ≡ operands_in image (together cs).held f.wave f.instr) (content_at cs k).fired) where
   abbrev hold : Ports
   hold = (together cs).held
 
-  plain_all : ((k : ℕ) → k < 16 → All (HasTold image hold) (content_at cs k).fired) → (w i : ℕ) → HasFired (all_fired cs) w i → is_memory image i ≡ false → HaveCome hold (sends image w i (operands_in image hold w i) (result_of image i (operands_in image hold w i)))
+  plain_all : ((k : ℕ) → k < 16 → AllTold image hold (content_at cs k)) → (w i : ℕ) → HasFired (all_fired cs) w i → is_memory image i ≡ false → HaveCome hold (sends image w i (operands_in image hold w i) (result_of image i (operands_in image hold w i)))
   plain_all each w i h m =
       let r = listed_at cs w i h in
       let p = fired_place (content_at cs r.0).fired w i r.2 in
       let b = r.1 in
-      let f : Fired = slice_index_or (content_at cs r.0).fired p.place none_fired in
+      let f : Key = slice_index_or (content_at cs r.0).fired p.place none_fired in
       let lt : r.0 < 16 = omega (arith, b, count) in
-      let k : HasTold image hold f = All-get_or (HasTold image hold) (content_at cs r.0).fired p.place none_fired p.below (each r.0 lt) in
-      let t : listed f.operands ≡ operands_in image hold f.wave f.instr = All-get_or (λ (f : Fired). listed f.operands ≡ operands_in image hold f.wave f.instr) (content_at cs r.0).fired p.place none_fired p.below (tells r.0 lt) in
-      let t' : listed f.operands ≡ operands_in image hold w i = t ∙ ap (λ (x : ℕ × ℕ). operands_in image hold x.0 x.1) (λ j. (p.wave j, p.instr j)) in
+      let k : HasTold image hold (operands_in image (held (content_at cs r.0)) f.wave f.instr) f = All-get_or (λ (x : Key). HasTold image hold (operands_in image (held (content_at cs r.0)) x.wave x.instr) x) (content_at cs r.0).fired p.place none_fired p.below (each r.0 lt) in
+      let t : operands_in image (held (content_at cs r.0)) f.wave f.instr ≡ operands_in image hold f.wave f.instr = All-get_or (λ (x : Key). operands_in image (held (content_at cs r.0)) x.wave x.instr ≡ operands_in image hold x.wave x.instr) (content_at cs r.0).fired p.place none_fired p.below (same r.0 lt) in
+      let t' : operands_in image (held (content_at cs r.0)) f.wave f.instr ≡ operands_in image hold w i = t ∙ ap (λ (x : ℕ × ℕ). operands_in image hold x.0 x.1) (λ j. (p.wave j, p.instr j)) in
       subst (λ (x : ℕ × ℕ × List ℕ). HaveCome hold (sends image x.0 x.1 x.2 (result_of image x.1 x.2))) (λ j. (p.wave j, p.instr j, t' j)) (k (ap (is_memory image) p.instr ∙ m))
 
   module _ (c : buf.Content) (m : Outside) (once : All (λ (k : Kept). entry_of c.kept k.wave k.instr ≡ Some k) c.kept) where
@@ -183,6 +189,6 @@ module _ (image : Image) (cs : List Content) (count : length cs ≡ 16) (tells :
         let a : HasAnswered image hold k = All-get_or (HasAnswered image hold) c.kept p.place no_request p.below each in
         subst (λ (x : ℕ × ℕ × List ℕ × ℕ). HaveCome hold (sends image x.0 x.1 x.2 x.3)) (λ j. (p.wave j, p.instr j, ops j, ans j)) (a p.word p.answer)
 
-    pub all_come : HaveCome hold (start_tokens image) → ((k : ℕ) → k < 16 → All (HasTold image hold) (content_at cs k).fired) → All (HasAnswered image hold) c.kept → HaveCome hold (owed image (together cs) (buffer_in image c m))
+    pub all_come : HaveCome hold (start_tokens image) → ((k : ℕ) → k < 16 → AllTold image hold (content_at cs k)) → All (HasAnswered image hold) c.kept → HaveCome hold (owed image (together cs) (buffer_in image c m))
     all_come start plain ops = come_append hold (start_tokens image) (plain_tokens image hold (all_fired cs) ++ op_tokens image (buffer_in image c m) (issued_keys c.kept)) start
         (come_append hold (plain_tokens image hold (all_fired cs)) (op_tokens image (buffer_in image c m) (issued_keys c.kept)) (come_plain hold image (all_fired cs) (plain_all plain)) (come_ops hold image (buffer_in image c m) (issued_keys c.kept) (ops_all ops)))

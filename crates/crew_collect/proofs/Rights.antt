@@ -9,7 +9,7 @@ use Rattle.ws_isa.specs.Image.{Image, instr_at, ports, ports_of, is_memory, is_m
 use Rattle.ws_isa.specs.Formed.{Formed}
 use Rattle.image_walk.specs.Sound.{Sound}
 use Rattle.image_walk.specs.Walk.{Inst}
-use Rattle.core_law.specs.Core.{HasFired, IsSent, operands_in}
+use Rattle.core_law.specs.Core.{Key, HasFired, IsSent, operands_in}
 use Rattle.core_law.specs.Fit.{FiresAt, RightToken, RightRequest}
 use Rattle.core_law.specs.Shown.{Tables, Buffer, TablesOk, BufferOk}
 use Rattle.core_law.proofs.Facts.{WalkFacts}
@@ -23,13 +23,13 @@ use Rattle.match_table.specs.declared.meeting.Operands.{Operands}
 use Rattle.match_table.specs.declared.meeting.Operands.TheVariants.{One, Two, Three}
 use Rattle.match_table.specs.declared.table.Fired.{Fired}
 use Rattle.match_table.specs.Ports.{listed}
-use Rattle.match_table.specs.Tables.{Content, held, keys, part}
+use Rattle.match_table.specs.Tables.{Content, held, key_of, of_memory, part}
 use Rattle.store_buf.specs.declared.kept.Kept.{Kept}
 use Rattle.store_buf.specs.Requests.{entry_of, operands_if, answer_if}
 use Rattle.store_buf.specs.Contents as buf
 use Rattle.store_buf.specs.Contents.{buffer_in}
 use Rattle.store_buf.specs.Ordering.{no_request}
-use Rattle.crew_collect.proofs.Listed.{none_fired, fired_there}
+use Rattle.crew_collect.proofs.Listed.{none_fired, fired_there, asked_fired}
 
 memory_two : (op : Op) → is_memory_op op ≡ true → ports_of op ≤ 2
 memory_two (Load a) e = omega arith
@@ -141,22 +141,15 @@ module _ (image : Image) (world : World) (formed : Formed image) (sound : Sound 
       facts.sent r.time r.inst r.at.fires u j p v
       (subst (λ (k : ℕ × ℕ × List ℕ × ℕ). IsSent (sends image k.0 k.1 k.2 k.3) u j p v) (λ j. (sym r.at.wave j, sym r.at.instr j, ops j, res j)) s)
 
-  module _ (c : Content) (ok : TablesOk image world (part c)) (tells : All (λ (f : Fired). listed f.operands ≡ operands_in image (held c) f.wave f.instr) c.fired) (fs : List Fired) (is : fs ≡ c.fired) (k : ℕ) (lt : k < length fs) where
-    abbrev here : Fired
-    here = slice_index_or fs k none_fired
+  module _ (c : Content) (ok : TablesOk image world (part c)) (f : Fired) (operands : listed f.operands ≡ operands_in image (held c) f.wave f.instr) (k : ℕ) where
+    there : (ks : List Key) → k < length ks → ((d : Key) → slice_index_or ks k d ≡ key_of f) → HasFired ks f.wave f.instr
+    there ks lt at = subst (λ (y : Key). HasFired ks y.wave y.instr) (at none_fired) (fired_there ks k lt)
 
-    has_fired : HasFired (part c).fired here.wave here.instr
-    has_fired = subst (λ (l : List Fired). HasFired (keys l) here.wave here.instr) is (fired_there fs k lt)
+    pub asks_at : k < length (of_memory image c.fired) → ((d : Key) → slice_index_or (of_memory image c.fired) k d ≡ key_of f) → RightRequest image world f.wave f.instr (listed f.operands)
+    asks_at lt at = let h = asked_fired image c.fired f.wave f.instr (there (of_memory image c.fired) lt at) in asks_right (part c) ok f h.0 operands h.1
 
-    tells_here : listed here.operands ≡ operands_in image (held c) here.wave here.instr
-    tells_here = All-get_or (λ (f : Fired). listed f.operands ≡ operands_in image (held c) f.wave f.instr) fs k none_fired lt
-        (subst (λ (l : List Fired). All (λ (f : Fired). listed f.operands ≡ operands_in image (held c) f.wave f.instr) l) (sym is) tells)
-
-    pub asks_at : is_memory image here.instr ≡ true → RightRequest image world here.wave here.instr (listed here.operands)
-    asks_at = asks_right (part c) ok here has_fired tells_here
-
-    pub sends_at : is_memory image here.instr ≡ false → (w i p v : ℕ) → IsSent (sends image here.wave here.instr (listed here.operands) (result_of image here.instr (listed here.operands))) w i p v → RightToken image world w i p v
-    sends_at = sends_right (part c) ok here has_fired tells_here
+    pub sends_at : k < length c.fired → ((d : Key) → slice_index_or c.fired k d ≡ key_of f) → is_memory image f.instr ≡ false → (w i p v : ℕ) → IsSent (sends image f.wave f.instr (listed f.operands) (result_of image f.instr (listed f.operands))) w i p v → RightToken image world w i p v
+    sends_at lt at = sends_right (part c) ok f (there c.fired lt at) operands
 
   module _ (c : buf.Content) (m : Outside) (ok : BufferOk image world (buffer_in image c m)) (once : All (λ (k : Kept). entry_of c.kept k.wave k.instr ≡ Some k) c.kept) (ks : List Kept) (is : ks ≡ c.kept) (j : ℕ) (lt : j < length ks) where
     abbrev this : Kept

@@ -2,9 +2,9 @@
 use Rattle.std.proofs.Common.{◌≡◌, ◌+◌, ◌<◌, ◌≤◌, ℕ, zero, suc, List, [], ◌∷◌, ◌++◌, length, length-append, ◌-◌, inl, inr, take, slice_index, add-one, sym, refl, ap, ◌∙◌, subst, arith}
 use Rattle.std.specs.Prelude.{sum}
 use Rattle.std.proofs.lemmas.Bool.{cases_lt}
-use Rattle.std.proofs.lemmas.List.{length-map, take_all, get_or_append_left, get_or_push}
+use Rattle.std.proofs.lemmas.List.{take_all, get_or_append_left, get_or_push}
 use Rattle.std.proofs.lemmas.List.Sums.{sum_by-cons, sum_by_push}
-use Rattle.match_table.specs.Tables.{Content, keys, key_of}
+use Rattle.match_table.specs.Tables.{Content}
 use Rattle.crew_tables.specs.Rows.{FitFrom}
 use Rattle.crew_collect.specs.Together.{ServeFrom, all_fired}
 use Rattle.crew_tables.specs.Growth.{content_at}
@@ -16,7 +16,7 @@ total (c ∷ cs) = length c.fired + total cs
 
 pub all_count : (cs : List Content) → length (all_fired cs) ≡ total cs
 all_count [] = refl
-all_count (c ∷ cs) = length-append (keys c.fired) (all_fired cs) ∙ ap (λ (n : ℕ). n + length (all_fired cs)) (length-map c.fired key_of) ∙ ap (λ (n : ℕ). length c.fired + n) (all_count cs)
+all_count (c ∷ cs) = length-append c.fired (all_fired cs) ∙ ap (λ (n : ℕ). length c.fired + n) (all_count cs)
 
 take_suc : (cs : List Content) (k : ℕ) → k < length cs → total (take (suc k) cs) ≡ total (take k cs) + length (content_at cs k).fired
 take_suc [] k lt = absurd (omega (arith, lt))

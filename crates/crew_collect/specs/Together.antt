@@ -3,13 +3,14 @@ use Rattle.std.specs.Prelude.{ℕ, suc, ◌+◌, ◌%◌, List, [], ◌∷◌, �
 use Rattle.std.specs.Borrow.{Bor}
 use Rattle.core_law.specs.Core.{Key}
 use Rattle.core_law.specs.Shown.{Tables as Part}
-use Rattle.match_table.specs.Tables.{Content, held, keys}
+use Rattle.match_table.specs.Tables.{Content, held}
 use Rattle.crew_tables.specs.declared.row.Tables.{Tables}
 use Rattle.crew_tables.specs.Growth.{content_at}
 use Rattle.crew_tables.specs.Limits.{Serves}
 use Rattle.crew_tables.specs.Rows.{contents}
 
--- the tables serve, from this number on, the instances whose wave number plus instruction is their number modulo 16
+-- the tables serve, from this number on, the instances whose wave number plus instruction is their number
+-- modulo 16
 abbrev pub ServeFrom : ℕ → List Content → Type 0
 ServeFrom n [] = Unit {0}
 ServeFrom n (c ∷ cs) = Serves n c × ServeFrom (suc n) cs
@@ -17,7 +18,7 @@ ServeFrom n (c ∷ cs) = Serves n c × ServeFrom (suc n) cs
 -- what they list, one table after another
 abbrev pub all_fired : List Content → List Key
 all_fired [] = []
-all_fired (c ∷ cs) = keys c.fired ++ all_fired cs
+all_fired (c ∷ cs) = c.fired ++ all_fired cs
 
 -- what they hold and list together: at each instance what the table holds that serves it
 abbrev pub together : List Content → Part

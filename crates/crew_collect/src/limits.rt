@@ -19,7 +19,7 @@ pub fn fired<J: Job>(tables: &Tables<J>) -> u64
 {
     let mut count = 0;
     for number in 0..16 {
-        count += table_at(tables, number).fired().len() as u64;
+        count += table_at(tables, number).fired_count() as u64;
     }
     count
 }
@@ -44,7 +44,7 @@ pub fn limits<J: Job>(
     for number in 0..16 {
         let share = share_of(left, number, first);
         left -= share;
-        limits.push(table_at(tables, number).fired().len() + share as usize)?;
+        limits.push(table_at(tables, number).fired_count() + share as usize)?;
     }
     Ok(limits)
 }

@@ -9,6 +9,7 @@ ghost use Rattle.core_law.specs.Shown.{owed};
 ghost use Rattle.core_run.specs.Places.{destinations};
 ghost use Rattle.df_job.specs.Rights.{operands_of};
 ghost use Rattle.match_table.specs.Ports.{listed};
+ghost use Rattle.match_table.specs.Tables.{key_of};
 ghost use Rattle.store_buf.specs.Contents.{buffer_in};
 ghost use Rattle.crew_collect.specs.Together.{AllServe, behind, part_behind, part_of};
 ghost use Rattle.crew_tables.specs.Growth.{content_at};
@@ -26,16 +27,18 @@ use ws_isa::{Dest, Op};
 use ws_words::NoMemory;
 
 /// The tokens that tables and a buffer owe and that no table has had: the start pulse's, and the
-/// results of instances that have fired and of operations that are issued.
+/// results of instances that have fired and of operations that are issued. What fired last is looked
+/// at first, and once so many are found no more are looked for.
 pub fn missing<J: Job, P: Port>(
     alloc: Global,
     code: &Code<'_, J>,
     tables: &Tables<J>,
     buffer: &Buffer<J, P>,
+    most: usize,
 ) -> Result<TokenList<J>, NoMemory>
     requires { AllServe tables.now }
     ensures missing { IfOk result (All (IsMissing (part_of tables.now).held)) }
-    ensures none { IfOk result (λ tokens. tokens ≡ [] → (m : Outside)
+    ensures none { IfOk result (λ tokens. 0 < most → tokens ≡ [] → (m : Outside)
         → HaveCome (part_of tables.now).held
         (owed J.image (part_of tables.now) (buffer_in J.image buffer.now m))) }
 {
@@ -46,11 +49,14 @@ pub fn missing<J: Job, P: Port>(
     let mut near = 0;
     keep(all, &mut near, start(alloc, code)?, &mut found)?;
     let longest = longest(tables);
-    let mut from = 0;
-    while from < longest {
-        let to = from.saturating_add(STRETCH);
+    let mut to = longest;
+    while to > 0 && found.len() < most {
+        let from = to.saturating_sub(STRETCH);
         look_across(code, all, &mut near, from, to, &mut found)?;
-        from = to;
+        to = from;
+    }
+    if found.len() >= most {
+        return Ok(found);
     }
     look_back(code, all, &mut near, buffer, &mut found)?;
     Ok(found)
@@ -66,7 +72,7 @@ fn longest<J: Job>(tables: &Tables<J>) -> usize
 {
     let mut longest = 0;
     for number in 0..16 {
-        longest = table_at(tables, number).fired().len().max(longest);
+        longest = table_at(tables, number).fired_count().max(longest);
     }
     longest
 }
@@ -84,7 +90,7 @@ fn look_across<J: Job>(
     ensures missing { OnOk result (All (IsMissing (part_behind tables.now).held) found.new) }
     ensures none { OnOk result (found.new ≡ [] → (found.old ≡ [])
         × ((k : ℕ) → k < 16 → ToldIn J.image (part_behind tables.now).held from to
-        (content_at (behind tables.now) k).fired)) }
+        (content_at (behind tables.now) k))) }
 {
     for number in 0..16 {
         look_through(code, tables, near, tables[number], from, to, found)?;
@@ -105,14 +111,13 @@ fn look_through<J: Job>(
     requires { All (IsMissing (part_behind tables.now).held) found.old }
     ensures missing { OnOk result (All (IsMissing (part_behind tables.now).held) found.new) }
     ensures none { OnOk result (found.new ≡ [] → (found.old ≡ [])
-        × ToldIn J.image (part_behind tables.now).held from to table.now.fired) }
+        × ToldIn J.image (part_behind tables.now).held from to table.now) }
 {
     table.facts();
     let _ = code.program();
-    let fired = table.fired();
-    let end = fired.len().min(to);
+    let end = table.fired_count().min(to);
     for place in from..end {
-        look_at(code, tables, near, fired[place], found)?;
+        look_at(code, tables, near, table.fired_at(code, place), found)?;
     }
     Ok(())
 }
@@ -154,7 +159,7 @@ fn look_at<J: Job>(
         → RightToken J.image J.world w i p v }
     ensures missing { OnOk result (All (IsMissing (part_behind tables.now).held) found.new) }
     ensures none { OnOk result (found.new ≡ [] → (found.old ≡ [])
-        × HasTold J.image (part_behind tables.now).held fired) }
+        × HasTold J.image (part_behind tables.now).held (listed fired.operands) (key_of fired)) }
 {
     let op = code.program().op(fired.instr);
     if op.is_memory() {

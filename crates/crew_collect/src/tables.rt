@@ -3,7 +3,7 @@
 ghost use Rattle.std.specs.Prelude.{◌≡◌, ◌+◌, ◌<◌, ◌%◌, ℕ, All};
 ghost use Rattle.core_law.specs.Core.{Once, has, operands_in};
 ghost use Rattle.core_law.specs.Shown.{TablesOk};
-ghost use Rattle.match_table.specs.Ports.{listed};
+ghost use Rattle.match_table.specs.Tables.{held};
 ghost use Rattle.crew_collect.specs.Together.{AllServe, behind, part_behind, part_of};
 ghost use Rattle.crew_tables.specs.Growth.{content_at};
 ghost use Rattle.crew_tables.specs.Rows.{contents};
@@ -90,12 +90,13 @@ fn table_of(wave: u64, instr: u32) -> u64
 }
 
 /// What is true of tables that serve apart: together they are a part of the core's state of which
-/// the law speaks, an instance fires once, and the operands that are listed are those that are held.
+/// the law speaks, an instance fires once, and each table holds all operands of those that it lists.
 pub fn facts<J: Job>(tables: &Tables<J>)
     requires { AllServe tables.now }
     ensures part { TablesOk J.image J.world (part_of tables.now) }
     ensures once { Once (part_of tables.now).fired }
-    ensures operands { (k : ℕ) → k < 16 → All (λ f. listed f.operands
+    ensures operands { (k : ℕ) → k < 16 → All (λ f.
+        operands_in J.image (held (content_at (contents tables.now) k)) f.wave f.instr
         ≡ operands_in J.image (part_of tables.now).held f.wave f.instr)
         (content_at (contents tables.now) k).fired }
 {

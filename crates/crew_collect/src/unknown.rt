@@ -1,9 +1,9 @@
 //! Requests that a buffer doesn't know.
 
-ghost use Rattle.std.specs.Prelude.{◌≡◌, [], All, OnOk, IfOk, true};
-ghost use Rattle.ws_isa.specs.Image.{is_memory};
+ghost use Rattle.std.specs.Prelude.{◌≡◌, [], All, OnOk, IfOk};
 ghost use Rattle.core_law.specs.Fit.{RightRequest};
 ghost use Rattle.match_table.specs.Ports.{listed};
+ghost use Rattle.match_table.specs.Tables.{key_of, of_memory};
 ghost use Rattle.crew_collect.specs.Together.{part_of};
 ghost use Rattle.crew_collect.specs.Owing.{AllKnown, IsKnown};
 
@@ -41,31 +41,28 @@ fn ask_all<J: Job, P: Port>(
     requests: &mut Vec<Request<J>>,
 ) -> Result<(), NoMemory>
     ensures { OnOk result (requests.new.items ≡ [] → (requests.old.items ≡ [])
-        × All (IsKnown J.image buffer.now.kept) table.now.fired) }
+        × All (IsKnown buffer.now.kept) (of_memory J.image table.now.fired)) }
 {
     table.facts();
     let _ = code.program();
-    for fired in table.fired() {
-        ask(code, *fired, buffer, requests)?;
+    for place in 0..table.asked_count() {
+        ask(code, table.asked_at(code, place), buffer, requests)?;
     }
     Ok(())
 }
 
-// That of one instance.
+// That of one instance of memory.
 fn ask<J: Job, P: Port>(
     code: &Code<'_, J>,
     fired: Fired,
     buffer: &Buffer<J, P>,
     requests: &mut Vec<Request<J>>,
 ) -> Result<(), NoMemory>
-    requires { is_memory J.image fired.instr ≡ true
-        → RightRequest J.image J.world fired.wave fired.instr (listed fired.operands) }
+    requires { RightRequest J.image J.world fired.wave fired.instr (listed fired.operands) }
     ensures { OnOk result (requests.new.items ≡ [] → (requests.old.items ≡ [])
-        × IsKnown J.image buffer.now.kept fired) }
+        × IsKnown buffer.now.kept (key_of fired)) }
 {
-    if !code.program().op(fired.instr).is_memory() {
-        return Ok(());
-    }
+    let _ = code.program();
     if buffer.knows(fired.wave, fired.instr) {
         return Ok(());
     }

@@ -62,7 +62,8 @@ pub fn judge<J: Job, P: Port>(
         submit_all(code, buffer, requests);
         return Verdict::Again;
     }
-    match missing(alloc, code, tables, buffer) {
+    let most = if left == 0 { 1 } else { usize::MAX };
+    match missing(alloc, code, tables, buffer, most) {
         Ok(owed) => settle(code, tables, buffer, owed, left),
         Err(_) => Verdict::Ends(Ending::Starved),
     }

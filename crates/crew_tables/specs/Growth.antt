@@ -1,12 +1,12 @@
 -- Tables only grow.
 use Rattle.std.specs.Prelude.{ℕ, suc, ◌≡◌, List, [], ◌∷◌, ◌++◌, Some, slice_index_or}
-use Rattle.match_table.specs.declared.table.Fired.{Fired}
+use Rattle.core_law.specs.Core.{Key}
 use Rattle.match_table.specs.Tables.{Content, held}
 
 -- what was held is still held, and the list of those that fired goes on behind what was there
 pub record Grows (old new : Content) : Type 0 where
   pub keeps : (w i p v : ℕ) → held old w i p ≡ Some v → held new w i p ≡ Some v
-  pub goes_on : (more : List Fired) × (new.fired ≡ old.fired ++ more)
+  pub goes_on : (more : List Key) × (new.fired ≡ old.fired ++ more)
 
 -- each table of a list has grown into the one at its place in the other
 abbrev pub AllGrow : List Content → List Content → Type 0

@@ -11,9 +11,10 @@ use Rattle.crew_tables.specs.declared.limit.Offer.TheVariants.{Took, Spent}
 abbrev pub Serves : ℕ → Content → Type 0
 Serves k c = (w i p v : ℕ) → held c w i p ≡ Some v → (w + i) % 16 ≡ k
 
--- What a table of a phase does, whose list may have so many: what a table does; or nothing, since the token would fire its
--- instance and the list has that many.
-abbrev pub Offered : {J : Type 0} → Image → ℕ → Content → Token → Content → Results J → Offer → Type 0
+-- What a table of a phase does, whose list may have so many: what a table does; or nothing, since the token
+-- would fire its instance and the list has that many.
+abbrev pub Offered : {J : Type 0} → Image → ℕ → Content → Token → Content → Results J → Offer →
+    Type 0
 Offered image most old t new rs (Took took) = Answered image old t new rs took
 Offered image most old t new rs Spent = (new ≡ old) × (will_fire image old t ≡ true)
     × (most ≤ length old.fired) × NoResults rs

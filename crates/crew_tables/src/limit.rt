@@ -80,7 +80,7 @@ impl<J: Job, Q: Quotas, const K: u64> Limited<J, Q, K> {
         requires { (token.now.wave + token.now.instr) % 16 ≡ K }
         ensures { Offered J.image (slice_index Q.most K) self.old token.now self.new results.new result }
     {
-        if self.table.fired().len() >= self.most && self.table.would_fire(code, token) {
+        if self.table.fired_count() >= self.most && self.table.would_fire(code, token) {
             results.clear();
             return Offer::Spent;
         }

@@ -59,7 +59,7 @@ fn fire_all<J: Job, Q: Quotas, R: Wait>(
 
 // The greater of what the first and the last table fired.
 fn most_of<J: Job>(tables: Tables<J>) -> usize {
-    tables.t0.fired().len().max(tables.t15.fired().len())
+    tables.t0.fired_count().max(tables.t15.fired_count())
 }
 
 // Fires what can be fired in one phase with these quotas, and the greater of what the first and the last

@@ -72,6 +72,11 @@ fn next(number: u64) -> u64 {
         .wrapping_add(1442695040888963407)
 }
 
+// Whether this instruction is one of memory.
+fn asks(instr: u32) -> bool {
+    instr == 2 || instr == 7
+}
+
 // The ports of instances that have had a token, each once, and the instances that have fired.
 #[derive(Drop)]
 struct Plain {
@@ -91,6 +96,17 @@ impl Plain {
         count
     }
 
+    // The instances of memory that have fired.
+    fn asked(&self, alloc: Global) -> Result<Vec<Instance>, NoMemory> {
+        let mut asked = Vec::new(alloc);
+        for instance in &self.fired {
+            if asks(instance.1) {
+                asked.push(*instance)?;
+            }
+        }
+        Ok(asked)
+    }
+
     // What the list says of a token to a port.
     fn says(&mut self, place: Place) -> Result<Said, NoMemory> {
         let (wave, instr, _) = place;
@@ -102,11 +118,7 @@ impl Plain {
             return Ok(("waits", false, true, false, self.fired.len()));
         }
         self.fired.push((wave, instr, operands_of(wave, instr)))?;
-        let comes = if instr == 2 || instr == 7 {
-            "asks"
-        } else {
-            "fires"
-        };
+        let comes = if asks(instr) { "asks" } else { "fires" };
         Ok((comes, false, true, true, self.fired.len()))
     }
 }
@@ -148,7 +160,7 @@ fn table_says<J: Job>(
     let answer = table.accept(alloc, code, token);
     let comes = comes(answer, place, way)?;
     let has = table.holds(place.0, place.1, place.2);
-    Ok((comes, had, has, fires, table.fired().len()))
+    Ok((comes, had, has, fires, table.fired_count()))
 }
 
 // Puts all tokens of a list behind others.
@@ -178,12 +190,33 @@ fn drawn<J: Job>(way: &mut Vec<Token<J>>, past: &[Token<J>], number: u64) -> Opt
 }
 
 // The instances that a table says have fired.
-fn instances(alloc: Global, fired: &[Fired]) -> Result<Vec<Instance>, NoMemory> {
+fn instances<J: Job>(
+    alloc: Global,
+    code: &Code<'_, J>,
+    table: &Table<J>,
+) -> Result<Vec<Instance>, NoMemory> {
     let mut instances = Vec::new(alloc);
-    for one in fired {
-        instances.push((one.wave, one.instr, one.operands))?;
+    for place in 0..table.fired_count() {
+        instances.push(instance(table.fired_at(code, place)))?;
     }
     Ok(instances)
+}
+
+// Those of memory among them.
+fn asked<J: Job>(
+    alloc: Global,
+    code: &Code<'_, J>,
+    table: &Table<J>,
+) -> Result<Vec<Instance>, NoMemory> {
+    let mut asked = Vec::new(alloc);
+    for place in 0..table.asked_count() {
+        asked.push(instance(table.asked_at(code, place)))?;
+    }
+    Ok(asked)
+}
+
+fn instance(fired: Fired) -> Instance {
+    (fired.wave, fired.instr, fired.operands)
 }
 
 // Whether a table and a list say the same of a token.
@@ -232,7 +265,8 @@ fn lists_alike<J: Job>(
         fired: Vec::new(alloc),
     };
     let alike = all_alike(alloc, code, &mut table, &mut plain, way)?;
-    let same = instances(alloc, table.fired())? == plain.fired;
+    let same = instances(alloc, code, &table)? == plain.fired
+        && asked(alloc, code, &table)? == plain.asked(alloc)?;
     Ok(alike && same && plain.ports.len() > 500 && plain.fired.len() > 300)
 }
 

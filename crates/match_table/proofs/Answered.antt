@@ -9,33 +9,28 @@ use Rattle.core_run.specs.Places.{destinations}
 use Rattle.ws_isa.specs.Formed.{Formed}
 use Rattle.image_walk.specs.Sound.{Sound}
 use Rattle.image_walk.specs.Walk.{gather}
-use Rattle.core_law.specs.Core.{IsSent, has, is_full, with_at, same_key}
+use Rattle.core_law.specs.Core.{IsSent, has, is_full, with_at, same_key, operands_in}
 use Rattle.core_law.specs.Fit.{RightToken, RightRequest}
 use Rattle.core_law.proofs.Facts.{WalkFacts}
 use Rattle.core_law.proofs.FromSound.{facts_of}
-use Rattle.core_law.proofs.Ports.{nth_below}
 use Rattle.core_law.proofs.PortsThere.{ports_there}
 use Rattle.core_run.proofs.Arriving.{ports_is_op, memory_is_op, sends_are}
 use Rattle.df_job.specs.Rights.{IsRight, operands_of}
 use Rattle.match_table.specs.declared.entry.Arrived.{Arrived}
-use Rattle.match_table.specs.declared.entry.Arrived.TheVariants.{Spent}
 use Rattle.match_table.specs.declared.entry.Entry.{Entry}
 use Rattle.match_table.specs.declared.meeting.Operands.{Operands}
 use Rattle.match_table.specs.declared.meeting.Operands.TheVariants.{One, Two, Three}
-use Rattle.match_table.specs.declared.meeting.Seen.TheVariants.{Old, Waits, Fills}
-use Rattle.match_table.specs.declared.table.Fired.{Fired}
-use Rattle.match_table.specs.Pages.{arrived_in}
+use Rattle.match_table.specs.declared.meeting.Seen.TheVariants.{Waits, Fills}
+use Rattle.match_table.specs.Pages.{IsUnder, arrived_in}
 use Rattle.match_table.specs.Ports.{listed, is_taken, with_port, alone, SeenSo}
-use Rattle.match_table.specs.Tables.{Content, held, held_in, fired_operands, TableOk}
-use Rattle.match_table.specs.declared.meeting.Seen.{Seen}
+use Rattle.match_table.specs.Tables.{Content, TableOk, held, held_in, instances}
 use Rattle.match_table.specs.declared.table.Accept.{Accept}
 use Rattle.match_table.specs.declared.table.Accept.TheVariants as accept
 use Rattle.match_table.specs.declared.table.Results.{Results}
 use Rattle.match_table.specs.declared.table.Took.{Took}
 use Rattle.match_table.specs.declared.table.Took.TheVariants as took
-use Rattle.match_table.specs.Matching.{Arrives, Full, Outcome, HandedOn, Accepted, Answered, FiresSo, IsOldSo, will_fire}
-use Rattle.match_table.proofs.Held.{full_same, taken_has}
-use Rattle.match_table.proofs.Kept.{with_next, full_operands, free_port, kept_ok, kept_held, kept_waits, fired_ok, fired_held, fired_full, fired_listed}
+use Rattle.match_table.specs.Matching.{Arrives, Full, Outcome, HandedOn, Accepted, Answered, will_fire}
+use Rattle.match_table.proofs.Kept.{port_below, full_with, full_operands, free_port, kept_ok, new_held, new_full, new_operands, same_fired, now_fired, fired_ok}
 
 three_ports : (op : Op) → ports_of op ≤ 3
 three_ports (Alu a) = omega arith
@@ -56,47 +51,43 @@ pub empty_few : (ts : List Token) (ds : List Dest) → ts ≡ [] → length ds �
 empty_few ts ds none le = let e : length ts ≡ 0 = ap length none in omega (arith, e, le)
 
 -- the instruction that the code has looked up
-module _ (image im : Image) (t : Token) (i : ℕ) (op : Op) (looked : op ≡ (instr_at im i).op) (same : im ≡ image) (instr : i ≡ t.instr) where
-  op_is : op ≡ (instr_at image t.instr).op
-  op_is = looked ∙ ap (λ (k : Image × ℕ). (instr_at k.0 k.1).op) (λ j. (same j, instr j))
+module _ (image im : Image) (k i : ℕ) (op : Op) (looked : op ≡ (instr_at im i).op) (same : im ≡ image) (instr : i ≡ k) where
+  op_is : op ≡ (instr_at image k).op
+  op_is = looked ∙ ap (λ (x : Image × ℕ). (instr_at x.0 x.1).op) (λ j. (same j, instr j))
 
-  pub count_is : (n : ℕ) → n ≡ ports_of op → (n ≡ ports image t.instr) × (n ≤ 3)
-  count_is n is = let e : n ≡ ports image t.instr = is ∙ ap ports_of op_is ∙ sym (ports_is_op image t.instr) in (e, subst (λ k. k ≤ 3) (sym e) (ports_small image t.instr))
+  pub count_is : (n : ℕ) → n ≡ ports_of op → (n ≡ ports image k) × (n ≤ 3)
+  count_is n is = let e : n ≡ ports image k = is ∙ ap ports_of op_is ∙ sym (ports_is_op image k) in (e, subst (λ m. m ≤ 3) (sym e) (ports_small image k))
 
-  pub memory_is : (b : Bool) → b ≡ is_memory_op op → is_memory image t.instr ≡ b
-  memory_is b is = memory_is_op image t.instr ∙ ap is_memory_op (sym op_is) ∙ sym is
+  pub memory_is : (b : Bool) → b ≡ is_memory_op op → is_memory image k ≡ b
+  memory_is b is = memory_is_op image k ∙ ap is_memory_op (sym op_is) ∙ sym is
 
-  pub sent_is : (xs : List ℕ) (w number word select : ℕ) (dests : List Dest) → w ≡ t.wave → number ≡ cond (is_advance_op op) (suc w) w → word ≡ result_of_op op xs → select ≡ selector_of op xs → dests ≡ destinations im i select → tokens_to number word dests ≡ sends image t.wave t.instr xs (result_of image t.instr xs)
-  sent_is xs w number word select dests wave number_is word_is select_is dests_is =
-      let n : number ≡ cond (is_advance_op (instr_at image t.instr).op) (suc t.wave) t.wave = number_is ∙ ap (λ (k : Op × ℕ). cond (is_advance_op k.0) (suc k.1) k.1) (λ j. (op_is j, wave j)) in
-      let v : word ≡ result_of image t.instr xs = word_is ∙ ap (λ o. result_of_op o xs) op_is ∙ sym (result_is image t.instr xs) in
-      let s : select ≡ selector_of (instr_at image t.instr).op xs = select_is ∙ ap (λ o. selector_of o xs) op_is in
-      let d : dests ≡ destinations image t.instr (selector_of (instr_at image t.instr).op xs) = dests_is ∙ ap (λ (k : Image × ℕ × ℕ). destinations k.0 k.1 k.2) (λ j. (same j, instr j, s j)) in
-      ap (λ (k : ℕ × ℕ × List Dest). tokens_to k.0 k.1 k.2) (λ j. (n j, v j, d j)) ∙ sends_are image t.wave t.instr xs (result_of image t.instr xs)
+  pub sent_is : (xs : List ℕ) (w u number word select : ℕ) (dests : List Dest) → u ≡ w → number ≡ cond (is_advance_op op) (suc u) u → word ≡ result_of_op op xs → select ≡ selector_of op xs → dests ≡ destinations im i select → tokens_to number word dests ≡ sends image w k xs (result_of image k xs)
+  sent_is xs w u number word select dests wave number_is word_is select_is dests_is =
+      let n : number ≡ cond (is_advance_op (instr_at image k).op) (suc w) w = number_is ∙ ap (λ (x : Op × ℕ). cond (is_advance_op x.0) (suc x.1) x.1) (λ j. (op_is j, wave j)) in
+      let v : word ≡ result_of image k xs = word_is ∙ ap (λ o. result_of_op o xs) op_is ∙ sym (result_is image k xs) in
+      let s : select ≡ selector_of (instr_at image k).op xs = select_is ∙ ap (λ o. selector_of o xs) op_is in
+      let d : dests ≡ destinations image k (selector_of (instr_at image k).op xs) = dests_is ∙ ap (λ (x : Image × ℕ × ℕ). destinations x.0 x.1 x.2) (λ j. (same j, instr j, s j)) in
+      ap (λ (x : ℕ × ℕ × List Dest). tokens_to x.0 x.1 x.2) (λ j. (n j, v j, d j)) ∙ sends_are image w k xs (result_of image k xs)
 
 -- an answer of a table with more room is one of the table
-arrives_from : (old mid new : Content) (t : Token) → mid.entries ≡ old.entries → mid.fired ≡ old.fired → Arrives mid t new → Arrives old t new
-arrives_from old mid new t e f a = record {
-  free = subst (λ (k : List (Option Entry) × List Fired). held_in k.0 k.1 t.wave t.instr t.port ≡ None) (λ j. (e j, f j)) a.free;
-  more = λ w i p. a.more w i p ∙ ap (λ (k : List (Option Entry) × List Fired). with_at t.wave t.instr t.port (Some t.value) (held_in k.0 k.1) w i p) (λ j. (e j, f j));
+arrives_from : (old mid new : Content) (t : Token) → mid.entries ≡ old.entries → Arrives mid t new → Arrives old t new
+arrives_from old mid new t e a = record {
+  free = subst (λ (k : List (Option Entry)). held_in k t.wave t.instr t.port ≡ None) e a.free;
+  more = λ w i p. a.more w i p ∙ ap (λ (k : List (Option Entry)). with_at t.wave t.instr t.port (Some t.value) (held_in k) w i p) e;
 }
 
 full_from : (image : Image) (old mid new : Content) (t : Token) (xs : List ℕ) → mid.fired ≡ old.fired → Full image mid t new xs → Full image old t new xs
 full_from image old mid new t xs f a = record {
   full = a.full;
   operands_are = a.operands_are;
-  entry = a.entry;
-  wave = a.wave;
-  instr = a.instr;
-  listed_are = a.listed_are;
-  fired = a.fired ∙ ap (λ l. l ++ a.entry ∷ []) f;
+  fired = a.fired ∙ ap (λ l. l ++ record { wave = t.wave; instr = t.instr } ∷ []) f;
 }
 
 module _ {J : Type 0} where
   pub accepted : (image : Image) (old mid new : Content) (t : Token) (xs : List ℕ) (answer : Accept J) → mid.entries ≡ old.entries → mid.fired ≡ old.fired → Arrives mid t new → Full image mid t new xs → Outcome image t xs answer → Accepted image old t new answer
   accepted image old mid new t xs accept.Waits e f a b o = absurd o
-  accepted image old mid new t xs (accept.Fires tokens) e f a b o = (arrives_from old mid new t e f a, (xs, full_from image old mid new t xs f b, o))
-  accepted image old mid new t xs (accept.Asks request) e f a b o = (arrives_from old mid new t e f a, (xs, full_from image old mid new t xs f b, o))
+  accepted image old mid new t xs (accept.Fires tokens) e f a b o = (arrives_from old mid new t e a, (xs, full_from image old mid new t xs f b, o))
+  accepted image old mid new t xs (accept.Asks request) e f a b o = (arrives_from old mid new t e a, (xs, full_from image old mid new t xs f b, o))
 
 module _ (image : Image) (c : Content) (t : Token) where
   pub fires_true : held c t.wave t.instr t.port ≡ None → is_full (with_at t.wave t.instr t.port (Some t.value) (held c)) t.wave t.instr (ports image t.instr) ≡ true → true ≡ will_fire image c t
@@ -109,16 +100,6 @@ module _ (image : Image) (c : Content) (t : Token) where
       and_no true = refl
       and_no false = refl
 
-  pub old_false : has (held c t.wave t.instr t.port) ≡ true → false ≡ will_fire image c t
-  old_false old = sym (ap (λ b. not b && is_full (with_at t.wave t.instr t.port (Some t.value) (held c)) t.wave t.instr (ports image t.instr)) old)
-
--- with its token at the port the table holds what it holds afterwards
-with_full : (image : Image) (old new : Content) (t : Token) → Arrives old t new → is_full (with_at t.wave t.instr t.port (Some t.value) (held old)) t.wave t.instr (ports image t.instr) ≡ is_full (held new) t.wave t.instr (ports image t.instr)
-with_full image old new t a = full_same (with_at t.wave t.instr t.port (Some t.value) (held old)) (held new) t.wave t.instr t.wave t.instr (ports image t.instr) (λ q lt. sym (a.more t.wave t.instr q))
-
-pub waits_false : (image : Image) (old mid new : Content) (t : Token) → mid.entries ≡ old.entries → mid.fired ≡ old.fired → Arrives mid t new → is_full (held new) t.wave t.instr (ports image t.instr) ≡ false → false ≡ will_fire image old t
-waits_false image old mid new t e f a unfilled = open_false image old t (with_full image old new t (arrives_from old mid new t e f a) ∙ unfilled)
-
 module _ {J : Type 0} where
   pub answered : (image : Image) (old mid new : Content) (t : Token) (xs : List ℕ) (rs : Results J) (did : Took) → mid.entries ≡ old.entries → mid.fired ≡ old.fired → Arrives mid t new → Full image mid t new xs → HandedOn image t xs rs did → Answered image old t new rs did
   answered image old mid new t xs rs took.Waits e f a b o = absurd o
@@ -126,27 +107,6 @@ module _ {J : Type 0} where
   answered image old mid new t xs rs took.Asks e f a b o = (o.0, o.1, o.2, accepted {J = J} image old mid new t xs (accept.Asks o.0) e f a b o.3)
   answered image old mid new t xs rs took.Old e f a b o = absurd o
   answered image old mid new t xs rs took.NoMemory e f a b o = absurd o
-
-  pub fires_so : (image : Image) (old mid new : Content) (t : Token) (xs : List ℕ) (rs : Results J) (did : Took) → mid.entries ≡ old.entries → mid.fired ≡ old.fired → Arrives mid t new → Full image mid t new xs → HandedOn image t xs rs did → FiresSo did (will_fire image old t)
-  fires_so image old mid new t xs rs did e f a b o = go did o
-    where
-      arrives : Arrives old t new
-      arrives = arrives_from old mid new t e f a
-
-      fires : will_fire image old t ≡ true
-      fires = sym (fires_true image old t arrives.free (with_full image old new t arrives ∙ b.full))
-
-      go : (k : Took) → HandedOn image t xs rs k → FiresSo k (will_fire image old t)
-      go took.Waits h = absurd h
-      go took.Fires h = fires
-      go took.Asks h = fires
-      go took.Old h = absurd h
-      go took.NoMemory h = absurd h
-
-pub old_so : (c : Content) (t : Token) (n : ℕ) (seen : Seen) → SeenSo (arrived_in c.entries t.wave t.instr) t.port t.value n seen → (is_taken (arrived_in c.entries t.wave t.instr) t.port ≡ true → has (held c t.wave t.instr t.port) ≡ true) → IsOldSo c t seen
-old_so c t n Old s h = h s
-old_so c t n (Waits next) s h = tt
-old_so c t n (Fills operands) s h = tt
 
 memory_two : (op : Op) → is_memory_op op ≡ true → ports_of op ≤ 2
 memory_two (Load a) e = omega arith
@@ -164,41 +124,30 @@ request_operands (One a) n is le = rw is refl
 request_operands (Two a b) n is le = rw is refl
 request_operands (Three a b c) n is le = absurd (omega (arith, is, le))
 
+-- what is true of a table, by its fields and by its value
+pub ok_now : (image : Image) (world : World) (entries : List (Option Entry)) (fired asked : List ℕ) → TableOk image world entries fired asked → (c : Content) → entries ≡ c.entries → TableOk image world c.entries fired asked
+ok_now image world entries fired asked ok c same = subst (λ l. TableOk image world l fired asked) same ok
+
 module _ (image : Image) (world : World) (formed : Formed image) (sound : Sound image) where
   pub facts : WalkFacts image world
   facts = facts_of image world (ports_there image formed) sound
 
-  module _ (entries : List (Option Entry)) (fired : List Fired) (ok : TableOk image world entries fired) (t : Token) (right : IsRight image world t) where
+  module _ (c : Content) (fired asked : List ℕ) (ok : TableOk image world c.entries fired asked) (t : Token) (right : IsRight image world t) where
     pub below : t.port < ports image t.instr
-    below = let r = right in port_of_right r
-      where
-        port_of_right : IsRight image world t → t.port < ports image t.instr
-        port_of_right r = let l = nth_below r.inst.operands t.port t.value r.operand in let n : length r.inst.operands ≡ ports image t.instr = facts.filled r.time r.inst r.at.fires ∙ ap (ports image) r.at.instr in omega (arith, l, n)
-
-    -- an instance that has fired has had tokens at all of its ports
-    pub spent_below : (n : ℕ) → arrived_in entries t.wave t.instr ≡ Some (Spent n) → t.port < n
-    spent_below n is = let s = ok.spent t.wave t.instr (ok.listed t.wave t.instr n is) in
-        let same : n ≡ ports image t.instr = (let e : Some (Spent n) ≡ Some (Spent (ports image t.instr)) = sym is ∙ s.0 in cc) in
-        let b = below in omega (arith, same, b)
+    below = port_below image world facts c.entries fired asked ok t.wave t.instr t.port t.value right
 
     -- an instance that would be full has the walk's operands
-    pub fills : (operands : Operands) → SeenSo (arrived_in entries t.wave t.instr) t.port t.value (ports image t.instr) (Fills operands) → listed operands ≡ right.inst.operands
-    fills operands seen = seen.2 ∙ full_operands image world facts entries entries fired ok t.wave t.instr t.port t.value right seen.0 (ports_small image t.instr) seen.1
+    module _ (next : Arrived) (operands : Operands) (seen : SeenSo (arrived_in c.entries t.wave t.instr) t.port t.value (ports image t.instr) (Fills next operands)) where
+      pub fills : listed operands ≡ right.inst.operands
+      fills = seen.3 ∙ full_operands image world facts c.entries fired asked ok t.wave t.instr t.port t.value right seen.0 (ports_small image t.instr) next seen.1 seen.2
 
-    pub fills_free : (operands : Operands) → SeenSo (arrived_in entries t.wave t.instr) t.port t.value (ports image t.instr) (Fills operands) → held_in entries fired t.wave t.instr t.port ≡ None
-    fills_free operands seen = free_port image world facts entries entries fired ok t.wave t.instr t.port t.value right seen.0
+      pub fills_fires : true ≡ will_fire image c t
+      fills_fires = fires_true image c t
+          (free_port image world facts c.entries fired asked ok t.wave t.instr t.port t.value right seen.0)
+          (full_with image world facts c.entries fired asked ok t.wave t.instr t.port t.value right seen.0 (ports_small image t.instr) next seen.1 ∙ seen.2)
 
-    pub fills_full : (operands : Operands) → SeenSo (arrived_in entries t.wave t.instr) t.port t.value (ports image t.instr) (Fills operands) → is_full (with_at t.wave t.instr t.port (Some t.value) (held_in entries fired)) t.wave t.instr (ports image t.instr) ≡ true
-    fills_full operands seen = full_same (with_at t.wave t.instr t.port (Some t.value) (held_in entries fired)) (alone (with_port (arrived_in entries t.wave t.instr) t.port t.value)) t.wave t.instr 0 0 (ports image t.instr)
-        (λ q lt. with_next image world facts entries entries fired ok t.wave t.instr t.port t.value right seen.0 (ports_small image t.instr) q) ∙ seen.1
-
-    pub waits_open : (next : Arrived) → SeenSo (arrived_in entries t.wave t.instr) t.port t.value (ports image t.instr) (Waits next) → is_full (with_at t.wave t.instr t.port (Some t.value) (held_in entries fired)) t.wave t.instr (ports image t.instr) ≡ false
-    waits_open next seen = full_same (with_at t.wave t.instr t.port (Some t.value) (held_in entries fired)) (alone (with_port (arrived_in entries t.wave t.instr) t.port t.value)) t.wave t.instr 0 0 (ports image t.instr)
-        (λ q lt. with_next image world facts entries entries fired ok t.wave t.instr t.port t.value right seen.0 (ports_small image t.instr) q) ∙ subst (λ (k : Arrived). is_full (alone k) 0 0 (ports image t.instr) ≡ false) seen.1 seen.2
-
-    pub old_has : is_taken (arrived_in entries t.wave t.instr) t.port ≡ true → has (held_in entries fired t.wave t.instr t.port) ≡ true
-    old_has taken = taken_has (arrived_in entries t.wave t.instr) t.port (fired_operands fired t.wave t.instr)
-        (λ n is. let s = ok.spent t.wave t.instr (ok.listed t.wave t.instr n is) in let l = s.1 in let b = below in omega (arith, l, b)) taken
+    pub waits_open : (next : Arrived) → SeenSo (arrived_in c.entries t.wave t.instr) t.port t.value (ports image t.instr) (Waits next) → false ≡ will_fire image c t
+    waits_open next seen = open_false image c t (full_with image world facts c.entries fired asked ok t.wave t.instr t.port t.value right seen.0 (ports_small image t.instr) next seen.1 ∙ seen.2)
 
     -- what an instance sends that isn't one of memory is right
     pub sends_right : (xs : List ℕ) → xs ≡ right.inst.operands → is_memory image t.instr ≡ false → (w i p v : ℕ) → IsSent (sends image t.wave t.instr xs (result_of image t.instr xs)) w i p v → RightToken image world w i p v
@@ -215,52 +164,79 @@ module _ (image : Image) (world : World) (formed : Formed image) (sound : Sound 
     pub request_right : (operands : Operands) → listed operands ≡ right.inst.operands → is_memory image t.instr ≡ true → RightRequest image world t.wave t.instr (operands_of (ports image t.instr) (slice_index (listed operands) 0) (slice_index (listed operands) 1))
     request_right operands is memory = record { time = right.time; inst = right.inst; at = right.at; operands = sym is ∙ sym (asks_right operands is memory); memory = memory }
 
-    module _ (new : List (Option Entry)) (count : ℕ) (count_is : count ≡ ports image t.instr) (w i : ℕ) (wave : w ≡ t.wave) (instr : i ≡ t.instr) where
-      -- what the table is told is what was seen
-      told : (x y : Arrived) → x ≡ y → ((a b : ℕ) → arrived_in new a b ≡ cond (same_key w i a b) (Some x) (arrived_in entries a b)) → (a b : ℕ) → arrived_in new a b ≡ cond (same_key t.wave t.instr a b) (Some y) (arrived_in entries a b)
-      told x y e is a b = is a b ∙ ap (λ (k : ℕ × ℕ × Arrived). cond (same_key k.0 k.1 a b) (Some k.2) (arrived_in entries a b)) (λ j. (wave j, instr j, e j))
+-- a right token comes to a port that has had none, and an entry of its instance is put that has it
+pub record Puts (image : Image) (world : World) (entries : List (Option Entry)) (fired asked : List ℕ) (t : Token) (next : Arrived) (new : List (Option Entry)) : Type 0 where
+  pub facts : WalkFacts image world
+  pub ok : TableOk image world entries fired asked
+  pub right : IsRight image world t
+  pub free : is_taken (arrived_in entries t.wave t.instr) t.port ≡ false
+  pub next_is : next ≡ with_port (arrived_in entries t.wave t.instr) t.port t.value
+  pub arrived : (a b : ℕ) → arrived_in new a b ≡ cond (same_key t.wave t.instr a b) (Some next) (arrived_in entries a b)
+  pub stay : (k a b : ℕ) → IsUnder entries k a b → IsUnder new k a b
 
-      module _ (next : Arrived) (seen : SeenSo (arrived_in entries t.wave t.instr) t.port t.value count (Waits next)) (is : (a b : ℕ) → arrived_in new a b ≡ cond (same_key w i a b) (Some next) (arrived_in entries a b)) where
-        waits : is_full (alone (with_port (arrived_in entries t.wave t.instr) t.port t.value)) 0 0 (ports image t.instr) ≡ false
-        waits = subst (λ (k : Arrived × ℕ). is_full (alone k.0) 0 0 k.1 ≡ false) (λ j. (seen.1 j, count_is j)) seen.2
+-- the instance is full, and the key of its entry is listed
+pub record Lists (image : Image) (fired asked : List ℕ) (t : Token) (next : Arrived) (new : List (Option Entry)) (fired' asked' : List ℕ) : Type 0 where
+  pub full : is_full (alone next) 0 0 (ports image t.instr) ≡ true
+  pub key : ℕ
+  pub under : IsUnder new key t.wave t.instr
+  pub one_more : fired' ≡ fired ++ key ∷ []
+  pub asks_so : asked' ≡ cond (is_memory image t.instr) (asked ++ key ∷ []) asked
 
-        pub keep_free : held_in entries fired t.wave t.instr t.port ≡ None
-        keep_free = free_port image world facts entries new fired ok t.wave t.instr t.port t.value right seen.0
+-- what a call of `put` leaves
+pub puts : {image : Image} {world : World} {entries : List (Option Entry)} {fired asked : List ℕ} → Formed image → Sound image → TableOk image world entries fired asked → (before : Content) → entries ≡ before.entries → (t : Token) → IsRight image world t →
+    (next : Arrived) → is_taken (arrived_in before.entries t.wave t.instr) t.port ≡ false → next ≡ with_port (arrived_in before.entries t.wave t.instr) t.port t.value →
+    (new : List (Option Entry)) (w i : ℕ) → w ≡ t.wave → i ≡ t.instr → ((a b : ℕ) → arrived_in new a b ≡ cond (same_key w i a b) (Some next) (arrived_in entries a b)) → ((k a b : ℕ) → IsUnder entries k a b → IsUnder new k a b) →
+    Puts image world entries fired asked t next new
+puts {image} {world} {entries} formed sound ok before same t right next free next_is new w i wave instr arrived stay = record {
+  facts = facts image world formed sound;
+  ok = ok;
+  right = right;
+  free = subst (λ (l : List (Option Entry)). is_taken (arrived_in l t.wave t.instr) t.port ≡ false) (sym same) free;
+  next_is = subst (λ (l : List (Option Entry)). next ≡ with_port (arrived_in l t.wave t.instr) t.port t.value) (sym same) next_is;
+  arrived = λ a b. arrived a b ∙ ap (λ (k : ℕ × ℕ). cond (same_key k.0 k.1 a b) (Some next) (arrived_in entries a b)) (λ j. (wave j, instr j));
+  stay = stay;
+}
 
-        pub keep_ok : TableOk image world new fired
-        keep_ok = kept_ok image world facts entries new fired ok t.wave t.instr t.port t.value right seen.0 (ports_small image t.instr) waits (told next _ seen.1 is)
+-- and what is listed then, if the instance is one of memory or not
+pub lists : {image : Image} {t : Token} {next : Arrived} {new : List (Option Entry)} (fired asked fired' asked' : List ℕ) (key w i : ℕ) → w ≡ t.wave → i ≡ t.instr → is_full (alone next) 0 0 (ports image t.instr) ≡ true → IsUnder new key w i →
+    fired' ≡ fired ++ key ∷ [] → (asks : Bool) → is_memory image t.instr ≡ asks → asked' ≡ cond asks (asked ++ key ∷ []) asked → Lists image fired asked t next new fired' asked'
+lists {new = new} fired asked fired' asked' key w i wave instr full under one_more asks is are = record {
+  full = full;
+  key = key;
+  under = subst (λ (k : ℕ × ℕ). IsUnder new key k.0 k.1) (λ j. (wave j, instr j)) under;
+  one_more = one_more;
+  asks_so = are ∙ ap (λ b. cond b (asked ++ key ∷ []) asked) (sym is);
+}
 
-        pub keep_held : (a b q : ℕ) → held_in new fired a b q ≡ with_at t.wave t.instr t.port (Some t.value) (held_in entries fired) a b q
-        keep_held = kept_held image world facts entries new fired ok t.wave t.instr t.port t.value right seen.0 (ports_small image t.instr) waits (told next _ seen.1 is)
+module _ {image : Image} {world : World} {entries : List (Option Entry)} {fired asked : List ℕ} {t : Token} {next : Arrived} {new : List (Option Entry)} (p : Puts image world entries fired asked t next new) where
+  pub puts_arrives : {before after : Content} → entries ≡ before.entries → new ≡ after.entries → Arrives before t after
+  puts_arrives was is = record {
+    free = subst (λ (l : List (Option Entry)). held_in l t.wave t.instr t.port ≡ None) was (free_port image world p.facts entries fired asked p.ok t.wave t.instr t.port t.value p.right p.free);
+    more = λ a b q. ap (λ (l : List (Option Entry)). held_in l a b q) (sym is)
+        ∙ new_held image world p.facts entries fired asked p.ok t.wave t.instr t.port t.value p.right p.free (ports_small image t.instr) next p.next_is new p.arrived p.stay a b q
+        ∙ ap (λ (l : List (Option Entry)). with_at t.wave t.instr t.port (Some t.value) (held_in l) a b q) was;
+  }
 
-        pub keep_waits : is_full (held_in new fired) t.wave t.instr (ports image t.instr) ≡ false
-        keep_waits = kept_waits image world facts entries new fired ok t.wave t.instr t.port t.value right seen.0 (ports_small image t.instr) waits (told next _ seen.1 is)
+  puts_full : is_full (held_in new) t.wave t.instr (ports image t.instr) ≡ is_full (alone next) 0 0 (ports image t.instr)
+  puts_full = new_full image world p.facts entries fired asked p.ok t.wave t.instr t.port t.value p.right p.free (ports_small image t.instr) next p.next_is new p.arrived p.stay
 
-      module _ (operands : Operands) (seen : SeenSo (arrived_in entries t.wave t.instr) t.port t.value count (Fills operands)) (after : List Fired) (one_more : after ≡ fired ++ record { wave = w; instr = i; operands = operands } ∷ [])
-          (is : (a b : ℕ) → arrived_in new a b ≡ cond (same_key w i a b) (Some (Spent count)) (arrived_in entries a b)) where
-        abbrev one : Fired
-        one = record { wave = w; instr = i; operands = operands }
+  -- the instance isn't full
+  pub keeps_fired : instances new fired ≡ instances entries fired
+  keeps_fired = same_fired image world p.facts entries fired asked p.ok t.wave t.instr t.port t.value p.right p.free (ports_small image t.instr) next p.next_is new p.arrived p.stay
 
-        full : is_full (alone (with_port (arrived_in entries t.wave t.instr) t.port t.value)) 0 0 (ports image t.instr) ≡ true
-        full = subst (λ (n : ℕ). is_full (alone (with_port (arrived_in entries t.wave t.instr) t.port t.value)) 0 0 n ≡ true) count_is seen.1
+  pub keeps_ok : is_full (alone next) 0 0 (ports image t.instr) ≡ false → TableOk image world new fired asked
+  keeps_ok waits = kept_ok image world p.facts entries fired asked p.ok t.wave t.instr t.port t.value p.right p.free (ports_small image t.instr) next p.next_is new p.arrived p.stay waits
 
-        list : listed operands ≡ gather (alone (with_port (arrived_in entries t.wave t.instr) t.port t.value)) 0 0 0 (ports image t.instr)
-        list = seen.2 ∙ ap (λ n. gather (alone (with_port (arrived_in entries t.wave t.instr) t.port t.value)) 0 0 0 n) count_is
+  -- the instance is full
+  module _ {fired' asked' : List ℕ} (l : Lists image fired asked t next new fired' asked') where
+    pub fires_ok : TableOk image world new fired' asked'
+    fires_ok = fired_ok image world p.facts entries fired asked p.ok t.wave t.instr t.port t.value p.right p.free (ports_small image t.instr) next p.next_is new p.arrived p.stay l.full l.key l.under fired' asked' l.one_more l.asks_so
 
-        spent : (a b : ℕ) → arrived_in new a b ≡ cond (same_key t.wave t.instr a b) (Some (Spent (ports image t.instr))) (arrived_in entries a b)
-        spent = told (Spent count) (Spent (ports image t.instr)) (ap (λ n. Spent n) count_is) is
-
-        pub fire_free : held_in entries fired t.wave t.instr t.port ≡ None
-        fire_free = free_port image world facts entries new fired ok t.wave t.instr t.port t.value right seen.0
-
-        pub fire_ok : TableOk image world new after
-        fire_ok = fired_ok image world facts entries new fired ok t.wave t.instr t.port t.value right seen.0 (ports_small image t.instr) full one wave instr list after one_more spent
-
-        pub fire_held : (a b q : ℕ) → held_in new after a b q ≡ with_at t.wave t.instr t.port (Some t.value) (held_in entries fired) a b q
-        fire_held = fired_held image world facts entries new fired ok t.wave t.instr t.port t.value right seen.0 (ports_small image t.instr) full one wave instr list after one_more spent
-
-        pub fire_full : is_full (held_in new after) t.wave t.instr (ports image t.instr) ≡ true
-        fire_full = fired_full image world facts entries new fired ok t.wave t.instr t.port t.value right seen.0 (ports_small image t.instr) full one wave instr list after one_more spent
-
-        pub fire_listed : listed operands ≡ gather (held_in new after) t.wave t.instr 0 (ports image t.instr)
-        fire_listed = fired_listed image world facts entries new fired ok t.wave t.instr t.port t.value right seen.0 (ports_small image t.instr) full one wave instr list after one_more spent
+    pub fires_full : {before after : Content} → instances entries fired ≡ before.fired → new ≡ after.entries → instances new fired' ≡ after.fired → Full image before t after (gather (alone next) 0 0 0 (ports image t.instr))
+    fires_full was is are = record {
+      full = ap (λ (l : List (Option Entry)). is_full (held_in l) t.wave t.instr (ports image t.instr)) (sym is) ∙ puts_full ∙ l.full;
+      operands_are = new_operands image world p.facts entries fired asked p.ok t.wave t.instr t.port t.value p.right p.free (ports_small image t.instr) next p.next_is new p.arrived p.stay
+          ∙ ap (λ (l : List (Option Entry)). operands_in image (held_in l) t.wave t.instr) is;
+      fired = sym are ∙ now_fired image world p.facts entries fired asked p.ok t.wave t.instr t.port t.value p.right p.free (ports_small image t.instr) next p.next_is new p.arrived p.stay l.full l.key l.under fired' asked' l.one_more l.asks_so
+          ∙ ap (λ l. l ++ record { wave = t.wave; instr = t.instr } ∷ []) was;
+    }

@@ -4,7 +4,7 @@ pub mod Arrivals
 pub mod Search
 pub mod Store
 pub mod Held
+pub mod Listed
 pub mod Kept
 pub mod Answered
 pub mod Events
-pub mod Tells

@@ -12,8 +12,6 @@ use Rattle.match_table.specs.declared.table.AcceptFault.{AcceptFault}
 use Rattle.match_table.specs.declared.table.AcceptFault.TheVariants as fault
 use Rattle.match_table.specs.declared.meeting.Seen.{Seen}
 use Rattle.match_table.specs.declared.meeting.Seen.TheVariants.{Old}
-use Rattle.match_table.specs.declared.table.Fired.{Fired}
-use Rattle.match_table.specs.Ports.{listed}
 use Rattle.match_table.specs.Tables.{Content, held}
 
 -- the port had no token, and now it has this one
@@ -27,11 +25,7 @@ pub record Full (image : Image) (old : Content) (t : Token) (new : Content)
     (operands : List ℕ) : Type 0 where
   pub full : is_full (held new) t.wave t.instr (ports image t.instr) ≡ true
   pub operands_are : operands ≡ operands_in image (held new) t.wave t.instr
-  pub entry : Fired
-  pub wave : entry.wave ≡ t.wave
-  pub instr : entry.instr ≡ t.instr
-  pub listed_are : listed entry.operands ≡ operands
-  pub fired : new.fired ≡ old.fired ++ entry ∷ []
+  pub fired : new.fired ≡ old.fired ++ record { wave = t.wave; instr = t.instr } ∷ []
 
 -- the port has had no token, and with this one the instance is full
 abbrev pub will_fire : Image → Content → Token → Bool
@@ -78,17 +72,20 @@ module _ {J : Type 0} where
 
   -- what an instance hands on that is full with these operands, and nothing else
   abbrev pub HandedOn : Image → Token → List ℕ → Results J → Took → Type 0
-  HandedOn image t operands rs took.Fires = Outcome {J = J} image t operands (Fires rs.tokens) × (rs.request ≡ None)
+  HandedOn image t operands rs took.Fires = Outcome {J = J} image t operands (Fires rs.tokens)
+      × (rs.request ≡ None)
   HandedOn image t operands rs took.Asks = (request : Asked) × (rs.request ≡ Some request) × (rs.tokens ≡ [])
       × Outcome {J = J} image t operands (Asks request)
   HandedOn image t operands rs answer = ⊥
 
-  -- what `accept` answers, where the caller keeps the token and lends a place for what is handed on: nothing else stands there
+  -- what `accept` answers, where the caller keeps the token and lends a place for what is handed on: nothing
+  -- else stands there
   abbrev pub Answered : Image → Content → Token → Content → Results J → Took → Type 0
   Answered image old t new rs took.Waits = Accepted {J = J} image old t new Waits × NoResults rs
-  Answered image old t new rs took.Fires = Accepted {J = J} image old t new (Fires rs.tokens) × (rs.request ≡ None)
-  Answered image old t new rs took.Asks = (request : Asked) × (rs.request ≡ Some request) × (rs.tokens ≡ [])
-      × Accepted {J = J} image old t new (Asks request)
+  Answered image old t new rs took.Fires = Accepted {J = J} image old t new (Fires rs.tokens)
+      × (rs.request ≡ None)
+  Answered image old t new rs took.Asks = (request : Asked) × (rs.request ≡ Some request)
+      × (rs.tokens ≡ []) × Accepted {J = J} image old t new (Asks request)
   Answered image old t new rs took.Old = Refused {J = J} old t new (fault.Old t) × NoResults rs
   Answered image old t new rs took.NoMemory = Refused {J = J} old t new (fault.NoMemory t) × NoResults rs
 

@@ -1,21 +1,23 @@
 //! Tables.
 
-ghost use Rattle.std.specs.Prelude.{◌≡◌, ◌<◌, ◌≤◌, ◌+◌, ◌^◌, ℕ, All, IfErr, IsOk, IsSome, None, [], false, cond, suc, IfSome, IfOk, OnOk, MatchResult};
+ghost use Rattle.std.specs.Prelude.{◌≡◌, ◌<◌, ◌≤◌, ◌+◌, ◌^◌, ℕ, IfErr, IsOk, IsSome, None, [], true, false, cond, suc, length, slice_index_or, IfSome, IfOk, OnOk, MatchResult};
 ghost use Rattle.ws_isa.specs.Formed.{Formed};
-ghost use Rattle.ws_isa.specs.Image.{is_advance_op, ports};
+ghost use Rattle.ws_isa.specs.Image.{is_advance_op, is_memory, ports};
 ghost use Rattle.image_walk.specs.Sound.{Sound};
-ghost use Rattle.core_law.specs.Core.{Once, has, is_full, operands_in};
+ghost use Rattle.image_walk.specs.Walk.{gather};
+ghost use Rattle.core_law.specs.Core.{Key, HasFired, Once, has, is_full, operands_in};
 ghost use Rattle.core_law.specs.Shown.{TablesOk};
 ghost use Rattle.core_run.specs.Places.{ProgramIs, image_of};
+ghost use Rattle.match_table.specs.declared.entry.Arrived.{Arrived};
 ghost use Rattle.match_table.specs.declared.meeting.Seen.TheVariants.{Waits, Fills};
 ghost use Rattle.match_table.specs.declared.table.Took.TheVariants as took;
 ghost use Rattle.match_table.specs.Matching.{Accepted, Answered, Arrives, FiresSo, Full, HandedOn, IfNoMemory, IsOldSo, NoResults, Refused, has_fired, will_fire};
-ghost use Rattle.match_table.specs.Pages.{KeyIs, arrived_in};
-ghost use Rattle.match_table.specs.Ports.{listed, SeenSo};
-ghost use Rattle.match_table.specs.Tables.{held, part};
+ghost use Rattle.match_table.specs.Pages.{KeyIs, arrived_in, instance_under};
+ghost use Rattle.match_table.specs.Ports.{listed, is_taken, with_port, alone, SeenSo};
+ghost use Rattle.match_table.specs.Tables.{IsPlaced, held, key_of, of_memory, part};
 
 use crate::entry::Arrived;
-use crate::meeting::{Operands, Seen, is_taken, meet};
+use crate::meeting::{Operands, Seen, is_taken, meet, operands_of};
 use crate::ops::{result_of, selector};
 use crate::pages::Pages;
 use core_run::program::Program;
@@ -88,28 +90,30 @@ pub enum AcceptFault<J: Job> {
     NoMemory(Token<J>),
 }
 
-/// The instances of which tokens have come: their tokens, and those that have fired, with their
-/// operands, in the order of firing.
+/// The instances of which tokens have come, with their tokens. Those that have fired are listed in the
+/// order of firing by the keys of their entries, and those of memory among them once more.
 #[derive(Drop)]
 pub struct Table<J: Job> {
     pages: Pages,
-    fired: Vec<Fired>,
+    fired: Vec<usize>,
+    asked: Vec<usize>,
     of: PhantomData<J>,
 }
 
 impl<J: Job> Model for Table<J> {
     ghost use Rattle.std.specs.Prelude.{◌-◌, min, vec_len, vec_capacity};
-    ghost use Rattle.match_table.specs.Tables.{Content, TableOk};
+    ghost use Rattle.match_table.specs.Tables.{Content, TableOk, instances};
 
     ghost Value = { Content };
 
     ghost view = { λ t. record {
       entries = t.pages.entries;
-      fired = t.fired.items;
-      spare = min t.pages.spare (vec_capacity t.fired - vec_len t.fired);
+      fired = instances t.pages.entries t.fired.items;
+      spare = min t.pages.spare
+          (min (vec_capacity t.fired - vec_len t.fired) (vec_capacity t.asked - vec_len t.asked));
     } };
 
-    ghost invariant = { λ t. TableOk J.image J.world t.pages.entries t.fired.items };
+    ghost invariant = { λ t. TableOk J.image J.world t.pages.entries t.fired.items t.asked.items };
 }
 
 // The place of an instance's page, the key of its entry, and what a token finds at its port.
@@ -129,6 +133,7 @@ impl<J: Job> Table<J> {
         Table {
             pages: Pages::new(alloc),
             fired: Vec::new(alloc),
+            asked: Vec::new(alloc),
             of: PhantomData,
         }
     }
@@ -143,6 +148,7 @@ impl<J: Job> Table<J> {
     {
         self.pages.reserve(tokens as usize)?;
         self.fired.reserve(tokens as usize)?;
+        self.asked.reserve(tokens as usize)?;
         Ok(())
     }
 
@@ -163,20 +169,73 @@ impl<J: Job> Table<J> {
         (is_taken(found.arrived, port), found.place)
     }
 
-    /// The instances that fired here, in the order of firing.
-    pub fn fired(&self) -> &[Fired]
-        ensures { result.now ≡ self.now.fired }
+    /// How many instances have fired here.
+    #[inline(always)]
+    pub fn fired_count(&self) -> usize
+        ensures { result ≡ length self.now.fired }
     {
-        &self.fired
+        self.fired.len()
     }
 
-    /// What is true of every table: it is a part of the core's state of which the law speaks, an
-    /// instance fires once, and the operands that it lists are those that it holds.
+    /// How many of them are of memory.
+    #[inline(always)]
+    pub fn asked_count(&self) -> usize
+        ensures { result ≡ length (of_memory J.image self.now.fired) }
+    {
+        self.asked.len()
+    }
+
+    /// The instance that fired here at this place, from 0, in the order of firing.
+    #[inline(always)]
+    pub fn fired_at(&self, code: &Code<'_, J>, place: usize) -> Fired
+        requires { place < length self.now.fired }
+        ensures at { (d : Key) → slice_index_or self.now.fired place d ≡ key_of result }
+        ensures operands { listed result.operands
+            ≡ operands_in J.image (held self.now) result.wave result.instr }
+    {
+        self.fired_under(code, self.fired[place])
+    }
+
+    /// The instance of memory that fired here at this place, from 0, in the order of those.
+    #[inline(always)]
+    pub fn asked_at(&self, code: &Code<'_, J>, place: usize) -> Fired
+        requires { place < length (of_memory J.image self.now.fired) }
+        ensures at { (d : Key) → slice_index_or (of_memory J.image self.now.fired) place d
+            ≡ key_of result }
+        ensures operands { listed result.operands
+            ≡ operands_in J.image (held self.now) result.wave result.instr }
+    {
+        self.fired_under(code, self.asked[place])
+    }
+
+    // The instance whose entry has this key, which has fired.
+    #[inline(always)]
+    fn fired_under(&self, code: &Code<'_, J>, key: usize) -> Fired
+        requires placed { IsPlaced self.now.entries key }
+        requires fired { HasFired self.now.fired (instance_under self.now.entries key).wave
+            (instance_under self.now.entries key).instr }
+        ensures at { instance_under self.now.entries key ≡ key_of result }
+        ensures operands { listed result.operands
+            ≡ operands_in J.image (held self.now) result.wave result.instr }
+    {
+        let _ = &self.fired;
+        let instance = self.pages.at(key);
+        let ports = code.program().op(instance.instr).ports();
+        match operands_of(instance.arrived, ports) {
+            Some(operands) => Fired {
+                wave: instance.wave,
+                instr: instance.instr,
+                operands,
+            },
+            None => unreachable!(),
+        }
+    }
+
+    /// What is true of every table: it is a part of the core's state of which the law speaks, and an
+    /// instance fires once.
     pub fn facts(&self)
         ensures part { TablesOk J.image J.world (part self.now) }
         ensures once { Once (part self.now).fired }
-        ensures operands { All (λ f. listed f.operands
-            ≡ operands_in J.image (held self.now) f.wave f.instr) self.now.fired }
     {
         let _ = &self.fired;
     }
@@ -212,7 +271,7 @@ impl<J: Job> Table<J> {
         let count = program.op(token.instr()).ports();
         let look = self.look(token, count);
         match look.seen {
-            Seen::Fills(_) => true,
+            Seen::Fills(_, _) => true,
             Seen::Waits(_) => false,
             Seen::Old => false,
         }
@@ -239,36 +298,38 @@ impl<J: Job> Table<J> {
         self.pages.put(place, key, wave, instr, next);
     }
 
-    // The token's instance is full, and fires.
+    // The token's instance is full, and fires. `asks` says whether it is one of memory.
     #[inline(always)]
     fn fire(
         &mut self,
         token: &Token<J>,
         place: usize,
         key: Option<usize>,
-        operands: Operands,
-        count: u8,
+        next: Arrived,
+        asks: bool,
     )
         requires formed { Formed J.image }
         requires sound { Sound J.image }
-        requires ports { (count ≡ ports J.image token.now.instr) × (count ≤ 3) }
+        requires asks { is_memory J.image token.now.instr ≡ asks }
         requires key { KeyIs self.old.entries key token.now.wave token.now.instr }
-        requires seen { SeenSo (arrived_in self.old.entries token.now.wave token.now.instr)
-            token.now.port token.now.value count (Fills operands) }
+        requires taken { is_taken (arrived_in self.old.entries token.now.wave token.now.instr)
+            token.now.port ≡ false }
+        requires next { next ≡ with_port (arrived_in self.old.entries token.now.wave token.now.instr)
+            token.now.port token.now.value }
+        requires full { is_full (alone next) 0 0 (ports J.image token.now.instr) ≡ true }
         requires room { 0 < self.old.spare }
         ensures arrives { Arrives self.old token.now self.new }
-        ensures full { Full J.image self.old token.now self.new (listed operands) }
+        ensures full { Full J.image self.old token.now self.new
+            (gather (alone next) 0 0 0 (ports J.image token.now.instr)) }
         ensures spare { self.old.spare ≤ self.new.spare + 1 }
     {
         let wave = token.wave();
         let instr = token.instr();
-        self.pages
-            .put(place, key, wave, instr, Arrived::Spent(count));
-        self.fired.push_reserved(Fired {
-            wave,
-            instr,
-            operands,
-        });
+        let key = self.pages.put(place, key, wave, instr, next);
+        self.fired.push_reserved(key);
+        if asks {
+            self.asked.push_reserved(key);
+        }
     }
 
     /// Takes a token: the core's match of it. Where its instance is full it fires. `Old` comes exactly
@@ -331,7 +392,7 @@ impl<J: Job> Table<J> {
                 self.keep(token, look.place, look.key, next, count);
                 Took::Waits
             }
-            Seen::Fills(operands) => {
+            Seen::Fills(next, operands) => {
                 let Ok(took) = self.hand_on(program, token, operands, results) else {
                     results.clear();
                     return Took::NoMemory;
@@ -340,7 +401,7 @@ impl<J: Job> Table<J> {
                     results.clear();
                     return Took::NoMemory;
                 }
-                self.fire(token, look.place, look.key, operands, count);
+                self.fire(token, look.place, look.key, next, op.is_memory());
                 took
             }
         }
@@ -359,8 +420,9 @@ impl<J: Job> Table<J> {
         requires image { image_of program.now ≡ J.image }
         requires formed { Formed J.image }
         requires sound { Sound J.image }
-        requires seen { SeenSo (arrived_in self.now.entries token.now.wave token.now.instr)
-            token.now.port token.now.value (ports J.image token.now.instr) (Fills operands) }
+        requires seen { (next : Arrived)
+            × SeenSo (arrived_in self.now.entries token.now.wave token.now.instr)
+            token.now.port token.now.value (ports J.image token.now.instr) (Fills next operands) }
         requires empty { NoResults results.old }
         ensures outcome { IfOk result (HandedOn J.image token.now (listed operands) results.new) }
         ensures few { token.now.wave + 1 < 2 ^ 64 → IsOk result }
@@ -392,7 +454,10 @@ impl<J: Job> Table<J> {
         ensures succeeds { 0 < self.old.spare → IsOk result }
         ensures kept { self.old.spare ≤ self.new.spare }
     {
-        if self.pages.has_room() && self.fired.len() < self.fired.capacity() {
+        if self.pages.has_room()
+            && self.fired.len() < self.fired.capacity()
+            && self.asked.len() < self.asked.capacity()
+        {
             return Ok(());
         }
         self.reserve(1)

@@ -6,8 +6,8 @@ use Rattle.crew_collect.proofs.limits.limits.Goals as goal
 
 pub loop-number-preserved : goal.loop-number-preserved
 loop-number-preserved g c = subst (λ (l : List ℕ). Given (contents c.args.tables.now) (c.loop-number.number + 1) l (c.loop-number.left - c.share_of-share.result) c.args.left) (sym c.in_ok-push.ensures.items)
-    (give_more (contents c.args.tables.now) c.loop-number.number c.loop-number.limits.items c.loop-number.left c.args.left c.share_of-share.result (length c.fired.result.now) c.loop-number-test.true c.loop-number.invariant c.share_of-share.ensures
-    (ap length c.fired.ensures ∙ ap (λ (x : Content). length x.fired) c.table_at.ensures) _ refl _ refl)
+    (give_more (contents c.args.tables.now) c.loop-number.number c.loop-number.limits.items c.loop-number.left c.args.left c.share_of-share.result c.fired_count.result c.loop-number-test.true c.loop-number.invariant c.share_of-share.ensures
+    (c.fired_count.ensures ∙ ap (λ (x : Content). length x.fired) c.table_at.ensures) _ refl _ refl)
 
 pub returns-clause-fits : goal.returns-clause-fits
 returns-clause-fits g c = fits (contents c.args.tables.now) c.loop-number.limits.items c.requires.serve (λ k lt. (let t = c.loop-number-test.false in c.loop-number.invariant.within k (omega (arith, t, lt))))

@@ -10,7 +10,7 @@ loop-number-preserved g c = λ k lt. (let more = c.max-longest.ensures in elim (
   | inl x ↦ (let before = c.loop-number.invariant k x in omega (arith, before, more))
   | inr x ↦ (let e : c.loop-number.number ≡ k = omega (arith, lt, x) in
       let here = ap (λ (x : Content). length x.fired) c.table_at.ensures in
-      let count = ap length c.fired.ensures in
+      let count = c.fired_count.ensures in
       let same = ap (λ (j : ℕ). length (content_at (contents c.args.tables.now) j).fired) e in
       omega (arith, here, count, same, more))
 ])

@@ -10,7 +10,7 @@ loop-number-preserved g c = (
   c.in_ok-look_through.ensures.missing,
   λ e. (let a = c.in_ok-look_through.ensures.none e in let b = c.loop-number.invariant.1 a.0 in
       let t = c.loop-number-test.true in let l = c.told-tables in
-      (b.0, next_behind (λ (x : Content). ToldIn g.J.Job.image (part_behind c.args.tables.now).held c.args.from c.args.to x.fired) c.args.tables.now c.loop-number.number c.index-tables-number.result (omega (arith, t, l)) b.1 a.1)),
+      (b.0, next_behind (λ (x : Content). ToldIn g.J.Job.image (part_behind c.args.tables.now).held c.args.from c.args.to x) c.args.tables.now c.loop-number.number c.index-tables-number.result (omega (arith, t, l)) b.1 a.1)),
 )
 
 pub returns-clause-none : goal.returns-clause-none

@@ -1,12 +1,12 @@
-use Rattle.std.proofs.Common.{◌≡◌, ◌<◌, ◌-◌, ℕ, [], All}
+use Rattle.std.proofs.Common.{◌≡◌, ◌<◌, ℕ, [], All}
 use Rattle.image_walk.specs.Walk.{start_tokens}
-use Rattle.crew_collect.specs.Together.{behind, part_behind}
 use Rattle.crew_tables.specs.Growth.{content_at}
+use Rattle.crew_collect.specs.Together.{behind, part_behind}
 use Rattle.crew_collect.specs.Owing.{HaveCome, IsMissing, ToldIn}
 use Rattle.crew_collect.proofs.missing.missing.Given as goal
 
-abbrev pub invariant-loop-from : goal.invariant-loop-from
-invariant-loop-from g l = All (IsMissing (part_behind l.all).held) l.found × (l.found ≡ [] → HaveCome (part_behind l.all).held (start_tokens g.J.Job.image) × ((k : ℕ) → k < 16 → ToldIn g.J.Job.image (part_behind l.all).held 0 l.from (content_at (behind l.all) k).fired))
+abbrev pub invariant-loop-to : goal.invariant-loop-to
+invariant-loop-to g l = All (IsMissing (part_behind l.all).held) l.found × (l.found ≡ [] → HaveCome (part_behind l.all).held (start_tokens g.J.Job.image) × ((k : ℕ) → k < 16 → ToldIn g.J.Job.image (part_behind l.all).held l.to l.longest (content_at (behind l.all) k)))
 
-abbrev pub decreases-loop-from : goal.decreases-loop-from
-decreases-loop-from g l = l.longest - l.from
+abbrev pub decreases-loop-to : goal.decreases-loop-to
+decreases-loop-to g l = l.to

@@ -6,27 +6,21 @@ use Rattle.match_table.specs.Ports.{alone}
 use Rattle.match_table.proofs.Held.{full_one, full_two, full_three}
 use Rattle.match_table.proofs.meeting.operands_of.Goals as goal
 
+pub returns-then-not-have_all : goal.returns-then-not-have_all
+returns-then-not-have_all c = let a = c.args.arrived in c.have_all.ensures a.first a.second a.third ∙ c.if-not-have_all.true
+
 -- what is listed is what is gathered, where the ports are so many
-of_ports : (arrived given : Arrived) (ports n : ℕ) (xs : List ℕ) → arrived ≡ given → ports ≡ n → is_full (alone arrived) 0 0 ports ≡ true → (is_full (alone given) 0 0 n ≡ true → xs ≡ gather (alone given) 0 0 0 n) → xs ≡ gather (alone arrived) 0 0 0 ports
-of_ports arrived given ports n xs is are full list =
-    list (subst (λ (k : Arrived × ℕ). is_full (alone k.0) 0 0 k.1 ≡ true) (λ j. (is j, are j)) full)
-    ∙ sym (ap (λ (k : Arrived × ℕ). gather (alone k.0) 0 0 0 k.1) (λ j. (is j, are j)))
+of_ports : (a : Arrived) (ports n : ℕ) (xs : List ℕ) → ports ≡ n → is_full (alone a) 0 0 ports ≡ true → (is_full (alone a) 0 0 n ≡ true → xs ≡ gather (alone a) 0 0 0 n) → (is_full (alone a) 0 0 ports ≡ true) × (xs ≡ gather (alone a) 0 0 0 ports)
+of_ports a ports n xs are full list = (full, list (subst (λ k. is_full (alone a) 0 0 k ≡ true) are full) ∙ sym (ap (λ k. gather (alone a) 0 0 0 k) are))
 
 pub returns-then-ports-eq1 : goal.returns-then-ports-eq1
-returns-then-ports-eq1 c =
-    let w = c.in-Waiting in
-    let full : is_full (alone c.args.arrived) 0 0 c.args.ports ≡ true = ap (λ a. is_full (alone a) 0 0 c.args.ports) w.is ∙ c.have_all.ensures w.first w.second w.third ∙ c.if-not-have_all.false in
-    (full, of_ports c.args.arrived _ c.args.ports _ _ w.is c.if-ports-eq1.true full (full_one w.had w.first w.second w.third))
+returns-then-ports-eq1 c = let a = c.args.arrived in of_ports a c.args.ports _ _ c.if-ports-eq1.true (c.have_all.ensures a.first a.second a.third ∙ c.if-not-have_all.false) (full_one a)
 
 pub returns-then-ports-eq2 : goal.returns-then-ports-eq2
-returns-then-ports-eq2 c =
-    let w = c.in-Waiting in
-    let full : is_full (alone c.args.arrived) 0 0 c.args.ports ≡ true = ap (λ a. is_full (alone a) 0 0 c.args.ports) w.is ∙ c.have_all.ensures w.first w.second w.third ∙ c.if-not-have_all.false in
-    (full, of_ports c.args.arrived _ c.args.ports _ _ w.is c.if-ports-eq2.true full (full_two w.had w.first w.second w.third))
+returns-then-ports-eq2 c = let a = c.args.arrived in of_ports a c.args.ports _ _ c.if-ports-eq2.true (c.have_all.ensures a.first a.second a.third ∙ c.if-not-have_all.false) (full_two a)
 
 pub returns-else-ports-eq2 : goal.returns-else-ports-eq2
 returns-else-ports-eq2 c =
-    let w = c.in-Waiting in
-    let full : is_full (alone c.args.arrived) 0 0 c.args.ports ≡ true = ap (λ a. is_full (alone a) 0 0 c.args.ports) w.is ∙ c.have_all.ensures w.first w.second w.third ∙ c.if-not-have_all.false in
-    let three : c.args.ports ≡ 3 = (let p = c.requires.ports in let u = c.if-ports-eq1.false in let v = c.if-ports-eq2.false in omega (arith, p.0, p.1, u, v)) in
-    (full, of_ports c.args.arrived _ c.args.ports _ _ w.is three full (full_three w.had w.first w.second w.third))
+    let a = c.args.arrived in
+    let three : c.args.ports ≡ 3 = (let p = c.requires in let u = c.if-ports-eq1.false in let v = c.if-ports-eq2.false in omega (arith, p.0, p.1, u, v)) in
+    of_ports a c.args.ports _ _ three (c.have_all.ensures a.first a.second a.third ∙ c.if-not-have_all.false) (full_three a)

@@ -1,16 +1,16 @@
-use Rattle.std.proofs.Common.{◌≡◌, ◌<◌, true, true≢false, length, sym, ap, ◌∙◌, arith}
+use Rattle.std.proofs.Common.{◌≡◌, ◌<◌, true, true≢false, length, sym, ◌∙◌, arith}
 use Rattle.match_table.specs.Matching.{will_fire}
 use Rattle.crew_tables.specs.Growth.{content_at}
 use Rattle.crew_tables.proofs.Growth.{grows_on, all_grows}
 use Rattle.crew_tables.proofs.Served.{all_ok}
-use Rattle.crew_tables.proofs.limit.Limited.offer.Goals.{else-fired-self-via-then-fired-self+else-would_fire, else-fired-self-via-else-fired-self}
+use Rattle.crew_tables.proofs.limit.Limited.offer.Goals.{else-fired_count-self-via-then-fired_count-self+else-would_fire, else-fired_count-self-via-else-fired_count-self}
 use Rattle.crew_tables.proofs.limit.Limited.offer.Goals as goal
 
 pub invariant_of-self : goal.invariant_of-self
 invariant_of-self g c =
-    let less : will_fire g.J.Job.image c.self.inside.table c.args.token.now ≡ true → length c.self.inside.table.fired < c.self.inside.most = λ e. elim c.else-fired-self.branch [
-      | else-fired-self-via-then-fired-self+else-would_fire w ↦ absurd (true≢false (sym e ∙ sym w.would_fire.ensures ∙ w.if-would_fire.false))
-      | else-fired-self-via-else-fired-self w ↦ (let f = w.if-fired-self.false in let l = ap length c.fired.ensures in omega (arith, f, l))
+    let less : will_fire g.J.Job.image c.self.inside.table c.args.token.now ≡ true → length c.self.inside.table.fired < c.self.inside.most = λ e. elim c.else-fired_count-self.branch [
+      | else-fired_count-self-via-then-fired_count-self+else-would_fire w ↦ absurd (true≢false (sym e ∙ sym w.would_fire.ensures ∙ w.if-would_fire.false))
+      | else-fired_count-self-via-else-fired_count-self w ↦ (let f = w.if-fired_count-self.false in let l = c.fired_count.ensures in omega (arith, f, l))
     ] in
     let x = all_ok g.J.Job.image c.self.inside.table c.accept_into.new.self c.args.token.now c.accept_into.new.results c.accept_into.result g.row.K c.self.inside.most c.self.invariant.0 c.self.invariant.2 c.requires less c.accept_into.ensures.answer c.accept_into.ensures.fires in
     let y = all_grows g.J.Job.image c.self.inside.table c.accept_into.new.self c.args.token.now c.accept_into.new.results c.accept_into.result c.accept_into.ensures.answer in

@@ -6,42 +6,45 @@ use Rattle.ws_isa.specs.Formed.{Formed}
 use Rattle.core_run.proofs.Few.{few}
 use Rattle.core_run.specs.Places.{image_of}
 use Rattle.df_job.specs.Rights.{Asked, operands_of}
-use Rattle.match_table.specs.declared.meeting.Seen.TheVariants.{Fills}
-use Rattle.match_table.specs.Pages.{arrived_in}
-use Rattle.match_table.specs.Ports.{listed, SeenSo}
+use Rattle.match_table.specs.Ports.{listed}
 use Rattle.match_table.specs.Tables.{Content}
-use Rattle.match_table.proofs.Answered.{fills, memory_is, sent_is, sends_right, asks_right, request_right, empty_few}
+use Rattle.match_table.proofs.Answered.{ok_now, fills, memory_is, sent_is, sends_right, asks_right, request_right, empty_few}
 use Rattle.match_table.proofs.table.Table.hand_on.Goals as goal
 
 pub right-request-requires : goal.right-request-requires
-right-request-requires g c = subst (λ (k : ℕ × ℕ × ℕ × ℕ). RightRequest g.J.Job.image g.J.Job.world k.0 k.1 (operands_of (ports g.J.Job.image k.1) k.2 k.3))
+right-request-requires g c =
+    let ok = ok_now g.J.Job.image g.J.Job.world c.self.inside.pages.entries c.self.inside.fired.items c.self.inside.asked.items c.self.invariant c.args.self.now (ap (λ (s : Content). s.entries) c.self.view_is) in
+    subst (λ (k : ℕ × ℕ × ℕ × ℕ). RightRequest g.J.Job.image g.J.Job.world k.0 k.1 (operands_of (ports g.J.Job.image k.1) k.2 k.3))
     (λ j. (sym c.wave-wave.ensures.wave j, sym c.instr-instr.ensures j, sym c.first.ensures j, sym c.second.ensures j))
-    (request_right g.J.Job.image g.J.Job.world c.requires.formed c.requires.sound c.self.inside.pages.entries c.self.inside.fired.items c.self.invariant c.args.token.now c.wave-wave.ensures.right c.args.operands (fills g.J.Job.image g.J.Job.world c.requires.formed c.requires.sound c.self.inside.pages.entries c.self.inside.fired.items c.self.invariant c.args.token.now c.wave-wave.ensures.right c.args.operands (subst (λ (s : Content). SeenSo (arrived_in s.entries c.args.token.now.wave c.args.token.now.instr) c.args.token.now.port c.args.token.now.value (ports g.J.Job.image c.args.token.now.instr) (Fills c.args.operands)) (sym c.self.view_is) c.requires.seen)) (memory_is g.J.Job.image (image_of c.args.program.now) c.args.token.now c.instr-instr.result c.op-op.result c.op-op.ensures c.requires.image c.instr-instr.ensures c.is_memory.result c.is_memory.ensures ∙ c.if-is_memory.true))
+    (request_right g.J.Job.image g.J.Job.world c.requires.formed c.requires.sound c.args.self.now _ _ ok c.args.token.now c.wave-wave.ensures.right c.args.operands (fills g.J.Job.image g.J.Job.world c.requires.formed c.requires.sound c.args.self.now _ _ ok c.args.token.now c.wave-wave.ensures.right c.requires.seen.0 c.args.operands c.requires.seen.1) (memory_is g.J.Job.image (image_of c.args.program.now) c.args.token.now.instr c.instr-instr.result c.op-op.result c.op-op.ensures c.requires.image c.instr-instr.ensures c.is_memory.result c.is_memory.ensures ∙ c.if-is_memory.true))
 
 pub returns-then-is_memory-clause-outcome : goal.returns-then-is_memory-clause-outcome
-returns-then-is_memory-clause-outcome g c = (
-  c.right-request.result,
-  refl,
-  c.requires.empty.0,
-  (
-    (memory_is g.J.Job.image (image_of c.args.program.now) c.args.token.now c.instr-instr.result c.op-op.result c.op-op.ensures c.requires.image c.instr-instr.ensures c.is_memory.result c.is_memory.ensures ∙ c.if-is_memory.true),
-    ap (λ (r : Asked). r.wave) c.right-request.ensures ∙ c.wave-wave.ensures.wave,
-    ap (λ (r : Asked). r.instr) c.right-request.ensures ∙ c.instr-instr.ensures,
-    ap (λ (r : Asked). r.second) c.right-request.ensures ∙ c.second.ensures,
-    ap (λ (k : ℕ × ℕ). operands_of (ports g.J.Job.image c.args.token.now.instr) k.0 k.1) (λ j. ((ap (λ (r : Asked). r.first) c.right-request.ensures ∙ c.first.ensures) j, (ap (λ (r : Asked). r.second) c.right-request.ensures ∙ c.second.ensures) j))
-        ∙ asks_right g.J.Job.image g.J.Job.world c.requires.formed c.requires.sound c.self.inside.pages.entries c.self.inside.fired.items c.self.invariant c.args.token.now c.wave-wave.ensures.right c.args.operands (fills g.J.Job.image g.J.Job.world c.requires.formed c.requires.sound c.self.inside.pages.entries c.self.inside.fired.items c.self.invariant c.args.token.now c.wave-wave.ensures.right c.args.operands (subst (λ (s : Content). SeenSo (arrived_in s.entries c.args.token.now.wave c.args.token.now.instr) c.args.token.now.port c.args.token.now.value (ports g.J.Job.image c.args.token.now.instr) (Fills c.args.operands)) (sym c.self.view_is) c.requires.seen)) (memory_is g.J.Job.image (image_of c.args.program.now) c.args.token.now c.instr-instr.result c.op-op.result c.op-op.ensures c.requires.image c.instr-instr.ensures c.is_memory.result c.is_memory.ensures ∙ c.if-is_memory.true),
-  ),
-)
+returns-then-is_memory-clause-outcome g c =
+    let ok = ok_now g.J.Job.image g.J.Job.world c.self.inside.pages.entries c.self.inside.fired.items c.self.inside.asked.items c.self.invariant c.args.self.now (ap (λ (s : Content). s.entries) c.self.view_is) in (
+      c.right-request.result,
+      refl,
+      c.requires.empty.0,
+      (
+        (memory_is g.J.Job.image (image_of c.args.program.now) c.args.token.now.instr c.instr-instr.result c.op-op.result c.op-op.ensures c.requires.image c.instr-instr.ensures c.is_memory.result c.is_memory.ensures ∙ c.if-is_memory.true),
+        ap (λ (r : Asked). r.wave) c.right-request.ensures ∙ c.wave-wave.ensures.wave,
+        ap (λ (r : Asked). r.instr) c.right-request.ensures ∙ c.instr-instr.ensures,
+        ap (λ (r : Asked). r.second) c.right-request.ensures ∙ c.second.ensures,
+        ap (λ (k : ℕ × ℕ). operands_of (ports g.J.Job.image c.args.token.now.instr) k.0 k.1) (λ j. ((ap (λ (r : Asked). r.first) c.right-request.ensures ∙ c.first.ensures) j, (ap (λ (r : Asked). r.second) c.right-request.ensures ∙ c.second.ensures) j))
+            ∙ asks_right g.J.Job.image g.J.Job.world c.requires.formed c.requires.sound c.args.self.now _ _ ok c.args.token.now c.wave-wave.ensures.right c.args.operands (fills g.J.Job.image g.J.Job.world c.requires.formed c.requires.sound c.args.self.now _ _ ok c.args.token.now c.wave-wave.ensures.right c.requires.seen.0 c.args.operands c.requires.seen.1) (memory_is g.J.Job.image (image_of c.args.program.now) c.args.token.now.instr c.instr-instr.result c.op-op.result c.op-op.ensures c.requires.image c.instr-instr.ensures c.is_memory.result c.is_memory.ensures ∙ c.if-is_memory.true),
+      ),
+    )
 
 pub send-requires : goal.send-requires
-send-requires g c = λ w i p v s. sends_right g.J.Job.image g.J.Job.world c.requires.formed c.requires.sound c.self.inside.pages.entries c.self.inside.fired.items c.self.invariant c.args.token.now c.wave-wave.ensures.right (listed c.args.operands) (fills g.J.Job.image g.J.Job.world c.requires.formed c.requires.sound c.self.inside.pages.entries c.self.inside.fired.items c.self.invariant c.args.token.now c.wave-wave.ensures.right c.args.operands (subst (λ (s : Content). SeenSo (arrived_in s.entries c.args.token.now.wave c.args.token.now.instr) c.args.token.now.port c.args.token.now.value (ports g.J.Job.image c.args.token.now.instr) (Fills c.args.operands)) (sym c.self.view_is) c.requires.seen)) (memory_is g.J.Job.image (image_of c.args.program.now) c.args.token.now c.instr-instr.result c.op-op.result c.op-op.ensures c.requires.image c.instr-instr.ensures c.is_memory.result c.is_memory.ensures ∙ c.if-is_memory.false) w i p v
-    (subst (λ (ts : List Token). IsSent ts w i p v) (sent_is g.J.Job.image (image_of c.args.program.now) c.args.token.now c.instr-instr.result c.op-op.result c.op-op.ensures c.requires.image c.instr-instr.ensures (listed c.args.operands) c.wave-wave.result c.in-Some.number c.result_of-word.result c.selector.result c.destinations-dests.result.now c.wave-wave.ensures.wave c.in-Some.ensures.number c.result_of-word.ensures c.selector.ensures c.destinations-dests.ensures) s)
+send-requires g c =
+    let ok = ok_now g.J.Job.image g.J.Job.world c.self.inside.pages.entries c.self.inside.fired.items c.self.inside.asked.items c.self.invariant c.args.self.now (ap (λ (s : Content). s.entries) c.self.view_is) in
+    λ w i p v s. sends_right g.J.Job.image g.J.Job.world c.requires.formed c.requires.sound c.args.self.now _ _ ok c.args.token.now c.wave-wave.ensures.right (listed c.args.operands) (fills g.J.Job.image g.J.Job.world c.requires.formed c.requires.sound c.args.self.now _ _ ok c.args.token.now c.wave-wave.ensures.right c.requires.seen.0 c.args.operands c.requires.seen.1) (memory_is g.J.Job.image (image_of c.args.program.now) c.args.token.now.instr c.instr-instr.result c.op-op.result c.op-op.ensures c.requires.image c.instr-instr.ensures c.is_memory.result c.is_memory.ensures ∙ c.if-is_memory.false) w i p v
+    (subst (λ (ts : List Token). IsSent ts w i p v) (sent_is g.J.Job.image (image_of c.args.program.now) c.args.token.now.instr c.instr-instr.result c.op-op.result c.op-op.ensures c.requires.image c.instr-instr.ensures (listed c.args.operands) c.args.token.now.wave c.wave-wave.result c.in-Some.number c.result_of-word.result c.selector.result c.destinations-dests.result.now c.wave-wave.ensures.wave c.in-Some.ensures.number c.result_of-word.ensures c.selector.ensures c.destinations-dests.ensures) s)
 
 pub returns-clause-outcome : goal.returns-clause-outcome
 returns-clause-outcome g c = (
   (
-    (memory_is g.J.Job.image (image_of c.args.program.now) c.args.token.now c.instr-instr.result c.op-op.result c.op-op.ensures c.requires.image c.instr-instr.ensures c.is_memory.result c.is_memory.ensures ∙ c.if-is_memory.false),
-    (c.in_ok-send.ensures.ok ∙ ap (λ (ts : List Token). ts ++ tokens_to c.in-Some.number c.result_of-word.result c.destinations-dests.result.now) c.requires.empty.0) ∙ sent_is g.J.Job.image (image_of c.args.program.now) c.args.token.now c.instr-instr.result c.op-op.result c.op-op.ensures c.requires.image c.instr-instr.ensures (listed c.args.operands) c.wave-wave.result c.in-Some.number c.result_of-word.result c.selector.result c.destinations-dests.result.now c.wave-wave.ensures.wave c.in-Some.ensures.number c.result_of-word.ensures c.selector.ensures c.destinations-dests.ensures,
+    (memory_is g.J.Job.image (image_of c.args.program.now) c.args.token.now.instr c.instr-instr.result c.op-op.result c.op-op.ensures c.requires.image c.instr-instr.ensures c.is_memory.result c.is_memory.ensures ∙ c.if-is_memory.false),
+    (c.in_ok-send.ensures.ok ∙ ap (λ (ts : List Token). ts ++ tokens_to c.in-Some.number c.result_of-word.result c.destinations-dests.result.now) c.requires.empty.0) ∙ sent_is g.J.Job.image (image_of c.args.program.now) c.args.token.now.instr c.instr-instr.result c.op-op.result c.op-op.ensures c.requires.image c.instr-instr.ensures (listed c.args.operands) c.args.token.now.wave c.wave-wave.result c.in-Some.number c.result_of-word.result c.selector.result c.destinations-dests.result.now c.wave-wave.ensures.wave c.in-Some.ensures.number c.result_of-word.ensures c.selector.ensures c.destinations-dests.ensures,
   ),
   c.requires.empty.1,
 )
