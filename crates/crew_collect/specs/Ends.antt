@@ -15,9 +15,10 @@ use Rattle.store_buf.specs.Outdoors.{Holding, OutIs, RoseSince, port_of}
 abbrev pub IsGoing : Content → Type 0
 IsGoing c = (c.fault ≡ None) × (c.failed ≡ None) × (c.starved ≡ false)
 
--- the walk has no load or store past the end; each of its instances is listed, and as many are as it has; what is outside is
--- what it leaves
-pub record AllRun (image : Image) (world : World) (began : List (Option Began)) (listed : List Key) (h : Holding) : Type 0 where
+-- the walk has no load or store past the end; each of its instances is listed, and as many are as it has;
+-- what is outside is what it leaves
+pub record AllRun (image : Image) (world : World) (began : List (Option Began)) (listed : List Key)
+    (h : Holding) : Type 0 where
   pub no_fault : NoFault image world
   pub cost : CostAtMost image world (length listed)
   pub steps : ℕ
@@ -42,8 +43,10 @@ pub record SomeRun (image : Image) (world : World) (began : List (Option Began))
   pub within : FirstWithin image world front
   pub left : OutIs began (mem image world front) h
 
--- the walk's first load or store past the end is on this array, and what is outside is what the walk leaves before it
-pub record FaultRun (image : Image) (world : World) (began : List (Option Began)) (array : ℕ) (h : Holding) : Type 0 where
+-- the walk's first load or store past the end is on this array, and what is outside is what the walk leaves
+-- before it
+pub record FaultRun (image : Image) (world : World) (began : List (Option Began)) (array : ℕ) (h : Holding)
+    : Type 0 where
   pub time : ℕ
   pub fault : FaultsAt image world time
   pub array_is : array ≡ array_at image fault.inst.instr

@@ -14,18 +14,22 @@ abbrev pub holding : List (List ℕ) → List ℕ → List ℕ → List (Option 
 holding cells input printed ports = record { cells = cells; input = input; printed = printed; ports = ports }
 
 -- with this budget, where these instances are listed as fired and the ports have been given back as they are
-abbrev pub FinishSo : Image → World → List (Option Began) → ℕ → List Key → List (Option Told) → CrewFinish → Type 0
+abbrev pub FinishSo : Image → World → List (Option Began) → ℕ → List Key → List (Option Told) →
+    CrewFinish → Type 0
 FinishSo image world began budget listed ports (Done printed arrays fired) =
-    (fired ≡ length listed) × (fired ≤ budget) × ((input : List ℕ) × AllRun image world began listed (holding arrays input printed ports))
+    (fired ≡ length listed) × (fired ≤ budget)
+    × ((input : List ℕ) × AllRun image world began listed (holding arrays input printed ports))
 FinishSo image world began budget listed ports (Budget printed fired) =
-    (fired ≡ budget) × (fired ≡ length listed) × ((arrays : List (List ℕ)) × (input : List ℕ) × SomeRun image world began listed (holding arrays input printed ports))
+    (fired ≡ budget) × (fired ≡ length listed) × ((arrays : List (List ℕ)) × (input : List ℕ)
+    × SomeRun image world began listed (holding arrays input printed ports))
 FinishSo image world began budget listed ports (Fault array printed arrays) =
     (input : List ℕ) × FaultRun image world began array (holding arrays input printed ports)
 FinishSo image world began budget listed ports (Port port printed) =
     (arrays : List (List ℕ)) × (input : List ℕ) ×
     PortRun image world began port (holding arrays input printed ports)
 FinishSo image world began budget listed ports NoMemory =
-    (arrays : List (List ℕ)) × (input : List ℕ) × (printed : List ℕ) × FrontRun image world began (holding arrays input printed ports)
+    (arrays : List (List ℕ)) × (input : List ℕ) × (printed : List ℕ)
+    × FrontRun image world began (holding arrays input printed ports)
 
 -- for want of memory nothing was run and the ports are given back as they were handed in, or a run has ended
 -- so

@@ -14,7 +14,8 @@ use Rattle.crew_run.specs.declared.judge.Verdict.TheVariants.{Ends}
 -- so a run has ended with so many firings left
 abbrev pub EndingSo : Image → World → List (Option Began) → List Key → ℕ → Content → Ending → Type 0
 EndingSo image world began listed left c ending.Whole = AllRun image world began listed c.outside
-EndingSo image world began listed left c ending.Spent = (left ≡ 0) × SomeRun image world began listed c.outside
+EndingSo image world began listed left c ending.Spent =
+    (left ≡ 0) × SomeRun image world began listed c.outside
 EndingSo image world began listed left c ending.Stopped = IsGoing c → ⊥
 EndingSo image world began listed left c ending.Starved = Unit {0}
 
