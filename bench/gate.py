@@ -1,5 +1,6 @@
 #!/usr/bin/env python3
-"""Runs the gate's proofs, tests and edits (rt ci) and prints what each crate cost, in processor minutes.
+"""Runs the gate's proofs, tests and edits from nothing (rt ci --anew) and prints what each crate cost, in
+processor minutes.
 
     bench/gate.py [LOG]      at the top of the repository; the gate's own output goes to LOG (gate.log)
 
@@ -71,7 +72,7 @@ def main():
         tool.rtlib.RATTLE = wrapper
         began = time.time()
         with log.open("w") as out, redirect_stdout(out):
-            status = tool.main(["ci"])
+            status = tool.main(["ci", "--anew"])
         took = time.time() - began
         lines = pathlib.Path(calls).read_text().splitlines()
     show(table(lines))
