@@ -1,7 +1,7 @@
 #!/usr/bin/env python3
 """Times `wsc run` with 1, 2, 4 and 8 workers.
 
-    bench/crew.py [PROGRAM]        at the top of the repository, over the program that ./wsc builds
+    bench/crew.py [PROGRAM]        at the top of the repository, over the program that ./prove builds
 
 For each program the table has the firings of a run and, for each number of workers, the millions of them
 in a second by the clock: the best of three runs, less a run that fires nothing. All but one of the programs

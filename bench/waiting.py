@@ -1,7 +1,7 @@
 #!/usr/bin/env python3
 """Times `wsc run` and `wsc exec` on waves in which many memory operations wait for one.
 
-    bench/waiting.py [PROGRAM]     at the top of the repository, over the program that ./wsc builds
+    bench/waiting.py [PROGRAM]     at the top of the repository, over the program that ./prove builds
 
 Of each kind there are waves of 100 to 800 operations, and of some 100,000 firings for jobs, one wave for
 images. The table has the processor time of one run, less that of a run with no firings, for each firing.

@@ -1,7 +1,7 @@
 #!/usr/bin/env python3
 """Refuses each allocation of the program in turn, on a few calls, and compares what it then answers.
 
-    tests/allocations.py [PROGRAM]     at the top of the repository, over the program that ./wsc builds
+    tests/allocations.py [PROGRAM]     at the top of the repository, over the program that ./prove builds
 
 A call answers as it does with ample memory, or nothing, with status 7; what it has given to port 1 by then
 is a front of what it gives otherwise. A small library for that, made by cc, stands before malloc. The gate
