@@ -104,20 +104,39 @@ sent_on image world f old new ts asked early t (inl h) st = subst (λ (ws : List
 sent_on image world f old new ts asked early t (inr h) st = subst (λ (ws : List plain.Token). Stands image world f ws asked early t)
     (append_assoc (map token_of old.now.items) (map token_of old.later.items) ts ∙ ap (λ (xs : List plain.Token). map token_of old.now.items ++ xs) (sym h.1) ∙ ap (λ (xs : List Token). map token_of xs ++ map token_of new.later.items) (sym h.0)) st
 
-module _ (image : Image) (world : World) (formed : Formed image) (sound : Sound image) where
+-- and so do others beside them
+pub sent_beside : (image : Image) (world : World) (f : Ports) (beside : List plain.Token) (old new : Way) (ts : List plain.Token) (asked : List Request) (early : List ℕ) (t : State) → SentTo old new ts → Stands image world f ((beside ++ way_of old) ++ ts) asked early t → Stands image world f (beside ++ way_of new) asked early t
+sent_beside image world f beside old new ts asked early t (inl h) st =
+    let n = map token_of old.now.items in
+    let l = map token_of old.later.items in
+    let e : ((beside ++ n) ++ ts) ++ l ≡ beside ++ way_of new =
+    ap (λ (xs : List plain.Token). xs ++ l) (append_assoc beside n ts) ∙ append_assoc beside (n ++ ts) l
+    ∙ ap (λ (xs : List plain.Token). beside ++ (xs ++ l)) (sym h.0) ∙ ap (λ (xs : List Token). beside ++ (map token_of new.now.items ++ map token_of xs)) (sym h.1) in
+    subst (λ (ws : List plain.Token). Stands image world f ws asked early t) e
+    (stands_reordered image world f (((beside ++ n) ++ l) ++ ts) (((beside ++ n) ++ ts) ++ l) asked early t (behind_first (beside ++ n) l ts)
+    (subst (λ (ws : List plain.Token). Stands image world f (ws ++ ts) asked early t) (sym (append_assoc beside n l)) st))
+sent_beside image world f beside old new ts asked early t (inr h) st =
+    let n = map token_of old.now.items in
+    let l = map token_of old.later.items in
+    let e : (beside ++ (n ++ l)) ++ ts ≡ beside ++ way_of new =
+    append_assoc beside (n ++ l) ts ∙ ap (λ (xs : List plain.Token). beside ++ xs) (append_assoc n l ts)
+    ∙ ap (λ (xs : List plain.Token). beside ++ (n ++ xs)) (sym h.1) ∙ ap (λ (xs : List Token). beside ++ (map token_of xs ++ map token_of new.later.items)) (sym h.0) in
+    subst (λ (ws : List plain.Token). Stands image world f ws asked early t) e st
+
+module _ (image : Image) (world : World) (formed : Formed image) (sound : Sound image) (beside : List plain.Token) where
   facts : WalkFacts image world
   facts = facts_of image world (ports_there image formed) sound
 
-  module _ (tok : Token) (old new : Flow) (s : State) (h : Holds image world (token_of tok ∷ []) old s) where
+  module _ (tok : Token) (old new : Flow) (s : State) (h : Holds image world (token_of tok ∷ beside) old s) where
     -- its instance isn't full
     pub arrived_waits : ((a b q : ℕ) → partial_of new.slots.slots.items new.slots.spill.items a b q ≡ with_at tok.wave tok.instr tok.port (Some tok.value) (partial_of old.slots.slots.items old.slots.spill.items) a b q) →
         is_full (partial_of new.slots.slots.items new.slots.spill.items) tok.wave tok.instr (ports image tok.instr) ≡ false →
         new.way ≡ old.way → new.asked ≡ old.asked → new.early ≡ old.early → new.chain ≡ old.chain → new.fault ≡ old.fault → new.memory ≡ old.memory → new.fired ≡ old.fired →
-        (t : State) × Step image s (Match tok.wave tok.instr tok.port) t × Holds image world [] new t
+        (t : State) × Step image s (Match tok.wave tok.instr tok.port) t × Holds image world beside new t
     arrived_waits f_is less way asked early chain stopped memory fired =
-        let m = waits image world facts s (partial_of old.slots.slots.items old.slots.spill.items) (way_of old.way) (map (request_of image) old.asked.items) old.early.items tok.wave tok.instr tok.port tok.value h.stands
+        let m = waits image world facts s (partial_of old.slots.slots.items old.slots.spill.items) (beside ++ way_of old.way) (map (request_of image) old.asked.items) old.early.items tok.wave tok.instr tok.port tok.value h.stands
         (partial_of new.slots.slots.items new.slots.spill.items) f_is less in
-        let st : Stands image world (partial_of new.slots.slots.items new.slots.spill.items) (way_of old.way) (map (request_of image) old.asked.items) old.early.items m.new = m.stands in (
+        let st : Stands image world (partial_of new.slots.slots.items new.slots.spill.items) (beside ++ way_of old.way) (map (request_of image) old.asked.items) old.early.items m.new = m.stands in (
           m.new,
           m.step,
           record {
@@ -138,20 +157,20 @@ module _ (image : Image) (world : World) (formed : Formed image) (sound : Sound 
         (is_memory_op op ≡ true → new.asked.items ≡ old.asked.items ++ record { wave = tok.wave; instr = tok.instr; operands = o } ∷ []) → (is_memory_op op ≡ true → new.way ≡ old.way) →
         (is_memory_op op ≡ false → new.asked ≡ old.asked) →
         (is_memory_op op ≡ false → SentTo old.way new.way (tokens_to (cond (is_advance_op op) (suc tok.wave) tok.wave) (result_of_op op (all_of o)) (destinations image tok.instr (selector_of op (all_of o))))) →
-        (t : State) × Step image s (Match tok.wave tok.instr tok.port) t × Holds image world [] new t
+        (t : State) × Step image s (Match tok.wave tok.instr tok.port) t × Holds image world beside new t
     arrived_fires f f_is full g_is op op_is o o_are early chain stopped memory fired asked not_sent not_asked sent = elim (cases_Bool (is_memory image tok.instr)) [
       | inl mem ↦ (let me : is_memory_op op ≡ true = ap is_memory_op op_is ∙ sym (memory_is_op image tok.instr) ∙ mem in
-          let m = calls image world facts s (partial_of old.slots.slots.items old.slots.spill.items) (way_of old.way) (map (request_of image) old.asked.items) old.early.items tok.wave tok.instr tok.port tok.value h.stands
+          let m = calls image world facts s (partial_of old.slots.slots.items old.slots.spill.items) (beside ++ way_of old.way) (map (request_of image) old.asked.items) old.early.items tok.wave tok.instr tok.port tok.value h.stands
           f f_is full (partial_of new.slots.slots.items new.slots.spill.items) g_is (listed (ports image tok.instr) o) o_are mem in
           let r : Request = record { wave = tok.wave; instr = tok.instr; operands = listed (ports image tok.instr) o } in
           let e : map (request_of image) old.asked.items ++ r ∷ [] ≡ map (request_of image) new.asked.items = sym (map_push (request_of image) old.asked.items (record { wave = tok.wave; instr = tok.instr; operands = o })) ∙ ap (map (request_of image)) (sym (asked me)) in
-          let st : Stands image world (partial_of new.slots.slots.items new.slots.spill.items) (way_of old.way) (map (request_of image) old.asked.items ++ r ∷ []) old.early.items m.new =
-          stands_asked image world (partial_of new.slots.slots.items new.slots.spill.items) (way_of old.way) (r ∷ map (request_of image) old.asked.items) (map (request_of image) old.asked.items ++ r ∷ []) old.early.items m.new
+          let st : Stands image world (partial_of new.slots.slots.items new.slots.spill.items) (beside ++ way_of old.way) (map (request_of image) old.asked.items ++ r ∷ []) old.early.items m.new =
+          stands_asked image world (partial_of new.slots.slots.items new.slots.spill.items) (beside ++ way_of old.way) (r ∷ map (request_of image) old.asked.items) (map (request_of image) old.asked.items ++ r ∷ []) old.early.items m.new
           (pushed (map (request_of image) old.asked.items) r) m.stands in (
             m.new,
             m.step,
             record {
-              stands = rw (not_sent me, early) (subst (λ (rs : List Request). Stands image world (partial_of new.slots.slots.items new.slots.spill.items) (way_of old.way) rs old.early.items m.new) e st);
+              stands = rw (not_sent me, early) (subst (λ (rs : List Request). Stands image world (partial_of new.slots.slots.items new.slots.spill.items) (beside ++ way_of old.way) rs old.early.items m.new) e st);
               chain_is = m.chain_is ∙ h.chain_is ∙ ap chain_of (sym chain);
               stopped_is = m.stopped_is ∙ h.stopped_is ∙ ap is_some (sym stopped);
               fault_is = rw stopped h.fault_is;
@@ -161,12 +180,12 @@ module _ (image : Image) (world : World) (formed : Formed image) (sound : Sound 
           ))
       | inr mem ↦ (let me : is_memory_op op ≡ false = ap is_memory_op op_is ∙ sym (memory_is_op image tok.instr) ∙ mem in
           let xs : List ℕ = listed (ports image tok.instr) o in
-          let m = fires_on image world facts s (partial_of old.slots.slots.items old.slots.spill.items) (way_of old.way) (map (request_of image) old.asked.items) old.early.items tok.wave tok.instr tok.port tok.value h.stands
+          let m = fires_on image world facts s (partial_of old.slots.slots.items old.slots.spill.items) (beside ++ way_of old.way) (map (request_of image) old.asked.items) old.early.items tok.wave tok.instr tok.port tok.value h.stands
           f f_is full (partial_of new.slots.slots.items new.slots.spill.items) g_is (listed (ports image tok.instr) o) o_are mem in
           let e : tokens_to (cond (is_advance_op op) (suc tok.wave) tok.wave) (result_of_op op (all_of o)) (destinations image tok.instr (selector_of op (all_of o))) ≡ sends image tok.wave tok.instr (listed (ports image tok.instr) o) (result_of image tok.instr (listed (ports image tok.instr) o)) =
           same_tokens op op_is o me in
-          let st : Stands image world (partial_of new.slots.slots.items new.slots.spill.items) (way_of new.way) (map (request_of image) old.asked.items) old.early.items m.new =
-          sent_on image world (partial_of new.slots.slots.items new.slots.spill.items) old.way new.way (sends image tok.wave tok.instr (listed (ports image tok.instr) o) (result_of image tok.instr (listed (ports image tok.instr) o)))
+          let st : Stands image world (partial_of new.slots.slots.items new.slots.spill.items) (beside ++ way_of new.way) (map (request_of image) old.asked.items) old.early.items m.new =
+          sent_beside image world (partial_of new.slots.slots.items new.slots.spill.items) beside old.way new.way (sends image tok.wave tok.instr (listed (ports image tok.instr) o) (result_of image tok.instr (listed (ports image tok.instr) o)))
           (map (request_of image) old.asked.items) old.early.items m.new (subst (SentTo old.way new.way) e (sent me)) m.stands in (
             m.new,
             m.step,
@@ -196,7 +215,7 @@ module _ (image : Image) (world : World) (formed : Formed image) (sound : Sound 
             ∙ ap (λ (x : Op). tokens_to (cond (is_advance_op x) (suc tok.wave) tok.wave) (result_of image tok.instr (listed (ports image tok.instr) o)) (destinations image tok.instr (selector_of (instr_at image tok.instr).op (listed (ports image tok.instr) o)))) e
             ∙ sends_are image tok.wave tok.instr (listed (ports image tok.instr) o) (result_of image tok.instr (listed (ports image tok.instr) o))
 
-  module _ (tok : Token) (old : Flow) (s : State) (h : Holds image world (token_of tok ∷ []) old s) where
+  module _ (tok : Token) (old : Flow) (s : State) (h : Holds image world (token_of tok ∷ beside) old s) where
     partial : Ports
     partial = partial_of old.slots.slots.items old.slots.spill.items
 
@@ -268,7 +287,7 @@ module _ (image : Image) (world : World) (formed : Formed image) (sound : Sound 
         (is_memory_op op ≡ true → new.asked.items ≡ old.asked.items ++ record { wave = tok.wave; instr = tok.instr; operands = record { first = tok.value; second = 0; third = 0 } } ∷ []) → (is_memory_op op ≡ true → new.way ≡ old.way) →
         (is_memory_op op ≡ false → new.asked ≡ old.asked) →
         (is_memory_op op ≡ false → SentTo old.way new.way (tokens_to (cond (is_advance_op op) (suc tok.wave) tok.wave) (result_of_op op (tok.value ∷ 0 ∷ 0 ∷ [])) (destinations image tok.instr (selector_of op (tok.value ∷ 0 ∷ 0 ∷ []))))) →
-        (t : State) × Step image s (Match tok.wave tok.instr tok.port) t × Holds image world [] new t
+        (t : State) × Step image s (Match tok.wave tok.instr tok.port) t × Holds image world beside new t
     single_fires new one slots op op_is early chain stopped memory fired asked not_sent not_asked sent =
         let f : Ports = with_at tok.wave tok.instr tok.port (Some tok.value) (partial_of old.slots.slots.items old.slots.spill.items) in
         let e : with_at tok.wave tok.instr tok.port (Some tok.value) (partial_of old.slots.slots.items old.slots.spill.items) tok.wave tok.instr 0 ≡ Some tok.value = ap (λ (q : ℕ). with_at tok.wave tok.instr tok.port (Some tok.value) (partial_of old.slots.slots.items old.slots.spill.items) tok.wave tok.instr q) (sym (single_port one)) ∙ here in

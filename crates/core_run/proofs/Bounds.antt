@@ -12,10 +12,11 @@ use Rattle.core_run.specs.declared.flow.Flow.{Flow}
 use Rattle.core_run.specs.Stands.{HasRequest}
 use Rattle.core_run.specs.Partial.{listed}
 use Rattle.core_run.specs.Ways.{token_of}
-use Rattle.core_run.specs.Flows.{request_of, Going, no_asked, asked_at, MayAt}
+use Rattle.core_run.specs.Flows.{request_of, GoingBeside, no_asked, asked_at, MayAt}
 
-pub arrival_wave : (image : Image) (tok : Token) (flow : Flow) → Going image (token_of tok ∷ []) flow → tok.wave ≤ flow.fired
-arrival_wave image tok flow g =
+pub arrival_wave : (image : Image) (tok : Token) (flow : Flow) → GoingBeside image (token_of tok ∷ []) flow → tok.wave ≤ flow.fired
+arrival_wave image tok flow b =
+    let g = b.going in
     let st = g.holds.stands in
     let l : tok.wave ≤ length g.state.fired = way_wave image g.world (facts_of image g.world (ports_there image g.formed) g.sound) g.state st.fit st.grounded tok.wave tok.instr tok.port tok.value
     (st.way_from tok.wave tok.instr tok.port tok.value (inl (refl, refl, refl, refl))) in
@@ -28,8 +29,9 @@ has_asked image [] k l = absurd (omega arith)
 has_asked image (a ∷ held) zero l = inl (refl, refl, refl)
 has_asked image (a ∷ held) (suc k) l = inr (has_asked image held k (omega arith))
 
-pub issue_wave : (image : Image) (flow : Flow) (k : ℕ) → Going image [] flow → k < length flow.asked.items → MayAt image flow k → flow.chain.wave < flow.fired
-issue_wave image flow k g l may =
+pub issue_wave : (image : Image) (flow : Flow) (k : ℕ) → GoingBeside image [] flow → k < length flow.asked.items → MayAt image flow k → flow.chain.wave < flow.fired
+issue_wave image flow k b l may =
+    let g = b.going in
     let st = g.holds.stands in
     let a : Asked = asked_at flow k in
     let h : HasFired g.state.fired (asked_at flow k).wave (asked_at flow k).instr =

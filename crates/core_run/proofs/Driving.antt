@@ -21,7 +21,7 @@ use Rattle.core_run.specs.declared.flow.Flow.{Flow}
 use Rattle.core_run.specs.Partial.{partial_of, listed}
 use Rattle.core_run.specs.Ways.{token_of, way_of, TakenFrom}
 use Rattle.core_run.specs.Chains.{chain_of, next_flag, may_flag}
-use Rattle.core_run.specs.Flows.{request_of, Holds, Going, Leads, NoneMay, SameParts, Reaches, stays, steps, Follows, no_asked}
+use Rattle.core_run.specs.Flows.{request_of, Holds, Going, GoingBeside, Leads, NoneMay, SameParts, Reaches, stays, steps, Follows, no_asked}
 use Rattle.core_run.specs.declared.memory.Memory.{Memory}
 use Rattle.core_run.specs.Outdoors.{OutIs, SameOut}
 use Rattle.core_run.specs.Finishes.{IsSpent, FinishIs, Ended, is_budget, stopped_at}
@@ -115,8 +115,8 @@ flagged image issued c stopped a m = and_from _ _ (eq-eqb a.wave c.wave m.curren
   | inr l ↦ or_right (next_flag c (note_of image a.instr)) _ (and_from _ _ (and_from _ _ (sym (load_is_op image a.instr) ∙ l.0) (false_not _ (sym (past_is image a) ∙ l.1))) (le-leb _ _ l.2))
 ])
 
-pub none_issuable : (image : Image) (world : World) (flow : Flow) (s : State) → Holds image world [] flow s → NoneMay image flow → (w i : ℕ) (xs : List ℕ) → HasRequest (map (request_of image) flow.asked.items) w i xs → Issuable image s.issued s.chain s.stopped w i xs → ⊥
-none_issuable image world flow s h none w i xs has may =
+pub none_issuable : (image : Image) (world : World) (taken : List plain.Token) (flow : Flow) (s : State) → Holds image world taken flow s → NoneMay image flow → (w i : ℕ) (xs : List ℕ) → HasRequest (map (request_of image) flow.asked.items) w i xs → Issuable image s.issued s.chain s.stopped w i xs → ⊥
+none_issuable image world taken flow s h none w i xs has may =
     let r = has_at image flow.asked.items w i xs has in
     let a : Asked = slice_index_or flow.asked.items r.0 no_asked in
     let m1 : Issuable image s.issued (chain_of flow.chain) s.stopped w i xs = subst (λ (c : law.Chain). Issuable image s.issued c s.stopped w i xs) h.chain_is may in
@@ -126,16 +126,20 @@ none_issuable image world flow s h none w i xs has may =
 pub rests : (image : Image) (world : World) (flow : Flow) (s : State) → Formed image → Sound image → Holds image world [] flow s → way_of flow.way ≡ [] → NoneMay image flow → Rest image s
 rests image world flow s formed sound h empty none = at_rest image world (facts_of image world (ports_there image formed) sound) s (partial_of flow.slots.slots.items flow.slots.spill.items) (map (request_of image) flow.asked.items) flow.early.items
     (subst (λ (ws : List plain.Token). Stands image world (partial_of flow.slots.slots.items flow.slots.spill.items) ws (map (request_of image) flow.asked.items) flow.early.items s) empty h.stands)
-    (none_issuable image world flow s h none)
+    (none_issuable image world [] flow s h none)
 
-pub none_enabled : (image : Image) (world : World) (flow : Flow) (s : State) → Holds image world [] flow s → NoneMay image flow → (w i : ℕ) → Enabled image s (Issue w i) → ⊥
-none_enabled image world flow s h none w i e = none_issuable image world flow s h none w i e.0 (h.stands.asked_to w i e.0 e.1.waits) e.1.issuable
+pub none_enabled : (image : Image) (world : World) (taken : List plain.Token) (flow : Flow) (s : State) → Holds image world taken flow s → NoneMay image flow → (w i : ℕ) → Enabled image s (Issue w i) → ⊥
+none_enabled image world taken flow s h none w i e = none_issuable image world taken flow s h none w i e.0 (h.stands.asked_to w i e.0 e.1.waits) e.1.issuable
 
 -- an event leads on
 pub leads_on : (image : Image) (event : Event) (a b c : Flow) → SameParts a b → Leads image event [] b c → Follows image a c
 leads_on image event a b c e f world s formed sound h =
-    let r = f world s formed sound (same_holds image world [] a b s e h) in
+    let r = f [] world s formed sound (same_holds image world [] a b s e h) in
     (r.0, steps event r.1 stays, r.2)
+
+-- nothing lies elsewhere
+pub alone : (image : Image) (taken : List plain.Token) (flow : Flow) → Going image (taken ++ []) flow → GoingBeside image taken flow
+alone image taken flow g = record { beside = []; going = g }
 
 pub same_going : (image : Image) (a b : Flow) → SameParts a b → Going image [] a → Going image [] b
 same_going image a b e g = record { world = g.world; state = g.state; formed = g.formed; sound = g.sound; holds = same_holds image g.world [] a b g.state e g.holds }
@@ -144,7 +148,7 @@ same_going image a b e g = record { world = g.world; state = g.state; formed = g
 pub takes_on : (image : Image) (a b mid c : Flow) (tok : Token) → SameParts a b → TakenFrom b.way mid.way tok → mid.slots ≡ b.slots → mid.asked ≡ b.asked → mid.early ≡ b.early → mid.chain ≡ b.chain → mid.fault ≡ b.fault → mid.memory ≡ b.memory → mid.fired ≡ b.fired →
     Leads image (Match tok.wave tok.instr tok.port) (token_of tok ∷ []) mid c → Follows image a c
 takes_on image a b mid c tok e t p1 p2 p3 p4 p5 p6 p7 f world s formed sound h =
-    let r = f world s formed sound (taken_holds image world b mid tok s t p1 p2 p3 p4 p5 p6 p7 (same_holds image world [] a b s e h)) in
+    let r = f [] world s formed sound (taken_holds image world b mid tok s t p1 p2 p3 p4 p5 p6 p7 (same_holds image world [] a b s e h)) in
     (r.0, steps (Match tok.wave tok.instr tok.port) r.1 stays, r.2)
 
 pub taken_going : (image : Image) (a b mid : Flow) (tok : Token) → SameParts a b → TakenFrom b.way mid.way tok → mid.slots ≡ b.slots → mid.asked ≡ b.asked → mid.early ≡ b.early → mid.chain ≡ b.chain → mid.fault ≡ b.fault → mid.memory ≡ b.memory → mid.fired ≡ b.fired →
@@ -189,7 +193,7 @@ spent image world flow s budget h going fired some none =
       port = t.port;
       value = t.value;
       on_way = h.stands.way_from t.wave t.instr t.port t.value t.is;
-      settled = none_enabled image world flow s h none;
+      settled = none_enabled image world [] flow s h none;
     }
 
 -- where no more instances may fire, and no request may be issued

@@ -36,7 +36,7 @@ use Rattle.core_run.specs.Chains.{chain_of, next_flag, may_flag, PassedOn}
 use Rattle.core_run.specs.Outdoors.{OutIs, Answers}
 use Rattle.core_run.specs.Flows.{request_of, all_of, Holds}
 use Rattle.core_run.proofs.Nexts.{next_is, either}
-use Rattle.core_run.proofs.Arriving.{same_selector, sends_are, memory_is_op, ports_is_op, sent_on}
+use Rattle.core_run.proofs.Arriving.{same_selector, sends_are, memory_is_op, ports_is_op, sent_beside}
 
 -- the operands beyond an operation's ports don't matter
 pub same_answer : (op : Op) (o : Operands) (m : Outside) → answer_op op (listed (ports_of op) o) m ≡ answer_op op (all_of o) m
@@ -182,7 +182,7 @@ taken_out image (x ∷ y ∷ ys) (suc k) a l e =
     (both_cons (request_of image x) (map (request_of image) (y ∷ ys)) (request_of image a ∷ left) (taken_out image (y ∷ ys) k a (omega arith) e))
     (both_picked (request_of image x ∷ []) left (request_of image a)))
 
-module _ (image : Image) (world : World) (formed : Formed image) (sound : Sound image) (old : Flow) (s : State) (h : Holds image world [] old s) (k : ℕ) (a : Asked) (l : k < length old.asked.items) (a_is : a ≡ slice_index_or old.asked.items k a)
+module _ (image : Image) (world : World) (formed : Formed image) (sound : Sound image) (beside : List plain.Token) (old : Flow) (s : State) (h : Holds image world beside old s) (k : ℕ) (a : Asked) (l : k < length old.asked.items) (a_is : a ≡ slice_index_or old.asked.items k a)
     (running : is_some old.fault ≡ false) (flag : may_flag image (chain_of old.chain) a.wave a.instr a.operands.first ≡ true) where
   facts : WalkFacts image world
   facts = facts_of image world (ports_there image formed) sound
@@ -200,10 +200,10 @@ module _ (image : Image) (world : World) (formed : Formed image) (sound : Sound 
   mixed = taken_out image old.asked.items k a l a_is
 
   abbrev Picked : Type 0
-  Picked = Stands image world partial (way_of old.way) (request_of image a ∷ rest) old.early.items s
+  Picked = Stands image world partial (beside ++ way_of old.way) (request_of image a ∷ rest) old.early.items s
 
   st : Picked
-  st = stands_asked image world partial (way_of old.way) (map (request_of image) old.asked.items) (request_of image a ∷ rest) old.early.items s mixed.0 h.stands
+  st = stands_asked image world partial (beside ++ way_of old.way) (map (request_of image) old.asked.items) (request_of image a ∷ rest) old.early.items s mixed.0 h.stands
 
   op_is : is_load image a.instr ≡ is_load_op (instr_at image a.instr).op
   unfolding is_load
@@ -235,19 +235,19 @@ module _ (image : Image) (world : World) (formed : Formed image) (sound : Sound 
   may = record {
     going = h.stopped_is ∙ running;
     current = eqb-true a.wave old.chain.wave flags.0 ∙ ap (λ (c : law.Chain). c.wave) same_chain;
-    fresh = I.fresh image world facts s partial (way_of old.way) a.wave a.instr xs rest old.early.items st;
+    fresh = I.fresh image world facts s partial (beside ++ way_of old.way) a.wave a.instr xs rest old.early.items st;
     turn = turn;
   }
 
   -- past the end the chain stops
   pub issue_stops : (op : Op) → op ≡ (instr_at image a.instr).op → is_past_op image.arrays op (a.operands.first ∷ []) ≡ true → (array : ℕ) → array ≡ array_of_op op → (new : Flow) → new.slots ≡ old.slots → new.way ≡ old.way → new.asked ≡ old.asked → new.early ≡ old.early → new.chain ≡ old.chain → new.fault ≡ Some array →
-      new.memory ≡ old.memory → new.fired ≡ old.fired → (t : State) × Step image s (Issue a.wave a.instr) t × Holds image world [] new t
+      new.memory ≡ old.memory → new.fired ≡ old.fired → (t : State) × Step image s (Issue a.wave a.instr) t × Holds image world beside new t
   issue_stops op op_is past array array_is new slots way asked early chain stopped memory fired =
       let p : is_past image a.instr xs ≡ true = past_is_op ∙ ap (λ (o : Op). is_past_op image.arrays o (a.operands.first ∷ [])) (sym op_is) ∙ past in
-      let meet : Meets image world a.wave a.instr = stop_fault image world facts s h.stands.fit a.wave a.instr xs (I.waits image world facts s partial (way_of old.way) a.wave a.instr xs rest old.early.items st) may p in
-      let m = stops_at image world facts s partial (way_of old.way) a.wave a.instr xs rest old.early.items st may p in
-      let e : Stands image world partial (way_of old.way) (map (request_of image) old.asked.items) old.early.items m.new =
-      stands_asked image world partial (way_of old.way) (request_of image a ∷ rest) (map (request_of image) old.asked.items) old.early.items m.new mixed.1 m.stands in (
+      let meet : Meets image world a.wave a.instr = stop_fault image world facts s h.stands.fit a.wave a.instr xs (I.waits image world facts s partial (beside ++ way_of old.way) a.wave a.instr xs rest old.early.items st) may p in
+      let m = stops_at image world facts s partial (beside ++ way_of old.way) a.wave a.instr xs rest old.early.items st may p in
+      let e : Stands image world partial (beside ++ way_of old.way) (map (request_of image) old.asked.items) old.early.items m.new =
+      stands_asked image world partial (beside ++ way_of old.way) (request_of image a ∷ rest) (map (request_of image) old.asked.items) old.early.items m.new mixed.1 m.stands in (
         m.new,
         m.step,
         record {
@@ -265,7 +265,7 @@ module _ (image : Image) (world : World) (formed : Formed image) (sound : Sound 
       )
 
   memory_op : is_memory image a.instr ≡ true
-  memory_op = (h.stands.fit.request_right a.wave a.instr xs (I.waits image world facts s partial (way_of old.way) a.wave a.instr xs rest old.early.items st)).memory
+  memory_op = (h.stands.fit.request_right a.wave a.instr xs (I.waits image world facts s partial (beside ++ way_of old.way) a.wave a.instr xs rest old.early.items st)).memory
 
   -- else it takes its effect
   module _ (op : Op) (op_is' : op ≡ (instr_at image a.instr).op) (within : is_past_op image.arrays op (a.operands.first ∷ []) ≡ false) (word : ℕ) (new : Flow)
@@ -303,12 +303,12 @@ module _ (image : Image) (world : World) (formed : Formed image) (sound : Sound 
     rest_is : rest ≡ map (request_of image) new.asked.items
     rest_is = ap (map (request_of image)) (sym asked)
 
-    finish : (left : List ℕ) → Moves image world s (Issue a.wave a.instr) partial (way_of old.way ++ sends image a.wave a.instr xs (answer image a.instr xs s.memory)) rest left (chain_of new.chain) s.stopped (effect_after image a.instr xs s.memory) (length s.fired) →
-        ((j : ℕ) → In j left → In j new.early.items) → ((j : ℕ) → In j new.early.items → In j left) → (t : State) × Step image s (Issue a.wave a.instr) t × Holds image world [] new t
+    finish : (left : List ℕ) → Moves image world s (Issue a.wave a.instr) partial ((beside ++ way_of old.way) ++ sends image a.wave a.instr xs (answer image a.instr xs s.memory)) rest left (chain_of new.chain) s.stopped (effect_after image a.instr xs s.memory) (length s.fired) →
+        ((j : ℕ) → In j left → In j new.early.items) → ((j : ℕ) → In j new.early.items → In j left) → (t : State) × Step image s (Issue a.wave a.instr) t × Holds image world beside new t
     finish left m to from =
-        let e1 : Stands image world partial (way_of new.way) rest left m.new = sent_on image world partial old.way new.way (sends image a.wave a.instr xs (answer image a.instr xs s.memory)) rest left m.new (subst (SentTo old.way new.way) sent_is sent) m.stands in
-        let e2 : Stands image world partial (way_of new.way) (map (request_of image) new.asked.items) left m.new = subst (λ (rs : List Request). Stands image world partial (way_of new.way) rs left m.new) rest_is e1 in
-        let e3 : Stands image world partial (way_of new.way) (map (request_of image) new.asked.items) new.early.items m.new = stands_early image world partial (way_of new.way) (map (request_of image) new.asked.items) left new.early.items m.new to from e2 in (
+        let e1 : Stands image world partial (beside ++ way_of new.way) rest left m.new = sent_beside image world partial beside old.way new.way (sends image a.wave a.instr xs (answer image a.instr xs s.memory)) rest left m.new (subst (SentTo old.way new.way) sent_is sent) m.stands in
+        let e2 : Stands image world partial (beside ++ way_of new.way) (map (request_of image) new.asked.items) left m.new = subst (λ (rs : List Request). Stands image world partial (beside ++ way_of new.way) rs left m.new) rest_is e1 in
+        let e3 : Stands image world partial (beside ++ way_of new.way) (map (request_of image) new.asked.items) new.early.items m.new = stands_early image world partial (beside ++ way_of new.way) (map (request_of image) new.asked.items) left new.early.items m.new to from e2 in (
           m.new,
           m.step,
           record {
@@ -324,16 +324,16 @@ module _ (image : Image) (world : World) (formed : Formed image) (sound : Sound 
     by_load : (IsNext s.chain (note_of image a.instr) → ⊥) → is_load image a.instr ≡ true
     by_load n = elim turn [ inl e ↦ absurd (n e) | inr e ↦ e.0 ]
 
-    pub issue_goes : (t : State) × Step image s (Issue a.wave a.instr) t × Holds image world [] new t
+    pub issue_goes : (t : State) × Step image s (Issue a.wave a.instr) t × Holds image world beside new t
     issue_goes = elim passed [
       | inl p ↦ (let nx : IsNext s.chain (note_of image a.instr) = subst (λ (c : law.Chain). IsNext c (note_of image a.instr)) same_chain p.0 in
           let se : Settles image (law.pass s.chain (note_of image a.instr)) (left_after (note_of image a.instr) old.early.items) (chain_of new.chain) new.early.items =
           subst (λ (c : law.Chain). Settles image (law.pass c (note_of image a.instr)) (left_after (note_of image a.instr) old.early.items) (chain_of new.chain) new.early.items) same_chain p.1 in
-          finish new.early.items (goes_next image world facts s partial (way_of old.way) a.wave a.instr xs rest old.early.items st may inside nx (chain_of new.chain) new.early.items se) (λ j g. g) (λ j g. g))
+          finish new.early.items (goes_next image world facts s partial (beside ++ way_of old.way) a.wave a.instr xs rest old.early.items st may inside nx (chain_of new.chain) new.early.items se) (λ j g. g) (λ j g. g))
       | inr p ↦ (let n : IsNext s.chain (note_of image a.instr) → ⊥ = λ e. p.0 (subst (λ (c : law.Chain). IsNext c (note_of image a.instr)) (sym same_chain) e) in
-          let m = goes_early image world facts s partial (way_of old.way) a.wave a.instr xs rest old.early.items st may inside n (by_load n) in
+          let m = goes_early image world facts s partial (beside ++ way_of old.way) a.wave a.instr xs rest old.early.items st may inside n (by_load n) in
           let c : s.chain ≡ chain_of new.chain = h.chain_is ∙ sym p.1 in
           finish (a.instr ∷ old.early.items)
-          (subst (λ (d : law.Chain). Moves image world s (Issue a.wave a.instr) partial (way_of old.way ++ sends image a.wave a.instr xs (answer image a.instr xs s.memory)) rest (a.instr ∷ old.early.items) d s.stopped (effect_after image a.instr xs s.memory) (length s.fired)) c m)
+          (subst (λ (d : law.Chain). Moves image world s (Issue a.wave a.instr) partial ((beside ++ way_of old.way) ++ sends image a.wave a.instr xs (answer image a.instr xs s.memory)) rest (a.instr ∷ old.early.items) d s.stopped (effect_after image a.instr xs s.memory) (length s.fired)) c m)
           (λ j g. subst (In j) (sym p.2) (in_end a.instr j old.early.items g)) (λ j g. end_in a.instr j old.early.items (subst (In j) p.2 g)))
     ]

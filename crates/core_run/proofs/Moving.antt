@@ -69,7 +69,7 @@ apart_right : (xs ys : List Token) → Apart (xs ++ ys) → Apart ys
 apart_right [] ys a = a
 apart_right (x ∷ xs) ys a = apart_right xs ys a.1
 
-apart_cross : (xs ys : List Token) → Apart (xs ++ ys) → (w i p a b : ℕ) → IsSent xs w i p a → IsSent ys w i p b → ⊥
+pub apart_cross : (xs ys : List Token) → Apart (xs ++ ys) → (w i p a b : ℕ) → IsSent xs w i p a → IsSent ys w i p b → ⊥
 apart_cross [] ys a w i p c d h k = h
 apart_cross (x ∷ xs) ys a w i p c d (inl h) k = a.0 d (is_sent_append_right xs ys x.wave x.instr x.port d
     (subst (λ (n : ℕ). IsSent ys x.wave x.instr n d) (sym h.2) (subst (λ (n : ℕ). IsSent ys x.wave n p d) (sym h.1) (subst (λ (n : ℕ). IsSent ys n i p d) (sym h.0) k))))

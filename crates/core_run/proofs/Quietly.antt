@@ -114,8 +114,8 @@ value_is a b o e f = let g : Some a ≡ Some b = sym e ∙ f in cc
 longer : (k : Key) (ks : List Key) → k ∷ ks ≡ ks → ⊥
 longer k ks e = let l : length (k ∷ ks) ≡ length ks = ap length e in omega arith
 
-module _ (image : Image) (world : World) (formed : Formed image) (sound : Sound image) (flow : Flow) (s : State) (h : Holds image world [] flow s) (w i p v : ℕ) (on_way : s.way w i p ≡ Some v) where
-  full_is : is_full (arrived s w i p v).held w i (ports image i) ≡ fills image flow.slots (record { wave = w; instr = i; port = p; value = v })
+module _ (image : Image) (world : World) (formed : Formed image) (sound : Sound image) (taken : List plain.Token) (flow : Flow) (s : State) (h : Holds image world taken flow s) (w i p v : ℕ) (on_way : s.way w i p ≡ Some v) where
+  pub full_is : is_full (arrived s w i p v).held w i (ports image i) ≡ fills image flow.slots (record { wave = w; instr = i; port = p; value = v })
   full_is = full_agree (arrived s w i p v).held (with_at w i p (Some v) (partial_of flow.slots.slots.items flow.slots.spill.items)) w i (ports image i)
       (λ q. ap (λ (o : Option ℕ). cond (same_place w i p w i q) (Some v) o) (h.stands.held w i q (way_unfired image world (facts_of image world (ports_there image formed) sound) s h.stands.fit w i p v on_way)))
 
@@ -151,15 +151,15 @@ match_quietly core w i p v sent e image world s at =
     let h = holds_here image world core s at in
     let on_way = h.stands.way_from w i p v sent in (
       (v, on_way),
-      subst (λ (im : Image). IsQuiet im s (Match w i p)) at.image_is (match_quiet (image_of core.program) world (subst Formed (sym at.image_is) at.formed) (subst Sound (sym at.image_is) at.sound) core.flow s h w i p v on_way e),
+      subst (λ (im : Image). IsQuiet im s (Match w i p)) at.image_is (match_quiet (image_of core.program) world (subst Formed (sym at.image_is) at.formed) (subst Sound (sym at.image_is) at.sound) [] core.flow s h w i p v on_way e),
     )
 
 pub only_fires : (core : Core) → AllFill (image_of core.program) core.flow.slots (way_of core.flow.way) → (is_some core.flow.fault ≡ true) ⊎ NoneMay (image_of core.program) core.flow → OnlyFires core
 only_fires core all none image world s at (Match w i p) on quiet =
     let h = holds_here image world core s at in
-    match_fires (image_of core.program) world (subst Formed (sym at.image_is) at.formed) (subst Sound (sym at.image_is) at.sound) core.flow s h w i p on.0 on.1
+    match_fires (image_of core.program) world (subst Formed (sym at.image_is) at.formed) (subst Sound (sym at.image_is) at.sound) [] core.flow s h w i p on.0 on.1
     (fills_sent (image_of core.program) core.flow.slots (way_of core.flow.way) w i p on.0 all (h.stands.way_to w i p on.0 on.1))
     (subst (λ (im : Image). IsQuiet im s (Match w i p)) (sym at.image_is) quiet)
 only_fires core all (inl f) image world s at (Issue w i) on quiet = both_ways _ on.1.issuable.going (at.holds.stopped_is ∙ f)
 only_fires core all (inr none) image world s at (Issue w i) on quiet =
-    none_enabled (image_of core.program) world core.flow s (holds_here image world core s at) none w i (subst (λ (im : Image). Enabled im s (Issue w i)) (sym at.image_is) on)
+    none_enabled (image_of core.program) world [] core.flow s (holds_here image world core s at) none w i (subst (λ (im : Image). Enabled im s (Issue w i)) (sym at.image_is) on)

@@ -1,7 +1,8 @@
 -- What the end of a run says of the walk.
-use Rattle.std.proofs.Common.{ℕ, ◌+◌, ◌≡◌, ◌<◌, ◌≤◌, ◌⊎◌, true, false, [], length, inl, inr, refl, sym, ◌∙◌, subst, arith}
+use Rattle.std.proofs.Common.{ℕ, ◌+◌, ◌≡◌, ◌<◌, ◌≤◌, ◌⊎◌, true, false, List, [], length, inl, inr, refl, sym, ◌∙◌, subst, arith}
 use Rattle.std.proofs.lemmas.Bool.{both_ways}
 use Rattle.ws_words.specs.Outside.{Outside, World}
+use Rattle.ws_isa.specs.Image as plain
 use Rattle.ws_isa.specs.Image.{Image}
 use Rattle.ws_isa.specs.Formed.{Formed}
 use Rattle.image_walk.specs.Walk.{Inst, mem, walk, CostAtMost}
@@ -10,7 +11,7 @@ use Rattle.image_walk.specs.Sound.{Sound}
 use Rattle.core_law.specs.Effect.{effect_at}
 use Rattle.core_law.specs.Core.{State, HasFired, core_opening}
 use Rattle.core_law.specs.Fit.{FiresAt, RightToken, NoOp}
-use Rattle.core_law.specs.Ends.{Whole, AtFault}
+use Rattle.core_law.specs.Ends.{Whole, AtFault, AfterFired}
 use Rattle.core_law.proofs.Facts.{WalkFacts}
 use Rattle.core_law.proofs.FromSound.{facts_of}
 use Rattle.core_law.proofs.PortsThere.{ports_there}
@@ -25,11 +26,11 @@ use Rattle.core_run.specs.declared.drive.Finish.TheVariants as finish
 use Rattle.core_run.specs.declared.flow.Flow.{Flow}
 use Rattle.core_run.specs.Outdoors.{OutIs}
 use Rattle.core_run.specs.Flows.{IsFault, Holds}
-use Rattle.core_run.specs.Finishes.{FinishIs, IsSpent, Ended}
+use Rattle.core_run.specs.Finishes.{FinishIs, IsSpent, Ended, is_budget}
 use Rattle.core_run.specs.Told.{done_of, run_of}
 use Rattle.core_run.specs.Answer.{Tells, Rested, Cut, Faulted, RunSo}
 use Rattle.core_run.proofs.Issuing.{printed_alike, ports_alike}
-use Rattle.core_run.proofs.Firings.{StepsOf, steps_of, none_fires}
+use Rattle.core_run.proofs.Firings.{none_fires}
 
 no_fault_at : (image : Image) (world : World) → NoFault image world → (t : ℕ) → FaultsAt image world t → ⊥
 no_fault_at image world none t f = both_ways _ (none t f.inst f.fired) f.is_past
@@ -46,7 +47,7 @@ tells o flow h = record {
   took = sym h.same_took ∙ ports_alike o.acts;
 }
 
-module _ (image : Image) (world : World) (facts : WalkFacts image world) (budget : ℕ) (flow : Flow) (s : State) (k : Kept image world s) (h : Holds image world [] flow s) where
+module _ (image : Image) (world : World) (facts : WalkFacts image world) (budget : ℕ) (taken : List plain.Token) (flow : Flow) (s : State) (k : Kept image world s) (h : Holds image world taken flow s) where
   tells_at : (t : ℕ) → effect_at image world t ≡ s.memory → Tells (mem image world t) (done_of flow)
   tells_at t e = tells (mem image world t) flow (subst (λ (o : Outside). OutIs o flow.memory) (sym e ∙ effect_is image world t) h.memory_is)
 
@@ -78,16 +79,16 @@ module _ (image : Image) (world : World) (facts : WalkFacts image world) (budget
   cut : IsSpent image budget s → Cut image world budget (done_of flow)
   cut p =
       let after = after_fired image world facts s k.fit p.going k.grounded p.settled in
-      let of : StepsOf image world s.fired = steps_of image world facts s.fired k.once fired_at in
       record {
         dear = λ cost. (let r = way_count image world facts s k.fit k.once p.wave p.instr p.port p.value p.on_way in let l : length s.fired < length (walk image world r.0) = r.1 in let c : length (walk image world r.0) ≤ budget = cost r.0 in omega (arith, p.count));
         fired = sym h.count_is ∙ p.count;
-        steps = of.steps;
-        firing = of.firing;
-        count = of.count ∙ p.count;
+        state = s;
+        fit = k.fit;
+        grounded = k.grounded;
+        once = k.once;
+        count = p.count;
         passed = _;
-        first = λ t x fx mx l. of.has x.wave x.instr t x (after.fired t x fx mx l) (record { fires = fx; wave = refl; instr = refl });
-        most = λ t f. after.most t (λ u x fx mx l. of.only u x (f u x fx mx l) fx);
+        after = after;
         front = after.memory.steps;
         front_has = after.memory.count;
         within = after.within after.memory.steps (let e : length (ops image world after.memory.steps) ≡ _ = after.memory.count in omega arith);
@@ -109,7 +110,7 @@ module _ (image : Image) (world : World) (facts : WalkFacts image world) (budget
         left = tells_at f.time (effect_is image world f.time ∙ same_effect image world facts (length (ops image world f.time)) (effect_of (mem image world f.time)) s.memory here left);
       }
 
-  says : (finish : Finish) → flow.fired ≤ budget → FinishIs image world budget finish s → RunSo image world budget (run_of finish flow)
+  pub says : (finish : Finish) → flow.fired ≤ budget → FinishIs image world budget finish s → RunSo image world budget (run_of finish flow)
   says finish.Rest le f =
       let w = rested le (going_rest image world s f.1 (rest_ends image world facts s k.fit f.0)) in
       record {
@@ -135,4 +136,10 @@ answers image world budget finish old new s formed sound h le f =
     let r = f world s formed sound h in
     let held : Holds image world [] new r.0 = r.2 in
     let k : Kept image world r.0 = record { fit = held.stands.fit; grounded = held.stands.grounded; once = held.stands.once } in
-    says image world (facts_of image world (ports_there image formed) sound) budget new r.0 k held finish le r.3
+    says image world (facts_of image world (ports_there image formed) sound) budget [] new r.0 k held finish le r.3
+
+-- where the budget is spent: the operations that the chain has passed are the most that have fired
+pub spends : (image : Image) (world : World) (budget : ℕ) (finish : Finish) (s : State) → Formed image → Sound image → Kept image world s → FinishIs image world budget finish s → is_budget finish ≡ true → (p : ℕ) × AfterFired image world s p
+spends image world budget finish.Rest s formed sound k f e = absurd (both_ways false refl e)
+spends image world budget finish.Budget s formed sound k f e = (_, after_fired image world (facts_of image world (ports_there image formed) sound) s k.fit f.going k.grounded f.settled)
+spends image world budget (finish.Fault array) s formed sound k f e = absurd (both_ways false refl e)

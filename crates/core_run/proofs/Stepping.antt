@@ -8,7 +8,7 @@ use Rattle.ws_isa.specs.Formed.{Formed}
 use Rattle.image_walk.specs.Walk.{Ports}
 use Rattle.image_walk.specs.Sound.{Sound}
 use Rattle.core_law.specs.Core as law
-use Rattle.core_law.specs.Core.{State, Match, Issue, MatchStep, Issuable, Ready, Enabled, IsSent}
+use Rattle.core_law.specs.Core.{State, Match, Issue, Step, MatchStep, Issuable, Ready, Enabled, IsSent}
 use Rattle.core_run.specs.declared.token.Token.{Token}
 use Rattle.core_run.specs.declared.token.Asked.{Asked}
 use Rattle.core_run.specs.declared.way.Way.{Way}
@@ -19,11 +19,11 @@ use Rattle.core_run.specs.Partial.{partial_of, listed}
 use Rattle.core_run.specs.Places.{image_of}
 use Rattle.core_run.specs.Chains.{chain_of, may_flag}
 use Rattle.core_run.specs.Ways.{token_of, way_of, NoneAt, TakenAt}
-use Rattle.core_run.specs.Flows.{request_of, Holds, Going, Leads, SameParts, NotReady, NoneMay, no_asked}
+use Rattle.core_run.specs.Flows.{request_of, Holds, Going, GoingBeside, Leads, SameParts, NotReady, NoneMay, no_asked}
 use Rattle.core_run.specs.Cores.{IsAt, Runs, Makes, NotEnabled, IsEnabled, IsAtRest}
 use Rattle.core_run.proofs.Moving.{Reordered, stands_reordered, to_front}
 use Rattle.core_run.proofs.Found.{append_on}
-use Rattle.core_run.proofs.Driving.{same_holds, has_at, flagged, none_enabled}
+use Rattle.core_run.proofs.Driving.{same_holds, has_at, flagged, none_enabled, alone}
 use Rattle.core_run.proofs.Bounds.{has_asked}
 use Rattle.core_run.proofs.Issuing as I
 use Rattle.core_run.proofs.Issuing.{or_any}
@@ -68,7 +68,7 @@ module _ (core : Core) (prepared mid : Flow) (w i p : ℕ) (tok : Token) (same :
 
   pub makes_match : (new : Core) → new.program ≡ core.program → Leads (image_of core.program) (Match tok.wave tok.instr tok.port) (token_of tok ∷ []) mid new.flow → Makes (Match w i p) core new
   makes_match new program leads image world s at =
-      let r = leads world s (subst Formed (sym at.image_is) at.formed) (subst Sound (sym at.image_is) at.sound) (holds_mid image world s at) in
+      let r = leads [] world s (subst Formed (sym at.image_is) at.formed) (subst Sound (sym at.image_is) at.sound) (holds_mid image world s at) in
       let st : MatchStep (image_of core.program) s w i p r.0 = subst (λ (q : ℕ). MatchStep (image_of core.program) s w i q r.0) taken.port (subst (λ (j : ℕ). MatchStep (image_of core.program) s w j tok.port r.0) taken.instr (subst (λ (v : ℕ). MatchStep (image_of core.program) s v tok.instr tok.port r.0) taken.wave r.1)) in (
         r.0,
         subst (λ (im : Image). MatchStep im s w i p r.0) at.image_is st,
@@ -101,9 +101,38 @@ may_enabled core k a l is running flag image world s at =
       listed (ports (image_of core.program) a.instr) a.operands,
       record {
         waits = holds.stands.asked_from a.wave a.instr (listed (ports (image_of core.program) a.instr) a.operands) has;
-        issuable = I.may (image_of core.program) world (subst Formed (sym at.image_is) at.formed) (subst Sound (sym at.image_is) at.sound) core.flow s holds k a l is running flag;
+        issuable = I.may (image_of core.program) world (subst Formed (sym at.image_is) at.formed) (subst Sound (sym at.image_is) at.sound) [] core.flow s holds k a l is running flag;
       },
     )
+
+-- room was made, and a request is issued
+module _ (core : Core) (prepared : Flow) (same : SameParts core.flow prepared) where
+  holds_prepared : (image : Image) (world : World) (s : State) → IsAt image world core s → Holds (image_of core.program) world [] prepared s
+  holds_prepared image world s at = same_holds (image_of core.program) world [] core.flow prepared s same (subst (λ (im : Image). Holds im world [] core.flow s) (sym at.image_is) at.holds)
+
+  pub going_prepared : Runs core → GoingBeside (image_of core.program) [] prepared
+  going_prepared r = alone (image_of core.program) [] prepared (record {
+    world = r.world;
+    state = r.state;
+    formed = subst Formed (sym r.at.image_is) r.at.formed;
+    sound = subst Sound (sym r.at.image_is) r.at.sound;
+    holds = holds_prepared r.image r.world r.state r.at;
+  })
+
+  pub makes_issue : (new : Core) (a : Asked) (w i : ℕ) → new.program ≡ core.program → a.wave ≡ w → a.instr ≡ i → Leads (image_of core.program) (Issue a.wave a.instr) [] prepared new.flow → Makes (Issue w i) core new
+  makes_issue new a w i program aw ai leads image world s at =
+      let r = leads [] world s (subst Formed (sym at.image_is) at.formed) (subst Sound (sym at.image_is) at.sound) (holds_prepared image world s at) in
+      let st : Step (image_of core.program) s (Issue w i) r.0 = subst (λ (j : ℕ). Step (image_of core.program) s (Issue w j) r.0) ai (subst (λ (v : ℕ). Step (image_of core.program) s (Issue v a.instr) r.0) aw r.1) in (
+        r.0,
+        subst (λ (im : Image). Step im s (Issue w i) r.0) at.image_is st,
+        record {
+          program = rw program at.program;
+          image_is = ap image_of program ∙ at.image_is;
+          formed = at.formed;
+          sound = at.sound;
+          holds = subst (λ (im : Image). Holds im world [] new.flow r.0) at.image_is r.2;
+        },
+      )
 
 pub token_enabled : (core : Core) (tok : Token) → IsSent (way_of core.flow.way) tok.wave tok.instr tok.port tok.value → IsEnabled (Match tok.wave tok.instr tok.port) core
 token_enabled core tok h image world s at = (tok.value, at.holds.stands.way_from tok.wave tok.instr tok.port tok.value h)
@@ -112,4 +141,4 @@ pub core_rests : (core : Core) → way_of core.flow.way ≡ [] → (is_some core
 core_rests core empty none image world s at (Match w i p) e = subst (λ (ts : List plain.Token). IsSent ts w i p e.0) empty (at.holds.stands.way_to w i p e.0 e.1)
 core_rests core empty (inl f) image world s at (Issue w i) e = both_ways _ e.1.issuable.going (at.holds.stopped_is ∙ f)
 core_rests core empty (inr none) image world s at (Issue w i) e =
-    none_enabled (image_of core.program) world core.flow s (subst (λ (im : Image). Holds im world [] core.flow s) (sym at.image_is) at.holds) none w i (subst (λ (im : Image). Enabled im s (Issue w i)) (sym at.image_is) e)
+    none_enabled (image_of core.program) world [] core.flow s (subst (λ (im : Image). Holds im world [] core.flow s) (sym at.image_is) at.holds) none w i (subst (λ (im : Image). Enabled im s (Issue w i)) (sym at.image_is) e)

@@ -5,7 +5,9 @@ use Rattle.ws_words.specs.Plain.{took_by_ports}
 use Rattle.ws_isa.specs.Image.{Image, In, is_memory, array_at}
 use Rattle.image_walk.specs.Walk.{Inst, fires, mem, walk, CostAtMost}
 use Rattle.image_walk.specs.Operations.{ops, FaultsAt, NoFault}
-use Rattle.core_law.specs.Ends.{FirstWithin}
+use Rattle.core_law.specs.Core.{State, Once}
+use Rattle.core_law.specs.Fit.{Fit, Grounded}
+use Rattle.core_law.specs.Ends.{FirstWithin, AfterFired}
 use Rattle.core_run.specs.declared.answer.Done.{Done}
 use Rattle.core_run.specs.declared.answer.Run.{Run}
 use Rattle.core_run.specs.declared.answer.Run.TheVariants.{Rest, Budget, Fault}
@@ -37,19 +39,19 @@ abbrev pub FirstAmong : Image → World → List ℕ → ℕ → Type 0
 FirstAmong image world steps p = (t : ℕ) (x : Inst) → fires image world t ≡ Some x →
     is_memory image x.instr ≡ true → length (ops image world t) < p → In t steps
 
--- the walk has more instances than the budget, and exactly so many have fired, at these steps of
--- the walk; of the numbers p for which its first p operations are among them `passed` is the
--- largest, and none of those is past the end; what is told is what the walk leaves with them
+-- The walk has more instances than the budget, and exactly so many have fired, in a state that the core's
+-- events keep: of the numbers p for which the walk's first p operations are among them `passed` is the
+-- largest, and none of those is past the end. What is told is what the walk leaves with them.
 pub record Cut (image : Image) (world : World) (budget : ℕ) (d : Done) : Type 0 where
   pub dear : CostAtMost image world budget → ⊥
   pub fired : d.fired ≡ budget
-  pub steps : List ℕ
-  pub firing : FiringSteps image world steps
-  pub count : length steps ≡ budget
+  pub state : State
+  pub fit : Fit image world state
+  pub grounded : Grounded image world state
+  pub once : Once state.fired
+  pub count : length state.fired ≡ budget
   pub passed : ℕ
-  pub first : FirstAmong image world steps passed
-  pub most : (t : ℕ) → FirstAmong image world steps (length (ops image world t)) →
-      length (ops image world t) ≤ passed
+  pub after : AfterFired image world state passed
   pub front : ℕ
   pub front_has : length (ops image world front) ≡ passed
   pub within : FirstWithin image world front

@@ -1,5 +1,5 @@
 -- The states of a core, and how its calls lead from one to another.
-use Rattle.std.specs.Prelude.{ℕ, ◌≡◌, ◌≤◌, ◌-◌, Bool, true, false, []}
+use Rattle.std.specs.Prelude.{ℕ, ◌≡◌, ◌<◌, ◌≤◌, ◌-◌, ◌^◌, Bool, true, false, []}
 use Rattle.ws_words.specs.Outside.{World}
 use Rattle.ws_isa.specs.Image.{Image}
 use Rattle.ws_isa.specs.Formed.{Formed}
@@ -15,6 +15,9 @@ use Rattle.core_run.specs.declared.engine.StepFault.TheVariants as fault
 use Rattle.core_run.specs.Places.{ProgramIs, image_of}
 use Rattle.core_run.specs.Flows.{Holds, Room, Reaches}
 use Rattle.core_run.specs.Told.{done_of}
+use Rattle.core_law.specs.Ends.{AfterFired}
+use Rattle.core_run.specs.declared.drive.Finish.{Finish}
+use Rattle.core_run.specs.Finishes.{is_budget}
 
 -- the core stands at this state of a run of an image in a world
 pub record IsAt (image : Image) (world : World) (core : Core) (s : State) : Type 0 where
@@ -72,6 +75,17 @@ Keeps old new = (image : Image) (world : World) (s : State) → IsAt image world
 abbrev pub LeadsTo : Core → Core → Type 0
 LeadsTo old new = (image : Image) (world : World) (s : State) → IsAt image world old s →
     (t : State) × Reaches image s t × IsAt image world new t
+
+-- there is room for one more firing, and for the events around it
+abbrev pub HasRoom : Core → Type 0
+HasRoom core = Room core.flow 0 1 × ((done core).fired < 2 ^ 64 - 2)
+
+-- where the budget is spent, the most operations of the walk that have all fired have been passed, and
+-- memory is what they leave
+abbrev pub SpendsAll : Finish → Core → Core → Type 0
+SpendsAll finish old new = (image : Image) (world : World) (s : State) → IsAt image world old s →
+    (t : State) × IsAt image world new t
+    × (is_budget finish ≡ true → (p : ℕ) × AfterFired image world t p)
 
 -- no more than the budget have fired, and there is room for a run until then
 pub record Prepared (core : Core) (budget : ℕ) : Type 0 where

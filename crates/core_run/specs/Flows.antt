@@ -53,10 +53,17 @@ pub record Going (image : Image) (taken : List plain.Token) (flow : Flow) : Type
   pub sound : Sound image
   pub holds : Holds image world taken flow state
 
--- an event leads on: for each state for which the parts stood there is one for which they stand
+-- they stand for one where other tokens are on the way too, which lie elsewhere
+pub record GoingBeside (image : Image) (taken : List plain.Token) (flow : Flow) : Type 0 where
+  pub beside : List plain.Token
+  pub going : Going image (taken ++ beside) flow
+
+-- an event leads on: for each state for which the parts stood there is one for which they stand,
+-- whichever tokens lie elsewhere
 abbrev pub Leads : Image → Event → List plain.Token → Flow → Flow → Type 0
-Leads image event taken old new = (world : World) (s : State) → Formed image → Sound image →
-    Holds image world taken old s → (t : State) × Step image s event t × Holds image world [] new t
+Leads image event taken old new = (beside : List plain.Token) (world : World) (s : State) →
+    Formed image → Sound image → Holds image world (taken ++ beside) old s →
+    (t : State) × Step image s event t × Holds image world beside new t
 
 abbrev pub no_asked : Asked
 no_asked = record { wave = 0; instr = 0; operands = record { first = 0; second = 0; third = 0 } }

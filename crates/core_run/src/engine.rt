@@ -11,7 +11,7 @@ ghost use Rattle.core_run.specs.Finishes.{is_fault};
 ghost use Rattle.core_run.specs.Places.{image_of};
 ghost use Rattle.core_run.specs.Flows.{FaultIs, NoneMay};
 ghost use Rattle.core_run.specs.Quiet.{IsQuietly, OnlyFires};
-ghost use Rattle.core_run.specs.Cores.{IsAt, Runs, Prepared, Makes, NotEnabled, IsEnabled, IsAtRest, Keeps, LeadsTo, done, event_of, is_not_ready};
+ghost use Rattle.core_run.specs.Cores.{IsAt, Runs, Prepared, Makes, NotEnabled, IsEnabled, IsAtRest, Keeps, LeadsTo, SpendsAll, HasRoom, done, event_of, is_not_ready};
 
 use crate::drive::{Finish, run};
 use crate::flow::Flow;
@@ -64,6 +64,7 @@ impl<'i> Core<'i> {
         ensures refused { IfErr result (λ fault. is_not_ready fault ≡ true →
             NotEnabled (event_of event) self.old) }
         ensures kept { OnErr result (Keeps self.old self.new) }
+        ensures memory { HasRoom self.old → IfErr result (λ fault. is_not_ready fault ≡ true) }
     {
         match event {
             Event::Match { wave, instr, port } => self.make_match(wave, instr, port),
@@ -112,8 +113,8 @@ impl<'i> Core<'i> {
         self.flow.prepare(budget - fired)
     }
 
-    /// Makes events until none is enabled or so many instances have fired in all, and then those
-    /// that fire nothing. Takes no memory.
+    /// Makes events until none is enabled or so many instances have fired in all, and then issues
+    /// what may be issued. Takes no memory.
     pub fn run(&mut self, budget: u64) -> Finish
         requires core { Runs self.old }
         requires prepared { Prepared self.old budget }
@@ -124,6 +125,7 @@ impl<'i> Core<'i> {
             RunSo image world budget (run_from result (done self.new)) }
         ensures stopped { (image : Image) (world : Given) (state : State) →
             IsAt image world self.new state → state.stopped ≡ is_fault result }
+        ensures spent { SpendsAll result self.old self.new }
     {
         run(&self.program, &mut self.flow, budget)
     }
@@ -206,6 +208,7 @@ impl<'i> Core<'i> {
         ensures refused { IfErr result (λ fault. is_not_ready fault ≡ true →
             NotEnabled (Match wave instr port) self.old) }
         ensures kept { OnErr result (Keeps self.old self.new) }
+        ensures memory { HasRoom self.old → IfErr result (λ fault. is_not_ready fault ≡ true) }
     {
         if !self.flow.way.has(wave, instr, port) {
             return Err(StepFault::NotReady);
@@ -229,10 +232,14 @@ impl<'i> Core<'i> {
         ensures refused { IfErr result (λ fault. is_not_ready fault ≡ true →
             NotEnabled (Issue wave instr) self.old) }
         ensures kept { OnErr result (Keeps self.old self.new) }
+        ensures memory { HasRoom self.old → IfErr result (λ fault. is_not_ready fault ≡ true) }
     {
         match self.flow.ready(&self.program, wave, instr) {
             Some(place) => {
-                if self.flow.fired == u64::MAX || self.flow.prepare(0).is_err() {
+                if self.flow.fired == u64::MAX {
+                    return Err(StepFault::NoMemory);
+                }
+                if self.flow.prepare(0).is_err() {
                     return Err(StepFault::NoMemory);
                 }
                 self.flow.issue(&self.program, place);

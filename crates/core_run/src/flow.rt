@@ -1,13 +1,13 @@
 //! The state of a run, and its two kinds of event: a match and an issue.
 
-ghost use Rattle.std.specs.Prelude.{◌≡◌, ◌<◌, ◌≤◌, ◌+◌, ◌*◌, ◌^◌, ℕ, suc, [], ◌∷◌, ◌++◌, List, length, map, vec_len, vec_capacity, true, false, is_some, cond, ◌⊎◌, MatchOption, OnOk, IfSome};
+ghost use Rattle.std.specs.Prelude.{◌≡◌, ◌<◌, ◌≤◌, ◌+◌, ◌*◌, ◌^◌, ℕ, suc, [], ◌∷◌, ◌++◌, List, length, map, vec_len, vec_capacity, true, false, is_some, cond, ◌⊎◌, MatchOption, OnOk, IfSome, IsOk, IfNone};
 ghost use Rattle.ws_isa.specs.Image.{array_of_op, is_memory_op, is_load_op, result_of_op, selector_of, tokens_to, instr_at, ports_of, is_advance_op};
 ghost use Rattle.ws_isa.specs.Formed.{Formed};
 ghost use Rattle.core_law.specs.Core.{Match, Issue};
 ghost use Rattle.core_run.specs.Chains.{chain_of, may_flag};
 ghost use Rattle.core_run.specs.Places.{ProgramIs, image_of, destinations};
 ghost use Rattle.core_run.specs.Ways.{token_of, SentTo};
-ghost use Rattle.core_run.specs.Flows.{Going, Leads, Room, flight, AskedMore, all_of, asked_at, MayAt, NoneMay, NotReady, SameParts, weight};
+ghost use Rattle.core_run.specs.Flows.{GoingBeside, Leads, Room, flight, AskedMore, all_of, asked_at, MayAt, NoneMay, NotReady, SameParts, weight};
 
 use crate::chain::Chain;
 use crate::hints::Hints;
@@ -44,7 +44,7 @@ impl<'w> Flow<'w> {
     /// instance, that fires.
     pub fn arrive(&mut self, program: &Program<'_>, token: Token)
         requires program { ProgramIs program.now }
-        requires going { Going (image_of program.now) (token_of token ∷ []) self.old }
+        requires going { GoingBeside (image_of program.now) (token_of token ∷ []) self.old }
         requires room { Room self.old 1 1 }
         requires fired { self.old.fired + 1 < 2 ^ 64 }
         ensures leads { Leads (image_of program.now) (Match token.wave token.instr token.port)
@@ -81,6 +81,7 @@ impl<'w> Flow<'w> {
     pub fn prepare(&mut self, more: u64) -> Result<(), NoMemory>
         ensures room { OnOk result (Room self.new 0 more) }
         ensures same { SameParts self.old self.new }
+        ensures succeeds { more < 2 ^ 56 → Room self.old 0 more → IsOk result }
     {
         if more > MOST {
             return Err(NoMemory);
@@ -103,7 +104,8 @@ impl<'w> Flow<'w> {
 
     // How many tokens there may be on the way and at ports, with so many more firings.
     fn flight(&self, more: usize) -> Option<usize>
-        ensures { IfSome result (λ count. count ≡ flight self.now 0 more) }
+        ensures count { IfSome result (λ count. count ≡ flight self.now 0 more) }
+        ensures none { IfNone result (2 ^ 64 ≤ flight self.now 0 more) }
     {
         let sent = self.asked.len().checked_add(more)?.checked_mul(8)?;
         let way = self.way.now.len().checked_add(self.way.later.len())?;
@@ -188,7 +190,7 @@ impl<'w> Flow<'w> {
     /// Issues a request that may be issued; one past the end stops the chain.
     pub fn issue(&mut self, program: &Program<'_>, place: usize)
         requires program { ProgramIs program.now }
-        requires going { Going (image_of program.now) [] self.old }
+        requires going { GoingBeside (image_of program.now) [] self.old }
         requires place { place < length self.old.asked.items }
         requires running { is_some self.old.fault ≡ false }
         requires may { MayAt (image_of program.now) self.old place }

@@ -2,20 +2,20 @@
 //! waves.
 #![tactic(auto)]
 
-mod answer;
+pub mod answer;
 pub mod chain;
 mod drive;
 mod engine;
-mod flow;
+pub mod flow;
 mod hints;
-mod memory;
-mod open;
+pub mod memory;
+pub mod open;
 pub mod order;
 pub mod program;
-mod quiet;
-mod slots;
-mod token;
-mod way;
+pub mod quiet;
+pub mod slots;
+pub mod token;
+pub mod way;
 mod whole;
 
 pub use answer::{Done, Run};

@@ -1,6 +1,6 @@
 //! What a run has outside: cells, input, ports.
 
-ghost use Rattle.std.specs.Prelude.{◌≡◌, ◌-◌, ◌+◌, ◌<◌, ◌≤◌, ℕ, suc, List, [], ◌∷◌, ◌++◌, map, vec_len, vec_capacity, IfOk, OnOk, OnErr};
+ghost use Rattle.std.specs.Prelude.{◌≡◌, ◌-◌, ◌+◌, ◌<◌, ◌≤◌, ℕ, suc, List, [], ◌∷◌, ◌++◌, map, vec_len, vec_capacity, IfOk, OnOk, OnErr, IsOk};
 ghost use Rattle.ws_words.specs.Outside.{Outside, opening_out, with_act, takes, head_or_zero, rest_of, row, with_row};
 ghost use Rattle.ws_words.specs.Plain.{took_by_ports, world_of};
 ghost use Rattle.ws_isa.specs.Image.{cells_of};
@@ -44,6 +44,7 @@ impl<'a> Memory<'a> {
     pub fn reserve(&mut self, more: usize) -> Result<(), NoMemory>
         ensures space { OnOk result (Space self.new more) }
         ensures same { SameOut self.old self.new }
+        ensures succeeds { Space self.old more → IsOk result }
     {
         self.printed.reserve(more)?;
         reserve_rows(&mut self.took, more)
@@ -126,6 +127,7 @@ fn add_word(rows: &mut Vec<Vec<u64>>, place: usize, word: u64)
 fn reserve_rows(rows: &mut Vec<Vec<u64>>, more: usize) -> Result<(), NoMemory>
     ensures space { OnOk result (HasSpace rows.new.items more) }
     ensures same { rows_of rows.new.items ≡ rows_of rows.old.items }
+    ensures succeeds { HasSpace rows.old.items more → IsOk result }
 {
     for place in 0..rows.len() {
         rows[place].reserve(more)?;

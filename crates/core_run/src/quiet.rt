@@ -45,8 +45,8 @@ fn quiet_among(program: &Program<'_>, slots: &Slots, tokens: &[Token]) -> Option
     None
 }
 
-// Whether the instance of a token is full with it.
-fn fills(program: &Program<'_>, slots: &Slots, token: Token) -> bool
+/// Whether the instance of a token is full with it.
+pub fn fills(program: &Program<'_>, slots: &Slots, token: Token) -> bool
     requires { ProgramIs program.now }
     ensures { result ≡ spec.fills (image_of program.now) slots.now (token_of token) }
 {

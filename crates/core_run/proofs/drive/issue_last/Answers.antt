@@ -1,8 +1,8 @@
-use Rattle.std.proofs.Common.{◌-◌}
+use Rattle.std.proofs.Common.{[], ◌-◌}
 use Rattle.core_law.specs.Core.{Issue}
 use Rattle.core_run.specs.Places.{image_of}
 use Rattle.core_run.specs.Flows.{asked_at}
-use Rattle.core_run.proofs.Driving.{follows_none, leads_on}
+use Rattle.core_run.proofs.Driving.{alone, follows_none, leads_on}
 use Rattle.core_run.proofs.Steady.{same_parts}
 use Rattle.core_run.proofs.drive.issue_last.Goals as goal
 
@@ -13,3 +13,6 @@ returns-then-may_issue-clause-follows c =
 
 pub returns-else-len-lt-MOST_EARLY-clause-follows : goal.returns-else-len-lt-MOST_EARLY-clause-follows
 returns-else-len-lt-MOST_EARLY-clause-follows c = follows_none (image_of c.args.program.now) c.args.flow.now
+
+pub issue-requires-clause-going : goal.issue-requires-clause-going
+issue-requires-clause-going c = alone (image_of c.args.program.now) [] _ (c.requires.going)

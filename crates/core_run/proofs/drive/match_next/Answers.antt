@@ -1,12 +1,13 @@
-use Rattle.std.proofs.Common.{◌+◌, ◌-◌, refl, arith}
+use Rattle.std.proofs.Common.{◌+◌, ◌-◌, [], ◌∷◌, refl, arith}
 use Rattle.core_run.specs.Places.{image_of}
+use Rattle.core_run.specs.Ways.{token_of}
 use Rattle.core_run.specs.declared.flow.Flow.{Flow}
-use Rattle.core_run.proofs.Driving.{takes_on, taken_going, going_on, follows_on}
+use Rattle.core_run.proofs.Driving.{alone, takes_on, taken_going, going_on, follows_on}
 use Rattle.core_run.proofs.Steady.{same_parts, room_taken, room_less}
 use Rattle.core_run.proofs.drive.match_next.Goals as goal
 
 pub arrive-requires-clause-going : goal.arrive-requires-clause-going
-arrive-requires-clause-going c = taken_going (image_of c.args.program.now) c.args.flow.now c.args.flow.now _ c.in-Some.token (same_parts c.args.flow.now) c.in-Some.ensures.taken refl refl refl refl refl refl refl c.requires.going
+arrive-requires-clause-going c = alone (image_of c.args.program.now) (token_of c.in-Some.token ∷ []) _ (taken_going (image_of c.args.program.now) c.args.flow.now c.args.flow.now _ c.in-Some.token (same_parts c.args.flow.now) c.in-Some.ensures.taken refl refl refl refl refl refl refl c.requires.going)
 
 pub arrive-requires-clause-room : goal.arrive-requires-clause-room
 arrive-requires-clause-room c = room_taken c.args.flow.now _ 1 refl refl refl refl c.in-Some.ensures.fewer c.in-Some.ensures.room c.requires.room

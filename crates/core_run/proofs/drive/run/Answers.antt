@@ -1,10 +1,10 @@
-use Rattle.std.proofs.Common.{◌≡◌, ◌-◌, ◌∙◌, sym, ap, subst, is_some, false, arith}
+use Rattle.std.proofs.Common.{[], ◌≡◌, ◌-◌, ◌∙◌, sym, ap, subst, is_some, false, arith}
 use Rattle.core_law.specs.Core.{Issue}
 use Rattle.core_run.specs.declared.drive.Finish.{Finish}
 use Rattle.core_run.specs.Places.{image_of}
 use Rattle.core_run.specs.Flows.{FaultIs, Room, asked_at}
 use Rattle.core_run.specs.Finishes.{FinishIs}
-use Rattle.core_run.proofs.Driving.{follows_none, follows_on, going_on, leads_on, stands_still, none_may}
+use Rattle.core_run.proofs.Driving.{alone, follows_none, follows_on, going_on, leads_on, stands_still, none_may}
 use Rattle.core_run.proofs.Steady.{same_parts, room_less}
 use Rattle.core_run.proofs.drive.run.Goals as goal
 
@@ -58,3 +58,6 @@ loop-flow-preserved c =
       room = c.match_next.ensures.room (c.args.budget - c.loop-flow.flow.fired) (c.args.budget - c.match_next.new.flow.fired) (omega (arith, c.match_next.ensures.count.0, c.match_next.ensures.count.1, less)) c.loop-flow.invariant.room;
       within = omega (arith, c.match_next.ensures.count.1, less);
     }
+
+pub issue-requires-clause-going : goal.issue-requires-clause-going
+issue-requires-clause-going c = alone (image_of c.args.program.now) [] _ (going_on (image_of c.args.program.now) c.args.flow.now c.loop-flow.flow c.requires.going c.loop-flow.invariant.follows)

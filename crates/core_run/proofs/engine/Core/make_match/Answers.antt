@@ -2,6 +2,7 @@ use Rattle.std.proofs.Common.{[], ◌∷◌, refl}
 use Rattle.core_law.specs.Core.{Match}
 use Rattle.core_run.specs.Places.{image_of}
 use Rattle.core_run.specs.Ways.{token_of}
+use Rattle.core_run.proofs.Driving.{alone}
 use Rattle.core_run.proofs.Stepping.{not_on_way, same_way, going_match, makes_match}
 use Rattle.core_run.proofs.Turning.{leads_turned}
 use Rattle.core_run.proofs.engine.Core.make_match.Goals as goal
@@ -10,7 +11,7 @@ pub returns-then-not-has-clause-refused : goal.returns-then-not-has-clause-refus
 returns-then-not-has-clause-refused c = λ e. not_on_way c.args.self.now c.args.wave c.args.instr c.args.port (c.has.ensures c.if-not-has.true)
 
 pub arrive-requires-clause-going : goal.arrive-requires-clause-going
-arrive-requires-clause-going c = going_match c.args.self.now c.prepare.new.self _ c.args.wave c.args.instr c.args.port c.in-Some.token c.prepare.ensures.same c.in-Some.ensures.taken refl refl refl refl refl refl refl c.requires
+arrive-requires-clause-going c = alone (image_of c.args.self.now.program) (token_of c.in-Some.token ∷ []) _ (going_match c.args.self.now c.prepare.new.self _ c.args.wave c.args.instr c.args.port c.in-Some.token c.prepare.ensures.same c.in-Some.ensures.taken refl refl refl refl refl refl refl c.requires)
 
 pub returns-in-Some-clause-made : goal.returns-in-Some-clause-made
 returns-in-Some-clause-made c = makes_match c.args.self.now c.prepare.new.self _ c.args.wave c.args.instr c.args.port c.in-Some.token c.prepare.ensures.same c.in-Some.ensures.taken refl refl refl refl refl refl refl _ refl
