@@ -8,6 +8,8 @@ use Rattle.store_buf.specs.Contents.{Content}
 use Rattle.crew_collect.specs.Ends.{AllRun, SomeRun, IsGoing}
 use Rattle.crew_run.specs.declared.judge.Ending.{Ending}
 use Rattle.crew_run.specs.declared.judge.Ending.TheVariants as ending
+use Rattle.crew_run.specs.declared.judge.Course.{Course}
+use Rattle.crew_run.specs.declared.judge.Course.TheVariants as course
 use Rattle.crew_run.specs.declared.judge.Verdict.{Verdict}
 use Rattle.crew_run.specs.declared.judge.Verdict.TheVariants.{Ends}
 
@@ -23,3 +25,7 @@ module _ {J : Type 0} where
   abbrev pub VerdictSo : Image → World → List (Option Began) → List Key → ℕ → Content → Verdict J → Type 0
   VerdictSo image world began listed left c (Ends e) = EndingSo image world began listed left c e
   VerdictSo image world began listed left c _ = Unit {0}
+
+  abbrev pub CourseSo : Image → World → List (Option Began) → List Key → ℕ → Content → Course J → Type 0
+  CourseSo image world began listed left c (course.Ends e) = EndingSo image world began listed left c e
+  CourseSo image world began listed left c _ = Unit {0}

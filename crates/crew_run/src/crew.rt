@@ -9,7 +9,7 @@ ghost use Rattle.crew_run.specs.Finishes.{EndsSo};
 ghost use Rattle.crew_run.specs.Verdicts.{EndingSo};
 
 use crate::finish::{CrewEnd, CrewFinish, finish};
-use crate::judge::{Ending, Verdict, judge};
+use crate::judge::{Course, Ending, find_course};
 use crate::turn::turn;
 use crew_collect::limits::{fired, fitting};
 use crew_tables::Tables;
@@ -54,16 +54,15 @@ pub fn run_on<J: Job + Send + Sync, P: Port + Send, G: Gate, R: Threads + Wait +
     let mut tokens = TokenList::empty(alloc);
     for _ in rt.forever() {
         let left = budget - fired(&tables);
-        match judge(alloc, code, &tables, &mut buffer, tokens, left) {
-            Verdict::Ends(ending) => {
+        match find_course(rt, alloc, code, &tables, &mut buffer, tokens, left) {
+            Course::Ends(ending) => {
                 return Ended {
                     tables,
                     buffer,
                     ending,
                 };
             }
-            Verdict::Again => tokens = TokenList::empty(alloc),
-            Verdict::Go(all) => {
+            Course::Go(all) => {
                 let after = turn(rt, alloc, tables, buffer, all, workers, left, code, gate);
                 tables = after.tables;
                 buffer = after.buffer;
@@ -132,8 +131,8 @@ pub fn stays<J: Job, P: Port>(alloc: Global, ports: Slots<P>) -> CrewEnd<J, P>
     }
 }
 
-// Tables that have had no token.
-fn no_tables<J: Job>(alloc: Global) -> Tables<J>
+/// Tables that have had no token.
+pub fn no_tables<J: Job>(alloc: Global) -> Tables<J>
     ensures serve { AllServe result }
     ensures none { length (part_of result).fired ≡ 0 }
 {

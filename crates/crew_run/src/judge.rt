@@ -7,7 +7,7 @@ ghost use Rattle.store_buf.specs.Contents.{buffer_in};
 ghost use Rattle.crew_collect.specs.Together.{AllServe, part_of};
 ghost use Rattle.crew_collect.specs.Owing.{AllKnown, HaveCome, IsMissing};
 ghost use Rattle.crew_collect.specs.Ends.{IsGoing};
-ghost use Rattle.crew_run.specs.Verdicts.{VerdictSo};
+ghost use Rattle.crew_run.specs.Verdicts.{CourseSo, VerdictSo};
 
 use crew_collect::ends::{all_run, some_run};
 use crew_collect::missing::missing;
@@ -16,6 +16,7 @@ use crew_tables::Tables;
 use df_job::{Code, Job, Request, TokenList};
 use port_set::Port;
 use std::alloc::Global;
+use std::sync::Wait;
 use store_buf::Buffer;
 
 /// Why a run has ended: the whole walk has been run; the budget is spent and something is owed; the
@@ -28,17 +29,48 @@ pub enum Ending {
     Starved,
 }
 
-/// What a crew does after a phase: it goes on with these tokens; it looks again, since requests were
-/// submitted; or it has ended.
+// What a crew does after a phase: it goes on with these tokens; it looks again, since requests were
+// submitted; or it has ended.
 #[derive(Drop)]
-pub enum Verdict<J: Job> {
+enum Verdict<J: Job> {
     Go(TokenList<J>),
     Again,
     Ends(Ending),
 }
 
-/// What is to be done where these tokens were let go in the last phase and so many may still fire.
-pub fn judge<J: Job, P: Port>(
+/// Whether a run goes on, with these tokens, or has ended.
+#[derive(Drop)]
+pub enum Course<J: Job> {
+    Go(TokenList<J>),
+    Ends(Ending),
+}
+
+/// Whether a run goes on where these tokens were let go in the last phase and so many may still fire.
+pub fn find_course<J: Job, P: Port, R: Wait>(
+    rt: &R,
+    alloc: Global,
+    code: &Code<'_, J>,
+    tables: &Tables<J>,
+    buffer: &mut Buffer<J, P>,
+    tokens: TokenList<J>,
+    left: u64,
+) -> Course<J>
+    requires serve { AllServe tables.now }
+    ensures { CourseSo J.image J.world J.began (part_of tables.now).fired left buffer.new result }
+{
+    let mut tokens = tokens;
+    for _ in rt.forever() {
+        match judge(alloc, code, tables, buffer, tokens, left) {
+            Verdict::Ends(ending) => return Course::Ends(ending),
+            Verdict::Again => tokens = TokenList::empty(alloc),
+            Verdict::Go(all) => return Course::Go(all),
+        }
+    }
+    Course::Ends(Ending::Starved)
+}
+
+// What is to be done where these tokens were let go in the last phase and so many may still fire.
+fn judge<J: Job, P: Port>(
     alloc: Global,
     code: &Code<'_, J>,
     tables: &Tables<J>,

@@ -4,8 +4,10 @@
 pub mod crew;
 pub mod finish;
 pub mod judge;
+mod laws;
 pub mod run;
 pub mod turn;
 
 pub use finish::{CrewEnd, CrewFinish};
+pub use laws::ends_are_told;
 pub use run::{RunEnd, crew_run, run_image};

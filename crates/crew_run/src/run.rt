@@ -9,6 +9,7 @@ ghost use Rattle.crew_run.specs.Finishes.{EndsSo};
 
 use crate::crew::{run_over, stays};
 use crate::finish::{CrewEnd, CrewFinish};
+use crate::laws::ends_are_told;
 use df_job::{Code, Job};
 use fire_crew::Gate;
 use image_walk::Checked;
@@ -71,7 +72,7 @@ fn run_as<J: Job + Send + Sync, P: Port + Send, G: Gate, R: Threads + Wait + Syn
         (contents P.tells result.ports) }
     ensures open { AllOpen (contents P.tells result.ports) }
 {
-    told_ports_begin();
+    ends_are_told();
     let end: CrewEnd<J, P> = crew_run(rt, alloc, image, input, ports, workers, budget, gate);
     RunEnd {
         finish: end.finish,

@@ -6,10 +6,10 @@ ghost use Rattle.crew_tables.specs.Growth.{AllGrow};
 ghost use Rattle.crew_tables.specs.Rows.{contents};
 
 use crew_collect::limits::{fitting, limits};
-use crew_tables::Tables;
+use crew_tables::{Tables, table_of};
 use df_job::{Code, Job, Token, TokenList};
-use fire_crew::Gate;
 use fire_crew::phase::{PhaseEnd, phase};
+use fire_crew::{Bare, Gate, Wrap};
 use port_set::Port;
 use ready_pool::{SeatList, seats};
 use std::alloc::Global;
@@ -43,7 +43,7 @@ pub fn turn<J: Job + Send + Sync, P: Port + Send, G: Gate, R: Threads + Wait + S
     let Ok(limits) = limits(alloc, &tables, left, first) else {
         return stays(tables, buffer, tokens);
     };
-    let Ok(deal) = deal(alloc, tokens, workers) else {
+    let Ok(deal) = dealt(alloc, tokens, workers) else {
         return stays(tables, buffer, TokenList::empty(alloc));
     };
     let after = phase::<J, Brand, P, G, R>(rt, alloc, tables, buffer, &limits, deal, code, gate);
@@ -67,35 +67,45 @@ fn stays<J: Job, P: Port>(
     }
 }
 
-// The number of the table of one of these tokens.
-fn first_table<J: Job>(tokens: &mut TokenList<J>) -> u64 {
+/// The number of the table of one of these tokens.
+pub fn first_table<J: Job>(tokens: &mut TokenList<J>) -> u64 {
     let Some(token) = tokens.pop() else {
         return 0;
     };
-    let number = (token.wave() % 16 + u64::from(token.instr()) % 16) % 16;
+    let number = table_of(token.wave(), token.instr());
     let _ = tokens.push(token);
     number
 }
 
-// Seats with these tokens, one after another.
-fn deal<J: Job>(
+// Seats with these tokens.
+fn dealt<J: Job>(
     alloc: Global,
     tokens: TokenList<J>,
     workers: u32,
 ) -> Result<SeatList<Token<J>>, NoMemory>
     requires { (1 ≤ workers) × (workers ≤ 8) }
 {
-    let mut tokens = tokens;
     let mut seats = seats::<Token<J>>(alloc, workers)?;
-    let mut at = 0;
+    deal::<Bare, J, Token<J>>(&mut seats, 0, tokens);
+    Ok(seats)
+}
+
+/// Puts tokens into seats, one after another from this one on. Answers which comes next.
+pub fn deal<L: Wrap<Token<J>, T>, J: Job, T: Drop>(
+    seats: &mut SeatList<T>,
+    first: usize,
+    tokens: TokenList<J>,
+) -> usize {
+    let mut tokens = tokens;
+    let mut at = first;
     while let Some(token) = tokens.pop() {
         if at >= seats.len() {
             at = 0;
         }
         if at < seats.len() {
-            let _ = seats[at].put(token);
+            let _ = seats[at].put(L::wrap(token));
             at += 1;
         }
     }
-    Ok(seats)
+    at
 }

@@ -90,9 +90,9 @@ impl<J: Job, Q: Quotas, const K: u64> Limited<J, Q, K> {
     /// The table, at the end of the phase.
     pub fn into_table(self) -> Table<J>
         ensures same { result ≡ self }
-        ensures serves { Serves K self }
-        ensures within { length self.fired ≤ slice_index Q.most K }
-        ensures grows { Grows (content_at Q.began K) self }
+        ensures serves { Serves K result }
+        ensures within { length result.fired ≤ slice_index Q.most K }
+        ensures grows { Grows (content_at Q.began K) result }
     {
         self.table
     }

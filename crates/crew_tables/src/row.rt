@@ -1,11 +1,11 @@
 //! Sixteen tables, each behind a lock of its own.
 
-ghost use Rattle.std.specs.Prelude.{◌≡◌, ◌+◌, ◌≤◌, ◌%◌, ℕ, List, length, slice_index};
-ghost use Rattle.crew_tables.specs.Growth.{Grows, GrowFrom, content_at};
-ghost use Rattle.crew_tables.specs.Limits.{Serves};
+ghost use Rattle.std.specs.Prelude.{◌≡◌, ◌+◌, ◌%◌, ℕ, List, length};
+ghost use Rattle.crew_tables.specs.Growth.{GrowFrom};
 ghost use Rattle.crew_tables.specs.Rows.{Fits, contents};
 
 use crate::limit::{Limited, Offer, Quotas};
+use crate::rank::Rank;
 use crossbeam_utils::CachePadded;
 use df_job::{Code, Job, Token};
 use match_table::{Results, Table};
@@ -83,20 +83,12 @@ impl<J: Job> Tables<J> {
     }
 }
 
-fn locked<J: Job, Q: Quotas, const K: u64>(table: Table<J>, most: usize) -> Locked<J, Q, K>
-    requires serves { Serves K table }
-    requires most { (most ≡ slice_index Q.most K) × (length table.fired ≤ most) }
-    requires began { table ≡ content_at Q.began K }
-{
-    CachePadded::new(Mutex::new(Limited::new(table, most)))
+fn locked<J: Job, Q: Quotas, const K: u64>(table: Limited<J, Q, K>) -> Locked<J, Q, K> {
+    CachePadded::new(Mutex::new(table))
 }
 
-fn unlocked<J: Job, Q: Quotas, const K: u64>(locked: Locked<J, Q, K>) -> Table<J>
-    ensures serves { Serves K result }
-    ensures within { length result.fired ≤ slice_index Q.most K }
-    ensures grows { Grows (content_at Q.began K) result }
-{
-    locked.into_inner().into_inner().into_table()
+fn unlocked<J: Job, Q: Quotas, const K: u64>(locked: Locked<J, Q, K>) -> Limited<J, Q, K> {
+    locked.into_inner().into_inner()
 }
 
 #[inline(always)]
@@ -112,8 +104,8 @@ fn offer_at<J: Job, Q: Quotas, const K: u64, R: Wait>(
     locked.lock(rt).offer(code, token, results)
 }
 
-// The number of the table that serves an instance.
-fn table_of(wave: u64, instr: u32) -> u64
+/// The number of the table that serves an instance.
+pub fn table_of(wave: u64, instr: u32) -> u64
     ensures { result ≡ (wave + instr) % 16 }
 {
     (wave % 16 + u64::from(instr) % 16) % 16
@@ -126,41 +118,24 @@ impl<J: Job, Q: Quotas> Row<J, Q> {
         requires fits { Fits tables limits.now }
         requires began { contents tables ≡ Q.began }
     {
-        let Tables {
-            t0,
-            t1,
-            t2,
-            t3,
-            t4,
-            t5,
-            t6,
-            t7,
-            t8,
-            t9,
-            t10,
-            t11,
-            t12,
-            t13,
-            t14,
-            t15,
-        } = tables;
+        let rank: Rank<J, Q> = Rank::new(tables, limits);
         Row {
-            t0: locked::<J, Q, 0>(t0, limits[0]),
-            t1: locked::<J, Q, 1>(t1, limits[1]),
-            t2: locked::<J, Q, 2>(t2, limits[2]),
-            t3: locked::<J, Q, 3>(t3, limits[3]),
-            t4: locked::<J, Q, 4>(t4, limits[4]),
-            t5: locked::<J, Q, 5>(t5, limits[5]),
-            t6: locked::<J, Q, 6>(t6, limits[6]),
-            t7: locked::<J, Q, 7>(t7, limits[7]),
-            t8: locked::<J, Q, 8>(t8, limits[8]),
-            t9: locked::<J, Q, 9>(t9, limits[9]),
-            t10: locked::<J, Q, 10>(t10, limits[10]),
-            t11: locked::<J, Q, 11>(t11, limits[11]),
-            t12: locked::<J, Q, 12>(t12, limits[12]),
-            t13: locked::<J, Q, 13>(t13, limits[13]),
-            t14: locked::<J, Q, 14>(t14, limits[14]),
-            t15: locked::<J, Q, 15>(t15, limits[15]),
+            t0: locked(rank.t0),
+            t1: locked(rank.t1),
+            t2: locked(rank.t2),
+            t3: locked(rank.t3),
+            t4: locked(rank.t4),
+            t5: locked(rank.t5),
+            t6: locked(rank.t6),
+            t7: locked(rank.t7),
+            t8: locked(rank.t8),
+            t9: locked(rank.t9),
+            t10: locked(rank.t10),
+            t11: locked(rank.t11),
+            t12: locked(rank.t12),
+            t13: locked(rank.t13),
+            t14: locked(rank.t14),
+            t15: locked(rank.t15),
         }
     }
 
@@ -198,23 +173,24 @@ impl<J: Job, Q: Quotas> Row<J, Q> {
         ensures fits { Fits result Q.most }
         ensures grow { GrowFrom 0 Q.began (contents result) }
     {
-        Tables {
-            t0: unlocked::<J, Q, 0>(self.t0),
-            t1: unlocked::<J, Q, 1>(self.t1),
-            t2: unlocked::<J, Q, 2>(self.t2),
-            t3: unlocked::<J, Q, 3>(self.t3),
-            t4: unlocked::<J, Q, 4>(self.t4),
-            t5: unlocked::<J, Q, 5>(self.t5),
-            t6: unlocked::<J, Q, 6>(self.t6),
-            t7: unlocked::<J, Q, 7>(self.t7),
-            t8: unlocked::<J, Q, 8>(self.t8),
-            t9: unlocked::<J, Q, 9>(self.t9),
-            t10: unlocked::<J, Q, 10>(self.t10),
-            t11: unlocked::<J, Q, 11>(self.t11),
-            t12: unlocked::<J, Q, 12>(self.t12),
-            t13: unlocked::<J, Q, 13>(self.t13),
-            t14: unlocked::<J, Q, 14>(self.t14),
-            t15: unlocked::<J, Q, 15>(self.t15),
-        }
+        let rank = Rank {
+            t0: unlocked(self.t0),
+            t1: unlocked(self.t1),
+            t2: unlocked(self.t2),
+            t3: unlocked(self.t3),
+            t4: unlocked(self.t4),
+            t5: unlocked(self.t5),
+            t6: unlocked(self.t6),
+            t7: unlocked(self.t7),
+            t8: unlocked(self.t8),
+            t9: unlocked(self.t9),
+            t10: unlocked(self.t10),
+            t11: unlocked(self.t11),
+            t12: unlocked(self.t12),
+            t13: unlocked(self.t13),
+            t14: unlocked(self.t14),
+            t15: unlocked(self.t15),
+        };
+        rank.into_tables()
     }
 }

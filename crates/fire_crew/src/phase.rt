@@ -5,7 +5,7 @@ ghost use Rattle.crew_tables.specs.Growth.{AllGrow};
 ghost use Rattle.crew_tables.specs.Rows.{Fits, contents};
 
 use crate::gate::Gate;
-use crate::pour::pour;
+use crate::pouring::pour;
 use crate::work::{Worked, work};
 use crew_tables::{Quotas, Row, Tables};
 use df_job::{Code, Job, Token, TokenList};

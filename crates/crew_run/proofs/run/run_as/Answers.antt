@@ -3,7 +3,6 @@ use Rattle.port_set.specs.Slots.{contents}
 use Rattle.df_job.specs.Began.{Began}
 use Rattle.crew_collect.specs.Together.{part_of}
 use Rattle.crew_run.specs.Finishes.{EndsSo}
-use Rattle.crew_run.proofs.Telling.{tells}
 use Rattle.crew_run.proofs.run.run_as.Goals as goal
 
 pub returns-clause-tells : goal.returns-clause-tells
@@ -12,8 +11,7 @@ returns-clause-tells g c =
     let listed = (part_of end.tables).fired in
     let handed = contents g.P.Port.tells c.args.ports in
     let back = contents g.P.Port.tells end.ports in
-    tells g.J.Job.image g.J.Job.world c.args.budget listed handed back
-    (λ port rose. c.told_ports_begin.ensures.rose handed back port rose) end.finish
+    c.ends_are_told.ensures g.J.Job.image g.J.Job.world c.args.budget listed handed back end.finish
     (subst (λ (b : List (Option Began)).
     EndsSo g.J.Job.image g.J.Job.world b c.args.budget listed handed back end.finish)
     c.requires.began c.crew_run-end.ensures.finish)

@@ -1,5 +1,5 @@
 use Rattle.std.proofs.Common.{length}
-use Rattle.fire_crew.proofs.pour.pour.Given as goal
+use Rattle.fire_crew.proofs.pouring.pour.Given as goal
 
 abbrev pub decreases-loop-token : goal.decreases-loop-token
 decreases-loop-token g l = length l.from

@@ -1,0 +1,72 @@
+//! What a worker does once a table has had a token.
+
+use crate::hand::{Hand, Wrap, put_all};
+use crew_tables::Offer;
+use df_job::{Code, Job, Request, Token, TokenList};
+use match_table::Took;
+use port_set::Port;
+use ready_pool::Seat;
+use std::sync::{Mutex, Wait};
+use store_buf::{BufFault, Buffer};
+
+/// Whether a worker goes on: with any token; with none of this job, whose buffer takes no more
+/// requests; or not at all, since memory ran out.
+#[derive(Clone, Copy, Debug, PartialEq, Eq)]
+pub enum Next {
+    More,
+    Ended,
+    Starved,
+}
+
+/// What follows from the answer of a token's table: results go into the seat, but for one that stays in
+/// hand; a request goes to the buffer; and a token for which the quota is spent is let go.
+#[inline(always)]
+pub fn carry_on<L: Wrap<Token<J>, T>, J: Job, T: Drop, P: Port, R: Wait>(
+    rt: &R,
+    offer: Offer,
+    token: Token<J>,
+    hand: &mut Hand<J>,
+    seat: &mut Seat<T>,
+    let_go: &mut TokenList<J>,
+    buffer: &Mutex<Buffer<J, P>>,
+    code: &Code<'_, J>,
+) -> Next {
+    match offer {
+        Offer::Took(Took::Waits) | Offer::Took(Took::Old) => Next::More,
+        Offer::Took(Took::Fires) => {
+            hand.hand_on::<L, T>(seat, let_go);
+            Next::More
+        }
+        Offer::Took(Took::Asks) => match hand.results.request.take() {
+            Some(request) => ask::<L, J, T, P, R>(rt, request, seat, let_go, buffer, code),
+            None => Next::More,
+        },
+        Offer::Took(Took::NoMemory) => Next::Starved,
+        Offer::Spent => {
+            let _ = let_go.push(token);
+            Next::More
+        }
+    }
+}
+
+// Submits a request, under the buffer's lock.
+fn ask<L: Wrap<Token<J>, T>, J: Job, T: Drop, P: Port, R: Wait>(
+    rt: &R,
+    request: Request<J>,
+    seat: &mut Seat<T>,
+    let_go: &mut TokenList<J>,
+    buffer: &Mutex<Buffer<J, P>>,
+    code: &Code<'_, J>,
+) -> Next {
+    let answer = buffer.lock(rt).submit(code, request);
+    match answer {
+        Ok(tokens) => {
+            let mut tokens = tokens;
+            put_all::<L, J, T>(seat, let_go, &mut tokens, 0);
+            Next::More
+        }
+        Err(BufFault::Old) => Next::More,
+        Err(BufFault::NoMemory) => Next::Starved,
+        Err(_) => Next::Ended,
+    }
+}
