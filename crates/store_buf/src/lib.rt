@@ -2,15 +2,15 @@
 #![tactic(auto)]
 
 mod buffer;
-mod fault;
-mod index;
-mod kept;
+pub mod fault;
+pub mod index;
+pub mod kept;
 mod later;
 mod laws;
-mod order;
-mod outer;
+pub mod order;
+pub mod outer;
 mod store;
-mod told;
+pub mod told;
 
 pub use buffer::Buffer;
 pub use fault::BufFault;

@@ -138,7 +138,8 @@ impl Order {
         None
     }
 
-    fn may_issue(&self, program: &Program<'_>, place: usize) -> bool
+    /// Whether the request at a place has no answer and the chain lets it issue.
+    pub fn may_issue(&self, program: &Program<'_>, place: usize) -> bool
         requires { ProgramIs program.now }
         ensures yes { result ≡ true → place < length self.now.kept.items }
         ensures ready { place < length self.now.kept.items
