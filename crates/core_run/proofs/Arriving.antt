@@ -129,14 +129,14 @@ module _ (image : Image) (world : World) (formed : Formed image) (sound : Sound 
 
   module _ (tok : Token) (old new : Flow) (s : State) (h : Holds image world (token_of tok ∷ beside) old s) where
     -- its instance isn't full
-    pub arrived_waits : ((a b q : ℕ) → partial_of new.slots.slots.items new.slots.spill.items a b q ≡ with_at tok.wave tok.instr tok.port (Some tok.value) (partial_of old.slots.slots.items old.slots.spill.items) a b q) →
-        is_full (partial_of new.slots.slots.items new.slots.spill.items) tok.wave tok.instr (ports image tok.instr) ≡ false →
+    pub arrived_waits : ((a b q : ℕ) → partial_of new.slots.slots.items new.slots.spill a b q ≡ with_at tok.wave tok.instr tok.port (Some tok.value) (partial_of old.slots.slots.items old.slots.spill) a b q) →
+        is_full (partial_of new.slots.slots.items new.slots.spill) tok.wave tok.instr (ports image tok.instr) ≡ false →
         new.way ≡ old.way → new.asked ≡ old.asked → new.early ≡ old.early → new.chain ≡ old.chain → new.fault ≡ old.fault → new.memory ≡ old.memory → new.fired ≡ old.fired →
         (t : State) × Step image s (Match tok.wave tok.instr tok.port) t × Holds image world beside new t
     arrived_waits f_is less way asked early chain stopped memory fired =
-        let m = waits image world facts s (partial_of old.slots.slots.items old.slots.spill.items) (beside ++ way_of old.way) (map (request_of image) old.asked.items) old.early.items tok.wave tok.instr tok.port tok.value h.stands
-        (partial_of new.slots.slots.items new.slots.spill.items) f_is less in
-        let st : Stands image world (partial_of new.slots.slots.items new.slots.spill.items) (beside ++ way_of old.way) (map (request_of image) old.asked.items) old.early.items m.new = m.stands in (
+        let m = waits image world facts s (partial_of old.slots.slots.items old.slots.spill) (beside ++ way_of old.way) (map (request_of image) old.asked.items) old.early.items tok.wave tok.instr tok.port tok.value h.stands
+        (partial_of new.slots.slots.items new.slots.spill) f_is less in
+        let st : Stands image world (partial_of new.slots.slots.items new.slots.spill) (beside ++ way_of old.way) (map (request_of image) old.asked.items) old.early.items m.new = m.stands in (
           m.new,
           m.step,
           record {
@@ -150,8 +150,8 @@ module _ (image : Image) (world : World) (formed : Formed image) (sound : Sound 
         )
 
     -- its instance fires
-    pub arrived_fires : (f : Ports) → ((a b q : ℕ) → f a b q ≡ with_at tok.wave tok.instr tok.port (Some tok.value) (partial_of old.slots.slots.items old.slots.spill.items) a b q) →
-        is_full f tok.wave tok.instr (ports image tok.instr) ≡ true → ((a b q : ℕ) → partial_of new.slots.slots.items new.slots.spill.items a b q ≡ cleared tok.wave tok.instr f a b q) →
+    pub arrived_fires : (f : Ports) → ((a b q : ℕ) → f a b q ≡ with_at tok.wave tok.instr tok.port (Some tok.value) (partial_of old.slots.slots.items old.slots.spill) a b q) →
+        is_full f tok.wave tok.instr (ports image tok.instr) ≡ true → ((a b q : ℕ) → partial_of new.slots.slots.items new.slots.spill a b q ≡ cleared tok.wave tok.instr f a b q) →
         (op : Op) → op ≡ (instr_at image tok.instr).op → (o : Operands) → listed (ports image tok.instr) o ≡ gather f tok.wave tok.instr 0 (ports image tok.instr) →
         new.early ≡ old.early → new.chain ≡ old.chain → new.fault ≡ old.fault → new.memory ≡ old.memory → new.fired ≡ old.fired + 1 →
         (is_memory_op op ≡ true → new.asked.items ≡ old.asked.items ++ record { wave = tok.wave; instr = tok.instr; operands = o } ∷ []) → (is_memory_op op ≡ true → new.way ≡ old.way) →
@@ -160,17 +160,17 @@ module _ (image : Image) (world : World) (formed : Formed image) (sound : Sound 
         (t : State) × Step image s (Match tok.wave tok.instr tok.port) t × Holds image world beside new t
     arrived_fires f f_is full g_is op op_is o o_are early chain stopped memory fired asked not_sent not_asked sent = elim (cases_Bool (is_memory image tok.instr)) [
       | inl mem ↦ (let me : is_memory_op op ≡ true = ap is_memory_op op_is ∙ sym (memory_is_op image tok.instr) ∙ mem in
-          let m = calls image world facts s (partial_of old.slots.slots.items old.slots.spill.items) (beside ++ way_of old.way) (map (request_of image) old.asked.items) old.early.items tok.wave tok.instr tok.port tok.value h.stands
-          f f_is full (partial_of new.slots.slots.items new.slots.spill.items) g_is (listed (ports image tok.instr) o) o_are mem in
+          let m = calls image world facts s (partial_of old.slots.slots.items old.slots.spill) (beside ++ way_of old.way) (map (request_of image) old.asked.items) old.early.items tok.wave tok.instr tok.port tok.value h.stands
+          f f_is full (partial_of new.slots.slots.items new.slots.spill) g_is (listed (ports image tok.instr) o) o_are mem in
           let r : Request = record { wave = tok.wave; instr = tok.instr; operands = listed (ports image tok.instr) o } in
           let e : map (request_of image) old.asked.items ++ r ∷ [] ≡ map (request_of image) new.asked.items = sym (map_push (request_of image) old.asked.items (record { wave = tok.wave; instr = tok.instr; operands = o })) ∙ ap (map (request_of image)) (sym (asked me)) in
-          let st : Stands image world (partial_of new.slots.slots.items new.slots.spill.items) (beside ++ way_of old.way) (map (request_of image) old.asked.items ++ r ∷ []) old.early.items m.new =
-          stands_asked image world (partial_of new.slots.slots.items new.slots.spill.items) (beside ++ way_of old.way) (r ∷ map (request_of image) old.asked.items) (map (request_of image) old.asked.items ++ r ∷ []) old.early.items m.new
+          let st : Stands image world (partial_of new.slots.slots.items new.slots.spill) (beside ++ way_of old.way) (map (request_of image) old.asked.items ++ r ∷ []) old.early.items m.new =
+          stands_asked image world (partial_of new.slots.slots.items new.slots.spill) (beside ++ way_of old.way) (r ∷ map (request_of image) old.asked.items) (map (request_of image) old.asked.items ++ r ∷ []) old.early.items m.new
           (pushed (map (request_of image) old.asked.items) r) m.stands in (
             m.new,
             m.step,
             record {
-              stands = rw (not_sent me, early) (subst (λ (rs : List Request). Stands image world (partial_of new.slots.slots.items new.slots.spill.items) (beside ++ way_of old.way) rs old.early.items m.new) e st);
+              stands = rw (not_sent me, early) (subst (λ (rs : List Request). Stands image world (partial_of new.slots.slots.items new.slots.spill) (beside ++ way_of old.way) rs old.early.items m.new) e st);
               chain_is = m.chain_is ∙ h.chain_is ∙ ap chain_of (sym chain);
               stopped_is = m.stopped_is ∙ h.stopped_is ∙ ap is_some (sym stopped);
               fault_is = rw stopped h.fault_is;
@@ -180,12 +180,12 @@ module _ (image : Image) (world : World) (formed : Formed image) (sound : Sound 
           ))
       | inr mem ↦ (let me : is_memory_op op ≡ false = ap is_memory_op op_is ∙ sym (memory_is_op image tok.instr) ∙ mem in
           let xs : List ℕ = listed (ports image tok.instr) o in
-          let m = fires_on image world facts s (partial_of old.slots.slots.items old.slots.spill.items) (beside ++ way_of old.way) (map (request_of image) old.asked.items) old.early.items tok.wave tok.instr tok.port tok.value h.stands
-          f f_is full (partial_of new.slots.slots.items new.slots.spill.items) g_is (listed (ports image tok.instr) o) o_are mem in
+          let m = fires_on image world facts s (partial_of old.slots.slots.items old.slots.spill) (beside ++ way_of old.way) (map (request_of image) old.asked.items) old.early.items tok.wave tok.instr tok.port tok.value h.stands
+          f f_is full (partial_of new.slots.slots.items new.slots.spill) g_is (listed (ports image tok.instr) o) o_are mem in
           let e : tokens_to (cond (is_advance_op op) (suc tok.wave) tok.wave) (result_of_op op (all_of o)) (destinations image tok.instr (selector_of op (all_of o))) ≡ sends image tok.wave tok.instr (listed (ports image tok.instr) o) (result_of image tok.instr (listed (ports image tok.instr) o)) =
           same_tokens op op_is o me in
-          let st : Stands image world (partial_of new.slots.slots.items new.slots.spill.items) (beside ++ way_of new.way) (map (request_of image) old.asked.items) old.early.items m.new =
-          sent_beside image world (partial_of new.slots.slots.items new.slots.spill.items) beside old.way new.way (sends image tok.wave tok.instr (listed (ports image tok.instr) o) (result_of image tok.instr (listed (ports image tok.instr) o)))
+          let st : Stands image world (partial_of new.slots.slots.items new.slots.spill) (beside ++ way_of new.way) (map (request_of image) old.asked.items) old.early.items m.new =
+          sent_beside image world (partial_of new.slots.slots.items new.slots.spill) beside old.way new.way (sends image tok.wave tok.instr (listed (ports image tok.instr) o) (result_of image tok.instr (listed (ports image tok.instr) o)))
           (map (request_of image) old.asked.items) old.early.items m.new (subst (SentTo old.way new.way) e (sent me)) m.stands in (
             m.new,
             m.step,
@@ -217,7 +217,7 @@ module _ (image : Image) (world : World) (formed : Formed image) (sound : Sound 
 
   module _ (tok : Token) (old : Flow) (s : State) (h : Holds image world (token_of tok ∷ beside) old s) where
     partial : Ports
-    partial = partial_of old.slots.slots.items old.slots.spill.items
+    partial = partial_of old.slots.slots.items old.slots.spill
 
     there : s.way tok.wave tok.instr tok.port ≡ Some tok.value
     there = h.stands.way_from tok.wave tok.instr tok.port tok.value (inl (refl, refl, refl, refl))
@@ -238,7 +238,7 @@ module _ (image : Image) (world : World) (formed : Formed image) (sound : Sound 
     not_held (Some u) e = absurd (let f : Some tok.value ≡ None = sym there ∙ h.stands.fit.one tok.wave tok.instr tok.port u e in cc)
 
     -- and has no token
-    pub arrival_free : partial_of old.slots.slots.items old.slots.spill.items tok.wave tok.instr tok.port ≡ None
+    pub arrival_free : partial_of old.slots.slots.items old.slots.spill tok.wave tok.instr tok.port ≡ None
     arrival_free = sym (h.stands.held tok.wave tok.instr tok.port unfired) ∙ not_held (s.held tok.wave tok.instr tok.port) refl
 
     few_ports : (op : Op) → ports_of op ≤ 3
@@ -266,10 +266,10 @@ module _ (image : Image) (world : World) (formed : Formed image) (sound : Sound 
         let same : q ≡ tok.port = omega arith in
         ap (s.held tok.wave tok.instr) same ∙ not_held (s.held tok.wave tok.instr tok.port) refl
 
-    single_cleared : ports image tok.instr ≡ 1 → (a b q : ℕ) → partial_of old.slots.slots.items old.slots.spill.items a b q ≡ cleared tok.wave tok.instr (with_at tok.wave tok.instr tok.port (Some tok.value) (partial_of old.slots.slots.items old.slots.spill.items)) a b q
-    single_cleared one a b q = elim (cleared_cases tok.wave tok.instr (with_at tok.wave tok.instr tok.port (Some tok.value) (partial_of old.slots.slots.items old.slots.spill.items)) a b q) [
+    single_cleared : ports image tok.instr ≡ 1 → (a b q : ℕ) → partial_of old.slots.slots.items old.slots.spill a b q ≡ cleared tok.wave tok.instr (with_at tok.wave tok.instr tok.port (Some tok.value) (partial_of old.slots.slots.items old.slots.spill)) a b q
+    single_cleared one a b q = elim (cleared_cases tok.wave tok.instr (with_at tok.wave tok.instr tok.port (Some tok.value) (partial_of old.slots.slots.items old.slots.spill)) a b q) [
       | inl k ↦ rw (← k.0.wave, ← k.0.instr) (sym (h.stands.held tok.wave tok.instr q unfired) ∙ held_below q (s.held tok.wave tok.instr q) refl one) ∙ sym k.1
-      | inr k ↦ (elim (with_at_cases tok.wave tok.instr tok.port (Some tok.value) (partial_of old.slots.slots.items old.slots.spill.items) a b q) [
+      | inr k ↦ (elim (with_at_cases tok.wave tok.instr tok.port (Some tok.value) (partial_of old.slots.slots.items old.slots.spill) a b q) [
         | inl m ↦ absurd (k.0 (record { wave = m.0.wave; instr = m.0.instr }))
         | inr m ↦ sym m.1
       ]) ∙ sym k.1
@@ -278,8 +278,8 @@ module _ (image : Image) (world : World) (formed : Formed image) (sound : Sound 
     single_port : ports image tok.instr ≡ 1 → tok.port ≡ 0
     single_port one = let p : tok.port < ports image tok.instr = arrival_port in omega arith
 
-    here : with_at tok.wave tok.instr tok.port (Some tok.value) (partial_of old.slots.slots.items old.slots.spill.items) tok.wave tok.instr tok.port ≡ Some tok.value
-    here = with_at_same tok.wave tok.instr tok.port (Some tok.value) (partial_of old.slots.slots.items old.slots.spill.items)
+    here : with_at tok.wave tok.instr tok.port (Some tok.value) (partial_of old.slots.slots.items old.slots.spill) tok.wave tok.instr tok.port ≡ Some tok.value
+    here = with_at_same tok.wave tok.instr tok.port (Some tok.value) (partial_of old.slots.slots.items old.slots.spill)
 
     pub single_fires : (new : Flow) → ports image tok.instr ≡ 1 → new.slots ≡ old.slots →
         (op : Op) → op ≡ (instr_at image tok.instr).op →
@@ -289,11 +289,11 @@ module _ (image : Image) (world : World) (formed : Formed image) (sound : Sound 
         (is_memory_op op ≡ false → SentTo old.way new.way (tokens_to (cond (is_advance_op op) (suc tok.wave) tok.wave) (result_of_op op (tok.value ∷ 0 ∷ 0 ∷ [])) (destinations image tok.instr (selector_of op (tok.value ∷ 0 ∷ 0 ∷ []))))) →
         (t : State) × Step image s (Match tok.wave tok.instr tok.port) t × Holds image world beside new t
     single_fires new one slots op op_is early chain stopped memory fired asked not_sent not_asked sent =
-        let f : Ports = with_at tok.wave tok.instr tok.port (Some tok.value) (partial_of old.slots.slots.items old.slots.spill.items) in
-        let e : with_at tok.wave tok.instr tok.port (Some tok.value) (partial_of old.slots.slots.items old.slots.spill.items) tok.wave tok.instr 0 ≡ Some tok.value = ap (λ (q : ℕ). with_at tok.wave tok.instr tok.port (Some tok.value) (partial_of old.slots.slots.items old.slots.spill.items) tok.wave tok.instr q) (sym (single_port one)) ∙ here in
-        arrived_fires tok old new s h (with_at tok.wave tok.instr tok.port (Some tok.value) (partial_of old.slots.slots.items old.slots.spill.items)) (λ a b q. refl)
-        (subst (λ (n : ℕ). is_full (with_at tok.wave tok.instr tok.port (Some tok.value) (partial_of old.slots.slots.items old.slots.spill.items)) tok.wave tok.instr n ≡ true) (sym one) (ap (λ (o : Option ℕ). has o && true) e))
-        (λ a b q. ap (λ (x : Slots). partial_of x.slots.items x.spill.items a b q) slots ∙ single_cleared one a b q)
+        let f : Ports = with_at tok.wave tok.instr tok.port (Some tok.value) (partial_of old.slots.slots.items old.slots.spill) in
+        let e : with_at tok.wave tok.instr tok.port (Some tok.value) (partial_of old.slots.slots.items old.slots.spill) tok.wave tok.instr 0 ≡ Some tok.value = ap (λ (q : ℕ). with_at tok.wave tok.instr tok.port (Some tok.value) (partial_of old.slots.slots.items old.slots.spill) tok.wave tok.instr q) (sym (single_port one)) ∙ here in
+        arrived_fires tok old new s h (with_at tok.wave tok.instr tok.port (Some tok.value) (partial_of old.slots.slots.items old.slots.spill)) (λ a b q. refl)
+        (subst (λ (n : ℕ). is_full (with_at tok.wave tok.instr tok.port (Some tok.value) (partial_of old.slots.slots.items old.slots.spill)) tok.wave tok.instr n ≡ true) (sym one) (ap (λ (o : Option ℕ). has o && true) e))
+        (λ a b q. ap (λ (x : Slots). partial_of x.slots.items x.spill a b q) slots ∙ single_cleared one a b q)
         op op_is (record { first = tok.value; second = 0; third = 0 })
-        (subst (λ (n : ℕ). listed n (record { first = tok.value; second = 0; third = 0 }) ≡ gather (with_at tok.wave tok.instr tok.port (Some tok.value) (partial_of old.slots.slots.items old.slots.spill.items)) tok.wave tok.instr 0 n) (sym one) (ap (λ (o : Option ℕ). or_else o 0 ∷ []) (sym e)))
+        (subst (λ (n : ℕ). listed n (record { first = tok.value; second = 0; third = 0 }) ≡ gather (with_at tok.wave tok.instr tok.port (Some tok.value) (partial_of old.slots.slots.items old.slots.spill)) tok.wave tok.instr 0 n) (sym one) (ap (λ (o : Option ℕ). or_else o 0 ∷ []) (sym e)))
         early chain stopped memory fired asked not_sent not_asked sent

@@ -13,12 +13,13 @@ use Rattle.core_law.specs.Core.{State, Event, Match, Issue, Step, IsSent, IsNext
 use Rattle.core_run.specs.Stands.{Request, HasRequest, Stands}
 use Rattle.core_law.proofs.FromSound.{facts_of}
 use Rattle.core_law.proofs.PortsThere.{ports_there}
-use Rattle.core_run.proofs.Moving.{stands_reordered, to_front, at_rest}
+use Rattle.core_run.proofs.Moving.{stands_alike, stands_reordered, to_front, at_rest}
 use Rattle.core_run.specs.declared.token.Token.{Token}
 use Rattle.core_run.specs.declared.token.Asked.{Asked}
+use Rattle.core_run.specs.declared.slots.Slot.{Slot}
 use Rattle.core_run.specs.declared.way.Way.{Way}
 use Rattle.core_run.specs.declared.flow.Flow.{Flow}
-use Rattle.core_run.specs.Partial.{partial_of, listed}
+use Rattle.core_run.specs.Partial.{partial_of, slotted, first_some, listed}
 use Rattle.core_run.specs.Ways.{token_of, way_of, TakenFrom}
 use Rattle.core_run.specs.Chains.{chain_of, next_flag, may_flag}
 use Rattle.core_run.specs.Flows.{request_of, Holds, Going, GoingBeside, Leads, NoneMay, SameParts, Reaches, stays, steps, Follows, no_asked}
@@ -59,7 +60,8 @@ out_same o old new e h = record {
 -- the same parts stand for the same
 pub same_holds : (image : Image) (world : World) (taken : List plain.Token) (a b : Flow) (s : State) → SameParts a b → Holds image world taken a s → Holds image world taken b s
 same_holds image world taken a b s e h = record {
-  stands = rw (e.slots, e.spill, e.now, e.later, e.asked, e.early) h.stands;
+  stands = rw (e.now, e.later, e.asked, e.early) (stands_alike image world (partial_of a.slots.slots.items a.slots.spill) (partial_of b.slots.slots.items b.slots.spill) (taken ++ way_of a.way) (map (request_of image) a.asked.items) a.early.items s
+      (λ w i p. ap (λ (slots : List Slot). partial_of slots b.slots.spill w i p) e.slots ∙ ap (first_some (slotted a.slots.slots.items w i p)) (e.spill w i p)) h.stands);
   chain_is = h.chain_is ∙ ap chain_of (sym e.chain);
   stopped_is = h.stopped_is ∙ ap is_some (sym e.fault);
   fault_is = rw e.fault h.fault_is;
@@ -83,7 +85,7 @@ taken_way image world old new tok f asked early s (inr e) st =
 pub taken_holds : (image : Image) (world : World) (old new : Flow) (tok : Token) (s : State) → TakenFrom old.way new.way tok → new.slots ≡ old.slots → new.asked ≡ old.asked → new.early ≡ old.early → new.chain ≡ old.chain → new.fault ≡ old.fault → new.memory ≡ old.memory → new.fired ≡ old.fired →
     Holds image world [] old s → Holds image world (token_of tok ∷ []) new s
 taken_holds image world old new tok s taken slots asked early chain stopped memory fired h = record {
-  stands = rw (slots, asked, early) (taken_way image world old.way new.way tok (partial_of old.slots.slots.items old.slots.spill.items) (map (request_of image) old.asked.items) old.early.items s taken h.stands);
+  stands = rw (slots, asked, early) (taken_way image world old.way new.way tok (partial_of old.slots.slots.items old.slots.spill) (map (request_of image) old.asked.items) old.early.items s taken h.stands);
   chain_is = h.chain_is ∙ ap chain_of (sym chain);
   stopped_is = h.stopped_is ∙ ap is_some (sym stopped);
   fault_is = rw stopped h.fault_is;
@@ -124,8 +126,8 @@ none_issuable image world taken flow s h none w i xs has may =
     both_ways _ (none r.0 r.1) (flagged image s.issued (chain_of flow.chain) s.stopped (slice_index_or flow.asked.items r.0 no_asked) m2)
 
 pub rests : (image : Image) (world : World) (flow : Flow) (s : State) → Formed image → Sound image → Holds image world [] flow s → way_of flow.way ≡ [] → NoneMay image flow → Rest image s
-rests image world flow s formed sound h empty none = at_rest image world (facts_of image world (ports_there image formed) sound) s (partial_of flow.slots.slots.items flow.slots.spill.items) (map (request_of image) flow.asked.items) flow.early.items
-    (subst (λ (ws : List plain.Token). Stands image world (partial_of flow.slots.slots.items flow.slots.spill.items) ws (map (request_of image) flow.asked.items) flow.early.items s) empty h.stands)
+rests image world flow s formed sound h empty none = at_rest image world (facts_of image world (ports_there image formed) sound) s (partial_of flow.slots.slots.items flow.slots.spill) (map (request_of image) flow.asked.items) flow.early.items
+    (subst (λ (ws : List plain.Token). Stands image world (partial_of flow.slots.slots.items flow.slots.spill) ws (map (request_of image) flow.asked.items) flow.early.items s) empty h.stands)
     (none_issuable image world [] flow s h none)
 
 pub none_enabled : (image : Image) (world : World) (taken : List plain.Token) (flow : Flow) (s : State) → Holds image world taken flow s → NoneMay image flow → (w i : ℕ) → Enabled image s (Issue w i) → ⊥

@@ -194,7 +194,7 @@ module _ (image : Image) (world : World) (formed : Formed image) (sound : Sound 
   xs = listed (ports image a.instr) a.operands
 
   abbrev partial : Ports
-  partial = partial_of old.slots.slots.items old.slots.spill.items
+  partial = partial_of old.slots.slots.items old.slots.spill
 
   mixed : AlikeBoth (map (request_of image) old.asked.items) (request_of image a ∷ rest)
   mixed = taken_out image old.asked.items k a l a_is

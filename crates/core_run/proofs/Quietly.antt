@@ -116,7 +116,7 @@ longer k ks e = let l : length (k ∷ ks) ≡ length ks = ap length e in omega a
 
 module _ (image : Image) (world : World) (formed : Formed image) (sound : Sound image) (taken : List plain.Token) (flow : Flow) (s : State) (h : Holds image world taken flow s) (w i p v : ℕ) (on_way : s.way w i p ≡ Some v) where
   pub full_is : is_full (arrived s w i p v).held w i (ports image i) ≡ fills image flow.slots (record { wave = w; instr = i; port = p; value = v })
-  full_is = full_agree (arrived s w i p v).held (with_at w i p (Some v) (partial_of flow.slots.slots.items flow.slots.spill.items)) w i (ports image i)
+  full_is = full_agree (arrived s w i p v).held (with_at w i p (Some v) (partial_of flow.slots.slots.items flow.slots.spill)) w i (ports image i)
       (λ q. ap (λ (o : Option ℕ). cond (same_place w i p w i q) (Some v) o) (h.stands.held w i q (way_unfired image world (facts_of image world (ports_there image formed) sound) s h.stands.fit w i p v on_way)))
 
   waits_fired : fills image flow.slots (record { wave = w; instr = i; port = p; value = v }) ≡ false → (matched image s w i p v).fired ≡ s.fired

@@ -1,6 +1,7 @@
 -- Room for what is left to happen.
 use Rattle.std.proofs.Common.{ℕ, suc, ◌+◌, ◌≡◌, ◌≤◌, true, false, [], ◌∷◌, ◌++◌, Vec, Global, vec_len, vec_capacity, ap, inl, inr, arith}
 use Rattle.std.proofs.lemmas.Bool.{cases_Bool}
+use Rattle.std.specs.HashMap.{spare}
 use Rattle.ws_isa.specs.declared.instr.Op.{Op}
 use Rattle.ws_isa.specs.Image.{is_memory_op}
 use Rattle.core_run.specs.declared.token.Asked.{Asked}
@@ -21,8 +22,7 @@ pub room_sent : (old new : Flow) (k n : ℕ) → k ≤ 8 → new.slots ≡ old.s
     vec_len new.way.now + vec_len new.way.later ≡ vec_len old.way.now + vec_len old.way.later + k → vec_capacity new.way.now ≡ vec_capacity old.way.now → vec_capacity new.way.later ≡ vec_capacity old.way.later →
     Room old 0 (suc n) → Room new 0 n
 room_sent old new k n l slots asked early memory both now later r =
-    let ls : vec_len new.slots.spill ≡ vec_len old.slots.spill = ap (λ (s : Slots). vec_len s.spill) slots in
-    let cs : vec_capacity new.slots.spill ≡ vec_capacity old.slots.spill = ap (λ (s : Slots). vec_capacity s.spill) slots in
+    let cs : spare new.slots.spill ≡ spare old.slots.spill = ap (λ (s : Slots). spare s.spill) slots in
     let la : vec_len new.asked ≡ vec_len old.asked = ap (λ (v : Vec Asked Global). vec_len v) asked in
     let ca : vec_capacity new.asked ≡ vec_capacity old.asked = ap (λ (v : Vec Asked Global). vec_capacity v) asked in
     let le : vec_len new.early ≡ vec_len old.early = ap (λ (v : Vec ℕ Global). vec_len v) early in
@@ -37,9 +37,9 @@ room_sent old new k n l slots asked early memory both now later r =
     }
 
 -- the token in hand was put down, or is forgotten
-pub room_put : (old new : Flow) (n m : ℕ) → n ≡ m → vec_len new.slots.spill ≤ vec_len old.slots.spill + 1 → vec_capacity new.slots.spill ≡ vec_capacity old.slots.spill → new.way ≡ old.way → new.asked ≡ old.asked → new.early ≡ old.early → new.memory ≡ old.memory →
+pub room_put : (old new : Flow) (n m : ℕ) → n ≡ m → spare old.slots.spill ≤ spare new.slots.spill + 1 → new.way ≡ old.way → new.asked ≡ old.asked → new.early ≡ old.early → new.memory ≡ old.memory →
     Room old 1 n → Room new 0 m
-room_put old new n m nm ls cs way asked early memory r = rw (way, asked, early, memory) (record {
+room_put old new n m nm cs way asked early memory r = rw (way, asked, early, memory) (record {
   now = omega (arith, r.now);
   later = omega (arith, r.later);
   spill = omega (arith, r.spill);
@@ -54,8 +54,7 @@ pub room_issued : (old new : Flow) (k n : ℕ) → k ≤ 8 → new.slots ≡ old
     vec_len new.way.now + vec_len new.way.later ≡ vec_len old.way.now + vec_len old.way.later + k → vec_capacity new.way.now ≡ vec_capacity old.way.now → vec_capacity new.way.later ≡ vec_capacity old.way.later →
     Room old 0 n → Room new 0 n
 room_issued old new k n l slots la ca le ce memory both now later r =
-    let ls : vec_len new.slots.spill ≡ vec_len old.slots.spill = ap (λ (s : Slots). vec_len s.spill) slots in
-    let cs : vec_capacity new.slots.spill ≡ vec_capacity old.slots.spill = ap (λ (s : Slots). vec_capacity s.spill) slots in
+    let cs : spare new.slots.spill ≡ spare old.slots.spill = ap (λ (s : Slots). spare s.spill) slots in
     record {
       now = omega (arith, r.now);
       later = omega (arith, r.later);

@@ -7,7 +7,7 @@ use Rattle.core_run.specs.Flows.{Room, SameParts}
 pub same_parts : (a : Flow) → SameParts a a
 same_parts a = record {
   slots = refl;
-  spill = refl;
+  spill = λ w i p. refl;
   now = refl;
   later = refl;
   asked = refl;
@@ -24,7 +24,7 @@ pub room_taken : (old new : Flow) (n : ℕ) → new.slots ≡ old.slots → new.
     ((m : ℕ) → m ≤ vec_capacity old.way.now → m ≤ vec_capacity old.way.later → (m ≤ vec_capacity new.way.now) × (m ≤ vec_capacity new.way.later)) →
     Room old 0 n → Room new 1 n
 room_taken old new n slots asked early memory fewer caps r =
-    let f = caps (vec_len old.way.now + vec_len old.way.later + vec_len old.slots.spill + 0 + 8 * (vec_len old.asked + n)) r.now r.later in
+    let f = caps (vec_len old.way.now + vec_len old.way.later + 0 + 8 * (vec_len old.asked + n)) r.now r.later in
     rw (slots, asked, early, memory) (record {
       now = omega (arith, f.0);
       later = omega (arith, f.1);

@@ -1,5 +1,5 @@
 -- The core's steps, event by event.
-use Rattle.std.proofs.Common.{ℕ, ◌≡◌, List, [], ◌∷◌, ◌++◌, map, is_some, slice_index_or, sym, ap, ◌∙◌, subst, inl, inr, true, false, ◌⊎◌, ◌<◌, length}
+use Rattle.std.proofs.Common.{ℕ, ◌≡◌, List, [], ◌∷◌, ◌++◌, map, is_some, slice_index_or, sym, ap, ◌∙◌, subst, inl, inr, true, false, ◌⊎◌, ◌<◌, length, Result, Ok, Err, OnOk, OnErr}
 use Rattle.std.proofs.lemmas.Bool.{both_ways}
 use Rattle.ws_words.specs.Outside.{World}
 use Rattle.ws_isa.specs.Image as plain
@@ -8,7 +8,7 @@ use Rattle.ws_isa.specs.Formed.{Formed}
 use Rattle.image_walk.specs.Walk.{Ports}
 use Rattle.image_walk.specs.Sound.{Sound}
 use Rattle.core_law.specs.Core as law
-use Rattle.core_law.specs.Core.{State, Match, Issue, Step, MatchStep, Issuable, Ready, Enabled, IsSent}
+use Rattle.core_law.specs.Core.{State, Event, Match, Issue, Step, MatchStep, Issuable, Ready, Enabled, IsSent}
 use Rattle.core_run.specs.declared.token.Token.{Token}
 use Rattle.core_run.specs.declared.token.Asked.{Asked}
 use Rattle.core_run.specs.declared.way.Way.{Way}
@@ -20,13 +20,25 @@ use Rattle.core_run.specs.Places.{image_of}
 use Rattle.core_run.specs.Chains.{chain_of, may_flag}
 use Rattle.core_run.specs.Ways.{token_of, way_of, NoneAt, TakenAt}
 use Rattle.core_run.specs.Flows.{request_of, Holds, Going, GoingBeside, Leads, SameParts, NotReady, NoneMay, no_asked}
-use Rattle.core_run.specs.Cores.{IsAt, Runs, Makes, NotEnabled, IsEnabled, IsAtRest}
+use Rattle.core_run.specs.Cores.{Keeps, IsAt, Runs, Makes, NotEnabled, IsEnabled, IsAtRest}
 use Rattle.core_run.proofs.Moving.{Reordered, stands_reordered, to_front}
 use Rattle.core_run.proofs.Found.{append_on}
 use Rattle.core_run.proofs.Driving.{same_holds, has_at, flagged, none_enabled, alone}
 use Rattle.core_run.proofs.Bounds.{has_asked}
 use Rattle.core_run.proofs.Issuing as I
 use Rattle.core_run.proofs.Issuing.{or_any}
+
+-- the same parts stand for the same
+pub kept_same : (core : Core) (flow : Flow) → SameParts core.flow flow → Keeps core (record { program = core.program; flow = flow })
+kept_same core flow same image world s at = record { program = at.program; image_is = at.image_is; formed = at.formed; sound = at.sound; holds = same_holds image world [] core.flow flow s same at.holds }
+
+pub runs_same : (core : Core) (flow : Flow) → SameParts core.flow flow → Runs core → Runs (record { program = core.program; flow = flow })
+runs_same core flow same r = record { image = r.image; world = r.world; state = r.state; at = kept_same core flow same r.image r.world r.state r.at }
+
+-- an event was made, or nothing
+pub runs_on : {A E : Type 0} (event : Event) (old new : Core) (r : Result A E) → Runs old → OnOk r (Makes event old new) → OnErr r (Keeps old new) → Runs new
+runs_on event old new (Ok x) r made kept = let m = made r.image r.world r.state r.at in record { image = r.image; world = r.world; state = m.0; at = m.2 }
+runs_on event old new (Err x) r made kept = record { image = r.image; world = r.world; state = r.state; at = kept r.image r.world r.state r.at }
 
 pub not_on_way : (core : Core) (w i p : ℕ) → NoneAt (way_of core.flow.way) w i p → NotEnabled (Match w i p) core
 not_on_way core w i p none image world s at e = none e.0 (at.holds.stands.way_to w i p e.0 e.1)
@@ -43,7 +55,7 @@ taken_way image world old new w i p tok f asked early s e st =
 taken_at : (image : Image) (world : World) (old new : Flow) (w i p : ℕ) (tok : Token) (s : State) → TakenAt old.way new.way w i p tok → new.slots ≡ old.slots → new.asked ≡ old.asked → new.early ≡ old.early → new.chain ≡ old.chain → new.fault ≡ old.fault → new.memory ≡ old.memory → new.fired ≡ old.fired →
     Holds image world [] old s → Holds image world (token_of tok ∷ []) new s
 taken_at image world old new w i p tok s taken slots asked early chain stopped memory fired h = record {
-  stands = rw (slots, asked, early) (taken_way image world old.way new.way w i p tok (partial_of old.slots.slots.items old.slots.spill.items) (map (request_of image) old.asked.items) old.early.items s taken h.stands);
+  stands = rw (slots, asked, early) (taken_way image world old.way new.way w i p tok (partial_of old.slots.slots.items old.slots.spill) (map (request_of image) old.asked.items) old.early.items s taken h.stands);
   chain_is = h.chain_is ∙ ap chain_of (sym chain);
   stopped_is = h.stopped_is ∙ ap is_some (sym stopped);
   fault_is = rw stopped h.fault_is;

@@ -14,7 +14,7 @@ use Rattle.core_run.specs.Flows.{request_of, Holds, Leads}
 module _ (old mid new : Flow) (way : way_of new.way ≡ way_of mid.way) (slots : new.slots ≡ mid.slots) (asked : new.asked ≡ mid.asked) (early : new.early ≡ mid.early) (chain : new.chain ≡ mid.chain) (stopped : new.fault ≡ mid.fault) (memory : new.memory ≡ mid.memory) (fired : new.fired ≡ mid.fired) where
   holds_turned : (image : Image) (world : World) (beside : List plain.Token) (s : State) → Holds image world beside mid s → Holds image world beside new s
   holds_turned image world beside s h = record {
-    stands = subst (λ (ts : List plain.Token). Stands image world (partial_of new.slots.slots.items new.slots.spill.items) (beside ++ ts) (map (request_of image) new.asked.items) new.early.items s) (sym way)
+    stands = subst (λ (ts : List plain.Token). Stands image world (partial_of new.slots.slots.items new.slots.spill) (beside ++ ts) (map (request_of image) new.asked.items) new.early.items s) (sym way)
         (rw (slots, asked, early) h.stands);
     chain_is = h.chain_is ∙ ap chain_of (sym chain);
     stopped_is = h.stopped_is ∙ ap is_some (sym stopped);

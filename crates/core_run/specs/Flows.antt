@@ -1,5 +1,6 @@
 -- The state for which a run's parts stand.
 use Rattle.std.specs.Prelude.{◌≡◌, ◌<◌, ◌≤◌, ◌+◌, ◌*◌, ◌⊎◌, ℕ, cond, List, [], ◌∷◌, ◌++◌, length, map, true, false, slice_index_or, Option, Some, None, is_some, vec_len, vec_capacity}
+use Rattle.std.specs.HashMap.{spare}
 use Rattle.ws_words.specs.Outside.{World}
 use Rattle.ws_isa.specs.Image as plain
 use Rattle.ws_isa.specs.Image.{Image, ports, array_at}
@@ -11,7 +12,7 @@ use Rattle.core_run.specs.Stands.{Request, Stands}
 use Rattle.core_run.specs.declared.token.Asked.{Asked}
 use Rattle.core_run.specs.declared.token.Operands.{Operands}
 use Rattle.core_run.specs.declared.flow.Flow.{Flow}
-use Rattle.core_run.specs.Partial.{partial_of, listed}
+use Rattle.core_run.specs.Partial.{partial_of, spilled, listed}
 use Rattle.core_run.specs.Chains.{chain_of, may_flag}
 use Rattle.core_run.specs.Ways.{way_of}
 use Rattle.core_run.specs.Outdoors.{OutIs, Space, SameOut}
@@ -37,7 +38,7 @@ FaultIs image world (Some array) = IsFault image world array
 -- these parts, and tokens that were taken off the way, stand for the state
 pub record Holds (image : Image) (world : World) (taken : List plain.Token) (flow : Flow)
     (s : State) : Type 0 where
-  pub stands : Stands image world (partial_of flow.slots.slots.items flow.slots.spill.items)
+  pub stands : Stands image world (partial_of flow.slots.slots.items flow.slots.spill)
       (taken ++ way_of flow.way) (map (request_of image) flow.asked.items) flow.early.items s
   pub chain_is : s.chain ≡ chain_of flow.chain
   pub stopped_is : s.stopped ≡ is_some flow.fault
@@ -92,14 +93,14 @@ NoneMay image flow = (k : ℕ) → k < length flow.asked.items →
 -- so many tokens may be in flight, with some in hand and so many more firings: an instance sends at
 -- most 8
 abbrev pub flight : Flow → ℕ → ℕ → ℕ
-flight flow hand more = vec_len flow.way.now + vec_len flow.way.later + vec_len flow.slots.spill
-    + hand + 8 * (vec_len flow.asked + more)
+flight flow hand more =
+    vec_len flow.way.now + vec_len flow.way.later + hand + 8 * (vec_len flow.asked + more)
 
 -- there is room for some tokens in hand, so many more firings, and all that comes of them
 pub record Room (flow : Flow) (hand more : ℕ) : Type 0 where
   pub now : flight flow hand more ≤ vec_capacity flow.way.now
   pub later : flight flow hand more ≤ vec_capacity flow.way.later
-  pub spill : flight flow hand more ≤ vec_capacity flow.slots.spill
+  pub spill : flight flow hand more ≤ spare flow.slots.spill
   pub asked : vec_len flow.asked + more ≤ vec_capacity flow.asked
   pub early : vec_len flow.early + (vec_len flow.asked + more) ≤ vec_capacity flow.early
   pub memory : Space flow.memory (vec_len flow.asked + more)
@@ -118,7 +119,7 @@ weight flow =
 -- the same parts, in other places of memory
 pub record SameParts (old new : Flow) : Type 0 where
   pub slots : new.slots.slots.items ≡ old.slots.slots.items
-  pub spill : new.slots.spill.items ≡ old.slots.spill.items
+  pub spill : (w i p : ℕ) → spilled new.slots.spill w i p ≡ spilled old.slots.spill w i p
   pub now : new.way.now.items ≡ old.way.now.items
   pub later : new.way.later.items ≡ old.way.later.items
   pub asked : new.asked.items ≡ old.asked.items

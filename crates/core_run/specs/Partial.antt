@@ -1,8 +1,10 @@
 -- The tokens that have arrived at instances that aren't full: each instruction has a slot for one
 -- instance, and others are spilled.
-use Rattle.std.specs.Prelude.{ℕ, zero, suc, Bool, cond, ◌&&◌, eqb, List, [], ◌∷◌, Option, Some, None, is_none, slice_index_or}
+use Rattle.std.specs.Prelude.{ℕ, zero, suc, Bool, cond, ◌&&◌, ◌==◌, eqb, List, [], ◌∷◌, Option, Some, None, is_none, unwrap_or, slice_index_or}
+use Rattle.std.specs.declared.hash.FoldHasher.{FoldHasher}
+use Rattle.std.specs.declared.hash.BuildHasherDefault.{BuildHasherDefault}
+use Rattle.std.specs.HashMap.{get, HashMap}
 use Rattle.image_walk.specs.Walk.{Ports}
-use Rattle.core_run.specs.declared.token.Token.{Token}
 use Rattle.core_run.specs.declared.token.Operands.{Operands}
 use Rattle.core_run.specs.declared.slots.Slot.{Slot}
 
@@ -35,24 +37,24 @@ slot_at slots i = slice_index_or slots i empty_slot
 abbrev pub slotted : List Slot → Ports
 slotted slots w i p = in_slot (slot_at slots i) w p
 
-abbrev pub is_token_at : Token → ℕ → ℕ → ℕ → Bool
-is_token_at t w i p = eqb t.wave w && (eqb t.instr i && eqb t.port p)
+-- the tokens of instances, by wave number and instruction
+abbrev pub Spill : Type 0
+Spill = HashMap (ℕ × ℕ) Slot (BuildHasherDefault FoldHasher)
 
--- the first of these tokens that is at a port of an instance
-abbrev pub spilled : List Token → Ports
-spilled [] w i p = None
-spilled (t ∷ ts) w i p = cond (is_token_at t w i p) (Some t.value) (spilled ts w i p)
+-- those of one instance
+abbrev pub spilled_at : Spill → ℕ → ℕ → Slot
+spilled_at spill w i =
+    unwrap_or (get (λ a b. (a.0 == b.0) && (a.1 == b.1)) spill (w, i)) empty_slot
 
--- the place of the first of these tokens that is at an instance, or the end
-abbrev pub key_place : ℕ → ℕ → List Token → ℕ
-key_place w i [] = 0
-key_place w i (t ∷ ts) = cond (eqb t.wave w && eqb t.instr i) 0 (suc (key_place w i ts))
+-- the tokens that are spilled
+abbrev pub spilled : Spill → Ports
+spilled spill w i p = port_of (spilled_at spill w i) p
 
 abbrev pub first_some : Option ℕ → Option ℕ → Option ℕ
 first_some (Some x) o = Some x
 first_some None o = o
 
-abbrev pub partial_of : List Slot → List Token → Ports
+abbrev pub partial_of : List Slot → Spill → Ports
 partial_of slots spill w i p = first_some (slotted slots w i p) (spilled spill w i p)
 
 -- the operands of an instance with so many ports

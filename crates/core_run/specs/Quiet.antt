@@ -28,7 +28,7 @@ OnlyFires core = (image : Image) (world : World) (s : State) → IsAt image worl
 abbrev pub fills : Image → Slots → plain.Token → Bool
 fills image slots t =
     is_full (with_at t.wave t.instr t.port (Some t.value)
-    (partial_of slots.slots.items slots.spill.items)) t.wave t.instr (ports image t.instr)
+    (partial_of slots.slots.items slots.spill)) t.wave t.instr (ports image t.instr)
 
 abbrev pub AllFill : Image → Slots → List plain.Token → Type 0
 AllFill image slots [] = Unit {0}

@@ -92,7 +92,7 @@ impl<'w> Flow<'w> {
             Some(flight) => {
                 self.way.now.reserve(flight - self.way.now.len())?;
                 self.way.later.reserve(flight - self.way.later.len())?;
-                self.slots.spill.reserve(flight - self.slots.spill.len())?;
+                self.slots.reserve(flight)?;
                 self.early.reserve(asked)?;
                 self.memory.reserve(asked)?;
                 self.asked.reserve(more)?;
@@ -102,14 +102,14 @@ impl<'w> Flow<'w> {
         }
     }
 
-    // How many tokens there may be on the way and at ports, with so many more firings.
+    // How many tokens there may be in flight, with so many more firings.
     fn flight(&self, more: usize) -> Option<usize>
         ensures count { IfSome result (λ count. count ≡ flight self.now 0 more) }
         ensures none { IfNone result (2 ^ 64 ≤ flight self.now 0 more) }
     {
         let sent = self.asked.len().checked_add(more)?.checked_mul(8)?;
         let way = self.way.now.len().checked_add(self.way.later.len())?;
-        way.checked_add(self.slots.spill.len())?.checked_add(sent)
+        way.checked_add(sent)
     }
 
     /// The place of a request that may be issued, if there is one.

@@ -56,7 +56,7 @@ pub fn fills(program: &Program<'_>, slots: &Slots, token: Token) -> bool
 // Whether the instance of a token has all of so many ports with it.
 fn is_filled(slots: &Slots, token: Token, ports: u8) -> bool
     ensures { result ≡ is_full (with_at token.wave token.instr token.port (Some token.value)
-        (partial_of slots.now.slots.items slots.now.spill.items)) token.wave token.instr ports }
+        (partial_of slots.now.slots.items slots.now.spill)) token.wave token.instr ports }
 {
     for port in 0..ports {
         if !has_with(slots, token, port) {
@@ -70,7 +70,7 @@ fn is_filled(slots: &Slots, token: Token, ports: u8) -> bool
 #[tactic(auto, using(crate::proofs::Quietly::has_at_port))]
 fn has_with(slots: &Slots, token: Token, port: u8) -> bool
     ensures { result ≡ has (with_at token.wave token.instr token.port (Some token.value)
-        (partial_of slots.now.slots.items slots.now.spill.items) token.wave token.instr port) }
+        (partial_of slots.now.slots.items slots.now.spill) token.wave token.instr port) }
 {
     token.port == port || slots.at(token.wave, token.instr, port).is_some()
 }

@@ -1,13 +1,15 @@
 //! Where tokens wait for their partners.
 
-ghost use Rattle.std.specs.Prelude.{◌≡◌, ◌<◌, ◌≤◌, ℕ, ◌+◌, [], Option, Some, None, length, is_some, ◌&&◌, ◌==◌, not, vec_len, vec_capacity, replicate, IfOk, MatchOption, true, false};
+ghost use Rattle.std.specs.Prelude.{◌≡◌, ◌<◌, ◌≤◌, ℕ, ◌+◌, Option, Some, None, length, is_some, ◌&&◌, ◌==◌, not, replicate, IfOk, IsOk, OnOk, MatchOption, true, false};
+ghost use Rattle.std.specs.HashMap.{IsEmpty, spare};
 ghost use Rattle.image_walk.specs.Walk.{gather};
 ghost use Rattle.core_law.specs.Core.{is_full, with_at};
 ghost use Rattle.core_run.specs.Stands.{cleared};
-ghost use Rattle.core_run.specs.Partial.{empty_slot, is_empty_slot, port_of, with_port, slot_at, slotted, spilled, partial_of, listed, key_place};
+ghost use Rattle.core_run.specs.Partial.{empty_slot, is_empty_slot, port_of, with_port, slotted, spilled, spilled_at, partial_of, listed};
 
 use crate::token::{Operands, Token};
 use std::alloc::Global;
+use std::collections::HashMap;
 use ws_words::NoMemory;
 
 /// The tokens of one instance of an instruction.
@@ -20,11 +22,11 @@ pub struct Slot {
 }
 
 /// The tokens that have arrived at instances that aren't full. Each instruction has a slot for one
-/// instance; tokens of other instances of it are spilled.
+/// instance; tokens of other instances of it are spilled, and found by wave number and instruction.
 #[derive(Drop)]
 pub struct Slots {
     pub slots: Vec<Slot>,
-    pub spill: Vec<Token>,
+    pub spill: HashMap<(u64, u32), Slot>,
 }
 
 impl Slot {
@@ -88,41 +90,51 @@ impl Slots {
     /// No tokens, for so many instructions.
     pub fn open(alloc: Global, count: usize) -> Result<Slots, NoMemory>
         ensures slots { IfOk result (λ slots. slots.slots.items ≡ replicate count empty_slot) }
-        ensures spill { IfOk result (λ slots. slots.spill.items ≡ []) }
+        ensures spill { IfOk result (λ slots. IsEmpty slots.spill) }
     {
         Ok(Slots {
             slots: vec![in alloc; Slot::empty(); count]?,
-            spill: Vec::new(alloc),
+            spill: HashMap::new(alloc),
         })
     }
 
-    /// The token at a port of an instance.
-    pub fn at(&self, wave: u64, instr: u32, port: u8) -> Option<u64>
-        ensures { result ≡ partial_of self.now.slots.items self.now.spill.items wave instr port }
+    /// Makes room for so many tokens that are spilled.
+    pub fn reserve(&mut self, tokens: usize) -> Result<(), NoMemory>
+        ensures slots { self.new.slots ≡ self.old.slots }
+        ensures spilled { (w i p : ℕ) → spilled self.new.spill w i p
+            ≡ spilled self.old.spill w i p }
+        ensures room { OnOk result (tokens ≤ spare self.new.spill) }
+        ensures kept { spare self.old.spill ≤ spare self.new.spill }
+        ensures succeeds { tokens ≤ spare self.old.spill → IsOk result }
     {
-        let slot = self.slot(instr);
-        if slot.wave == wave {
-            let held = slot.get(port);
-            if held.is_some() {
-                return held;
-            }
+        self.spill.reserve(tokens)?;
+        Ok(())
+    }
+
+    /// The token at a port of an instance.
+    #[inline(always)]
+    pub fn at(&self, wave: u64, instr: u32, port: u8) -> Option<u64>
+        ensures { result ≡ partial_of self.now.slots.items self.now.spill wave instr port }
+    {
+        let held = self.slotted(wave, instr, port);
+        if held.is_some() || self.spill.is_empty() {
+            return held;
         }
-        find(&self.spill, wave, instr, port)
+        self.spilled(wave, instr).get(port)
     }
 
     /// Puts a token at a port that has none.
     pub fn put(&mut self, token: Token)
         requires port { token.port < 3 }
-        requires free { partial_of self.old.slots.items self.old.spill.items token.wave token.instr token.port
+        requires free { partial_of self.old.slots.items self.old.spill token.wave token.instr token.port
             ≡ None }
-        requires room { vec_len self.old.spill < vec_capacity self.old.spill }
+        requires room { 0 < spare self.old.spill }
         ensures partial { (w i p : ℕ) →
-            partial_of self.new.slots.items self.new.spill.items w i p
+            partial_of self.new.slots.items self.new.spill w i p
             ≡ with_at token.wave token.instr token.port (Some token.value)
-            (partial_of self.old.slots.items self.old.spill.items) w i p }
+            (partial_of self.old.slots.items self.old.spill) w i p }
         ensures slots { length self.new.slots.items ≡ length self.old.slots.items }
-        ensures spill { vec_len self.new.spill ≤ vec_len self.old.spill + 1 }
-        ensures room { vec_capacity self.new.spill ≡ vec_capacity self.old.spill }
+        ensures room { spare self.old.spill ≤ spare self.new.spill + 1 }
     {
         let place = token.instr as usize;
         if place < self.slots.len() {
@@ -132,38 +144,41 @@ impl Slots {
                 return;
             }
         }
-        self.spill.push_reserved(token);
+        self.put_spilled(token);
     }
 
     /// Takes all tokens of an instance away.
     pub fn clear(&mut self, wave: u64, instr: u32)
         ensures partial { (w i p : ℕ) →
-            partial_of self.new.slots.items self.new.spill.items w i p
-            ≡ cleared wave instr (partial_of self.old.slots.items self.old.spill.items) w i p }
+            partial_of self.new.slots.items self.new.spill w i p
+            ≡ cleared wave instr (partial_of self.old.slots.items self.old.spill) w i p }
         ensures slots { length self.new.slots.items ≡ length self.old.slots.items }
-        ensures spill { vec_len self.new.spill ≤ vec_len self.old.spill }
-        ensures room { vec_capacity self.new.spill ≡ vec_capacity self.old.spill }
+        ensures room { spare self.old.spill ≤ spare self.new.spill }
     {
         empty_slot_of(&mut self.slots, wave, instr);
-        drop_tokens(&mut self.spill, wave, instr);
+        self.drop_spilled(wave, instr);
     }
 
     /// Whether an instance has all of its tokens.
     pub fn is_full(&self, wave: u64, instr: u32, ports: u8) -> bool
         requires { ports < 4 }
         ensures { result
-            ≡ is_full (partial_of self.now.slots.items self.now.spill.items) wave instr ports }
+            ≡ is_full (partial_of self.now.slots.items self.now.spill) wave instr ports }
     {
-        (ports < 1 || self.at(wave, instr, 0).is_some())
-            && (ports < 2 || self.at(wave, instr, 1).is_some())
-            && (ports < 3 || self.at(wave, instr, 2).is_some())
+        if ports > 2 && self.at(wave, instr, 2).is_none() {
+            return false;
+        }
+        if ports > 1 && self.at(wave, instr, 1).is_none() {
+            return false;
+        }
+        ports < 1 || self.at(wave, instr, 0).is_some()
     }
 
     /// The operands of an instance.
     pub fn operands(&self, wave: u64, instr: u32, ports: u8) -> Operands
         requires { ports < 4 }
         ensures { listed ports result
-            ≡ gather (partial_of self.now.slots.items self.now.spill.items) wave instr 0 ports }
+            ≡ gather (partial_of self.now.slots.items self.now.spill) wave instr 0 ports }
     {
         Operands {
             first: self.at(wave, instr, 0).unwrap_or(0),
@@ -172,62 +187,81 @@ impl Slots {
         }
     }
 
-    fn slot(&self, instr: u32) -> Slot
-        ensures { result ≡ slot_at self.now.slots.items instr }
+    // Puts a token with those of its instance that are spilled.
+    #[inline(never)]
+    fn put_spilled(&mut self, token: Token)
+        requires port { token.port < 3 }
+        requires room { 0 < spare self.old.spill }
+        ensures spilled { (w i p : ℕ) → spilled self.new.spill w i p
+            ≡ with_at token.wave token.instr token.port (Some token.value)
+            (spilled self.old.spill) w i p }
+        ensures slots { self.new.slots ≡ self.old.slots }
+        ensures room { spare self.old.spill ≤ spare self.new.spill + 1 }
     {
-        match self.slots.get(instr as usize) {
+        let slot = self
+            .spilled(token.wave, token.instr)
+            .with(token.wave, token.port, token.value);
+        match self.spill.insert((token.wave, token.instr), slot) {
+            Ok(_) => {}
+            Err(_) => unreachable!(),
+        }
+    }
+
+    // Takes those of an instance away.
+    fn drop_spilled(&mut self, wave: u64, instr: u32)
+        ensures spilled { (w i p : ℕ) → spilled self.new.spill w i p
+            ≡ cleared wave instr (spilled self.old.spill) w i p }
+        ensures slots { self.new.slots ≡ self.old.slots }
+        ensures room { spare self.old.spill ≤ spare self.new.spill }
+    {
+        if !self.spill.is_empty() {
+            self.remove_spilled(wave, instr);
+        }
+    }
+
+    // The same, where some are spilled.
+    #[inline(never)]
+    fn remove_spilled(&mut self, wave: u64, instr: u32)
+        ensures spilled { (w i p : ℕ) → spilled self.new.spill w i p
+            ≡ cleared wave instr (spilled self.old.spill) w i p }
+        ensures slots { self.new.slots ≡ self.old.slots }
+        ensures room { spare self.old.spill ≤ spare self.new.spill }
+    {
+        self.spill.remove(&(wave, instr));
+    }
+
+    // The tokens of an instance that are spilled.
+    #[inline(never)]
+    fn spilled(&self, wave: u64, instr: u32) -> Slot
+        ensures { result ≡ spilled_at self.now.spill wave instr }
+    {
+        match self.spill.get(&(wave, instr)) {
             Some(slot) => *slot,
             None => Slot::empty(),
         }
     }
-}
 
-// The first of these tokens that is at a port of an instance.
-fn find(tokens: &[Token], wave: u64, instr: u32, port: u8) -> Option<u64>
-    ensures { result ≡ spilled tokens.now wave instr port }
-{
-    for token in tokens {
-        if token.wave == wave && token.instr == instr && token.port == port {
-            return Some(token.value);
+    // The token at a port of an instance that its instruction's slot has. The slot isn't copied, since
+    // most often one of its ports was written just before.
+    #[inline(always)]
+    fn slotted(&self, wave: u64, instr: u32, port: u8) -> Option<u64>
+        ensures { result ≡ slotted self.now.slots.items wave instr port }
+    {
+        match self.slots.get(instr as usize) {
+            Some(slot) if slot.wave == wave => slot.get(port),
+            _ => None,
         }
     }
-    None
 }
 
 // Empties the slot of an instruction where it has an instance's tokens.
-fn empty_slot_of(slots: &mut [Slot], wave: u64, instr: u32)
-    ensures { (w i p : ℕ) → slotted slots.new w i p ≡ cleared wave instr (slotted slots.old) w i p }
+fn empty_slot_of(slots: &mut Vec<Slot>, wave: u64, instr: u32)
+    ensures slotted { (w i p : ℕ) → slotted slots.new.items w i p
+        ≡ cleared wave instr (slotted slots.old.items) w i p }
+    ensures count { length slots.new.items ≡ length slots.old.items }
 {
     let place = instr as usize;
     if place < slots.len() && slots[place].wave == wave {
         slots[place] = Slot::empty();
     }
-}
-
-// Takes those of an instance away.
-fn drop_tokens(tokens: &mut Vec<Token>, wave: u64, instr: u32)
-    ensures tokens { (w i p : ℕ) →
-        spilled tokens.new.items w i p ≡ cleared wave instr (spilled tokens.old.items) w i p }
-    ensures fewer { vec_len tokens.new ≤ vec_len tokens.old }
-    ensures room { vec_capacity tokens.new ≡ vec_capacity tokens.old }
-{
-    let mut place = find_key(tokens, wave, instr);
-    while place < tokens.len() {
-        tokens.remove(place);
-        place = find_key(tokens, wave, instr);
-    }
-}
-
-// The place of the first token of an instance, or the end.
-fn find_key(tokens: &[Token], wave: u64, instr: u32) -> usize
-    ensures { result ≡ key_place wave instr tokens.now }
-{
-    let mut place = 0;
-    while place < tokens.len() {
-        if tokens[place].wave == wave && tokens[place].instr == instr {
-            return place;
-        }
-        place += 1;
-    }
-    place
 }

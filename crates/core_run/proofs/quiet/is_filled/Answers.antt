@@ -8,7 +8,7 @@ use Rattle.core_run.proofs.Quietly.{full_more, not_full}
 use Rattle.core_run.proofs.quiet.is_filled.Goals as goal
 
 abbrev with_token : Slots → Token → Ports
-with_token slots t = with_at t.wave t.instr t.port (Some t.value) (partial_of slots.slots.items slots.spill.items)
+with_token slots t = with_at t.wave t.instr t.port (Some t.value) (partial_of slots.slots.items slots.spill)
 
 pub loop-port-preserved : goal.loop-port-preserved
 loop-port-preserved c =

@@ -4,7 +4,7 @@ use Rattle.std.proofs.lemmas.Bool.{both_ways}
 use Rattle.core_run.specs.declared.token.Asked.{Asked}
 use Rattle.core_run.specs.Flows.{asked_at, no_asked, Room}
 use Rattle.core_run.proofs.Steady.{room_less}
-use Rattle.core_run.proofs.Stepping.{not_ready, going_prepared, makes_issue}
+use Rattle.core_run.proofs.Stepping.{kept_same, not_ready, going_prepared, makes_issue}
 use Rattle.core_run.proofs.engine.Core.make_issue.Goals as goal
 
 pub returns-in-None-clause-refused : goal.returns-in-None-clause-refused
@@ -29,3 +29,6 @@ returns-then-is_err-clause-memory c = λ room.
     let less : Room c.args.self.now.flow 0 0 = room_less c.args.self.now.flow 1 0 (omega arith) room.0 in
     let ok : IsOk c.prepare.result = c.prepare.ensures.succeeds (omega arith) less in
     absurd (not_both c.prepare.result ok (sym c.is_err.ensures.value ∙ c.if-is_err.true))
+
+pub returns-then-is_err-clause-kept : goal.returns-then-is_err-clause-kept
+returns-then-is_err-clause-kept c = kept_same c.args.self.now c.prepare.new.self c.prepare.ensures.same

@@ -1,11 +1,13 @@
-use Rattle.std.proofs.Common.{[], ◌∷◌, refl}
+use Rattle.std.proofs.Common.{[], ◌∷◌, refl, sym, subst}
 use Rattle.core_law.specs.Core.{Match}
+use Rattle.core_run.specs.Cores.{IsAt}
 use Rattle.core_run.specs.Places.{image_of}
 use Rattle.core_run.specs.Ways.{token_of}
 use Rattle.core_run.proofs.Driving.{alone}
-use Rattle.core_run.proofs.Stepping.{not_on_way, same_way, going_match, makes_match}
+use Rattle.core_run.proofs.Stepping.{kept_same, not_on_way, same_way, going_match, makes_match}
 use Rattle.core_run.proofs.Turning.{leads_turned}
 use Rattle.core_run.proofs.engine.Core.make_match.Goals as goal
+use Rattle.core_run.proofs.engine.Core.make_match.Goals.{then-self-via-then-self, then-self-via-else-self+then-is_err}
 
 pub returns-then-not-has-clause-refused : goal.returns-then-not-has-clause-refused
 returns-then-not-has-clause-refused c = λ e. not_on_way c.args.self.now c.args.wave c.args.instr c.args.port (c.has.ensures c.if-not-has.true)
@@ -20,3 +22,9 @@ returns-in-Some-clause-made c = makes_match c.args.self.now c.prepare.new.self _
 
 pub returns-in-None-clause-refused : goal.returns-in-None-clause-refused
 returns-in-None-clause-refused c = λ e. not_on_way c.args.self.now c.args.wave c.args.instr c.args.port (same_way c.args.self.now.flow c.prepare.new.self c.args.wave c.args.instr c.args.port c.prepare.ensures.same c.in-None.ensures.taken.1)
+
+pub returns-then-self-clause-kept : goal.returns-then-self-clause-kept
+returns-then-self-clause-kept c = λ image world s at. elim c.then-self.branch [
+  | then-self-via-then-self w ↦ subst (λ core. IsAt image world core s) (sym w.self-is) at
+  | then-self-via-else-self+then-is_err w ↦ subst (λ core. IsAt image world core s) (sym w.self-is) (kept_same c.args.self.now w.prepare.new.self w.prepare.ensures.same image world s at)
+]

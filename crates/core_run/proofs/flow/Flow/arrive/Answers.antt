@@ -30,10 +30,10 @@ returns-then-is_full-clause-leads c = λ beside world s formed sound h.
     let e = c.fire-then-is_full.ensures in
     let p = c.put.new.self in
     let n : c.ports_of-ports.result ≡ ports image c.args.token.instr = c.ports_of-ports.ensures ∙ ap ports_of c.op-op.ensures ∙ sym (ports_is_op image c.args.token.instr) in
-    arrived_fires image world formed sound beside c.args.token c.args.self.now c.fire-then-is_full.new.self s h (partial_of p.slots.items p.spill.items) c.put.ensures.partial
-    (subst (λ m. is_full (partial_of p.slots.items p.spill.items) c.args.token.wave c.args.token.instr m ≡ true) n (sym c.is_full.ensures ∙ c.if-is_full.true))
-    (λ a b q. ap (λ x. partial_of x.slots.items x.spill.items a b q) e.slots ∙ c.clear.ensures.partial a b q)
-    c.op-op.result c.op-op.ensures c.operands-operands.result (subst (λ m. listed m c.operands-operands.result ≡ gather (partial_of p.slots.items p.spill.items) c.args.token.wave c.args.token.instr 0 m) n c.operands-operands.ensures) e.early e.chain e.fault e.memory e.fired e.asked e.not_sent e.not_asked e.sent
+    arrived_fires image world formed sound beside c.args.token c.args.self.now c.fire-then-is_full.new.self s h (partial_of p.slots.items p.spill) c.put.ensures.partial
+    (subst (λ m. is_full (partial_of p.slots.items p.spill) c.args.token.wave c.args.token.instr m ≡ true) n (sym c.is_full.ensures ∙ c.if-is_full.true))
+    (λ a b q. ap (λ x. partial_of x.slots.items x.spill a b q) e.slots ∙ c.clear.ensures.partial a b q)
+    c.op-op.result c.op-op.ensures c.operands-operands.result (subst (λ m. listed m c.operands-operands.result ≡ gather (partial_of p.slots.items p.spill) c.args.token.wave c.args.token.instr 0 m) n c.operands-operands.ensures) e.early e.chain e.fault e.memory e.fired e.asked e.not_sent e.not_asked e.sent
 
 pub returns-else-is_full-clause-leads : goal.returns-else-is_full-clause-leads
 returns-else-is_full-clause-leads c = λ beside world s formed sound h.
@@ -41,7 +41,7 @@ returns-else-is_full-clause-leads c = λ beside world s formed sound h.
     let p = c.put.new.self in
     let n : c.ports_of-ports.result ≡ ports image c.args.token.instr = c.ports_of-ports.ensures ∙ ap ports_of c.op-op.ensures ∙ sym (ports_is_op image c.args.token.instr) in
     arrived_waits image world formed sound beside c.args.token c.args.self.now _ s h c.put.ensures.partial
-    (subst (λ m. is_full (partial_of p.slots.items p.spill.items) c.args.token.wave c.args.token.instr m ≡ false) n (sym c.is_full.ensures ∙ c.if-is_full.false)) refl refl refl refl refl refl refl
+    (subst (λ m. is_full (partial_of p.slots.items p.spill) c.args.token.wave c.args.token.instr m ≡ false) n (sym c.is_full.ensures ∙ c.if-is_full.false)) refl refl refl refl refl refl refl
 
 pub fire-requires-clause-wave : goal.fire-requires-clause-wave
 fire-requires-clause-wave c =
@@ -55,14 +55,14 @@ fire-requires-then-is_full-clause-wave c =
 
 pub returns-then-ports-eq1-clause-room : goal.returns-then-ports-eq1-clause-room
 returns-then-ports-eq1-clause-room c = λ n m e r.
-    c.fire.ensures.room m (room_put c.args.self.now c.args.self.now n (suc m) (omega (arith, c.fire.ensures.fired)) (omega arith) refl refl refl refl refl r)
+    c.fire.ensures.room m (room_put c.args.self.now c.args.self.now n (suc m) (omega (arith, c.fire.ensures.fired)) (omega arith) refl refl refl refl r)
 
 pub returns-then-ports-eq1-clause-asked : goal.returns-then-ports-eq1-clause-asked
 returns-then-ports-eq1-clause-asked c = asked_more c.args.self.now c.fire.new.self c.op-op.result _ c.fire.ensures.asked c.fire.ensures.not_asked
 
 pub returns-then-is_full-clause-room : goal.returns-then-is_full-clause-room
 returns-then-is_full-clause-room c = λ n m e r.
-    c.fire-then-is_full.ensures.room m (room_put c.args.self.now _ n (suc m) (omega (arith, c.fire-then-is_full.ensures.fired)) (omega (arith, c.put.ensures.spill, c.clear.ensures.spill)) (c.clear.ensures.room ∙ c.put.ensures.room) refl refl refl refl r)
+    c.fire-then-is_full.ensures.room m (room_put c.args.self.now _ n (suc m) (omega (arith, c.fire-then-is_full.ensures.fired)) (omega (arith, c.put.ensures.room, c.clear.ensures.room)) refl refl refl refl r)
 
 pub returns-then-is_full-clause-asked : goal.returns-then-is_full-clause-asked
 returns-then-is_full-clause-asked c = asked_more c.args.self.now c.fire-then-is_full.new.self c.op-op.result _ c.fire-then-is_full.ensures.asked c.fire-then-is_full.ensures.not_asked
