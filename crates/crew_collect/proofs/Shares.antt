@@ -1,6 +1,7 @@
 -- How many instances tables list together, and what limits allow together.
-use Rattle.std.proofs.Common.{◌≡◌, ◌+◌, ◌<◌, ◌≤◌, ℕ, zero, suc, List, [], ◌∷◌, ◌++◌, length, length-append, ◌-◌, inl, inr, take, slice_index, add-one, sym, refl, ap, ◌∙◌, subst, arith}
+use Rattle.std.proofs.Common.{◌≡◌, ◌+◌, ◌<◌, ◌≤◌, ℕ, zero, suc, List, [], ◌∷◌, ◌++◌, length, length-append, ◌-◌, ◌/◌, inl, inr, take, slice_index, add-one, sym, refl, ap, ◌∙◌, subst, arith}
 use Rattle.std.specs.Prelude.{sum}
+use Rattle.std.proofs.Math.Nat.{div-one, div-lt_self}
 use Rattle.std.proofs.lemmas.Bool.{cases_lt}
 use Rattle.std.proofs.lemmas.List.{take_all, get_or_append_left, get_or_push}
 use Rattle.std.proofs.lemmas.List.Sums.{sum_by-cons, sum_by_push}
@@ -64,15 +65,28 @@ all_within cs most e w =
     let s = sum_allows cs most e (λ k lt. subst (λ (m : ℕ). length (content_at cs k).fired ≤ slice_index most m) (let z : 0 + k ≡ k = omega arith in z) (within_at 0 cs most w k lt)) in
     omega (arith, a, s)
 
--- so many limits are there; they allow what the tables list, and together no more than that and what is given
-pub record Given (cs : List Content) (n : ℕ) (items : List ℕ) (left all : ℕ) : Type 0 where
+-- So many limits are there; they allow what the tables list, and together that and what is given. Some is left for
+-- the table `first` until it has its share.
+pub record Given (cs : List Content) (first n : ℕ) (items : List ℕ) (left all : ℕ) : Type 0 where
   pub count : length items ≡ n
   pub within : (k : ℕ) → k < n → length (content_at cs k).fired ≤ slice_index items k
   pub sum_is : sum items + left ≡ total (take n cs) + all
   pub below : left ≤ all
+  -- the last of them gets all that is left
+  pub last : n ≡ 16 → left ≡ 0
+  pub some : n < 16 → n ≤ first → 0 < all → 0 < left
+  pub more : first < n → 0 < all → length (content_at cs first).fired < slice_index items first
 
-pub give_more : (cs : List Content) (n : ℕ) (items : List ℕ) (left all share len : ℕ) → n < length cs → Given cs n items left all → share ≤ left → len ≡ length (content_at cs n).fired → (now : ℕ) → now ≡ left - share → (limit : ℕ) → limit ≡ len + share → Given cs (n + 1) (items ++ limit ∷ []) now all
-give_more cs n items left all share len lt g le is now now_is limit limit_is = record {
+-- what a table gets: no more than is left, an even share, or where it is the first that and one at least
+pub record IsShare (first n left share : ℕ) : Type 0 where
+  pub within : share ≤ left
+  pub even : left / (16 - n) ≤ share
+  pub others : (n ≡ first → ⊥) → share ≡ left / (16 - n)
+  pub first_one : n ≡ first → 0 < left → 0 < share
+
+pub give_more : (cs : List Content) (first n : ℕ) (items : List ℕ) (left all share len : ℕ) → n < length cs → n < 16 → Given cs first n items left all → IsShare first n left share →
+    len ≡ length (content_at cs n).fired → (now : ℕ) → now ≡ left - share → (limit : ℕ) → limit ≡ len + share → Given cs first (n + 1) (items ++ limit ∷ []) now all
+give_more cs first n items left all share len lt sixteen g s is now now_is limit limit_is = record {
   count = (let a = length-append items (limit ∷ []) in let b = g.count in omega (arith, a, b));
   within = λ k l. elim (cases_lt k n) [
     | inl x ↦ subst (λ (v : ℕ). length (content_at cs k).fired ≤ v) (sym (get_or_append_left items (limit ∷ []) 0 k (let c = g.count in omega (arith, c, x)))) (g.within k x)
@@ -80,8 +94,27 @@ give_more cs n items left all share len lt g le is now now_is limit limit_is = r
         subst (λ (j : ℕ). length (content_at cs j).fired ≤ slice_index (items ++ limit ∷ []) j) e
         (subst (λ (v : ℕ). length (content_at cs n).fired ≤ v) (sym (get_or_push items limit 0 n g.count)) (omega (arith, is, limit_is))))
   ];
-  sum_is = (let a = sum_push items limit in let b = take_more cs n lt in let c = g.sum_is in omega (arith, a, b, c, le, is, now_is, limit_is));
-  below = (let b = g.below in omega (arith, b, now_is, le));
+  sum_is = (let a = sum_push items limit in let b = take_more cs n lt in let c = g.sum_is in let le = s.within in omega (arith, a, b, c, le, is, now_is, limit_is));
+  below = (let b = g.below in omega (arith, b, now_is));
+  last = λ (sixteen : n + 1 ≡ 16). (
+      let one : 16 - n ≡ 1 = omega (arith, sixteen) in
+      let whole : left ≤ share = subst (λ (x : ℕ). x ≤ share) (div-one left)
+      (subst (λ (k : ℕ). left / k ≤ share) one s.even) in
+      omega (arith, whole, now_is));
+  some = λ (below : n + 1 < 16) (le : n + 1 ≤ first) (one : 0 < all). (
+      let has : 0 < left = g.some (omega (arith, below)) (omega (arith, le)) one in
+      let two : 1 < 16 - n = omega (arith, below) in
+      let less : left / (16 - n) < left = div-lt_self has two in
+      let exact : share ≡ left / (16 - n) = s.others (λ (e : n ≡ first). absurd (omega (arith, e, le))) in
+      let below_left : share < left = subst (λ (x : ℕ). x < left) (sym exact) less in
+      omega (arith, below_left, now_is));
+  more = λ (lt_first : first < n + 1) (one : 0 < all). elim (cases_lt first n) [
+    | inl x ↦ subst (λ (v : ℕ). length (content_at cs first).fired < v) (sym (get_or_append_left items (limit ∷ []) 0 first (let c = g.count in omega (arith, c, x)))) (g.more x one)
+    | inr x ↦ (let e : n ≡ first = omega (arith, lt_first, x) in
+        subst (λ (j : ℕ). length (content_at cs j).fired < slice_index (items ++ limit ∷ []) j) e
+        (subst (λ (v : ℕ). length (content_at cs n).fired < v) (sym (get_or_push items limit 0 n g.count))
+        (let h : 0 < share = s.first_one e (g.some sixteen (omega (arith, e)) one) in omega (arith, is, limit_is, h))))
+  ];
 }
 
 -- what serves apart and keeps within its limit fits

@@ -1,6 +1,6 @@
 //! How the budget is shared out to tables.
 
-ghost use Rattle.std.specs.Prelude.{◌≡◌, ◌+◌, ◌<◌, ◌≤◌, ◌^◌, ℕ, IfOk, length, slice_index, sum};
+ghost use Rattle.std.specs.Prelude.{◌≡◌, ◌+◌, ◌-◌, ◌/◌, ◌<◌, ◌≤◌, ◌^◌, ℕ, IfOk, length, slice_index, sum};
 ghost use Rattle.crew_tables.specs.Rows.{Fits};
 ghost use Rattle.crew_collect.specs.Together.{AllServe, part_of};
 ghost use Rattle.crew_tables.specs.Growth.{content_at};
@@ -24,8 +24,8 @@ pub fn fired<J: Job>(tables: &Tables<J>) -> u64
     count
 }
 
-/// So many firings, shared out evenly: for each table the length that its list may have. The table
-/// `first` gets one of them at least.
+/// So many firings, all of them shared out evenly: for each table the length that its list may have. The
+/// table `first` gets one of them at least.
 pub fn limits<J: Job>(
     alloc: Global,
     tables: &Tables<J>,
@@ -37,7 +37,9 @@ pub fn limits<J: Job>(
     ensures count { IfOk result (λ limits. length limits.items ≡ 16) }
     ensures fits { IfOk result (λ limits. Fits tables.now limits.items) }
     ensures sum { IfOk result (λ limits.
-        sum limits.items ≤ length (part_of tables.now).fired + left) }
+        sum limits.items ≡ length (part_of tables.now).fired + left) }
+    ensures first { IfOk result (λ limits. first < 16 → 0 < left
+        → length (content_at (contents tables.now) first).fired < slice_index limits.items first) }
 {
     let mut limits = Vec::new(alloc);
     let mut left = left;
@@ -60,7 +62,10 @@ pub fn fitting<J: Job>(tables: &Tables<J>, limits: &[usize])
 // What a table gets of what is left for it and those behind it.
 fn share_of(left: u64, number: u64, first: u64) -> u64
     requires { number < 16 }
-    ensures { result ≤ left }
+    ensures within { result ≤ left }
+    ensures even { left / (16 - number) ≤ result }
+    ensures others { (number ≡ first → ⊥) → result ≡ left / (16 - number) }
+    ensures first { number ≡ first → 0 < left → 0 < result }
 {
     let even = left / (16 - number);
     if number == first && even == 0 {

@@ -5,8 +5,9 @@ use Rattle.crew_collect.proofs.Shares.{Given, give_more, fits}
 use Rattle.crew_collect.proofs.limits.limits.Goals as goal
 
 pub loop-number-preserved : goal.loop-number-preserved
-loop-number-preserved g c = subst (λ (l : List ℕ). Given (contents c.args.tables.now) (c.loop-number.number + 1) l (c.loop-number.left - c.share_of-share.result) c.args.left) (sym c.in_ok-push.ensures.items)
-    (give_more (contents c.args.tables.now) c.loop-number.number c.loop-number.limits.items c.loop-number.left c.args.left c.share_of-share.result c.fired_count.result c.loop-number-test.true c.loop-number.invariant c.share_of-share.ensures
+loop-number-preserved g c = subst (λ (l : List ℕ). Given (contents c.args.tables.now) c.args.first (c.loop-number.number + 1) l (c.loop-number.left - c.share_of-share.result) c.args.left) (sym c.in_ok-push.ensures.items)
+    (give_more (contents c.args.tables.now) c.args.first c.loop-number.number c.loop-number.limits.items c.loop-number.left c.args.left c.share_of-share.result c.fired_count.result c.loop-number-test.true c.loop-number-test.true c.loop-number.invariant
+    (record { within = c.share_of-share.ensures.within; even = c.share_of-share.ensures.even; others = c.share_of-share.ensures.others; first_one = c.share_of-share.ensures.first })
     (c.fired_count.ensures ∙ ap (λ (x : Content). length x.fired) c.table_at.ensures) _ refl _ refl)
 
 pub returns-clause-fits : goal.returns-clause-fits
