@@ -35,11 +35,7 @@ module _ (image : Image) (world : World) (budget : ℕ) (listed : List Key) (han
         f.0,
         record {
           dear = λ cost. run.dear (subst (λ (n : ℕ). CostAtMost image world n) (sym f.0 ∙ f.1) cost);
-          steps = run.steps;
-          firing = run.firing;
-          count = run.count ∙ sym f.1 ∙ f.0;
           time = run.front;
-          most = run.most;
           within = run.within;
           printed_are = sym run.left.printed_are;
           ports = run.left.slots_are;

@@ -3,9 +3,8 @@ use Rattle.std.specs.Prelude.{ℕ, ◌≡◌, ◌≤◌, ◌⊎◌, List, Option
 use Rattle.ws_words.specs.Outside.{World, printed_words}
 use Rattle.ws_isa.specs.Image.{Image, array_at, instr_at}
 use Rattle.image_walk.specs.Walk.{Inst, fires, mem, walk, CostAtMost}
-use Rattle.image_walk.specs.Operations.{ops, FaultsAt, NoFault}
+use Rattle.image_walk.specs.Operations.{FaultsAt, NoFault}
 use Rattle.core_law.specs.Ends.{FirstWithin}
-use Rattle.core_run.specs.Answer.{FiringSteps, FirstAmong}
 use Rattle.port_set.specs.Ports.{Told}
 use Rattle.store_buf.specs.Outdoors.{SlotsAre, RoseAt, began_of, port_of}
 use Rattle.crew_run.specs.declared.finish.CrewFinish.{CrewFinish}
@@ -23,18 +22,12 @@ pub record Rested (image : Image) (world : World) (handed : List (Option Told)) 
   pub cells_are : arrays ≡ (mem image world time).cells
   pub ports : SlotsAre (began_of handed) (mem image world time) back
 
--- The walk has more instances than the budget, and exactly so many have fired, at these steps of the walk.
--- What is told and what the ports have is what the walk leaves with its first operations, none of them past
--- the end, and these are at least as many as fire at those steps without a gap.
+-- The walk has more instances than the budget. What is told and what the ports have is what the walk leaves
+-- with some of its first operations, none of them past the end.
 pub record Spent (image : Image) (world : World) (handed : List (Option Told)) (budget : ℕ)
     (printed : List ℕ) (back : List (Option Told)) : Type 0 where
   pub dear : CostAtMost image world budget → ⊥
-  pub steps : List ℕ
-  pub firing : FiringSteps image world steps
-  pub count : length steps ≡ budget
   pub time : ℕ
-  pub most : (u : ℕ) → FirstAmong image world steps (length (ops image world u)) →
-      length (ops image world u) ≤ length (ops image world time)
   pub within : FirstWithin image world time
   pub printed_are : printed ≡ printed_words (mem image world time).acts
   pub ports : SlotsAre (began_of handed) (mem image world time) back

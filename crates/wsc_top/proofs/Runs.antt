@@ -40,7 +40,7 @@ module _ (options : RunOptions) (image : Image) (world : World) (handed back : L
       → status ≡ Budget → out ≡ spent_report options.report printed options.budget → Executes options image world handed status out back
   spent_so printed r status out e f =
       so Budget status _ out e (f ∙ ap (λ (ws : List ℕ). spent_report options.report ws options.budget) r.printed_are)
-      (spent r.time (record { dear = r.dear; steps = r.steps; firing = r.firing; count = r.count; most = r.most; within = r.within }) r.ports)
+      (spent r.time (record { dear = r.dear; within = r.within }) r.ports)
 
   -- a load or store past the end stopped it
   stopped_so : (array : ℕ) (printed : List ℕ) (rows : List (List ℕ)) → Tripped image world handed array printed rows back → (status : Status) (out : List ℕ)

@@ -4,9 +4,8 @@ use Rattle.ws_words.specs.Outside.{Outside, World, printed_words}
 use Rattle.ws_isa.specs.Image.{Image, array_at, instr_at}
 use Rattle.ws_isa.specs.Shown.{shown_cells}
 use Rattle.image_walk.specs.Walk.{Inst, fires, mem, walk, CostAtMost}
-use Rattle.image_walk.specs.Operations.{ops, FaultsAt, NoFault}
+use Rattle.image_walk.specs.Operations.{FaultsAt, NoFault}
 use Rattle.core_law.specs.Ends.{FirstWithin}
-use Rattle.core_run.specs.Answer.{FiringSteps, FirstAmong}
 use Rattle.port_set.specs.Ports.{Told}
 use Rattle.store_buf.specs.Outdoors.{RoseAt, SlotsAre, began_of, port_of}
 use Rattle.wsc_top.specs.declared.status.Status.{Status}
@@ -48,16 +47,9 @@ tells_firings Brief = false
 abbrev pub PortsAre : List (Option Told) → Outside → List (Option Told) → Type 0
 PortsAre handed o back = SlotsAre (began_of handed) o back
 
--- The walk has more instances than the budget. Exactly so many have fired, at some of its steps; of
--- the walk's operations, in their order, those before step t are no fewer than any of which all have,
--- and none of them is past the end.
+-- the walk has more instances than the budget, and of its operations before step t none is past the end
 pub record IsSpent (image : Image) (world : World) (budget t : ℕ) : Type 0 where
   pub dear : CostAtMost image world budget → ⊥
-  pub steps : List ℕ
-  pub firing : FiringSteps image world steps
-  pub count : length steps ≡ budget
-  pub most : (u : ℕ) → FirstAmong image world steps (length (ops image world u))
-      → length (ops image world u) ≤ length (ops image world t)
   pub within : FirstWithin image world t
 
 -- What comes of the run of an image on a world within a budget, with these ports.
