@@ -1,0 +1,69 @@
+use Rattle.std.proofs.Common.{ℕ, ◌≡◌, None, Some, true, false, [], List, map, length, ap, ◌∙◌, sym, subst, arith}
+use Rattle.std.proofs.lemmas.Bool.{both_ways}
+use Rattle.std.specs.List.{list_any}
+use Rattle.ws_isa.specs.Image.{Image, cells_of}
+use Rattle.ws_isa.specs.View as view
+use Rattle.store_buf.specs.declared.order.Order.{Order}
+use Rattle.store_buf.specs.declared.kept.Kept.{Kept}
+use Rattle.store_buf.specs.Finding.{pair_eq}
+use Rattle.store_buf.specs.Requests.{entry_of, unissued}
+use Rattle.store_buf.specs.Ordering.{OrderOk, Room}
+use Rattle.store_buf.specs.Outdoors.{AllBegan}
+use Rattle.part_store.specs.declared.bare.Bare.{Bare}
+use Rattle.part_store.specs.declared.parts.Parts.{Parts}
+use Rattle.part_store.specs.Bares.{is_in}
+use Rattle.part_store.proofs.Opening as O
+use Rattle.part_store.proofs.part.PartBuffer.begin.Goals as goal
+
+-- nothing waits
+none_wait : (o : Order) → OrderOk o → o.kept.items ≡ [] → o.waiting ≡ 0
+none_wait o ok e = ok.count ∙ ap unissued e
+
+no_room : (o : Order) → OrderOk o → o.kept.items ≡ [] → o.early.items ≡ [] → Room o
+no_room o ok e f = let w = none_wait o ok e in let l = ap length f in omega (arith, w, l, o.early.ok.0)
+
+-- nothing is bare
+none_bare : (b : Bare) (ks : List Kept) → b.set.keys ≡ [] → (w i : ℕ) → is_in b w i ≡ true → (k : Kept) × (entry_of ks w i ≡ Some k)
+none_bare b ks e w i h = absurd (both_ways (is_in b w i) (ap (λ (ps : List (ℕ × ℕ)). list_any (pair_eq (w, i)) ps) e) h)
+
+pub invariant_of-result : goal.invariant_of-result
+invariant_of-result g c =
+    let image = g.J.Job.image in
+    let world = g.J.Job.world in
+    let order = c.new-3.result in
+    let bare = c.new-4.result in
+    let queues = c.new-5.result in
+    let w = none_wait order c.new-3.ensures.ok c.new-3.ensures.kept in
+    let n : length queues.entries.items ≡ 0 = ap length c.new-5.ensures.none in
+    let s : Parts g.row.P.Denot = record {
+      order = order;
+      bare = bare;
+      queues = queues;
+      outer = record { cells = c.in-Ok.cells; input = c.args.input; read = 0; printed = c.new.result; ports = c.new-2.result };
+      fault = None;
+      failed = None;
+      starved = false;
+    } in
+    let cells : c.in-Ok.cells ≡ cells_of image.arrays = c.in-Ok.ensures ∙ ap (λ xs. cells_of (map view.array xs)) c.deref.ensures.value ∙ ap (λ (i : Image). cells_of i.arrays) c.program.ensures.image in
+    O.opening_stands image world g.J.Job.began (λ state r. c.every_list_of_events.ensures.reach image world c.program.ensures.formed c.program.ensures.sound state r)
+    c.new-2.result (subst (AllBegan g.J.Job.began world.left) (sym c.new-2.ensures) c.requires.ports) s
+    (record {
+      order = c.new-3.ensures.ok;
+      early = no_room order c.new-3.ensures.ok c.new-3.ensures.kept c.new-3.ensures.early;
+      printed = omega (arith, w, c.new.ensures.len);
+      queues = omega (arith, w, n, queues.entries.ok.0);
+      cells = omega (arith, w);
+      counted = c.new-5.ensures.ok;
+      bare = none_bare bare order.kept.items c.new-4.ensures;
+    })
+    c.new-3.ensures.early
+    (λ j. record {
+      kept = c.new-3.ensures.kept j;
+      bare = c.new-4.ensures j;
+      queued = c.new-5.ensures.none j;
+      chain = record { wave = c.new-3.ensures.wave j; last = c.new-3.ensures.last j };
+      fault = None;
+      failed = None;
+      starved = false;
+      outside = record { cells = cells j; input = c.requires.input j; printed = c.new.ensures.items j; ports = c.new-2.result };
+    })

@@ -1,0 +1,233 @@
+-- What the parts of a buffer with queues stand for, and where their calls lead.
+use Rattle.std.specs.Prelude.{ℕ, ◌≡◌, ◌+◌, ◌<◌, ◌≤◌, ◌++◌, Bool, true, false, ◌==◌, is_some, cond, ◌&&◌}
+use Rattle.std.specs.Prelude.{◌||◌, not, ltb, nat_eq, List, length, Option, Some, None, Result}
+use Rattle.std.specs.Prelude.{Ok, Err, vec_len, vec_capacity}
+use Rattle.std.specs.HashSet.{spare}
+use Rattle.std.specs.VecDeque.{deque_len, deque_capacity}
+use Rattle.ws_words.specs.Outside.{World}
+use Rattle.ws_isa.specs.Image.{Image, Token, instr_at}
+use Rattle.ws_isa.specs.Formed.{Formed}
+use Rattle.image_walk.specs.Sound.{Sound}
+use Rattle.core_law.specs.Core.{has}
+use Rattle.df_job.specs.Began.{Began}
+use Rattle.df_job.specs.Rights.{IsAsked}
+use Rattle.store_buf.specs.Stores.{asked_of}
+use Rattle.core_run.specs.Chains.{chain_of}
+use Rattle.core_run.specs.Stands.{HasEarly}
+use Rattle.store_buf.specs.declared.kept.Kept.{Kept}
+use Rattle.store_buf.specs.Requests.{entry_of, issued_in}
+use Rattle.store_buf.specs.Orders.{EarlyIssued}
+use Rattle.store_buf.specs.Ordering.{OrderOk, Room, kept_at, near_at, ready_flag, MayAt}
+use Rattle.store_buf.specs.declared.fault.BufFault.{BufFault}
+use Rattle.store_buf.specs.declared.fault.BufFault.TheVariants as fault
+use Rattle.store_buf.specs.declared.fault.Silent.{Silent}
+use Rattle.store_buf.specs.declared.fault.Silent.TheVariants.{Failed, NoMemory}
+use Rattle.store_buf.specs.Outdoors.{RoseAt}
+use Rattle.store_buf.specs.Contents.{PortWaits, RightTokens}
+use Rattle.store_buf.specs.Outers.{holding}
+use Rattle.part_store.specs.declared.entry.Entry.{Entry}
+use Rattle.part_store.specs.declared.parts.Parts.{Parts}
+use Rattle.part_store.specs.Bares.{is_in}
+use Rattle.part_store.specs.Held.{QueuesOk}
+use Rattle.store_buf.specs.declared.order.Order.{Order}
+use Rattle.part_store.specs.Queues.{front, open_queues}
+use Rattle.part_store.specs.Contents.{Content, is_bare, holds_op}
+use Rattle.part_store.specs.Parted.{Fronts, IsAddressed, Parting}
+use Rattle.part_store.specs.Calls.{AddressSo, FailedSo, Idle, SubmitSo}
+use Rattle.part_store.specs.Rules.{Alike, Fills, Follows, Moves, MovesTo, is_past_at}
+
+-- each queue's first entry is a store without data, but on this cell
+abbrev pub FrontsBut : ℕ → ℕ → Content → Type 0
+FrontsBut r j c = (e : Entry) (q l : ℕ) → front c.queued q l ≡ Some e → (q ≡ r → l ≡ j → ⊥) →
+    is_bare c e.wave e.instr ≡ true
+
+module _ {P : Type 0} where
+  abbrev pub content_of : Parts P → Content
+  content_of s = record {
+    kept = s.order.kept.items;
+    bare = s.bare.set.keys;
+    queued = s.queues.entries.items;
+    chain = chain_of s.order.chain;
+    fault = s.fault;
+    failed = s.failed;
+    starved = s.starved;
+    outside = holding s.outer;
+  }
+
+  -- there is room for what all that waits leaves, and the queues are counted
+  pub record PartsOk (s : Parts P) : Type 0 where
+    pub order : OrderOk s.order
+    pub early : Room s.order
+    pub printed : vec_len s.outer.printed + s.order.waiting ≤ vec_capacity s.outer.printed
+    pub queues : deque_len s.queues.entries + s.order.waiting ≤ deque_capacity s.queues.entries
+    pub cells : s.order.waiting ≤ spare s.queues.cells
+    pub counted : QueuesOk s.queues
+    pub bare : (w i : ℕ) → is_in s.bare w i ≡ true → (k : Kept) × (entry_of s.order.kept.items w i ≡ Some k)
+
+  -- it is a buffer of a run, and the loads that count as issued and that the chain hasn't passed are listed
+  pub record Stands (image : Image) (world : World) (began : List (Option Began)) (s : Parts P) : Type 0 where
+    pub parting : Parting image world began (content_of s)
+    pub early_issued : EarlyIssued (issued_in s.order.kept.items) (chain_of s.order.chain) s.order.early.items
+    pub early_all : HasEarly image world (issued_in s.order.kept.items) (chain_of s.order.chain)
+        s.order.early.items
+
+  -- and each queue's first entry is a store without data
+  abbrev pub Calm : Image → World → List (Option Began) → Parts P → Type 0
+  Calm image world began s = Stands image world began s × Fronts (content_of s)
+
+  -- whether the rules let one go that the chain lets go
+  abbrev pub rule_flag : Image → Parts P → Kept → Bool
+  rule_flag image s k = cond (is_in s.bare k.wave k.instr)
+      (not (is_past_at image k) && (ltb (open_queues s.queues.entries.items) 16
+      || holds_op s.queues.entries.items (instr_at image k.instr).op k.first))
+      (nat_eq (length s.queues.entries.items) 0 || not (is_past_at image k))
+
+  abbrev pub go_flag : Image → Parts P → Kept → Bool
+  go_flag image s k = ready_flag image s.order k && rule_flag image s k
+
+  -- none may go
+  abbrev pub NoneGo : Image → Parts P → Type 0
+  NoneGo image s = (p : ℕ) → p < length s.order.kept.items → go_flag image s (kept_at s.order p) ≡ false
+
+  pub record GoesAt (image : Image) (s : Parts P) (at : ℕ) : Type 0 where
+    pub may : MayAt image s.order at
+    pub rule : rule_flag image s (near_at s.order at) ≡ true
+
+  -- moves lead on from each calm buffer to a calm one; their tokens come behind others
+  abbrev pub Leads : Image → Parts P → Parts P → List Token → List Token → Type 0
+  Leads image old new before after = (tokens : List Token) × (after ≡ before ++ tokens)
+      × ((world : World) (began : List (Option Began)) → Formed image → Sound image →
+      Calm image world began old →
+      Moves image (content_of old) tokens (content_of new) × Calm image world began new)
+
+  -- a calm buffer stays calm, and nothing changes but what ports tell of their faults
+  abbrev pub StaysCalm : Image → Parts P → Parts P → Type 0
+  StaysCalm image old new = (world : World) (began : List (Option Began)) → Calm image world began old →
+      Calm image world began new × Alike (content_of old) (content_of new)
+
+  -- the operation on a port that doesn't answer is next, and its request waits
+  abbrev pub SilentSo : Image → Parts P → Parts P → Silent → Type 0
+  SilentSo image old new (Failed port) = PortWaits image new.order.kept.items (chain_of new.order.chain) port
+      × RoseAt port old.outer.ports new.outer.ports
+  SilentSo image old new (NoMemory port) =
+      PortWaits image new.order.kept.items (chain_of new.order.chain) port
+
+  -- what is left to let go
+  abbrev pub left_over : Parts P → ℕ
+  left_over s = s.order.waiting + cond (has s.fault) 0 1
+
+  -- the same, where a port's count of faults may have risen at the end
+  abbrev pub LeadsTo : Image → Parts P → Parts P → List Token → List Token → Type 0
+  LeadsTo image old new before after = (tokens : List Token) × (after ≡ before ++ tokens)
+      × ((world : World) (began : List (Option Began)) → Formed image → Sound image →
+      Calm image world began old →
+      MovesTo image (content_of old) tokens (content_of new) × Calm image world began new)
+
+  -- it has these requests, and else nothing has changed
+  pub record Keeps (old : Parts P) (kept : List Kept) (new : Parts P) : Type 0 where
+    pub kept_are : new.order.kept.items ≡ kept
+    pub chain : new.order.chain ≡ old.order.chain
+    pub early : new.order.early.items ≡ old.order.early.items
+    pub outer : holding new.outer ≡ holding old.outer
+    pub queued : new.queues.entries.items ≡ old.queues.entries.items
+    pub fault : new.fault ≡ old.fault
+    pub failed : new.failed ≡ old.failed
+    pub starved : new.starved ≡ old.starved
+
+  -- how moves in turn have ended
+  abbrev pub SettledSo : Image → Parts P → Result (Unit {0}) BufFault → Parts P → Type 0
+  SettledSo image old (Ok _) new = (new.fault ≡ None) × (new.failed ≡ old.failed) × (new.starved ≡ false)
+      × NoneGo image new
+  SettledSo image old (Err (fault.Index array)) new = (new.fault ≡ Some array) × (new.failed ≡ old.failed)
+      × (new.starved ≡ false)
+  SettledSo image old (Err (fault.Port port)) new = (new.fault ≡ None) × (new.failed ≡ Some port)
+      × (new.starved ≡ false) × RoseAt port old.outer.ports new.outer.ports
+      × PortWaits image new.order.kept.items (chain_of new.order.chain) port
+  SettledSo image old (Err fault.NoMemory) new = (new.fault ≡ None) × (new.failed ≡ old.failed)
+      × (new.starved ≡ true)
+      × ((port : ℕ) × PortWaits image new.order.kept.items (chain_of new.order.chain) port)
+  SettledSo image old (Err _) new = ⊥
+
+  -- a right address leads on as contracts say, and a calm buffer stays calm
+  abbrev pub AddressLeads : Image → Parts P → Kept → List Token → Result (Unit {0}) BufFault → Parts P →
+      Type 0
+  AddressLeads image old k tokens result new = (world : World) (began : List (Option Began)) → Formed image →
+      Sound image → IsAddressed image world k.wave k.instr k.first → Calm image world began old →
+      Idle image (content_of old) →
+      Calm image world began new × RightTokens image world tokens
+      × AddressSo image (content_of old) k tokens result (content_of new)
+
+  -- the chain, the ports and what is kept in mind are as before, and as many wait
+  pub record Beside (old new : Parts P) : Type 0 where
+    pub chain : new.order.chain ≡ old.order.chain
+    pub early : new.order.early ≡ old.order.early
+    pub waiting : new.order.waiting ≡ old.order.waiting
+    pub bare : new.bare ≡ old.bare
+    pub ports : new.outer.ports ≡ old.outer.ports
+    pub fault : new.fault ≡ old.fault
+    pub failed : new.failed ≡ old.failed
+    pub starved : new.starved ≡ old.starved
+
+  -- the first entry of a queue is done
+  abbrev pub FinishLeads : Image → Entry → Parts P → Parts P → List Token → List Token → Type 0
+  FinishLeads image e old new before after = (tokens : List Token) × (after ≡ before ++ tokens)
+      × ((world : World) (began : List (Option Began)) → Formed image → Sound image →
+      Stands image world began old → old.fault ≡ None → Follows (content_of old) e →
+      Moves image (content_of old) tokens (content_of new) × Stands image world began new)
+
+  -- first entries on a cell are done, one after another
+  abbrev pub FollowsOn : Image → ℕ → ℕ → Parts P → Parts P → List Token → List Token → Type 0
+  FollowsOn image r j old new before after = (tokens : List Token) × (after ≡ before ++ tokens)
+      × ((world : World) (began : List (Option Began)) → Formed image → Sound image →
+      Stands image world began old → old.fault ≡ None → FrontsBut r j (content_of old) →
+      Moves image (content_of old) tokens (content_of new) × Stands image world began new
+      × FrontsBut r j (content_of new))
+
+-- the request at a place is that of an instance, and counts as issued
+abbrev pub issued_flag : Order → ℕ → ℕ → ℕ → Bool
+issued_flag o p w i =
+    ((kept_at o p).wave == w) && (((kept_at o p).instr == i) && is_some (kept_at o p).answer)
+
+-- each queue's first entry is a store without data, but that of one instance
+abbrev pub FrontsBy : ℕ → ℕ → Content → Type 0
+FrontsBy w i c = (e : Entry) (r j : ℕ) → front c.queued r j ≡ Some e → (e.wave ≡ w → e.instr ≡ i → ⊥) →
+    is_bare c e.wave e.instr ≡ true
+
+abbrev pub kept_flag : Order → ℕ → ℕ → ℕ → Bool
+kept_flag o p w i = ((kept_at o p).wave == w) && ((kept_at o p).instr == i)
+
+module _ {P : Type 0} where
+  -- an address has its data
+  pub record Filled (old : Parts P) (k : Kept) (new : Parts P) : Type 0 where
+    pub fills : Fills (content_of old) k (content_of new)
+    pub same_chain : new.order.chain ≡ old.order.chain
+    pub early : new.order.early ≡ old.order.early
+    pub waiting : new.order.waiting ≡ old.order.waiting
+    pub queues : new.queues ≡ old.queues
+    pub outer : new.outer ≡ old.outer
+    pub failed : new.failed ≡ old.failed
+    pub starved : new.starved ≡ old.starved
+
+  -- a right request leads on as contracts say, and a calm buffer stays calm
+  abbrev pub SubmitLeads : Image → Parts P → Kept → List Token → Result (Unit {0}) BufFault → Parts P → Type 0
+  SubmitLeads image old k tokens result new = (world : World) (began : List (Option Began)) → Formed image →
+      Sound image → IsAsked image world (asked_of k) → Calm image world began old →
+      Idle image (content_of old) →
+      Calm image world began new × RightTokens image world tokens
+      × SubmitSo image (content_of old) k tokens result (content_of new)
+
+  -- the queue of an instance's cell is followed
+  abbrev pub DrainLeads : Image → ℕ → ℕ → Parts P → Parts P → List Token → List Token → Type 0
+  DrainLeads image w i old new before after = (tokens : List Token) × (after ≡ before ++ tokens)
+      × ((world : World) (began : List (Option Began)) → Formed image → Sound image →
+      Stands image world began old → old.fault ≡ None → FrontsBy w i (content_of old) →
+      Moves image (content_of old) tokens (content_of new) × Calm image world began new)
+
+module _ {P : Type 0} where
+  -- what is true of a buffer's parts whenever no call is at work
+  pub record Standing (image : Image) (world : World) (began : List (Option Began))
+      (s : Parts P) : Type 0 where
+    pub ok : PartsOk s
+    pub calm : Calm image world began s
+    pub idle : Idle image (content_of s)
+    pub failed : FailedSo image began (content_of s)

@@ -1,0 +1,50 @@
+//! What moves keep.
+
+ghost use Rattle.std.specs.Prelude.{◌≡◌, ◌↔◌, ℕ, Bool, List, [], All, Option, Some, None, true, false};
+ghost use Rattle.ws_words.specs.Outside.{Outside, World};
+ghost use Rattle.ws_isa.specs.Image.{Image, Token};
+ghost use Rattle.ws_isa.specs.Formed.{Formed};
+ghost use Rattle.image_walk.specs.Sound.{Sound};
+ghost use Rattle.df_job.specs.Began.{Began};
+ghost use Rattle.store_buf.specs.Contents.{IsBuffer, RightTokens};
+ghost use Rattle.store_buf.specs.Requests.{entry_of};
+ghost use Rattle.part_store.specs.Contents.{Content, NoBare, whole_of};
+ghost use Rattle.store_buf.specs.declared.kept.Kept.{Kept};
+ghost use Rattle.part_store.specs.Parted.{Fronts, IsKept, Parted, Parting};
+ghost use Rattle.part_store.specs.Rules.{Comes, Fills, Moves};
+ghost use Rattle.df_job.specs.Rights.{IsAsked};
+ghost use Rattle.store_buf.specs.Stores.{asked_of};
+
+/// Moves by the rules keep what is true of a buffer with partial store queues, and what they tell is
+/// right.
+pub fn moves_keep()
+    ensures { (image : Image) (world : World) (began : List (Option Began)) → Formed image →
+        Sound image → (old new : Content) (tokens : List Token) → Moves image old tokens new →
+        Parting image world began old →
+        Parting image world began new × RightTokens image world tokens }
+{}
+
+/// A right request, or a right address without its data, that comes keeps it too.
+pub fn arrivals_keep()
+    ensures { (image : Image) (world : World) (began : List (Option Began)) → (old new : Content)
+        (k : Kept) (bare : Bool) → Comes old k bare new → old.fault ≡ None →
+        IsKept image world bare k → Parted image world began old → Parted image world began new }
+{}
+
+/// The right data of a store keeps what is true of a buffer, but that a queue's first entry may have its
+/// data then.
+pub fn data_keeps()
+    ensures { (image : Image) (world : World) (began : List (Option Began)) → (old new : Content)
+        (k : Kept) → Fills old k new → old.fault ≡ None → IsAsked image world (asked_of k) →
+        Parting image world began old → Parting image world began new }
+{}
+
+/// A buffer that holds no address without data is one of a run exactly where no queue is open and it is
+/// a store buffer of the run.
+pub fn no_bare_is_a_store_buffer()
+    ensures { (image : Image) (world : World) (began : List (Option Began)) → Formed image →
+        Sound image → (c : Content) → NoBare c →
+        All (λ k. entry_of c.kept k.wave k.instr ≡ Some k) c.kept →
+        Parted image world began c
+        ↔ ((c.queued ≡ []) × ((m : Outside) × IsBuffer image world began (whole_of c) m)) }
+{}

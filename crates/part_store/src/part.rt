@@ -1,0 +1,246 @@
+//! The store buffer with partial store queues of a job.
+
+ghost use Rattle.std.specs.Prelude.{◌≡◌, ◌&&◌, not, is_some, true, All, Some, IfOk, IfErr};
+ghost use Rattle.ws_isa.specs.Image.{instr_at};
+ghost use Rattle.port_set.specs.Slots.{AllOpen, contents};
+ghost use Rattle.df_job.specs.Rights.{IsAsked};
+ghost use Rattle.store_buf.specs.Stores.{asked_of};
+ghost use Rattle.store_buf.specs.Requests.{entry_of};
+ghost use Rattle.store_buf.specs.Outdoors.{AllBegan};
+ghost use Rattle.store_buf.specs.Contents.{gives_word, stop_of};
+ghost use Rattle.part_store.specs.Queues.{open_queues};
+ghost use Rattle.part_store.specs.Contents.{answer_of, is_bare, opening_content};
+ghost use Rattle.part_store.specs.Parted.{IsAddressed, Parted, is_store_op};
+ghost use Rattle.part_store.specs.Calls.{AddressedSo, FailedSo, Idle, SubmittedSo, address_of, request_of};
+
+use crate::bare::Bare;
+use crate::parts::Parts;
+use crate::queues::Queues;
+use core_law::every_list_of_events;
+use df_job::{Code, Job, Request, Token, TokenList};
+use port_set::{OpenSet, Port, Slots};
+use smallvec::SmallVec;
+use std::alloc::Global;
+use std::marker::{Model, PhantomData};
+use store_buf::BufFault;
+use store_buf::kept::Kept;
+use store_buf::order::Order;
+use store_buf::outer::{BufferEnd, Outer, empty_cells};
+use ws_isa::Op;
+use ws_words::Words;
+
+/// A store buffer in which a store's address may come before its data.
+#[derive(Drop)]
+pub struct PartBuffer<J: Job, P: Port> {
+    parts: Parts<P>,
+    alloc: Global,
+    of: PhantomData<J>,
+}
+
+impl<J: Job, P: Port> Model for PartBuffer<J, P> {
+    ghost use Rattle.part_store.specs.Contents.{Content};
+    ghost use Rattle.part_store.specs.Parts.{Standing, content_of};
+
+    ghost Value = { Content };
+
+    ghost view = { λ buffer. content_of buffer.parts };
+
+    ghost invariant = { λ buffer. Standing J.image J.world J.began buffer.parts };
+}
+
+impl<J: Job, P: Port> PartBuffer<J, P> {
+    /// The opening buffer of a job, of which these are the input and the ports. For want of memory
+    /// the ports are handed back.
+    pub fn begin(
+        alloc: Global,
+        code: &Code<'_, J>,
+        input: Words,
+        ports: Slots<P>,
+    ) -> Result<PartBuffer<J, P>, Slots<P>>
+        requires input { input ≡ J.world.input }
+        requires ports { AllBegan J.began J.world.left (contents P.tells ports) }
+        requires open { AllOpen (contents P.tells ports) }
+        ensures opening { IfOk result (λ buffer. buffer
+            ≡ opening_content J.image J.world (contents P.tells ports)) }
+        ensures back { IfErr result (λ slots. contents P.tells slots ≡ contents P.tells ports) }
+    {
+        every_list_of_events();
+        let cells = match empty_cells(alloc, &code.program().image.arrays) {
+            Ok(cells) => cells,
+            Err(_) => return Err(ports),
+        };
+        let outer = Outer {
+            cells,
+            input,
+            read: 0,
+            printed: Vec::new(alloc),
+            ports: OpenSet::new(ports),
+        };
+        Ok(PartBuffer {
+            parts: Parts {
+                order: Order::new(alloc),
+                bare: Bare::new(alloc),
+                queues: Queues::new(alloc),
+                outer,
+                fault: None,
+                failed: None,
+                starved: false,
+            },
+            alloc,
+            of: PhantomData,
+        })
+    }
+
+    /// Keeps the address of a store, which is a token at its port 0, and does what the rules let
+    /// until they let nothing more. Answers the result tokens of what was done.
+    pub fn address(&mut self, code: &Code<'_, J>, token: Token<J>) -> Result<TokenList<J>, BufFault>
+        requires store { is_store_op (instr_at J.image token.instr).op ≡ true }
+        requires port { token.port ≡ 0 }
+        ensures { AddressedSo J.image self.old (address_of token) result self.new }
+    {
+        let kept = kept_address(&token);
+        let mut told = SmallVec::new(self.alloc);
+        match self.parts.address(code.program(), kept, &mut told) {
+            Ok(()) => Ok(TokenList::of_right(told)),
+            Err(fault) => Err(fault),
+        }
+    }
+
+    /// Keeps a request, and does what the rules let until they let nothing more. Answers the result
+    /// tokens of what was done.
+    pub fn submit(
+        &mut self,
+        code: &Code<'_, J>,
+        request: Request<J>,
+    ) -> Result<TokenList<J>, BufFault>
+        ensures { SubmittedSo J.image self.old (request_of request) result self.new }
+    {
+        let kept = kept_request(&request);
+        let mut told = SmallVec::new(self.alloc);
+        match self.parts.submit(code.program(), kept, &mut told) {
+            Ok(()) => Ok(TokenList::of_right(told)),
+            Err(fault) => Err(fault),
+        }
+    }
+
+    /// Whether the whole request of an instance was kept.
+    pub fn knows(&self, wave: u64, instr: u32) -> bool
+        ensures { result ≡ (is_some (entry_of self.now.kept wave instr)
+            && not (is_bare self.now wave instr)) }
+    {
+        self.parts.order.find(wave, instr).is_some() && !self.parts.bare.has(wave, instr)
+    }
+
+    /// The requests and addresses that it keeps, in the order in which they came.
+    pub fn kept(&self) -> &[Kept]
+        ensures { result.now ≡ self.now.kept }
+    {
+        &self.parts.order.kept
+    }
+
+    /// The word that a load, IN or GIVE gave.
+    pub fn answer(&self, code: &Code<'_, J>, wave: u64, instr: u32) -> Option<u64>
+        ensures { result ≡ answer_of J.image self.now wave instr }
+    {
+        if !gives_word(code.program().op(instr)) {
+            return None;
+        }
+        if self.parts.queues.is_queued(wave, instr) {
+            return None;
+        }
+        match self.parts.order.find(wave, instr) {
+            Some(kept) => kept.answer,
+            None => None,
+        }
+    }
+
+    /// How many queues hold a cell.
+    pub fn open_queues(&self) -> u32
+        ensures { result ≡ open_queues self.now.queued }
+    {
+        self.parts.queues.held as u32
+    }
+
+    /// Why it takes no more requests, or `NoMemory` where a port found no memory and its request
+    /// still waits.
+    pub fn stop(&self) -> Option<BufFault>
+        ensures { result ≡ stop_of self.now.fault self.now.failed self.now.starved }
+    {
+        if let Some(array) = self.parts.fault {
+            return Some(BufFault::Ended { array });
+        }
+        if let Some(port) = self.parts.failed {
+            return Some(BufFault::Stopped { port });
+        }
+        if self.parts.starved {
+            Some(BufFault::NoMemory)
+        } else {
+            None
+        }
+    }
+
+    /// What is true of every buffer: its addresses, queues and cells are as the walk has them, no rule
+    /// is applicable but where a port hasn't answered, and where one has failed the operation that is
+    /// next is on it.
+    pub fn facts(&self)
+        ensures parted { Parted J.image J.world J.began self.now }
+        ensures idle { Idle J.image self.now }
+        ensures failed { FailedSo J.image J.began self.now }
+        ensures once { All (λ k. entry_of self.now.kept k.wave k.instr ≡ Some k) self.now.kept }
+    {
+        let _ = &self.parts;
+    }
+
+    /// What the run has left. Takes no memory.
+    pub fn finish(self) -> BufferEnd<P>
+        ensures printed { result.printed ≡ self.outside.printed }
+        ensures arrays { result.arrays ≡ self.outside.cells }
+        ensures ports { contents P.tells result.ports ≡ self.outside.ports }
+        ensures open { AllOpen self.outside.ports }
+    {
+        let alloc = self.alloc;
+        let parts = self.parts;
+        let outer = parts.outer;
+        outer.finish(alloc)
+    }
+}
+
+// The address of a store that has no data.
+fn kept_address<J: Job>(token: &Token<J>) -> Kept
+    requires store { is_store_op (instr_at J.image token.now.instr).op ≡ true }
+    requires port { token.now.port ≡ 0 }
+    ensures kept { result ≡ address_of token.now }
+    ensures right { IsAddressed J.image J.world result.wave result.instr result.first }
+{
+    Kept {
+        wave: token.wave(),
+        instr: token.instr(),
+        first: token.value(),
+        second: 0,
+        answer: None,
+    }
+}
+
+// A request that has no answer.
+fn kept_request<J: Job>(request: &Request<J>) -> Kept
+    ensures kept { result ≡ request_of request.now }
+    ensures right { IsAsked J.image J.world (asked_of result) }
+{
+    Kept {
+        wave: request.wave(),
+        instr: request.instr(),
+        first: request.first(),
+        second: request.second(),
+        answer: None,
+    }
+}
+
+// Whether an operation gives a word.
+fn gives_word(op: Op) -> bool
+    ensures { result ≡ gives_word op }
+{
+    match op {
+        Op::Load(_) | Op::Input | Op::Give(_) => true,
+        _ => false,
+    }
+}
