@@ -44,6 +44,8 @@ CALLS = [
     (["run", "--workers", "2"], "proc main() { var x; take 1, 7; take 1, 8; give 2, x; print x; }"),
     (["bench", "2", "--workers", "4"], ""),
     (["replay"], TRACE),
+    (["multi", "--workers", "2"], "proc main() { take 1, 7; print 7; }\n%job\nproc main() { print 8; }"),
+    (["grid", "--stats"], TRACE.partition("%input")[0]),
 ]
 
 

@@ -15,3 +15,5 @@ mod replies;
 mod schedules;
 #[cfg(test)]
 mod tapes;
+#[cfg(test)]
+mod threads;

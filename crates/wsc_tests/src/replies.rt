@@ -63,6 +63,7 @@ pub struct Reply {
     pub bytes: Vec<u8>,
     pub status: Status,
     pub image: Option<Checked>,
+    pub threads: Vec<Checked>,
     pub ports: Slots<TapePort>,
 }
 
@@ -148,12 +149,14 @@ fn replied(alloc: Global, sink: &MemSink, outcome: Outcome<TapePort>) -> Result<
     let Outcome {
         status,
         image,
+        threads,
         ports,
     } = outcome;
     Ok(Reply {
         bytes,
         status,
         image,
+        threads,
         ports,
     })
 }

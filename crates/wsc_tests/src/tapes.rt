@@ -27,7 +27,7 @@ fn tape(alloc: Global, left: &[u64], fails: u64) -> Result<TapePort, NoMemory>
 }
 
 // Tapes in the first three slots, with one call of each that fails.
-fn tapes(alloc: Global, fails: [u64; 3]) -> Result<Slots<TapePort>, NoMemory>
+pub fn tapes(alloc: Global, fails: [u64; 3]) -> Result<Slots<TapePort>, NoMemory>
     ensures { IfOk result (λ ports. AllByRecursion IsOpen (contents tape_tells ports)) }
 {
     let first = tape(alloc, &[5, 6, 7], fails[0])?;
@@ -45,7 +45,7 @@ fn tapes(alloc: Global, fails: [u64; 3]) -> Result<Slots<TapePort>, NoMemory>
 }
 
 // Of each of the first three ports the words that it has left, and those that it took.
-type Lists = [&'static [u64]; 6];
+pub type Lists = [&'static [u64]; 6];
 
 // Whether the tape in a slot has left and took these words.
 fn is_at(slot: &Option<TapePort>, left: &[u64], took: &[u64]) -> bool {
@@ -55,14 +55,14 @@ fn is_at(slot: &Option<TapePort>, left: &[u64], took: &[u64]) -> bool {
     }
 }
 
-fn are_at(ports: &Slots<TapePort>, lists: &Lists) -> bool {
+pub fn are_at(ports: &Slots<TapePort>, lists: &Lists) -> bool {
     is_at(&ports.first, lists[0], lists[1])
         && is_at(&ports.second, lists[2], lists[3])
         && is_at(&ports.third, lists[4], lists[5])
 }
 
 // How often tapes have failed, all together.
-fn faults(ports: &Slots<TapePort>) -> u64 {
+pub fn faults(ports: &Slots<TapePort>) -> u64 {
     let mut count = 0u64;
     for slot in [&ports.first, &ports.second, &ports.third] {
         if let Some(tape) = slot {

@@ -10,7 +10,13 @@ use Rattle.src_ast.specs.Once.{ExactlyOne}
 use Rattle.ws_isa.specs.Image.{Image, array_at}
 use Rattle.image_walk.specs.Walk.{Inst, mem, walk, fires}
 use Rattle.image_walk.specs.Operations.{operations, ops, without_loads, effect_of, Effect, FaultsAt, NoFault}
+use Rattle.ws_isa.specs.Formed.{Formed}
 use Rattle.image_walk.specs.Sound.{Sound}
+use Rattle.grid_clock.specs.declared.run.Clocked.{Clocked}
+use Rattle.grid_clock.specs.Schedule.{Grid as Grids}
+use Rattle.grid_clock.specs.Clocks.{Clocks}
+use Rattle.wsc_top.specs.Job.{world_of}
+use Rattle.wsc_top.specs.Clocked.{IsClocked, grid_of, clocked_status, clocked_text}
 use Rattle.asm_text.specs.declared.fault.AsmKind.{AsmKind}
 use Rattle.asm_text.specs.Reading.{read}
 use Rattle.annot_check.specs.declared.fault.Bad.{Bad}
@@ -19,7 +25,8 @@ use Rattle.list_out.specs.Listing.{listing}
 use Rattle.wsc_top.specs.declared.assembly.AsmRefusal.{AsmRefusal}
 use Rattle.wsc_top.specs.declared.assembly.AsmRefusal.TheVariants.{Text, Unsound, Input}
 use Rattle.wsc_top.specs.declared.task.AssemblyTask.{AssemblyTask}
-use Rattle.wsc_top.specs.declared.task.AssemblyTask.TheVariants.{Check, List as Listing}
+use Rattle.wsc_top.specs.declared.task.AssemblyTask.TheVariants.{Check, List as Listing, Grid}
+use Rattle.wsc_top.specs.declared.task.GridOptions.{GridOptions}
 use Rattle.wsc_top.specs.declared.task.RunOptions.{RunOptions}
 use Rattle.wsc_top.specs.declared.status.Status.{Status}
 use Rattle.wsc_top.specs.declared.status.Status.TheVariants.{Done, Refused, Budget, Fault}
@@ -30,7 +37,7 @@ use Rattle.wsc_top.specs.Texts.{sound_text, shown_names, called}
 use Rattle.wsc_top.specs.Sections.{program_of, input_of, input_place, IsInputAnswer}
 use Rattle.wsc_top.specs.Assembly.{IsAssembly, RefusesAssembly, assembly, unsound, input, IsAssemblyAnswer, IsUnsound}
 use Rattle.wsc_top.specs.Executions.{Executes, rested, spent, stopped, failed, IsFailed, end_report, fault_report}
-use Rattle.wsc_top.specs.Answers.{assembly_text, AssemblyYields, checked, listed, executed, traced, replayed, AssemblyAnswered, refused, done, IsSettled, IsAssemblyReply}
+use Rattle.wsc_top.specs.Answers.{assembly_text, AssemblyYields, checked, listed, executed, traced, replayed, gridded, AssemblyAnswered, refused, done, IsSettled, IsAssemblyReply}
 use Rattle.wsc_top.specs.Answers as answers
 use Rattle.wsc_top.proofs.Inputs.{one_list, no_fault_in_words, one_fault, one_answer}
 use Rattle.wsc_top.proofs.AnswersOnce.{Reply, same_reply}
@@ -188,29 +195,46 @@ module _ (known : WalksOnce) (image : Image) (world : World) where
     execs_alike s v out more back other (spent t h ports) x a b c d = absurd (a refl)
     execs_alike s v out more back other (failed t port x e on clean rose ports) y a b c d = absurd (c (port, refl))
 
+-- runs on grids are one
+abbrev pub ClocksOnce : Type 0
+ClocksOnce = (grid : Grids) (world : World) → Formed grid.image → Sound grid.image → (one other : Clocked) → Clocks grid world one → Clocks grid world other → one ≡ other
+
+abbrev pub ReadsFormed : Type 0
+ReadsFormed = (text : List ℕ) (image : Image) → read text ≡ Ok image → Formed image
+
+clocked_alike : ClocksOnce → (options : GridOptions) (image : Image) → Formed image → Sound image → (words : List ℕ) (s v : Status) (out more : List ℕ)
+    → IsClocked options image words s out → IsClocked options image words v more → ◌≡◌ {A = Reply} (s, out) (v, more)
+clocked_alike clocks options image formed sound words s v out more a b =
+    let same = clocks (grid_of options image) (world_of words) formed sound a.run b.run a.clocks b.clocks in
+    same_reply s v out more
+    (a.status_is ∙ ap (λ (c : Clocked). clocked_status c.finish) same ∙ sym b.status_is)
+    (a.text_is ∙ ap (clocked_text options image.arrays) same ∙ sym b.text_is)
+
 -- what comes of a task to one image
-yields_alike : WalksOnce → (task : AssemblyTask) → IsSettled task → (text : List ℕ) (image : Image) (words : List ℕ) (handed : List (Option Told)) (s v : Status) (out more : List ℕ)
+yields_alike : WalksOnce → ClocksOnce → (task : AssemblyTask) → IsSettled task → (text : List ℕ) (image : Image) → Formed image → Sound image → (words : List ℕ) (handed : List (Option Told)) (s v : Status) (out more : List ℕ)
     (one two : Option Image) (back other : List (Option Told)) → AssemblyYields task text image words handed s out one back → AssemblyYields task text image words handed v more two other
     → (s ≡ Budget → ⊥) → (v ≡ Budget → ⊥) → (IsFailed s → ⊥) → (IsFailed v → ⊥) → ◌≡◌ {A = Reply} (s, out) (v, more)
-yields_alike known task k text image words handed s v out more one two back other checked checked a b c d = refl
-yields_alike known task k text image words handed s v out more one two back other listed listed a b c d = refl
-yields_alike known task k text image words handed s v out more one two back other (executed {options} x) (executed y) a b c d =
+yields_alike known clocks task k text image formed sound words handed s v out more one two back other checked checked a b c d = refl
+yields_alike known clocks task k text image formed sound words handed s v out more one two back other listed listed a b c d = refl
+yields_alike known clocks task k text image formed sound words handed s v out more one two back other (executed {options} x) (executed y) a b c d =
     execs_alike known image (world_with words handed) options handed s v out more back other x y a b c d
-yields_alike known task k text image words handed s v out more one two back other (traced x f) (traced y g) a b c d = absurd k
-yields_alike known task k text image words handed s v out more one two back other (replayed x f) (replayed y g) a b c d = absurd k
+yields_alike known clocks task k text image formed sound words handed s v out more one two back other (traced x f) (traced y g) a b c d = absurd k
+yields_alike known clocks task k text image formed sound words handed s v out more one two back other (replayed x f) (replayed y g) a b c d = absurd k
+yields_alike known clocks task k text image formed sound words handed s v out more one two back other (gridded {options} x f) (gridded y g) a b c d =
+    clocked_alike clocks options image formed sound words s v out more x y
 
 -- two answers to a text that aren't cut short are one, or both say that it is refused
-pub assembly_alike : BreachesBreak → WalksOnce → (task : AssemblyTask) → IsSettled task → (text : List ℕ) (handed : List (Option Told)) (s v : Status) (out more : List ℕ)
+pub assembly_alike : BreachesBreak → WalksOnce → ClocksOnce → ReadsFormed → (task : AssemblyTask) → IsSettled task → (text : List ℕ) (handed : List (Option Told)) (s v : Status) (out more : List ℕ)
     (one two : Option Image) (back other : List (Option Told)) → AssemblyAnswered task text handed s out one back → AssemblyAnswered task text handed v more two other
     → (s ≡ Budget → ⊥) → (v ≡ Budget → ⊥) → (IsFailed s → ⊥) → (IsFailed v → ⊥) → (◌≡◌ {A = Reply} (s, out) (v, more)) ⊎ ((s ≡ Refused) × (v ≡ Refused))
-assembly_alike breaks known task k text handed s v out more one two back other (answers.AssemblyAnswered.refused q h) (answers.AssemblyAnswered.refused r i) a b c d = inr (refl, refl)
-assembly_alike breaks known task k text handed s v out more one two back other (answers.AssemblyAnswered.refused q h) (answers.AssemblyAnswered.done image words j y) a b c d =
+assembly_alike breaks known clocks formed task k text handed s v out more one two back other (answers.AssemblyAnswered.refused q h) (answers.AssemblyAnswered.refused r i) a b c d = inr (refl, refl)
+assembly_alike breaks known clocks formed task k text handed s v out more one two back other (answers.AssemblyAnswered.refused q h) (answers.AssemblyAnswered.done image words j y) a b c d =
     absurd (never_both (assembly_text task text) breaks image words q j h)
-assembly_alike breaks known task k text handed s v out more one two back other (answers.AssemblyAnswered.done image words j y) (answers.AssemblyAnswered.refused r i) a b c d =
+assembly_alike breaks known clocks formed task k text handed s v out more one two back other (answers.AssemblyAnswered.done image words j y) (answers.AssemblyAnswered.refused r i) a b c d =
     absurd (never_both (assembly_text task text) breaks image words r j i)
-assembly_alike breaks known task k text handed s v out more one two back other (answers.AssemblyAnswered.done image words j y) (answers.AssemblyAnswered.done again others i z) a b c d =
+assembly_alike breaks known clocks formed task k text handed s v out more one two back other (answers.AssemblyAnswered.done image words j y) (answers.AssemblyAnswered.done again others i z) a b c d =
     let same = one_assembly (assembly_text task text) image again words others j i in
-    inl (yields_alike known task k text again others handed s v out more one two back other
+    inl (yields_alike known clocks task k text again (formed (program_of (assembly_text task text)) again i.reads) i.sound others handed s v out more one two back other
     (subst (λ ws. AssemblyYields task text again ws handed s out one back) same.1 (subst (λ im. AssemblyYields task text im words handed s out one back) same.0 y)) z a b c d)
 
 -- `check` and `list` have one answer to a sound assembly
@@ -245,3 +269,17 @@ module _ (breaks : BreachesBreak) (text : List ℕ) (image : Image) (words : Lis
       only s out one back (answers.AssemblyAnswered.refused r h) = absurd (never_both text breaks image words r is h)
       only s out one back (answers.AssemblyAnswered.done again more j y) =
           list_done text again more handed s out one back y ∙ ap (λ i. (Done, listing i)) (one_assembly text again image more words j is).0
+
+  clocked_image : (options : GridOptions) (s : Status) (out : List ℕ) (again : Image) (more : List ℕ) (one : Option Image) (back : List (Option Told)) → IsAssembly text again more
+      → AssemblyYields (Grid options) text again more handed s out one back → IsClocked options image words s out
+  clocked_image options s out again more one back j (gridded x f) =
+      let same = one_assembly text again image more words j is in
+      subst (λ ws. IsClocked options image ws s out) same.1 (subst (λ im. IsClocked options im more s out) same.0 x)
+
+  pub gridded_alike : ClocksOnce → ReadsFormed → (options : GridOptions) (s v : Status) (out more : List ℕ) (one two : Option Image) (back other : List (Option Told))
+      → AssemblyAnswered (Grid options) text handed s out one back → AssemblyAnswered (Grid options) text handed v more two other → ◌≡◌ {A = Reply} (s, out) (v, more)
+  gridded_alike clocks formed options s v out more one two back other (answers.AssemblyAnswered.refused r h) b = absurd (never_both text breaks image words r is h)
+  gridded_alike clocks formed options s v out more one two back other (answers.AssemblyAnswered.done x xs j y) (answers.AssemblyAnswered.refused r h) = absurd (never_both text breaks image words r is h)
+  gridded_alike clocks formed options s v out more one two back other (answers.AssemblyAnswered.done x xs j y) (answers.AssemblyAnswered.done z zs k w) =
+      clocked_alike clocks options image (formed (program_of text) image is.reads) is.sound words s v out more
+      (clocked_image options s out x xs one back j y) (clocked_image options v more z zs two other k w)

@@ -9,12 +9,12 @@ use Rattle.port_set.specs.Ports.{Told}
 use Rattle.store_buf.specs.Outdoors.{RoseAt, world_with}
 use Rattle.wsc_top.specs.declared.task.JobTask.{JobTask}
 use Rattle.wsc_top.specs.declared.task.Task.{Task}
-use Rattle.wsc_top.specs.declared.task.Task.TheVariants.{Job, Assembly, Generate, Bench}
+use Rattle.wsc_top.specs.declared.task.Task.TheVariants.{Job, Assembly, Generate, Bench, Multi}
 use Rattle.wsc_top.specs.declared.task.AssemblyTask.{AssemblyTask}
 use Rattle.wsc_top.specs.declared.task.RunOptions.{RunOptions}
 use Rattle.wsc_top.specs.declared.task.BenchOptions.{BenchOptions}
 use Rattle.wsc_top.specs.declared.step.Step.{Step}
-use Rattle.wsc_top.specs.declared.step.Step.TheVariants.{Ready, Run as Due}
+use Rattle.wsc_top.specs.declared.step.Step.TheVariants.{Ready, Run as Due, Threads as Many}
 use Rattle.wsc_top.specs.declared.assembly.AsmRefusal.{AsmRefusal}
 use Rattle.wsc_top.specs.declared.assembly.AssemblyFault.{AssemblyFault}
 use Rattle.wsc_top.specs.declared.assembly.AssemblyFault.TheVariants as fault
@@ -29,11 +29,17 @@ use Rattle.wsc_top.specs.Executions.{Executes, rested, spent, stopped, failed, O
 use Rattle.wsc_top.specs.Generated.{IsGeneratedJob}
 use Rattle.trace_check.specs.declared.recording.TraceEnd.{TraceEnd}
 use Rattle.trace_check.specs.declared.recording.TraceEnd.TheVariants as end
+use Rattle.core_run.specs.declared.drive.Finish.{Finish}
+use Rattle.core_run.specs.declared.drive.Finish.TheVariants as finish
+use Rattle.wsc_top.specs.Clocked.{clocked_status}
 use Rattle.wsc_top.specs.Traced as traces
 use Rattle.wsc_top.specs.Traced.{IsReplayed, missing, faulty, illegal, made, trace_status}
 use Rattle.wsc_top.specs.Answers as answers
-use Rattle.wsc_top.specs.Answers.{SomeRose, OrNoMemory, IsCompiled, Yields, ran, formatted, compiled, ended, faulted, going, Answered, refused, done, IsReader, limit_of, assembly_text, AssemblyYields, checked, listed, executed, traced, replayed, AssemblyAnswered, Answers, usage, generated, unread, long, read, assembled, WereRead, IsToldOther, IsToldNoAssembly, Benched, benched, IsDue}
-use Rattle.wsc_top.specs.Steps.{AssemblyYieldStep, JobStep, AssemblyStep, StepSo}
+use Rattle.wsc_top.specs.Answers.{SomeRose, OrNoMemory, IsCompiled, Yields, ran, formatted, compiled, ended, faulted, going, Answered, refused, done, IsReader, limit_of, assembly_text, AssemblyYields, checked, listed, executed, traced, replayed, gridded, AssemblyAnswered, Answers, usage, generated, unread, long, read, assembled, WereRead, IsToldOther, IsToldNoAssembly, Benched, benched, IsDue}
+use Rattle.wsc_top.specs.Jobs.{RefusesJobs}
+use Rattle.wsc_top.specs.Threads.{Replies, alone, together, AreThreads}
+use Rattle.wsc_top.specs.Threads as threads
+use Rattle.wsc_top.specs.Steps.{AssemblyYieldStep, JobStep, JobsStep, AssemblyStep, StepSo}
 use Rattle.wsc_top.proofs.Tasks.{OneLine, same_task_by}
 
 -- a step that is known
@@ -45,34 +51,58 @@ module _ (words : List (List ℕ)) (left after : Option (List ℕ)) (m n : ℕ) 
   -- where reading failed
   pub unread_step : (t : Task) → IsLine words t → IsReader t → Rose m n → (bytes : List ℕ) × (length bytes ≤ limit_of t) × Takes left bytes after
       → StepSo words left after m n (Ready ReadFault unread_text None)
-  unread_step t r is f b handed = unread t b.0 r is f b.1 b.2
+  unread_step t r is f b handed = alone (unread t b.0 r is f b.1 b.2)
 
   -- where there are too many bytes
   pub long_step : (t : Task) → IsLine words t → IsReader t → (bytes : List ℕ) × (length bytes ≡ limit_of t + 1) × Takes left bytes after
       → StepSo words left after m n (Ready Refused long_text None)
-  long_step t r is b handed = long t b.0 r is b.1 b.2
+  long_step t r is b handed = alone (long t b.0 r is b.1 b.2)
 
   -- where the whole text was read
   pub read_step : (text same : List ℕ) (c : JobTask) (step : Step) → IsLine words (Job c) → length text ≤ job_limit → TakesAll left text after → same ≡ text
       → JobStep c same step → StepSo words left after m n step
-  read_step text same c (Ready status out image) r l t e a = λ handed. read c text r l t (subst (λ x. Answered c x handed status out image handed) e (a handed))
+  read_step text same c (Ready status out image) r l t e a = λ handed. alone (read c text r l t (subst (λ x. Answered c x handed status out image handed) e (a handed)))
   read_step text same c (Due options image input) r l t e a =
       answers.IsDue.job text a.1 (subst (λ (d : JobTask). IsLine words (Job d)) a.0 r) l t (subst (λ x. IsJob x a.1 input) e a.2) a.3
+  read_step text same c (Many options jobs) r l t e a = absurd a
 
   pub assembled_step : (text same : List ℕ) (c : AssemblyTask) (step : Step) → IsLine words (Assembly c) → length text ≤ assembly_limit → TakesAll left text after → same ≡ text
       → AssemblyStep c same step → StepSo words left after m n step
-  assembled_step text same c (Ready status out image) r l t e a = λ handed. assembled c text r l t (subst (λ x. AssemblyAnswered c x handed status out image handed) e (a handed))
+  assembled_step text same c (Ready status out image) r l t e a = λ handed. alone (assembled c text r l t (subst (λ x. AssemblyAnswered c x handed status out image handed) e (a handed)))
   assembled_step text same c (Due options image input) r l t e a =
       answers.IsDue.assembly text (subst (λ (d : AssemblyTask). IsLine words (Assembly d)) a.0 r) l t (subst (λ x. IsAssembly x image input) e a.1)
+  assembled_step text same c (Many options jobs) r l t e a = absurd a
+
+  pub jobs_step : (text same : List ℕ) (options : RunOptions) (step : Step) → IsLine words (Multi options) → length text ≤ job_limit → TakesAll left text after → same ≡ text
+      → JobsStep options same step → StepSo words left after m n step
+  jobs_step text same options (Ready status out image) r l t e a = λ handed.
+      subst (λ (s : Status). Replies words left after m n handed s out image [] handed) (sym a.0)
+      (subst (λ (i : Option Image). Replies words left after m n handed Refused out i [] handed) (sym a.1)
+      (subst (λ (o : List ℕ). Replies words left after m n handed Refused o None [] handed) (sym a.4)
+      (together options text r l t (threads.MultiAnswered.refused a.2 (subst (λ x. RefusesJobs x a.2) e a.3)))))
+  jobs_step text same options (Due found image input) r l t e a = absurd a
+  jobs_step text same options (Many found jobs) r l t e a = (
+    a.1.threads,
+    record {
+      text = text;
+      line = subst (λ (o : RunOptions). IsLine words (Multi o)) (sym a.0) r;
+      short = l;
+      takes = t;
+      jobs = subst (λ x. AreThreads x a.1.threads) e a.1.jobs;
+      compiled = a.1.compiled;
+    },
+    a.1.images_are,
+    a.1.inputs_are,
+  )
 
 -- where the words are no line
 pub usage_step : (words : List (List ℕ)) (left : Option (List ℕ)) (m n : ℕ) → IsNoLine words → StepSo words left left m n (Ready Usage usage_text None)
-usage_step words left m n h handed = usage h refl
+usage_step words left m n h handed = alone (usage h refl)
 
 -- where a generated job is asked for
 pub generated_step : (words : List (List ℕ)) (left : Option (List ℕ)) (m n number : ℕ) (out : List ℕ) → IsLine words (Generate number) → out ≡ job_text number
     → StepSo words left left m n (Ready Done out None)
-generated_step words left m n number out h e handed = subst (λ o. Answers words left left m n handed Done o None handed) (sym e) (generated number h refl)
+generated_step words left m n number out h e handed = alone (subst (λ o. Answers words left left m n handed Done o None handed) (sym e) (generated number h refl))
 
 -- where one is to be run
 pub bench_step : (words : List (List ℕ)) (left : Option (List ℕ)) (options : BenchOptions) (image : Image) (input : List ℕ) → IsLine words (Bench options)
@@ -92,6 +122,7 @@ unsound_step task text out f why is h e handed =
 pub sound_step : (task : AssemblyTask) (text : List ℕ) (image : Image) (input : List ℕ) (step : Step) → IsAssembly (assembly_text task text) image input → AssemblyYieldStep task text image input step
     → AssemblyStep task text step
 sound_step task text image input (Ready status out again) a y = λ handed. answers.AssemblyAnswered.done image input a (y handed)
+sound_step task text image input (Many options jobs) a y = absurd y
 sound_step task text image input (Due options found words) a y = (
   y.0,
   subst (λ (ws : List ℕ). IsAssembly text found ws) (sym y.2) (subst (λ (i : Image). IsAssembly text i input) (sym y.1)
@@ -151,7 +182,7 @@ pub told_text : (left : Option (List ℕ)) (text same : List ℕ) (after : Optio
 told_text left text same after e t = let u = subst (λ x. TakesAll x same after) e t in sym u.0
 
 -- the statuses that an answer to a text may have; that a port failed comes only where its count rose
-abbrev IsOfText : List (Option Told) → List (Option Told) → Status → Type 0
+abbrev pub IsOfText : List (Option Told) → List (Option Told) → Status → Type 0
 IsOfText handed back ReadFault = ⊥
 IsOfText handed back WriteFault = ⊥
 IsOfText handed back NoMemory = ⊥
@@ -165,7 +196,7 @@ executes_status options image world handed status out back (spent t s ports) = t
 executes_status options image world handed status out back (stopped t f ports) = tt
 executes_status options image world handed status out back (failed t port x e is within rose ports) = rose
 
-yields_status : (c : JobTask) (parts : List Part) (input : List ℕ) (handed : List (Option Told)) (status : Status) (out : List ℕ) (image : Option Image) (back : List (Option Told))
+pub yields_status : (c : JobTask) (parts : List Part) (input : List ℕ) (handed : List (Option Told)) (status : Status) (out : List ℕ) (image : Option Image) (back : List (Option Told))
     → Yields c parts input handed status out image back → IsOfText handed back status
 yields_status c parts input handed status out some back (ran {options} image i e tells) = executes_status options image (world_with input handed) handed status out back e
 yields_status c parts input handed status out image back (formatted r) = tt
@@ -185,6 +216,11 @@ trace_ends handed back end.Rest = tt
 trace_ends handed back end.Budget = tt
 trace_ends handed back end.Fault = tt
 
+grid_ends : (handed back : List (Option Told)) (how : Finish) → IsOfText handed back (clocked_status how)
+grid_ends handed back finish.Rest = tt
+grid_ends handed back finish.Budget = tt
+grid_ends handed back (finish.Fault array) = tt
+
 replay_status : (handed back : List (Option Told)) (text : List ℕ) (image : Image) (input : List ℕ) (status : Status) (out : List ℕ) (again : Option Image)
     → IsReplayed text image input status out again → IsOfText handed back status
 replay_status handed back text image input status out again (missing e) = tt
@@ -199,6 +235,7 @@ yield_status c text image input handed status out again back listed = tt
 yield_status c text image input handed status out again back (executed {options} e) = executes_status options image (world_with input handed) handed status out back e
 yield_status c text image input handed status out again back (traced t e) = subst (IsOfText handed handed) (sym t.status_is) (trace_ends handed handed t.how)
 yield_status c text image input handed status out again back (replayed r e) = replay_status handed handed text image input status out again r
+yield_status c text image input handed status out again back (gridded r e) = subst (IsOfText handed handed) (sym r.status_is) (grid_ends handed handed r.run.finish)
 
 assembly_status : (c : AssemblyTask) (text : List ℕ) (handed : List (Option Told)) (status : Status) (out : List ℕ) (again : Option Image) (back : List (Option Told))
     → AssemblyAnswered c text handed status out again back → IsOfText handed back status
@@ -291,12 +328,6 @@ pub some_read : (words : List (List ℕ)) (left after : Option (List ℕ)) (t : 
     → (bytes : List ℕ) × (length bytes ≤ limit_of t + 1) × Takes left bytes after
     → (bytes : List ℕ) × WereRead words bytes × Takes left bytes after
 some_read words left after t r is b = (b.0, inr (t, r, is, b.1), b.2)
-
--- the answer that was told
-pub answer_told : {E : Type 0} (words : List (List ℕ)) (left after : Option (List ℕ)) (m n : ℕ) (handed : List (Option Told)) (image : Option Image) (back : List (Option Told))
-    (answer : Result (Status × List ℕ) E) (status : Status) (out : List ℕ) → answer ≡ Ok (status, out)
-    → IfOk answer (λ a. Answers words left after m n handed a.0 a.1 image back) → Answers words left after m n handed status out image back
-answer_told words left after m n handed image back answer status out is h = subst (λ r. IfOk r (λ a. Answers words left after m n handed a.0 a.1 image back)) is h
 
 -- no port failed where no count of theirs rose
 pub unfailed : (handed back : List (Option Told)) (status wanted : Status) → ((port : ℕ) → status ≡ PortFault port → RoseAt port handed back) → (SomeRose handed back → ⊥)

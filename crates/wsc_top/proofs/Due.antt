@@ -1,5 +1,5 @@
 -- What comes of the run that is due is the answer.
-use Rattle.std.specs.Prelude.{◌≡◌, ℕ, List, Option, Some, Result, Ok, Err, IfOk, OnErr}
+use Rattle.std.specs.Prelude.{◌≡◌, ℕ, List, [], Option, Some, Result, Ok, Err, IfOk, OnErr}
 use Rattle.std.proofs.Common.{sym, subst}
 use Rattle.port_set.specs.Ports.{Told}
 use Rattle.store_buf.specs.Outdoors.{world_with}
@@ -11,6 +11,8 @@ use Rattle.wsc_top.specs.declared.task.AssemblyTask.TheVariants.{Exec}
 use Rattle.wsc_top.specs.Executions.{Executes, HasBegun}
 use Rattle.wsc_top.specs.Answers.{TellWords, ran, executed, read, assembled, benched, Answers, IsDue, Starves, within}
 use Rattle.wsc_top.specs.Answers as answers
+use Rattle.wsc_top.specs.Threads.{Replies, alone, Falls}
+use Rattle.wsc_top.specs.Threads as threads
 use Rattle.wsc_top.proofs.AssembliesOnce.{WalksOnce}
 use Rattle.wsc_top.proofs.Tells.{WalksEnd, input_words, given_words, run_tells}
 
@@ -33,13 +35,15 @@ module _ (known : WalksOnce) (whole : WalksEnd) (words : List (List ℕ)) (left 
 
 -- the reply of a run that was due
 module _ {E : Type 0} (words : List (List ℕ)) (left after : Option (List ℕ)) (faults counted : ℕ) (handed back : List (Option Told)) (options : RunOptions) (image : Image) (input : List ℕ)
-    (due : IsDue words left after options image input) (seen : Option Image) (is : seen ≡ Some image) where
+    (due : IsDue words left after options image input) (seen : Option Image) (is : seen ≡ Some image) (images : List Image) (none_seen : images ≡ []) where
   pub due_reply : (answer : Result (Status × List ℕ) E)
       → ((status : Status) (out : List ℕ) → Executes options image (world_with input handed) handed status out back → Answers words left after faults counted handed status out (Some image) back)
-      → IfOk answer (λ y. Executes options image (world_with input handed) handed y.0 y.1 back) → IfOk answer (λ a. Answers words left after faults counted handed a.0 a.1 seen back)
-  due_reply (Ok y) law e = subst (λ (i : Option Image). Answers words left after faults counted handed y.0 y.1 i back) (sym is) (law y.0 y.1 e)
+      → IfOk answer (λ y. Executes options image (world_with input handed) handed y.0 y.1 back) → IfOk answer (λ a. Replies words left after faults counted handed a.0 a.1 seen images back)
+  due_reply (Ok y) law e = subst (λ (is : List Image). Replies words left after faults counted handed y.0 y.1 seen is back) (sym none_seen)
+      (alone (subst (λ (i : Option Image). Answers words left after faults counted handed y.0 y.1 i back) (sym is) (law y.0 y.1 e)))
   due_reply (Err x) law e = tt
 
-  pub due_starves : (answer : Result (Status × List ℕ) E) → OnErr answer (HasBegun image (world_with input handed) handed back) → OnErr answer (Starves words left after handed seen back)
+  pub due_starves : (answer : Result (Status × List ℕ) E) → OnErr answer (HasBegun image (world_with input handed) handed back) → OnErr answer (Falls words left after handed seen images back)
   due_starves (Ok y) h = tt
-  due_starves (Err x) h = subst (λ (i : Option Image). Starves words left after handed i back) (sym is) (within due h)
+  due_starves (Err x) h = subst (λ (is : List Image). Falls words left after handed seen is back) (sym none_seen)
+      (threads.Falls.alone (subst (λ (i : Option Image). Starves words left after handed i back) (sym is) (within due h)))

@@ -22,7 +22,7 @@ use Rattle.wsc_top.specs.Tasks.{IsLine}
 use Rattle.wsc_top.specs.Job.{IsJob, IsTextAnswer, world_of}
 use Rattle.wsc_top.specs.Assembly.{IsAssembly}
 use Rattle.wsc_top.specs.Generated.{IsGeneratedJob}
-use Rattle.wsc_top.specs.Answers.{TellWords, Yields, ran, formatted, compiled, ended, faulted, going, EndsSo, Answered, refused, done, assembly_text, AssemblyYields, checked, listed, executed, traced, replayed, AssemblyEndsSo, AssemblyAnswered, Benched, BenchEndsSo, IsReader, limit_of, Answers, usage, generated, benched, unread, long, read, assembled, IsToldJob, IsToldAssembly}
+use Rattle.wsc_top.specs.Answers.{TellWords, Yields, ran, formatted, compiled, ended, faulted, going, EndsSo, Answered, refused, done, assembly_text, AssemblyYields, checked, listed, executed, traced, replayed, gridded, AssemblyEndsSo, AssemblyAnswered, Benched, BenchEndsSo, IsReader, limit_of, Answers, usage, generated, benched, unread, long, read, assembled, IsToldJob, IsToldAssembly}
 use Rattle.wsc_top.specs.Answers as answers
 use Rattle.wsc_top.specs.declared.task.Task.{Task}
 use Rattle.wsc_top.proofs.Tasks.{OneLine, same_task_by}
@@ -84,6 +84,7 @@ assembly_so task text image input handed status out again back listed = refl
 assembly_so task text image input handed status out again back (executed {options} e) = run_ends options image (world_with input handed) handed back status out e
 assembly_so task text image input handed status out again back (traced t e) = e
 assembly_so task text image input handed status out again back (replayed r e) = e
+assembly_so task text image input handed status out again back (gridded r e) = e
 
 assembly_answered_so : BreachesBreak → (task : AssemblyTask) (text : List ℕ) (image : Image) (input : List ℕ) (handed : List (Option Told)) → IsAssembly (assembly_text task text) image input
     → (status : Status) (out : List ℕ) (again : Option Image) (back : List (Option Told)) → AssemblyAnswered task text handed status out again back → AssemblyEndsSo task text image input handed status

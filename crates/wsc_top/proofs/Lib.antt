@@ -21,5 +21,10 @@ pub mod Ends
 pub mod Bounds
 pub mod Generated
 pub mod Replays
+pub mod Grids
 pub mod Due
 pub mod Benches
+pub mod JobTexts
+pub mod ThreadRuns
+pub mod JobsOnce
+pub mod ThreadAnswers

@@ -17,13 +17,15 @@ use Rattle.list_out.specs.Listing.{listing}
 use Rattle.wsc_top.specs.declared.status.Status.{Status}
 use Rattle.wsc_top.specs.declared.status.Status.TheVariants.{Done, Budget, Fault}
 use Rattle.wsc_top.specs.declared.task.AssemblyTask.{AssemblyTask}
-use Rattle.wsc_top.specs.declared.task.AssemblyTask.TheVariants.{Check, List as Listing, Trace, Replay}
+use Rattle.wsc_top.specs.declared.task.AssemblyTask.TheVariants.{Check, List as Listing, Trace, Replay, Grid}
 use Rattle.wsc_top.specs.Executions.{EndsRun}
 use Rattle.wsc_top.specs.Traced.{IsTraced, IsReplayed, EndsReplay}
+use Rattle.wsc_top.specs.Clocked.{IsClocked}
+use Rattle.wsc_top.specs.declared.task.GridOptions.{GridOptions}
 use Rattle.wsc_top.specs.Texts.{sound_text, ended_text, faulted_text, going_text, turns_line, names_of, array_name}
 use Rattle.wsc_top.specs.Job.{world_of}
 use Rattle.port_set.specs.Ports.{Told}
-use Rattle.wsc_top.specs.Answers.{IsCompiled, Yields, formatted, compiled, ended, faulted, going, AssemblyYields, checked, listed, traced, replayed}
+use Rattle.wsc_top.specs.Answers.{IsCompiled, Yields, formatted, compiled, ended, faulted, going, AssemblyYields, checked, listed, traced, replayed, gridded}
 
 pub format_yields : (parts : List Part) (out : List ℕ) → ReadsTheSame parts → out ≡ printed_form parts → (ws : List ℕ) (handed : List (Option Told)) → Yields Format parts ws handed Done out None handed
 format_yields parts out r e ws handed = subst (λ o. Yields Format parts ws handed Done o None handed) (sym e) (formatted r)
@@ -110,3 +112,7 @@ module _ (text : List ℕ) (image : Image) (input : List ℕ) (handed : List (Op
   pub replayed_yields : (task : AssemblyTask) (status : Status) (out : List ℕ) (again : Option Image) → task ≡ Replay → IsReplayed text image input status out again
       → EndsReplay text image input status → AssemblyYields task text image input handed status out again handed
   replayed_yields task status out again e h ends = subst (λ t. AssemblyYields t text image input handed status out again handed) (sym e) (replayed h ends)
+
+  pub gridded_yields : (task : AssemblyTask) (options : GridOptions) (status : Status) (out : List ℕ) → task ≡ Grid options → IsClocked options image input status out
+      → EndsRun image (world_of input) options.budget status → AssemblyYields task text image input handed status out (Some image) handed
+  gridded_yields task options status out e h ends = subst (λ t. AssemblyYields t text image input handed status out (Some image) handed) (sym e) (gridded h ends)

@@ -14,13 +14,14 @@ use Rattle.src_ast.specs.Written.{ReadsTheSame}
 use Rattle.wsc_top.specs.declared.status.Status.{Status}
 use Rattle.wsc_top.specs.declared.status.Status.TheVariants.{Done, Usage, Refused, Budget, ReadFault, PortFault, NoMemory, Fault}
 use Rattle.wsc_top.specs.declared.task.Task.{Task}
-use Rattle.wsc_top.specs.declared.task.Task.TheVariants.{Job, Assembly, Generate, Bench}
+use Rattle.wsc_top.specs.declared.task.Task.TheVariants.{Job, Assembly, Generate, Bench, Multi}
 use Rattle.wsc_top.specs.declared.task.JobTask.{JobTask}
 use Rattle.wsc_top.specs.declared.task.JobTask.TheVariants.{Run, Format, Compile, Plain}
 use Rattle.wsc_top.specs.declared.task.AssemblyTask.{AssemblyTask}
-use Rattle.wsc_top.specs.declared.task.AssemblyTask.TheVariants.{Check, List as Listing, Exec, Trace, Replay}
+use Rattle.wsc_top.specs.declared.task.AssemblyTask.TheVariants.{Check, List as Listing, Exec, Trace, Replay, Grid}
 use Rattle.wsc_top.specs.declared.task.PlainOptions.{PlainOptions}
 use Rattle.wsc_top.specs.declared.task.RunOptions.{RunOptions}
+use Rattle.wsc_top.specs.declared.task.GridOptions.{GridOptions}
 use Rattle.wsc_top.specs.declared.task.BenchOptions.{BenchOptions}
 use Rattle.wsc_top.specs.declared.assembly.AsmRefusal.{AsmRefusal}
 use Rattle.port_set.specs.Ports.{Told}
@@ -43,6 +44,7 @@ use Rattle.wsc_top.specs.Texts.{ended_text, faulted_text, going_text, turns_line
 use Rattle.wsc_top.specs.Executions.{Executes, PortsAre, HasBegun, EndsRun, IsFailed, OrFailed, end_report, fault_report, spent_report, failed_report, tells_firings}
 use Rattle.wsc_top.specs.Generated.{IsGeneratedJob}
 use Rattle.wsc_top.specs.Traced.{IsTraced, IsReplayed, EndsReplay}
+use Rattle.wsc_top.specs.Clocked.{IsClocked}
 
 -- an image of a program as the compiler gives it: a machine runs it, it does what the program does
 -- within its bound, its notes are numbered and have the ripples that can be had, and it is a draft of
@@ -222,8 +224,8 @@ assembly_text Replay text = before_trace text
 assembly_text _ text = text
 
 -- What comes of a task to a text with a sound image and its input words: `check` says that it is
--- sound, `list` lists it, `exec` runs it with the ports, `trace` prints the events of a run, and
--- `replay` makes the events that the text has.
+-- sound, `list` lists it, `exec` runs it with the ports, `trace` prints the events of a run, `replay`
+-- makes the events that the text has, and `grid` runs it on a clocked grid.
 pub data AssemblyYields : AssemblyTask → List ℕ → Image → List ℕ → List (Option Told) → Status
     → List ℕ → Option Image → List (Option Told) → Type 0 where
   checked : {text : List ℕ} {image : Image} {input : List ℕ} {handed : List (Option Told)}
@@ -242,8 +244,13 @@ pub data AssemblyYields : AssemblyTask → List ℕ → Image → List ℕ → L
       {status : Status} {out : List ℕ} {again : Option Image}
       → IsReplayed text image input status out again → EndsReplay text image input status
       → AssemblyYields Replay text image input handed status out again handed
+  gridded : {options : GridOptions} {text : List ℕ} {image : Image} {input : List ℕ}
+      {handed : List (Option Told)} {status : Status} {out : List ℕ}
+      → IsClocked options image input status out
+      → EndsRun image (world_of input) options.budget status
+      → AssemblyYields (Grid options) text image input handed status out (Some image) handed
 
--- the status of a task to a sound image: Done, but for a run, a trace and a replay
+-- the status of a task to a sound image: Done, but for a run, a trace, a replay and a run on a grid
 abbrev pub AssemblyEndsSo : AssemblyTask → List ℕ → Image → List ℕ → List (Option Told) → Status
     → Type 0
 AssemblyEndsSo Check text image input handed status = status ≡ Done
@@ -253,6 +260,8 @@ AssemblyEndsSo (Exec options) text image input handed status =
 AssemblyEndsSo (Trace budget) text image input handed status =
     EndsRun image (world_of input) budget status
 AssemblyEndsSo Replay text image input handed status = EndsReplay text image input status
+AssemblyEndsSo (Grid options) text image input handed status =
+    EndsRun image (world_of input) options.budget status
 
 -- The answer of a task to an assembly, with the ports that were handed in: the status, the text, the
 -- image and the ports.
@@ -297,6 +306,7 @@ IsReader (Job task) = Unit {0}
 IsReader (Assembly task) = Unit {0}
 IsReader (Generate number) = ⊥
 IsReader (Bench options) = ⊥
+IsReader (Multi options) = Unit {0}
 
 -- the most bytes that it reads as a text
 abbrev pub limit_of : Task → ℕ
@@ -304,6 +314,7 @@ limit_of (Job task) = job_limit
 limit_of (Assembly task) = assembly_limit
 limit_of (Generate number) = 0
 limit_of (Bench options) = 0
+limit_of (Multi options) = job_limit
 
 -- The answer to these words, where the source had these bytes left before the call and those after
 -- it, and counted these faults before it and those after it, and these ports were handed in: the

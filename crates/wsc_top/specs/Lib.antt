@@ -8,5 +8,9 @@ pub mod Executions
 pub mod Finished
 pub mod Generated
 pub mod Answers
+pub mod Jobs
+pub mod Threads
+pub mod Running
 pub mod Traced
+pub mod Clocked
 pub mod Steps

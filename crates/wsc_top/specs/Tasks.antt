@@ -5,10 +5,11 @@ use Rattle.wsc_words.specs.declared.line.Line.{Line}
 use Rattle.wsc_words.specs.declared.command.Command.{Command}
 use Rattle.wsc_words.specs.declared.command.Command.TheVariants as command
 use Rattle.wsc_top.specs.declared.task.Task.{Task}
-use Rattle.wsc_top.specs.declared.task.Task.TheVariants.{Job, Assembly, Generate, Bench}
+use Rattle.wsc_top.specs.declared.task.Task.TheVariants.{Job, Assembly, Generate, Bench, Multi}
 use Rattle.wsc_top.specs.declared.task.Report.{Report}
 use Rattle.wsc_top.specs.declared.task.Report.TheVariants.{Full, Brief}
 use Rattle.wsc_top.specs.declared.task.RunOptions.{RunOptions}
+use Rattle.wsc_top.specs.declared.task.GridOptions.{GridOptions}
 use Rattle.wsc_top.specs.declared.task.JobTask.TheVariants.{Run, Format, Compile, Plain}
 use Rattle.wsc_top.specs.declared.task.AssemblyTask.TheVariants as assembly
 
@@ -16,6 +17,16 @@ use Rattle.wsc_top.specs.declared.task.AssemblyTask.TheVariants as assembly
 abbrev pub options_of : Line → Report → RunOptions
 options_of line report =
     record { workers = line.workers; budget = line.budget; report = report }
+
+-- how a line asks for a run on a grid
+abbrev pub grid_options : Line → GridOptions
+grid_options line = record {
+  elements = line.elements;
+  waves = line.waves;
+  budget = line.budget;
+  memory = line.memory;
+  stats = line.stats;
+}
 
 abbrev pub task_by : Command → Line → Option Task
 task_by command.Run line = Some (Job (Run (options_of line (Full line.memory line.stats))))
@@ -32,10 +43,12 @@ task_by command.Exec line =
 task_by command.List line = Some (Assembly assembly.List)
 task_by command.Trace line = Some (Assembly (assembly.Trace line.budget))
 task_by command.Replay line = Some (Assembly assembly.Replay)
+task_by command.Grid line = Some (Assembly (assembly.Grid (grid_options line)))
 task_by command.Gen line = Some (Generate line.number)
 task_by command.Bench line =
     Some (Bench (record { number = line.number; run = options_of line Brief }))
-task_by _ line = None
+task_by command.Multi line = Some (Multi (options_of line (Full line.memory line.stats)))
+task_by command.Decouple line = None
 
 -- what a line asks for, where that is built
 abbrev pub task_of : Line → Option Task

@@ -7,18 +7,23 @@ ghost use Rattle.wsc_top.specs.declared.task.Task.{Task};
 ghost use Rattle.wsc_top.specs.Tasks.{IsLine};
 ghost use Rattle.wsc_top.specs.Job.{job_limit};
 ghost use Rattle.wsc_top.specs.Assembly.{assembly_limit};
+ghost use Rattle.wsc_top.specs.Clocked.{TaskInRange};
 ghost use Rattle.wsc_top.specs.declared.step.Step.TheVariants.{Ready};
-ghost use Rattle.wsc_top.specs.Steps.{JobStep, AssemblyStep, StepSo};
-ghost use Rattle.wsc_top.specs.Answers.{TellWords, Answers, Starves, WereRead, assembly_text};
+ghost use Rattle.wsc_top.specs.Steps.{JobStep, JobsStep, AssemblyStep, StepSo};
+ghost use Rattle.wsc_top.specs.Answers.{TellWords, WereRead, assembly_text};
+ghost use Rattle.wsc_top.specs.Threads.{Replies, Falls};
 
 use crate::assembly::{self, AssemblyFault};
+use crate::batch::{self, JobsFault};
 use crate::bench::generated;
 use crate::exec::{Reply, executed};
 use crate::laws::what_is_due_is_answered;
+use crate::multi::all_executed;
+use crate::multi_laws::what_threads_do_is_answered;
 use crate::sections::split_trace;
 use crate::status::Status;
 use crate::step::Step;
-use crate::task::{AssemblyTask, JobTask, Task, read_task};
+use crate::task::{AssemblyTask, JobTask, RunOptions, Task, read_task};
 use crate::yields::{assembly_yielded, yielded};
 use crate::{job, texts};
 use fire_crew::Gate;
@@ -92,7 +97,8 @@ fn assembly_text(task: AssemblyTask, text: &[u8]) -> &[u8]
 
 // What is to be done for a task to the text of an assembly.
 fn to_assembly(alloc: Global, task: AssemblyTask, text: &[u8]) -> Result<Step, NoMemory>
-    requires { length text.now ≤ assembly_limit }
+    requires text { length text.now ≤ assembly_limit }
+    requires task { TaskInRange task }
     ensures { IfOk result (AssemblyStep task text.now) }
 {
     match assembly::read(alloc, assembly_text(task, text)) {
@@ -111,6 +117,7 @@ fn of_assembly<S: Source>(
     task: AssemblyTask,
     source: &mut S,
 ) -> Result<Step, NoMemory>
+    requires { TaskInRange task }
     ensures ok { IfOk result (λ step. (words : List (List ℕ)) → IsLine words (Task.Assembly task)
         → StepSo words (S.left source.old) (S.left source.new)
         (S.faults source.old) (S.faults source.new) step) }
@@ -119,6 +126,37 @@ fn of_assembly<S: Source>(
 {
     match read_all(alloc, source, ASSEMBLY_LIMIT) {
         Ok(text) => Ok(to_assembly(alloc, task, text.as_slice())?),
+        Err(ReadEnd::Failed) => plain(alloc, Status::ReadFault, texts::FAULT),
+        Err(ReadEnd::TooLong) => plain(alloc, Status::Refused, texts::LONG),
+        Err(ReadEnd::NoMemory) => Err(NoMemory),
+    }
+}
+
+// What is to be done for the text of the jobs of several threads.
+fn to_jobs(alloc: Global, options: RunOptions, text: &[u8]) -> Result<Step, NoMemory>
+    requires { length text.now ≤ job_limit }
+    ensures { IfOk result (JobsStep options text.now) }
+{
+    match batch::read(alloc, text) {
+        Ok(read) => Ok(Step::Threads(options, read)),
+        Err(JobsFault::Refused(refusal)) => {
+            let text = texts::jobs_refused(alloc, refusal)?;
+            Ok(Step::Ready(Status::Refused, text, None))
+        }
+        Err(JobsFault::NoMemory) => Err(NoMemory),
+    }
+}
+
+// What is to be done for what the source gives, of which the jobs of several threads are to be read.
+fn of_jobs<S: Source>(alloc: Global, options: RunOptions, source: &mut S) -> Result<Step, NoMemory>
+    ensures ok { IfOk result (λ step. (words : List (List ℕ)) → IsLine words (Task.Multi options)
+        → StepSo words (S.left source.old) (S.left source.new)
+        (S.faults source.old) (S.faults source.new) step) }
+    ensures memory { OnErr result ((bytes : List ℕ) × (length bytes ≤ job_limit + 1)
+        × Takes (S.left source.old) bytes (S.left source.new)) }
+{
+    match read_all(alloc, source, JOB_LIMIT) {
+        Ok(text) => Ok(to_jobs(alloc, options, text.as_slice())?),
         Err(ReadEnd::Failed) => plain(alloc, Status::ReadFault, texts::FAULT),
         Err(ReadEnd::TooLong) => plain(alloc, Status::Refused, texts::LONG),
         Err(ReadEnd::NoMemory) => Err(NoMemory),
@@ -145,6 +183,7 @@ fn step<S: Source>(alloc: Global, words: &[String], source: &mut S) -> Result<St
         }
         Some(Task::Job(task)) => Ok(of_job(alloc, task, source)?),
         Some(Task::Assembly(task)) => Ok(of_assembly(alloc, task, source)?),
+        Some(Task::Multi(options)) => Ok(of_jobs(alloc, options, source)?),
     }
 }
 
@@ -160,27 +199,31 @@ pub fn to_words<S: Source, P: Port + Send, G: Gate, R: Threads + Wait + Sync>(
     requires told { TellWords (contents P.tells ports) }
     requires open { AllOpen (contents P.tells ports) }
     ensures answered { IfOk result.answer (λ a.
-        Answers (map string_bytes words.now) (S.left source.old) (S.left source.new)
+        Replies (map string_bytes words.now) (S.left source.old) (S.left source.new)
         (S.faults source.old) (S.faults source.new) (contents P.tells ports) a.0 a.1
-        result.image (contents P.tells result.ports)) }
-    ensures memory { OnErr result.answer (Starves (map string_bytes words.now)
+        result.image result.threads.items (contents P.tells result.ports)) }
+    ensures memory { OnErr result.answer (Falls (map string_bytes words.now)
         (S.left source.old) (S.left source.new) (contents P.tells ports)
-        result.image (contents P.tells result.ports)) }
+        result.image result.threads.items (contents P.tells result.ports)) }
     ensures open { AllOpen (contents P.tells result.ports) }
 {
     what_is_due_is_answered();
+    what_threads_do_is_answered();
     match step(alloc, words, source) {
         Ok(Step::Ready(status, text, image)) => Reply {
             answer: Ok((status, text)),
             image,
+            threads: Vec::new(alloc),
             ports,
         },
         Ok(Step::Run(options, image, input)) => {
             executed(rt, alloc, options, image, input, ports, gate)
         }
+        Ok(Step::Threads(options, jobs)) => all_executed(rt, alloc, options, jobs, ports, gate),
         Err(NoMemory) => Reply {
             answer: Err(NoMemory),
             image: None,
+            threads: Vec::new(alloc),
             ports,
         },
     }

@@ -9,15 +9,19 @@ ghost use Rattle.ws_isa.specs.Image.{Image};
 ghost use Rattle.wsc_top.specs.declared.task.Task.{Task};
 ghost use Rattle.wsc_top.specs.declared.task.BenchOptions.{BenchOptions};
 ghost use Rattle.wsc_top.specs.declared.task.JobTask.{JobTask};
+ghost use Rattle.wsc_top.specs.declared.task.RunOptions.{RunOptions};
 ghost use Rattle.wsc_top.specs.declared.task.AssemblyTask.{AssemblyTask};
 ghost use Rattle.wsc_top.specs.declared.status.Status.{Status};
 ghost use Rattle.wsc_top.specs.Tasks.{IsLine, IsNoLine};
 ghost use Rattle.wsc_top.specs.Generated.{IsGeneratedJob};
-ghost use Rattle.wsc_top.specs.Answers.{TellWords, SomeRose, ComesToItsEnd, MeetsFault, WantsTurns, AssemblyEndsSo, BenchEndsSo, Answers, Starves, IsToldJob, IsToldOther, IsToldAssembly, IsToldNoAssembly, OrNoMemory};
+ghost use Rattle.wsc_top.specs.Answers.{TellWords, SomeRose, ComesToItsEnd, MeetsFault, WantsTurns, AssemblyEndsSo, BenchEndsSo, IsToldJob, IsToldOther, IsToldAssembly, IsToldNoAssembly, OrNoMemory};
+ghost use Rattle.wsc_top.specs.Jobs.{Program};
+ghost use Rattle.wsc_top.specs.Threads.{Replies, Falls, AreToldJobs, AreToldNoJobs, MultiEndsSo, ComeToTheirEnd};
 
 use crate::answer::to_words;
 use crate::exec::Reply;
 use crate::laws::each_answer_has_its_status;
+use crate::multi_laws::each_answer_of_threads_has_its_status;
 use crate::status::{Outcome, Status};
 use fire_crew::Gate;
 use port_set::{Port, Slots};
@@ -46,26 +50,27 @@ pub fn wsc<S: Source, K: Sink, P: Port + Send, G: Gate, R: Threads + Wait + Sync
     // What went out is the whole answer, and it was flushed.
     ensures answered { result.status ≢ Status.WriteFault → result.status ≢ Status.NoMemory
         → (text : List ℕ)
-        × Answers (map string_bytes words.now) (S.left source.old) (S.left source.new)
+        × Replies (map string_bytes words.now) (S.left source.old) (S.left source.new)
         (S.faults source.old) (S.faults source.new) (contents P.tells ports) result.status text
-        result.image (contents P.tells result.ports)
+        result.image result.threads.items (contents P.tells result.ports)
         × Adds (K.held sink.old) text (K.held sink.new)
         × Flushes (K.held sink.new) (K.flushed sink.old) (K.flushed sink.new) }
 
     // What went out is a front of the answer, and nothing was flushed.
     ensures cut { result.status ≡ Status.WriteFault
         → (status : Status) × (text : List ℕ) × (n : ℕ) × (n ≤ length text)
-        × Answers (map string_bytes words.now) (S.left source.old) (S.left source.new)
+        × Replies (map string_bytes words.now) (S.left source.old) (S.left source.new)
         (S.faults source.old) (S.faults source.new) (contents P.tells ports) status text
-        result.image (contents P.tells result.ports)
+        result.image result.threads.items (contents P.tells result.ports)
         × Adds (K.held sink.old) (take n text) (K.held sink.new)
         × (K.flushed sink.new ≡ K.flushed sink.old) }
 
     // Nothing went out; the bytes that were read are gone, and the ports are as a run left them, where
     // one had begun.
     ensures memory { result.status ≡ Status.NoMemory
-        → Starves (map string_bytes words.now) (S.left source.old) (S.left source.new)
-        (contents P.tells ports) result.image (contents P.tells result.ports)
+        → Falls (map string_bytes words.now) (S.left source.old) (S.left source.new)
+        (contents P.tells ports) result.image result.threads.items
+        (contents P.tells result.ports)
         × (K.held sink.new ≡ K.held sink.old) × (K.flushed sink.new ≡ K.flushed sink.old) }
     ensures open { AllOpen (contents P.tells result.ports) }
 
@@ -128,12 +133,32 @@ pub fn wsc<S: Source, K: Sink, P: Port + Send, G: Gate, R: Threads + Wait + Sync
         → ¬ Rose (S.faults source.old) (S.faults source.new)
         → ¬ Rose (K.faults sink.old) (K.faults sink.new)
         → OrNoMemory result.status Status.Refused }
+    ensures multiplied { (options : RunOptions) (jobs : List Program)
+        → AreToldJobs (map string_bytes words.now) (S.left source.old) options jobs
+        → ¬ Rose (S.faults source.old) (S.faults source.new)
+        → ¬ Rose (K.faults sink.old) (K.faults sink.new)
+        → MultiEndsSo options jobs (contents P.tells ports) result.status
+        ⊎ (result.status ≡ Status.NoMemory) }
+    ensures multiplied_done { (options : RunOptions) (jobs : List Program)
+        → AreToldJobs (map string_bytes words.now) (S.left source.old) options jobs
+        → ComeToTheirEnd options jobs (contents P.tells ports)
+        → ¬ Rose (S.faults source.old) (S.faults source.new)
+        → ¬ Rose (K.faults sink.old) (K.faults sink.new)
+        → ¬ SomeRose (contents P.tells ports) (contents P.tells result.ports)
+        → OrNoMemory result.status Status.Done }
+    ensures unmultiplied { (options : RunOptions)
+        → AreToldNoJobs (map string_bytes words.now) (S.left source.old) options
+        → ¬ Rose (S.faults source.old) (S.faults source.new)
+        → ¬ Rose (K.faults sink.old) (K.faults sink.new)
+        → OrNoMemory result.status Status.Refused }
 {
     words_are_one_line();
     each_answer_has_its_status();
+    each_answer_of_threads_has_its_status();
     let Reply {
         answer,
         image,
+        threads,
         ports,
     } = to_words(rt, alloc, words, source, ports, gate);
     match answer {
@@ -141,17 +166,20 @@ pub fn wsc<S: Source, K: Sink, P: Port + Send, G: Gate, R: Threads + Wait + Sync
             Ok(()) => Outcome {
                 status,
                 image,
+                threads,
                 ports,
             },
             Err(_) => Outcome {
                 status: Status::WriteFault,
                 image,
+                threads,
                 ports,
             },
         },
         Err(_) => Outcome {
             status: Status::NoMemory,
             image,
+            threads,
             ports,
         },
     }

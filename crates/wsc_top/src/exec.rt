@@ -1,6 +1,6 @@
 //! The run of an image.
 
-ghost use Rattle.std.specs.Prelude.{◌≡◌, Some, IfOk, OnErr};
+ghost use Rattle.std.specs.Prelude.{◌≡◌, [], Some, IfOk, OnErr};
 ghost use Rattle.port_set.specs.Slots.{AllOpen, contents};
 ghost use Rattle.store_buf.specs.Outdoors.{world_with};
 ghost use Rattle.wsc_top.specs.Executions.{Executes, HasBegun};
@@ -18,11 +18,13 @@ use std::sync::Wait;
 use std::thread::Threads;
 use ws_words::{Bytes, NoMemory, Words};
 
-/// What is to be written, the image that was run or is printed, and the ports.
+/// What is to be written, the image that was run or is printed, the images of the threads that were run,
+/// and the ports.
 #[derive(Drop)]
 pub struct Reply<P: Port> {
     pub answer: Result<(Status, Bytes), NoMemory>,
     pub image: Option<Checked>,
+    pub threads: Vec<Checked>,
     pub ports: Slots<P>,
 }
 
@@ -48,6 +50,7 @@ pub fn executed<P: Port + Send, G: Gate, R: Threads + Wait + Sync>(
         (world_with input (contents P.tells ports)) (contents P.tells ports)
         (contents P.tells result.ports)) }
     ensures image { result.image ≡ Some image }
+    ensures threads { result.threads.items ≡ [] }
     ensures open { AllOpen (contents P.tells result.ports) }
 {
     let workers = options.workers.max(1).min(MOST_WORKERS);
@@ -66,6 +69,7 @@ pub fn executed<P: Port + Send, G: Gate, R: Threads + Wait + Sync>(
     Reply {
         answer,
         image: Some(image),
+        threads: Vec::new(alloc),
         ports: end.ports,
     }
 }

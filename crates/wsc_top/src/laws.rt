@@ -17,6 +17,7 @@ ghost use Rattle.wsc_top.specs.declared.task.BenchOptions.{BenchOptions};
 ghost use Rattle.wsc_top.specs.declared.task.JobTask.{JobTask};
 ghost use Rattle.wsc_top.specs.declared.task.RunOptions.{RunOptions};
 ghost use Rattle.wsc_top.specs.declared.task.AssemblyTask.{AssemblyTask};
+ghost use Rattle.wsc_top.specs.declared.task.GridOptions.{GridOptions};
 ghost use Rattle.wsc_top.specs.declared.assembly.AsmRefusal.{AsmRefusal};
 ghost use Rattle.wsc_top.specs.Sections.{program_of, IsInputAnswer};
 ghost use Rattle.wsc_top.specs.Job.{IsJob, IsTextAnswer};
@@ -27,6 +28,8 @@ ghost use Rattle.wsc_top.specs.Tasks.{IsLine};
 ghost use Rattle.wsc_top.specs.Answers.{TellWords, EndsSo, AssemblyEndsSo, BenchEndsSo, Answers, IsDue, IsFixed, IsAnswer, IsFree, IsSettled, IsAssemblyReply, IsToldJob, IsToldAssembly};
 
 use annot_check::breaches_break;
+use asm_text::read_images_are_formed;
+use grid_clock::clocks_are_one;
 use image_walk::{effects_are_one, walks_go_on};
 use seq_run::one_answer;
 use src_ast::{printed_reads_the_same, read_is_written, same_programs_are_accepted_alike};
@@ -138,8 +141,10 @@ pub fn each_assembly_is_read_or_refused()
     breaches_break();
 }
 
-/// Two answers of `check`, `list` or `exec` to an assembly that aren't cut short by the budget or a port
-/// are the same, or both say that it is refused; `check` and `list` have exactly one answer to a sound assembly.
+/// Two answers of `check`, `list`, `exec` or `grid` to an assembly that aren't cut short by the budget or
+/// a port are the same, or both say that it is refused; `check` and `list` have exactly one answer to a
+/// sound assembly. Two of `grid` to a sound assembly are the same also where the budget cuts them short,
+/// with their firings and cycles.
 pub fn assemblies_are_answered_alike()
     ensures alike { (task : AssemblyTask) → IsSettled task → (text : List ℕ)
         (handed : List (Option Told)) (a b : Status × List ℕ)
@@ -151,10 +156,16 @@ pub fn assemblies_are_answered_alike()
         → IsAssembly text image words → ExactlyOne (IsAssemblyReply AssemblyTask.Check text handed) }
     ensures listed { (text : List ℕ) (image : Image) (words : List ℕ) (handed : List (Option Told))
         → IsAssembly text image words → ExactlyOne (IsAssemblyReply AssemblyTask.List text handed) }
+    ensures gridded { (options : GridOptions) (text : List ℕ) (image : Image) (words : List ℕ)
+        (handed : List (Option Told)) (a b : Status × List ℕ) → IsAssembly text image words
+        → IsAssemblyReply (AssemblyTask.Grid options) text handed a
+        → IsAssemblyReply (AssemblyTask.Grid options) text handed b → a ≡ b }
 {
     breaches_break();
     walks_go_on();
     effects_are_one();
+    read_images_are_formed();
+    clocks_are_one();
 }
 
 /// The text of each generated job is one: the program that multiplies two matrices, and their cells.

@@ -54,8 +54,8 @@ pub fn put_firings(text: &mut Bytes, firings: u64) -> Result<(), NoMemory>
     text.push(b'\n')
 }
 
-// The answer of a run that came to its end and fired so often.
-fn rested(
+/// The answer of a run that came to its end and fired so often.
+pub fn rested(
     alloc: Global,
     report: Report,
     arrays: &[ArrayDecl],
@@ -81,8 +81,8 @@ fn rested(
     }
 }
 
-// The answer of a run that spent its budget.
-fn spent(alloc: Global, report: Report, words: &Words, budget: u64) -> Result<Bytes, NoMemory>
+/// The answer of a run that spent its budget.
+pub fn spent(alloc: Global, report: Report, words: &Words, budget: u64) -> Result<Bytes, NoMemory>
     ensures { IfOk result (λ text. text ≡ spent_report report words.now budget) }
 {
     match report {
@@ -155,8 +155,8 @@ fn put_fault(text: &mut Bytes, arrays: &[ArrayDecl], array: u32) -> Result<(), N
     text.push(b'\n')
 }
 
-// The answer of a run that met an index fault on the array of this number, counted from 1.
-fn stopped(
+/// The answer of a run that met an index fault on the array of this number, counted from 1.
+pub fn stopped(
     alloc: Global,
     report: Report,
     arrays: &[ArrayDecl],

@@ -49,7 +49,7 @@ pub fn after_line(text: &[u8]) -> &[u8]
 }
 
 /// How many bytes stand in front of the first line that is exactly this one.
-fn front_length(text: &[u8], marker: &[u8]) -> usize
+pub fn front_length(text: &[u8], marker: &[u8]) -> usize
     ensures front { take result text.now ≡ sections.front_of marker.now true text.now }
     ensures rest { drop result text.now ≡ sections.rest_of marker.now true text.now }
     ensures within { result ≤ length text.now }

@@ -49,10 +49,11 @@ impl Status {
 }
 
 /// What a call of the program gives back: its status, the image that it ran or printed, where it came
-/// so far, and the ports.
+/// so far, the images of its threads in order, where it ran some, and the ports.
 #[derive(Drop)]
 pub struct Outcome<P: Port> {
     pub status: Status,
     pub image: Option<Checked>,
+    pub threads: Vec<Checked>,
     pub ports: Slots<P>,
 }

@@ -1,7 +1,7 @@
 //! What a line of the command line asks for.
 
 ghost use Rattle.std.specs.Prelude.{◌≡◌, map, string_bytes, IfOk, IfSome, IfNone};
-ghost use Rattle.wsc_top.specs.Tasks.{task_of, options_of, IsLine, IsNoLine};
+ghost use Rattle.wsc_top.specs.Tasks.{task_of, options_of, grid_options, IsLine, IsNoLine};
 ghost use Rattle.wsc_top.specs.declared.task.Report.TheVariants.{Full};
 
 use std::alloc::Global;
@@ -57,6 +57,21 @@ pub enum JobTask {
     Plain(PlainOptions),
 }
 
+/// How the run of an image on a clocked grid is asked for.
+#[derive(Clone, Copy, Debug, PartialEq, Eq)]
+pub struct GridOptions {
+    /// How many elements its instructions lie on, from 1 to 64.
+    pub elements: u32,
+    /// The most waves that may be in flight, at least 1.
+    pub waves: u64,
+    /// The most instances that may fire.
+    pub budget: u64,
+    /// Whether the cells of the arrays that have names are shown at its end.
+    pub memory: bool,
+    /// Whether the instances that fired and the cycles are counted.
+    pub stats: bool,
+}
+
 /// What is done with an assembly.
 #[derive(Clone, Copy, Debug, PartialEq, Eq)]
 pub enum AssemblyTask {
@@ -70,6 +85,8 @@ pub enum AssemblyTask {
     Trace(u64),
     /// The events of its trace section are made.
     Replay,
+    /// It is run on a clocked grid.
+    Grid(GridOptions),
 }
 
 /// How a generated job is run.
@@ -91,6 +108,8 @@ pub enum Task {
     Generate(u32),
     /// It runs a generated job and tells it in brief, and reads nothing.
     Bench(BenchOptions),
+    /// It reads up to four jobs, and runs an image of each in a thread of its own.
+    Multi(RunOptions),
 }
 
 // How a line asks for a run of which this is told.
@@ -114,6 +133,19 @@ fn full(line: &Line) -> Report
     }
 }
 
+// How a line asks for a run on a grid.
+fn grid_options(line: &Line) -> GridOptions
+    ensures { result ≡ grid_options line.now }
+{
+    GridOptions {
+        elements: line.elements,
+        waves: line.waves,
+        budget: line.budget,
+        memory: line.memory,
+        stats: line.stats,
+    }
+}
+
 // What a line asks for, where that is built.
 fn task_of(line: &Line) -> Option<Task>
     ensures { result ≡ task_of line.now }
@@ -132,12 +164,14 @@ fn task_of(line: &Line) -> Option<Task>
         Command::Exec => Some(Task::Assembly(AssemblyTask::Exec(options_of(line, full(line))))),
         Command::Trace => Some(Task::Assembly(AssemblyTask::Trace(line.budget))),
         Command::Replay => Some(Task::Assembly(AssemblyTask::Replay)),
+        Command::Grid => Some(Task::Assembly(AssemblyTask::Grid(grid_options(line)))),
         Command::Gen => Some(Task::Generate(line.number)),
         Command::Bench => Some(Task::Bench(BenchOptions {
             number: line.number,
             run: options_of(line, Report::Brief),
         })),
-        _ => None,
+        Command::Multi => Some(Task::Multi(options_of(line, full(line)))),
+        Command::Decouple => None,
     }
 }
 

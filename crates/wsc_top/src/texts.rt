@@ -5,20 +5,23 @@ ghost use Rattle.std.specs.Prelude.{◌≡◌, ◌++◌, ◌%◌, ◌^◌, List,
 ghost use Rattle.src_ast.specs.View as view;
 ghost use Rattle.annot_check.specs.declared.fault.Bad.TheVariants as bad;
 ghost use Rattle.wsc_top.specs.declared.assembly.AsmRefusal.TheVariants as refusal;
+ghost use Rattle.wsc_top.specs.declared.batch.JobsRefusal.TheVariants as jobs;
+ghost use Rattle.wsc_top.specs.Jobs.{jobs_refusal_text};
 ghost use Rattle.wsc_top.specs.Texts.{summary_text, asm_word, broken_text, bad_text, asm_refusal_text, word_line, done_text, kind_word, refusal_text, separated_words, further_word, maybe_line, array_line, array_lines, turns_line, names_of, array_name, ended_text, faulted_text, going_text};
 
 use crate::assembly::AsmRefusal;
+use crate::batch::JobsRefusal;
 use annot_check::Bad;
 use asm_text::AsmKind;
-use src_ast::{Item, Program, Quantity, Refusal, RefusalKind};
+use src_ast::{Item, Place, Program, Quantity, Refusal, RefusalKind};
 use std::alloc::Global;
 use ws_io::put_decimal;
 use ws_words::{Bytes, Cells, NoMemory, Words};
 
 /// The line that says which command lines there are.
 pub const USAGE: &[u8] =
-    b"usage: wsc run|plain|format|compile|check|exec|list|trace|replay|gen|bench \
-    [--workers N] [--budget N] [--turns N] [--memory] [--stats] [NUMBER]\n";
+    b"usage: wsc run|plain|format|compile|check|exec|list|trace|replay|gen|bench|multi|grid \
+    [--workers N] [--budget N] [--turns N] [--elements N] [--waves N] [--memory] [--stats] [NUMBER]\n";
 
 /// The answer where reading failed.
 pub const FAULT: &[u8] = b"fault read\n";
@@ -104,18 +107,56 @@ fn word(kind: RefusalKind) -> &'static [u8]
     }
 }
 
+// The answer where a text is refused so at this line and column.
+fn refused_at(alloc: Global, line: u64, column: u64, kind: RefusalKind) -> Result<Bytes, NoMemory>
+    ensures { IfOk result (λ text. text ≡ refusal_text
+        (record { kind = kind; place = record { line = line; column = column } })) }
+{
+    let mut text = Bytes::from_slice(alloc, b"refused ")?;
+    put_decimal(&mut text, line)?;
+    text.push(b':')?;
+    put_decimal(&mut text, column)?;
+    text.push(b' ')?;
+    text.extend(word(kind))?;
+    text.push(b'\n')?;
+    Ok(text)
+}
+
 /// The answer where a text is refused at a place.
 pub fn refused(alloc: Global, refusal: Refusal) -> Result<Bytes, NoMemory>
     ensures { IfOk result (λ text. text ≡ refusal_text refusal) }
 {
+    let Place { line, column } = refusal.place;
+    refused_at(alloc, u64::from(line), u64::from(column), refusal.kind)
+}
+
+// The answer where a text has a fourth separator in this line.
+fn refused_threads(alloc: Global, line: u32) -> Result<Bytes, NoMemory>
+    ensures { IfOk result (λ text. text ≡ jobs_refusal_text (jobs.Threads line)) }
+{
     let mut text = Bytes::from_slice(alloc, b"refused ")?;
-    put_decimal(&mut text, u64::from(refusal.place.line))?;
-    text.push(b':')?;
-    put_decimal(&mut text, u64::from(refusal.place.column))?;
-    text.push(b' ')?;
-    text.extend(word(refusal.kind))?;
-    text.push(b'\n')?;
+    put_decimal(&mut text, u64::from(line))?;
+    text.extend(b":1 threads\n")?;
     Ok(text)
+}
+
+/// The answer where the text of the jobs of several threads is refused. Places count in the whole text.
+pub fn jobs_refused(alloc: Global, why: JobsRefusal) -> Result<Bytes, NoMemory>
+    ensures { IfOk result (λ text. text ≡ jobs_refusal_text why) }
+{
+    match why {
+        JobsRefusal::Threads(line) => refused_threads(alloc, line),
+        JobsRefusal::OfJob(at, refusal) => {
+            let Place { line, column } = refusal.place;
+            let below = (u64::from(at.line) + u64::from(line)).saturating_sub(1);
+            let beside = if line == 1 {
+                (u64::from(at.column) + u64::from(column)).saturating_sub(1)
+            } else {
+                u64::from(column)
+            };
+            refused_at(alloc, below, beside, refusal.kind)
+        }
+    }
 }
 
 /// The answer where an assembly is sound.

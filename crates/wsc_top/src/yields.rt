@@ -7,11 +7,13 @@ ghost use Rattle.src_ast.specs.Written.{IsWritten};
 ghost use Rattle.port_set.specs.Ports.{Told};
 ghost use Rattle.wave_gen.specs.Words.{IsWord};
 ghost use Rattle.wsc_top.specs.Assembly.{assembly_limit};
+ghost use Rattle.wsc_top.specs.Clocked.{TaskInRange};
 ghost use Rattle.wsc_top.specs.Answers.{IsCompiled, Yields, AssemblyYields};
 ghost use Rattle.wsc_top.specs.Steps.{YieldStep, AssemblyYieldStep};
 ghost use Rattle.wsc_top.specs.declared.task.JobTask.{JobTask};
 ghost use Rattle.wsc_top.specs.declared.status.Status.{Status};
 
+use crate::clocked::clocked;
 use crate::status::Status;
 use crate::step::Step;
 use crate::task::{AssemblyTask, JobTask, PlainOptions};
@@ -134,7 +136,8 @@ pub fn assembly_yielded(
     image: Checked,
     input: Words,
 ) -> Result<Step, NoMemory>
-    requires { length text.now ≤ assembly_limit }
+    requires text { length text.now ≤ assembly_limit }
+    requires task { TaskInRange task }
     ensures { IfOk result (AssemblyYieldStep task text.now image input) }
 {
     match task {
@@ -154,6 +157,10 @@ pub fn assembly_yielded(
         AssemblyTask::Replay => {
             let (status, text, again) = replayed(alloc, text, image, input)?;
             Ok(Step::Ready(status, text, again))
+        }
+        AssemblyTask::Grid(options) => {
+            let (status, text) = clocked(alloc, options, &image, input)?;
+            Ok(Step::Ready(status, text, Some(image)))
         }
     }
 }

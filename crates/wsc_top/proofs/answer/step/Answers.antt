@@ -1,5 +1,6 @@
-use Rattle.wsc_top.specs.declared.task.Task.TheVariants.{Job, Assembly, Generate, Bench}
+use Rattle.wsc_top.specs.declared.task.Task.TheVariants.{Job, Assembly, Generate, Bench, Multi}
 use Rattle.wsc_top.proofs.Tasks.{found_line}
+use Rattle.wsc_top.proofs.Grids.{line_in_range}
 use Rattle.wsc_top.proofs.Calls.{known_step, no_line, usage_step, generated_step, bench_step}
 use Rattle.wsc_top.proofs.answer.step.Goals as goal
 
@@ -23,7 +24,15 @@ returns-in_ok-of_job-in-Some-Job-clause-ok g c =
     let line = found_line _ c.in_ok-read_task.field-0 (Job c.in-Some-Job.task) c.in_ok-read_task.ensures.some (cc) in
     c.in_ok-of_job-in-Some-Job.ensures.ok _ line
 
+pub of_assembly-requires : goal.of_assembly-requires
+of_assembly-requires g c = line_in_range _ c.in-Some-Assembly.task (found_line _ c.in_ok-read_task.field-0 (Assembly c.in-Some-Assembly.task) c.in_ok-read_task.ensures.some (cc))
+
 pub returns-in_ok-of_assembly-in-Some-Assembly-clause-ok : goal.returns-in_ok-of_assembly-in-Some-Assembly-clause-ok
 returns-in_ok-of_assembly-in-Some-Assembly-clause-ok g c =
     let line = found_line _ c.in_ok-read_task.field-0 (Assembly c.in-Some-Assembly.task) c.in_ok-read_task.ensures.some (cc) in
     c.in_ok-of_assembly-in-Some-Assembly.ensures.ok _ line
+
+pub returns-in_ok-of_jobs-in-Some-Multi-clause-ok : goal.returns-in_ok-of_jobs-in-Some-Multi-clause-ok
+returns-in_ok-of_jobs-in-Some-Multi-clause-ok g c =
+    let line = found_line _ c.in_ok-read_task.field-0 (Multi c.in-Some-Multi.options) c.in_ok-read_task.ensures.some (cc) in
+    c.in_ok-of_jobs-in-Some-Multi.ensures.ok _ line

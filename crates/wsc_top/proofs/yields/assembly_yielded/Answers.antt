@@ -1,4 +1,6 @@
-use Rattle.wsc_top.proofs.Outcomes.{checked_yields, listed_yields, traced_yields, replayed_yields}
+use Rattle.std.proofs.Common.{subst}
+use Rattle.wsc_top.specs.Clocked.{TaskInRange}
+use Rattle.wsc_top.proofs.Outcomes.{checked_yields, listed_yields, traced_yields, replayed_yields, gridded_yields}
 use Rattle.wsc_top.proofs.yields.assembly_yielded.Goals as goal
 
 pub returns-in_ok-sound-in-Check : goal.returns-in_ok-sound-in-Check
@@ -14,3 +16,10 @@ returns-in_ok-status-in-Trace c handed =
 pub returns-in_ok-status-in-Replay : goal.returns-in_ok-status-in-Replay
 returns-in_ok-status-in-Replay c handed =
     replayed_yields c.args.text.now c.args.image c.args.input handed c.args.task _ _ _ (cc) c.in_ok-status-in-Replay.ensures.told c.in_ok-status-in-Replay.ensures.ends
+
+pub clocked-requires : goal.clocked-requires
+clocked-requires c = subst TaskInRange c.in-Grid.is c.requires.task
+
+pub returns-in_ok-status-in-Grid : goal.returns-in_ok-status-in-Grid
+returns-in_ok-status-in-Grid c handed =
+    gridded_yields c.args.text.now c.args.image c.args.input handed c.args.task c.in-Grid.options _ _ (cc) c.in_ok-status-in-Grid.ensures.told c.in_ok-status-in-Grid.ensures.ends
