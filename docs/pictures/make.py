@@ -1,0 +1,109 @@
+#!/usr/bin/env python3
+"""Makes the pictures of pages that stand in the docs: `docs/pictures/make.py [NAME ..]`. It needs Chromium.
+
+Each is a page of the viewer at an event, as PNG of at most 256 colours. The plots, which are SVG, are made by the
+lines that EXPERIMENTS.md tells.
+"""
+
+import pathlib
+import struct
+import sys
+import tempfile
+import zlib
+from collections import Counter
+
+HERE = pathlib.Path(__file__).resolve().parent
+ROOT = HERE.parent.parent
+sys.path.insert(0, str(ROOT / "view"))
+
+from browser import Browser  # noqa: E402
+from line import whole  # noqa: E402
+from program import traced, usual  # noqa: E402
+from view import page  # noqa: E402
+
+SUM = (ROOT / "examples" / "sum.job").read_text().replace("%input\n10\n", "%input\n3\n")
+CALLS = (ROOT / "view" / "examples" / "calls.job").read_text()
+# For each picture the job, in which way its steps are made, where it is opened, and its size.
+PICTURES = {
+    "event": (SUM, "trace", "event=25&wave=2", 1000, 620),
+    "rounds": (SUM, "rounds", "event=49&wave=2", 1000, 620),
+    "grid": (SUM, (4, 2), "event=43&wave=2", 1000, 620),
+    "calls": (CALLS, "trace", "event=80&wave=4", 1000, 600),
+}
+
+
+def rows_of(png):
+    """The rows of an 8-bit picture in true colour, as bytes, and how many bytes a point has."""
+    at, data, width, many = 8, b"", 0, 3
+    while at < len(png):
+        size, kind = struct.unpack(">I4s", png[at : at + 8])
+        part = png[at + 8 : at + 8 + size]
+        if kind == b"IHDR":
+            width, many = struct.unpack(">I", part[:4])[0], {2: 3, 6: 4}[part[9]]
+        data += part if kind == b"IDAT" else b""
+        at += size + 12
+    raw, line, rows = zlib.decompress(data), width * many, []
+    before = bytearray(line)
+    for start in range(0, len(raw), line + 1):
+        before = unfiltered(raw[start], bytearray(raw[start + 1 : start + 1 + line]), before, many)
+        rows.append(bytes(before))
+    return rows, many
+
+
+def unfiltered(kind, row, before, many):
+    """A row without its filter: each byte is told by its distance from those beside and above it."""
+    if kind == 0:
+        return row
+    for k in range(len(row)):
+        left = row[k - many] if k >= many else 0
+        over = before[k]
+        if kind == 1:
+            add = left
+        elif kind == 2:
+            add = over
+        elif kind == 3:
+            add = (left + over) // 2
+        else:
+            corner = before[k - many] if k >= many else 0
+            guess = left + over - corner
+            add = min((left, over, corner), key=lambda one: abs(guess - one))
+        row[k] = (row[k] + add) & 255
+    return row
+
+
+def small(png):
+    """The picture with the 256 colours that it has most, others by the nearest of these."""
+    rows, many = rows_of(png)
+    points = [[row[k : k + 3] for k in range(0, len(row), many)] for row in rows]
+    counts = Counter(point for row in points for point in row)
+    palette = [colour for colour, _ in counts.most_common(256)]
+    place = {colour: k for k, colour in enumerate(palette)}
+    for colour in counts:
+        if colour not in place:
+            near = min(palette, key=lambda one: sum((a - b) ** 2 for a, b in zip(one, colour)))
+            place[colour] = place[near]
+    data = b"".join(b"\0" + bytes(place[point] for point in row) for row in points)
+
+    def part(kind, told):
+        return struct.pack(">I", len(told)) + kind + told + struct.pack(">I", zlib.crc32(kind + told))
+
+    head = struct.pack(">IIBBBBB", len(points[0]), len(points), 8, 3, 0, 0, 0)
+    return (b"\x89PNG\r\n\x1a\n" + part(b"IHDR", head) + part(b"PLTE", b"".join(palette))
+            + part(b"IDAT", zlib.compress(data, 9)) + part(b"IEND", b""))
+
+
+def main():
+    program = usual()
+    for name in sys.argv[1:] or PICTURES:
+        job, way, place, width, height = PICTURES[name]
+        with tempfile.TemporaryDirectory() as folder, Browser(width, height) as browser:
+            file = pathlib.Path(folder) / f"{name}.html"
+            title = "calls" if job is CALLS else "sum"
+            file.write_text(page(traced(program, job), title, 20000, job, program, way)[0])
+            browser.open(f"{file}#{place}")
+            (HERE / f"{name}.png").write_bytes(small(browser.picture()))
+    return 0
+
+
+if __name__ == "__main__":
+    sys.exit(whole(main))

@@ -1,0 +1,93 @@
+#!/usr/bin/env python3
+"""Tries what statements.py finds: `check_statements.py WSC FOLDER..`, folders of .job files.
+
+Of each job one site after the other is changed alone: each instruction that is said to be exact for it changes,
+and each that changes is said to be exact for its statement. What a steer is said to stand for has the number or the
+result that selects it. Of two jobs all is worked out by hand.
+"""
+
+import pathlib
+import sys
+
+from image import kind_of, read
+from program import ROOT, call
+from statements import FIRST, Trial, statements_of
+
+OTHER = {"number": None, "binary": ("+", "*"), "unary": ("!", "~"), "give": ("7", "6"), "take": ("7", "6"),
+         "print": ("take 7,", "take 6,"), "read": ("give 7,", "give 6,")}
+# For two jobs of examples/: the instructions that are exact, by their statement.
+BY_HAND = {
+    "sum": {"read n;": {2}, "while (i < n)": {7, 8, 9, 10, 11}, "i = i + 1;": {12, 13}, "s = s + i;": {14},
+            "print s;": {16}},
+    "fibonacci": {"read n;": {2}, "b = 1;": {3}, "while (n)": {8, 9, 10, 11, 12}, "t = a + b;": {13},
+                  "n = n - 1;": {14, 15}, "print a;": {17}},
+}
+
+
+def of_site(trial, k):
+    """The instructions that change where this site alone does, or nothing where the image does."""
+    site = trial.source.sites[k]
+    if site.kind in ("load", "store"):
+        return of_cell(trial, k)
+    word = str(FIRST + k) if site.kind == "number" else next(w for w in OTHER[site.kind] if w != site.word)
+    other = trial.compiled({k: word})
+    pairs = trial.paired(other, lambda it: True)
+    # constants have no pairs: they are looked at where all others keep their numbers
+    if pairs is None or len(other.instrs) != len(trial.image.instrs) or any(i != k for i, k in pairs.items()):
+        return None
+    both = zip(trial.image.instrs[1:], other.instrs[1:])
+    changed = {i for i, (a, b) in enumerate(both, 1) if (a.op, a.arg) != (b.op, b.arg)}
+    # a unary operator has a constant beside it
+    return {i for i in changed if site.kind != "unary" or trial.image.instrs[i].op != "const"}
+
+
+def of_cell(trial, k):
+    """The same of a site that names an array: here it names one that stands in front of all."""
+    other = trial.compiled({k: "first"}, "array first[1]; ")
+    pairs = trial.paired(other, lambda it: False)
+    return pairs and {i for new, i in pairs.items() if (other.instrs[new].op in ("load", "store")
+                                                         and other.instrs[new].arg == 1)}
+
+
+def of_job(program, job):
+    """How many sites were changed, and what is wrong."""
+    status, made, _ = call(program, ["compile"], job)
+    if status or kind_of(job) != "job":
+        return 0, []
+    trial, seen, wrong = Trial(program, job, read(made)), 0, []
+    for k, site in enumerate(trial.source.sites):
+        changed = of_site(trial, k)
+        said = {i for i, at in trial.at.items() if at == k}
+        if changed is None:
+            continue
+        seen += 1
+        if not said <= changed:
+            wrong.append(f"{said} and not {changed} for {site.kind} {site.word} of statement {site.statement}")
+        wrong += [f"{i} changes with statement {site.statement} and not {trial.exact[i]}" for i in changed
+                  if i in trial.exact and site.statement not in trial.exact[i]]
+    return seen, wrong
+
+
+def by_hand(program, name):
+    """What is found otherwise than by hand."""
+    job = (ROOT / "examples" / f"{name}.job").read_text()
+    ends, told = statements_of(program, job, read(call(program, ["compile"], job)[1]))
+    found = {job[a:b]: {i for i, (of, exact) in told.items() if exact and k in of} for k, (a, b) in enumerate(ends)}
+    found = {text: instrs for text, instrs in found.items() if instrs}
+    return [] if found == BY_HAND[name] else [f"{name}: {found} and not {BY_HAND[name]}"]
+
+
+def main():
+    program, seen = sys.argv[1], 0
+    wrong = [told for name in BY_HAND for told in by_hand(program, name)]
+    for folder in sys.argv[2:]:
+        for file in sorted(pathlib.Path(folder).glob("*.job")):
+            count, found = of_job(program, file.read_text())
+            seen += count
+            wrong += [f"{file.name}: {told}" for told in found]
+    print("\n".join([*wrong, f"{seen} sites changed alone, {len(wrong)} wrong"]))
+    return 1 if wrong else 0
+
+
+if __name__ == "__main__":
+    sys.exit(main())

@@ -1,0 +1,179 @@
+"""Texts that are refused: what is wrong with them, and where."""
+
+import re
+
+from image import LEXEME, Fault, kind_of, lines_of, read, sections
+from usage import like
+
+JOB = {
+    "byte": "this byte begins no lexeme of the language",
+    "wide": "this number is 2^64 or more",
+    "syntax": "no program goes on with this lexeme here, or the text ends too early",
+    "unknown": "no such name is visible here; arrays and procedures are visible after their declaration, "
+    "so a procedure can't call itself",
+    "twice": "this name is visible already and can't be declared again",
+    "kind": "this name stands for something else: an array, a procedure or a variable",
+    "count": "the call has another number of arguments than the procedure has parameters",
+    "main": "`main` is missing, isn't the last procedure, or has parameters",
+    "input": "an input word is a run of digits below 2^64",
+    "threads": "a text has at most four jobs, which three lines `%job` separate",
+}
+LINE = {
+    "line": "the line has none of the forms that may stand here",
+    "number": "a number in the line isn't the next in count, names something that isn't there, or is too large",
+    "limit": "the line passes a limit",
+    "version": "the first line has to be `wavescalar 1` or `wavescalar 2`",
+    "name": "this name is given twice, or names nothing",
+    "illegal": "this event isn't enabled after those before it",
+}
+NOTE = "<PRED, SEQ, SUCC>.RIPPLE"
+FORMS = {
+    "const": "N: const K -> I.P ..", "send": "N: send K", "load": f"N: load A {NOTE} -> I.P ..",
+    "store": f"N: store A {NOTE}", "in": f"N: in {NOTE} -> I.P ..", "out": f"N: out {NOTE}",
+    "give": f"N: give P {NOTE} -> I.P ..", "take": f"N: take P {NOTE}", "nop": f"N: nop {NOTE}",
+    "halt": f"N: halt {NOTE}", "steer": "N: steer -> I.P .. | I.P ..",
+}
+PLAIN = "add sub mul div rem and or xor shl shr eq ne lt le gt ge merge advance phi".split()
+FORMS |= {op: f"N: {op} -> I.P .." for op in PLAIN}
+RESERVED = set("proc array var if else while print read give take return".split())
+HINTS = {
+    "&&": "there is no `&&`: `&` works on bits, and both sides are computed", "||": "there is no `||`: use `|`",
+    "//": "comments begin with `#`", "++": "there is no `++`: write `x = x + 1;`",
+    "+=": "there is no `+=`: write `x = x + ..;`", "-=": "there is no `-=`: write `x = x - ..;`",
+}
+SOUND = {
+    "port": "instruction {0}, port {1}: on some path no token comes to it, or two do",
+    "pending": "the paths through blocks {0} and {1} leave different ports with a token that waits",
+    "link": "memory operations {0} and {1}: their wave-order notes don't follow each other on some path "
+    "(0 stands for the start or the end of the wave; one number twice: its own sequence number)",
+    "ripple": "memory operation {0}: its ripple number is wrong beside the writing operation {1} "
+    "(one number twice: that of a writing operation is its own sequence number)",
+    "shape": "block {0}: its instructions, pads or exit stand where they may not",
+}
+JOBS = ("run", "plain", "format", "compile", "multi")
+WITH_INPUT = "(wsc compile < JOB; sed -n '/^%input/,$p' JOB)"
+ENDS = {
+    3: "the run takes more than it may: see --{0}",
+    6: "the port failed: standard error, which is port 1, can't be written",
+    7: "memory ran out",
+    8: "an index isn't less than the array's length; `--memory` shows the arrays as they stand there",
+}
+
+
+def shown(lines, number, column=None):
+    """The line with its number, and a caret."""
+    out = [f"{number:6} | {lines[number - 1] if number <= len(lines) else ''}"]
+    if column:
+        front = lines[number - 1].encode(errors="surrogateescape")[: column - 1].decode(errors="replace")
+        out.append("       | " + "".join("\t" if c == "\t" else " " for c in front) + "^")
+    return out
+
+
+def of_end(status, answer, command):
+    """What a status says that is no refusal."""
+    if status not in ENDS:
+        return []
+    said = ENDS[status].format("turns" if command == "plain" else "budget")
+    return [said] if status != 8 or "fault" in answer else []
+
+
+def led_on(text, command, commands):
+    """The command that reads such a text, where this one doesn't."""
+    kind = kind_of(text)
+    is_job = kind == "job" and re.search(r"\bproc\s+\w+\s*\(", text)
+    if command in JOBS and kind == "trace":
+        return ["this text is a trace; `wsc replay` makes its events"]
+    if command in JOBS and kind == "assembly":
+        return ["this text is an assembly; `wsc exec` runs it, `wsc check` and `wsc list` read it"]
+    if command in JOBS and "multi" in commands and command != "multi" and "%job" in lines_of(text):
+        return ["lines `%job` separate several jobs; `wsc multi` runs them"]
+    if command and command not in JOBS and is_job:
+        done = {"check": " | wsc check", "list": " | wsc list"}.get(command, f" | wsc {command}")
+        if command == "replay":
+            done = " | wsc trace | wsc replay"
+        return [f"this text is a job; `wsc run` runs it. Its assembly with its input:  {WITH_INPUT}{done}"]
+    if command in ("exec", "check", "list", "trace", "grid", "decouple") and kind == "trace":
+        return [f"this text has a trace; `wsc replay` makes its events, `wsc {command}` takes what stands before "
+                "the line %trace"]
+    return []
+
+
+def of_refusal(answer, text, command, commands):
+    """What a refusal says, and its place; nothing where the answer is no refusal."""
+    words, lines = answer.split(), lines_of(text)
+    if words[:1] != ["refused"] or len(words) < 2:
+        return []
+    if words[1] == "long":
+        return ["the text is too long: a job may have 1 MiB, an assembly with its sections 128 MiB"]
+    if led := led_on(text, command, commands):
+        return led
+    if place := re.fullmatch(r"(\d+):(\d+)", words[1]):
+        return of_place(lines, *map(int, place.groups()), words[2:])
+    if words[1].isdigit():
+        return of_line(lines, int(words[1]), words[2], text) + of_trace(text, lines, int(words[1]), command)
+    return of_rule(text, lines, words[1], words[2:])
+
+
+def of_place(lines, number, column, words):
+    """A refusal at a line and a column."""
+    line = lines[number - 1] if number <= len(lines) else ""
+    data = line.encode(errors="surrogateescape")
+    front, rest = data[: column - 1].decode(errors="replace"), data[column - 1 :].decode(errors="replace")
+    said = JOB.get(words[0]) or f"the limit `{words[-1]}` of the language is passed here"
+    out = shown(lines, number, column) + [said]
+    marks = (front[-1:] + rest[:1], rest[:2])
+    out += [f"hint: {hint}" for mark, hint in HINTS.items() if mark in marks]
+    if words[0] == "syntax" and front.rstrip().endswith("else"):
+        out.append("hint: an `if` after `else` needs braces: `else { if .. }`")
+    if words[0] == "syntax" and not front.strip() and number > 1:
+        out.append("hint: look at the end of the line before too; a `;` may be missing there")
+    if words[0] == "syntax" and rest.startswith("var"):
+        out.append("hint: all `var` stand before a procedure's first statement")
+    if words[0] == "unknown" and (name := re.match(r"\w+", rest)):
+        names = {word for other in lines for word in re.findall(r"[A-Za-z_]\w*", other.split("#")[0])}
+        near = like(name[0], sorted(names - RESERVED - {name[0]}))
+        out += ["hint:" + near.removeprefix(";")] if near else []
+    return out
+
+
+def of_line(lines, number, word, text):
+    """A refusal of a line of an assembly or a trace."""
+    out = shown(lines, number) + [LINE.get(word, word)]
+    line = lines[number - 1].split("#")[0] if number <= len(lines) else ""
+    found = re.match(r"\s*\w+\s*:\s*(\w+)", line)
+    if word == "line" and found:
+        form = FORMS.get(found[1])
+        out.append(f"its form is: {form}" if form
+                   else f"there is no instruction `{found[1]}`{like(found[1], list(FORMS))}")
+    if word == "line" and not line.strip() and number >= len(lines):
+        out.append("the text ends too early: is `end` missing?")
+    if word == "name":
+        names = re.findall(r"^\s*(?:block\s+)?([A-Za-z_]\w*)\s*(?::|$)", text, re.M)
+        for name in LEXEME.findall(line):
+            out += [f"hint: `{name}`" + like(name, names)] if name[0].isalpha() and name not in names \
+                and like(name, names) else []
+    return out
+
+
+def of_trace(text, lines, number, command):
+    """What `replay` lacks, where the text has no trace."""
+    if command != "replay" or sections(text)[2]:
+        return []
+    if number <= len(lines) and lines[number - 1] == "%trace":
+        return ["hint: before the line %trace stands a line %input, also where the program reads nothing"]
+    return ["this assembly has no line %trace; `wsc replay` takes what `wsc trace` prints: "
+            "wsc trace < FILE | wsc replay"] if number >= len(lines) else []
+
+
+def of_rule(text, lines, rule, words):
+    """A rule that an image breaks, with the lines of what its numbers name."""
+    numbers = [int(word) for word in words]
+    out = [SOUND[rule].format(*numbers)]
+    try:
+        image = read(text)
+    except Fault:
+        return out
+    items = image.blocks if rule in ("pending", "shape") else image.instrs
+    for number in dict.fromkeys(numbers[:1] if rule == "port" else numbers):
+        out += shown(lines, items[number].line) if 0 < number < len(items) else []
+    return out
