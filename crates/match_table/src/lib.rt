@@ -6,6 +6,7 @@ pub mod laws;
 pub mod meeting;
 mod ops;
 mod pages;
+mod places;
 pub mod table;
 
 pub use entry::Arrived;

@@ -1,7 +1,7 @@
 use Rattle.std.proofs.Common.{◌+◌, ◌*◌, ◌%◌, ◌^◌, ap, ◌∙◌}
 use Rattle.std.proofs.Math.Nat.{mod-add-mod}
 use Rattle.match_table.specs.Pages.{page_number}
-use Rattle.match_table.proofs.pages.number_of.Goals as goal
+use Rattle.match_table.proofs.places.number_of.Goals as goal
 
 pub returns : goal.returns
 unfolding page_number

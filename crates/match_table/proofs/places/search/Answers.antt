@@ -1,6 +1,6 @@
 use Rattle.std.proofs.Common.{◌+◌, ◌-◌, ◌/◌, arith}
 use Rattle.match_table.proofs.Numbers.{below_more, above_more, in_order}
-use Rattle.match_table.proofs.pages.search.Goals as goal
+use Rattle.match_table.proofs.places.search.Goals as goal
 
 pub loop-low-preserved-then-pages-middle : goal.loop-low-preserved-then-pages-middle
 loop-low-preserved-then-pages-middle c = let inv = c.loop-low.invariant in let t = c.loop-low-test.true in let o = inv.order in let b = inv.bound in record {
