@@ -137,17 +137,17 @@ module _ (image : Image) (world : World) (formed : Formed image) (sound : Sound 
     below = port_below image world facts c.entries fired asked ok t.wave t.instr t.port t.value right
 
     -- an instance that would be full has the walk's operands
-    module _ (next : Arrived) (operands : Operands) (seen : SeenSo (arrived_in c.entries t.wave t.instr) t.port t.value (ports image t.instr) (Fills next operands)) where
+    module _ (operands : Operands) (seen : SeenSo (arrived_in c.entries t.wave t.instr) t.port t.value (ports image t.instr) (Fills operands)) where
       pub fills : listed operands ≡ right.inst.operands
-      fills = seen.3 ∙ full_operands image world facts c.entries fired asked ok t.wave t.instr t.port t.value right seen.0 (ports_small image t.instr) next seen.1 seen.2
+      fills = seen.2 ∙ full_operands image world facts c.entries fired asked ok t.wave t.instr t.port t.value right seen.0 (ports_small image t.instr) (with_port (arrived_in c.entries t.wave t.instr) t.port t.value) refl seen.1
 
       pub fills_fires : true ≡ will_fire image c t
       fills_fires = fires_true image c t
           (free_port image world facts c.entries fired asked ok t.wave t.instr t.port t.value right seen.0)
-          (full_with image world facts c.entries fired asked ok t.wave t.instr t.port t.value right seen.0 (ports_small image t.instr) next seen.1 ∙ seen.2)
+          (full_with image world facts c.entries fired asked ok t.wave t.instr t.port t.value right seen.0 (ports_small image t.instr) (with_port (arrived_in c.entries t.wave t.instr) t.port t.value) refl ∙ seen.1)
 
-    pub waits_open : (next : Arrived) → SeenSo (arrived_in c.entries t.wave t.instr) t.port t.value (ports image t.instr) (Waits next) → false ≡ will_fire image c t
-    waits_open next seen = open_false image c t (full_with image world facts c.entries fired asked ok t.wave t.instr t.port t.value right seen.0 (ports_small image t.instr) next seen.1 ∙ seen.2)
+    pub waits_open : SeenSo (arrived_in c.entries t.wave t.instr) t.port t.value (ports image t.instr) Waits → false ≡ will_fire image c t
+    waits_open seen = open_false image c t (full_with image world facts c.entries fired asked ok t.wave t.instr t.port t.value right seen.0 (ports_small image t.instr) (with_port (arrived_in c.entries t.wave t.instr) t.port t.value) refl ∙ seen.1)
 
     -- what an instance sends that isn't one of memory is right
     pub sends_right : (xs : List ℕ) → xs ≡ right.inst.operands → is_memory image t.instr ≡ false → (w i p v : ℕ) → IsSent (sends image t.wave t.instr xs (result_of image t.instr xs)) w i p v → RightToken image world w i p v
@@ -184,16 +184,20 @@ pub record Lists (image : Image) (fired asked : List ℕ) (t : Token) (next : Ar
 
 -- what a call of `put` leaves
 pub puts : {image : Image} {world : World} {entries : List (Option Entry)} {fired asked : List ℕ} → Formed image → Sound image → TableOk image world entries fired asked → (before : Content) → entries ≡ before.entries → (t : Token) → IsRight image world t →
-    (next : Arrived) → is_taken (arrived_in before.entries t.wave t.instr) t.port ≡ false → next ≡ with_port (arrived_in before.entries t.wave t.instr) t.port t.value →
-    (new : List (Option Entry)) (w i : ℕ) → w ≡ t.wave → i ≡ t.instr → ((a b : ℕ) → arrived_in new a b ≡ cond (same_key w i a b) (Some next) (arrived_in entries a b)) → ((k a b : ℕ) → IsUnder entries k a b → IsUnder new k a b) →
-    Puts image world entries fired asked t next new
-puts {image} {world} {entries} formed sound ok before same t right next free next_is new w i wave instr arrived stay = record {
+    is_taken (arrived_in before.entries t.wave t.instr) t.port ≡ false → (new : List (Option Entry)) (w i p v : ℕ) → w ≡ t.wave → i ≡ t.instr → p ≡ t.port → v ≡ t.value →
+    ((a b : ℕ) → arrived_in new a b ≡ cond (same_key w i a b) (Some (with_port (arrived_in entries w i) p v)) (arrived_in entries a b)) → ((k a b : ℕ) → IsUnder entries k a b → IsUnder new k a b) →
+    Puts image world entries fired asked t (with_port (arrived_in before.entries t.wave t.instr) t.port t.value) new
+puts {image} {world} {entries} formed sound ok before same t right free new w i p v wave instr port value arrived stay = record {
   facts = facts image world formed sound;
   ok = ok;
   right = right;
   free = subst (λ (l : List (Option Entry)). is_taken (arrived_in l t.wave t.instr) t.port ≡ false) (sym same) free;
-  next_is = subst (λ (l : List (Option Entry)). next ≡ with_port (arrived_in l t.wave t.instr) t.port t.value) (sym same) next_is;
-  arrived = λ a b. arrived a b ∙ ap (λ (k : ℕ × ℕ). cond (same_key k.0 k.1 a b) (Some next) (arrived_in entries a b)) (λ j. (wave j, instr j));
+  next_is = ap (λ (l : List (Option Entry)). with_port (arrived_in l t.wave t.instr) t.port t.value) (sym same);
+  arrived = λ a b. arrived a b ∙ ap (λ (k : ℕ × ℕ × Arrived). cond (same_key k.0 k.1 a b) (Some k.2) (arrived_in entries a b)) (λ j. (
+    wave j,
+    instr j,
+    (ap (λ (l : List (Option Entry) × ℕ × ℕ × ℕ × ℕ). with_port (arrived_in l.0 l.1 l.2) l.3 l.4) (λ h. (same h, wave h, instr h, port h, value h))) j,
+  ));
   stay = stay;
 }
 

@@ -1,6 +1,6 @@
 //! A value comes to a port of an instance.
 
-ghost use Rattle.std.specs.Prelude.{◌≡◌, ◌<◌, ◌≤◌, ℕ, true, false, MatchOption};
+ghost use Rattle.std.specs.Prelude.{◌≡◌, ◌<◌, ◌≤◌, ℕ, Some, None, true, false, MatchOption};
 ghost use Rattle.image_walk.specs.Walk.{gather};
 ghost use Rattle.core_law.specs.Core.{is_full};
 ghost use Rattle.match_table.specs.Ports.{listed, is_taken, with_port, alone, SeenSo};
@@ -15,13 +15,13 @@ pub enum Operands {
     Three(u64, u64, u64),
 }
 
-/// What a value finds at its port: an earlier one, or none. Then this has come to the instance, which
-/// is still waiting or has these operands.
+/// What a value finds at its port: an earlier one, or none. Then the instance is still waiting with this
+/// one, or has these operands.
 #[derive(Clone, Copy)]
 pub enum Seen {
     Old,
-    Waits(Arrived),
-    Fills(Arrived, Operands),
+    Waits,
+    Fills(Operands),
 }
 
 const NONE: Arrived = Arrived {
@@ -53,31 +53,32 @@ pub(crate) fn is_taken(arrived: Option<Arrived>, port: u8) -> bool
 
 // With a value at one more port.
 #[inline(always)]
-fn with_port(arrived: Option<Arrived>, port: u8, value: u64) -> Arrived
-    requires { port < 3 }
+pub(crate) fn with_port(arrived: Option<Arrived>, port: u8, value: u64) -> Arrived
     ensures { result ≡ with_port arrived port value }
 {
     let earlier = arrived.unwrap_or(NONE);
     let had = earlier.had;
-    match port {
-        0 => Arrived {
+    if port == 0 {
+        Arrived {
             had: Had { first: true, ..had },
             first: value,
             ..earlier
-        },
-        1 => Arrived {
+        }
+    } else if port == 1 {
+        Arrived {
             had: Had {
                 second: true,
                 ..had
             },
             second: value,
             ..earlier
-        },
-        _ => Arrived {
+        }
+    } else {
+        Arrived {
             had: Had { third: true, ..had },
             third: value,
             ..earlier
-        },
+        }
     }
 }
 
@@ -115,6 +116,72 @@ pub(crate) fn operands_of(arrived: Arrived, ports: u8) -> Option<Operands>
     }
 }
 
+// The operands of an instance with so many ports, where this is its first value.
+#[inline(always)]
+fn operands_first(port: u8, value: u64, ports: u8) -> Option<Operands>
+    requires { (port < ports) × (ports ≤ 3) }
+    ensures { MatchOption result (is_full (alone (with_port None port value)) 0 0 ports ≡ false)
+        (λ operands. (is_full (alone (with_port None port value)) 0 0 ports ≡ true)
+        × (listed operands ≡ gather (alone (with_port None port value)) 0 0 0 ports)) }
+{
+    let _ = port;
+    if ports == 1 {
+        Some(Operands::One(value))
+    } else {
+        None
+    }
+}
+
+// The operands of an instance with two ports, where this value comes after others.
+#[inline(always)]
+fn operands_two(arrived: Arrived, port: u8, value: u64) -> Option<Operands>
+    requires { port < 2 }
+    ensures { MatchOption result (is_full (alone (with_port (Some arrived) port value)) 0 0 2 ≡ false)
+        (λ operands. (is_full (alone (with_port (Some arrived) port value)) 0 0 2 ≡ true)
+        × (listed operands ≡ gather (alone (with_port (Some arrived) port value)) 0 0 0 2)) }
+{
+    let had = arrived.had;
+    if port == 0 {
+        if had.second {
+            return Some(Operands::Two(value, arrived.second));
+        }
+        return None;
+    }
+    if had.first {
+        return Some(Operands::Two(arrived.first, value));
+    }
+    None
+}
+
+// The operands of an instance with so many ports, where this value comes after others.
+#[inline(always)]
+fn operands_next(arrived: Arrived, port: u8, value: u64, ports: u8) -> Option<Operands>
+    requires { (port < ports) × (ports ≤ 3) }
+    ensures { MatchOption result (is_full (alone (with_port (Some arrived) port value)) 0 0 ports ≡ false)
+        (λ operands. (is_full (alone (with_port (Some arrived) port value)) 0 0 ports ≡ true)
+        × (listed operands ≡ gather (alone (with_port (Some arrived) port value)) 0 0 0 ports)) }
+{
+    if ports == 2 {
+        return operands_two(arrived, port, value);
+    }
+    let next = with_port(Some(arrived), port, value);
+    operands_of(next, ports)
+}
+
+// The operands of an instance with one more value, if it has one at each of so many ports then.
+#[inline(always)]
+fn operands_with(arrived: Option<Arrived>, port: u8, value: u64, ports: u8) -> Option<Operands>
+    requires { (port < ports) × (ports ≤ 3) }
+    ensures { MatchOption result (is_full (alone (with_port arrived port value)) 0 0 ports ≡ false)
+        (λ operands. (is_full (alone (with_port arrived port value)) 0 0 ports ≡ true)
+        × (listed operands ≡ gather (alone (with_port arrived port value)) 0 0 0 ports)) }
+{
+    match arrived {
+        None => operands_first(port, value, ports),
+        Some(arrived) => operands_next(arrived, port, value, ports),
+    }
+}
+
 // A value comes to a port of an instance with so many.
 #[inline(always)]
 pub(crate) fn meet(arrived: Option<Arrived>, port: u8, value: u64, ports: u8) -> Seen
@@ -124,9 +191,8 @@ pub(crate) fn meet(arrived: Option<Arrived>, port: u8, value: u64, ports: u8) ->
     if is_taken(arrived, port) {
         return Seen::Old;
     }
-    let next = with_port(arrived, port, value);
-    match operands_of(next, ports) {
-        None => Seen::Waits(next),
-        Some(operands) => Seen::Fills(next, operands),
+    match operands_with(arrived, port, value, ports) {
+        None => Seen::Waits,
+        Some(operands) => Seen::Fills(operands),
     }
 }

@@ -2,13 +2,12 @@
 
 ghost use Rattle.std.specs.Prelude.{◌≡◌, ◌<◌, ◌≤◌, ◌+◌, ◌^◌, ℕ, IfErr, IsOk, IsSome, None, [], true, false, cond, suc, length, slice_index_or, IfSome, IfOk, OnOk, MatchResult};
 ghost use Rattle.ws_isa.specs.Formed.{Formed};
-ghost use Rattle.ws_isa.specs.Image.{is_advance_op, is_memory, ports};
+ghost use Rattle.ws_isa.specs.Image.{instr_at, is_advance_op, is_memory, ports};
 ghost use Rattle.image_walk.specs.Sound.{Sound};
 ghost use Rattle.image_walk.specs.Walk.{gather};
 ghost use Rattle.core_law.specs.Core.{Key, HasFired, Once, has, is_full, operands_in};
 ghost use Rattle.core_law.specs.Shown.{TablesOk};
 ghost use Rattle.core_run.specs.Places.{ProgramIs, image_of};
-ghost use Rattle.match_table.specs.declared.entry.Arrived.{Arrived};
 ghost use Rattle.match_table.specs.declared.meeting.Seen.TheVariants.{Waits, Fills};
 ghost use Rattle.match_table.specs.declared.table.Took.TheVariants as took;
 ghost use Rattle.match_table.specs.Matching.{Accepted, Answered, Arrives, FiresSo, Full, HandedOn, IfNoMemory, IsOldSo, NoResults, Refused, has_fired, will_fire};
@@ -19,7 +18,7 @@ ghost use Rattle.match_table.specs.Tables.{IsPlaced, held, key_of, of_memory, pa
 use crate::entry::Arrived;
 use crate::meeting::{Operands, Seen, is_taken, meet, operands_of};
 use crate::ops::{result_of, selector};
-use crate::pages::Pages;
+use crate::pages::{Found, Pages};
 use core_run::program::Program;
 use df_job::{Code, Job, Request, Token, TokenList};
 use std::alloc::Global;
@@ -114,14 +113,6 @@ impl<J: Job> Model for Table<J> {
     } };
 
     ghost invariant = { λ t. TableOk J.image J.world t.pages.entries t.fired.items t.asked.items };
-}
-
-// The place of an instance's page, the key of its entry, and what a token finds at its port.
-#[derive(Clone, Copy)]
-struct Look {
-    place: usize,
-    key: Option<usize>,
-    seen: Seen,
 }
 
 impl<J: Job> Table<J> {
@@ -240,52 +231,48 @@ impl<J: Job> Table<J> {
         let _ = &self.fired;
     }
 
-    // What a token finds here.
+    // What a token finds here, where this has come to its instance.
     #[inline(always)]
-    fn look(&self, token: &Token<J>, count: u8) -> Look
+    fn meet(&self, token: &Token<J>, count: u8, arrived: Option<Arrived>) -> Seen
         requires formed { Formed J.image }
         requires sound { Sound J.image }
         requires ports { (count ≡ ports J.image token.now.instr) × (count ≤ 3) }
-        ensures key { KeyIs self.now.entries result.key token.now.wave token.now.instr }
+        requires arrived { arrived ≡ arrived_in self.now.entries token.now.wave token.now.instr }
         ensures seen { SeenSo (arrived_in self.now.entries token.now.wave token.now.instr)
-            token.now.port token.now.value count result.seen }
-        ensures old { IsOldSo self.now token.now result.seen }
+            token.now.port token.now.value count result }
+        ensures old { IsOldSo self.now token.now result }
     {
-        let near = self.pages.near();
-        let found = self.pages.look(near, token.wave(), token.instr());
-        let seen = meet(found.arrived, token.port(), token.value(), count);
-        Look {
-            place: found.place,
-            key: found.key,
-            seen,
-        }
+        let _ = &self.fired;
+        let _ = token.wave();
+        meet(arrived, token.port(), token.value(), count)
     }
 
     /// Whether the token would fire its instance.
     pub fn would_fire(&self, code: &Code<'_, J>, token: &Token<J>) -> bool
         ensures { result ≡ will_fire J.image self.now token.now }
     {
-        let _ = &self.fired;
-        let _ = token.wave();
+        let wave = token.wave();
+        let instr = token.instr();
         let program = code.program();
-        let count = program.op(token.instr()).ports();
-        let look = self.look(token, count);
-        match look.seen {
-            Seen::Fills(_, _) => true,
-            Seen::Waits(_) => false,
+        let count = program.op(instr).ports();
+        let found = self.pages.look(self.pages.near(), wave, instr);
+        let seen = self.meet(token, count, found.arrived);
+        match seen {
+            Seen::Fills(_) => true,
+            Seen::Waits => false,
             Seen::Old => false,
         }
     }
 
     // The token waits at its port.
     #[inline(always)]
-    fn keep(&mut self, token: &Token<J>, place: usize, key: Option<usize>, next: Arrived, count: u8)
+    fn keep(&mut self, token: &Token<J>, place: usize, key: Option<usize>, count: u8)
         requires formed { Formed J.image }
         requires sound { Sound J.image }
         requires ports { (count ≡ ports J.image token.now.instr) × (count ≤ 3) }
         requires key { KeyIs self.old.entries key token.now.wave token.now.instr }
         requires seen { SeenSo (arrived_in self.old.entries token.now.wave token.now.instr)
-            token.now.port token.now.value count (Waits next) }
+            token.now.port token.now.value count Waits }
         requires room { 0 < self.old.spare }
         ensures arrives { Arrives self.old token.now self.new }
         ensures waits { is_full (held self.new) token.now.wave token.now.instr
@@ -295,37 +282,35 @@ impl<J: Job> Table<J> {
     {
         let wave = token.wave();
         let instr = token.instr();
-        self.pages.put(place, key, wave, instr, next);
+        let port = token.port();
+        let value = token.value();
+        self.pages.put(place, key, wave, instr, port, value);
     }
 
     // The token's instance is full, and fires. `asks` says whether it is one of memory.
     #[inline(always)]
-    fn fire(
-        &mut self,
-        token: &Token<J>,
-        place: usize,
-        key: Option<usize>,
-        next: Arrived,
-        asks: bool,
-    )
+    fn fire(&mut self, token: &Token<J>, place: usize, key: Option<usize>, asks: bool)
         requires formed { Formed J.image }
         requires sound { Sound J.image }
         requires asks { is_memory J.image token.now.instr ≡ asks }
         requires key { KeyIs self.old.entries key token.now.wave token.now.instr }
         requires taken { is_taken (arrived_in self.old.entries token.now.wave token.now.instr)
             token.now.port ≡ false }
-        requires next { next ≡ with_port (arrived_in self.old.entries token.now.wave token.now.instr)
-            token.now.port token.now.value }
-        requires full { is_full (alone next) 0 0 (ports J.image token.now.instr) ≡ true }
+        requires full { is_full (alone (with_port
+            (arrived_in self.old.entries token.now.wave token.now.instr) token.now.port token.now.value))
+            0 0 (ports J.image token.now.instr) ≡ true }
         requires room { 0 < self.old.spare }
         ensures arrives { Arrives self.old token.now self.new }
-        ensures full { Full J.image self.old token.now self.new
-            (gather (alone next) 0 0 0 (ports J.image token.now.instr)) }
+        ensures full { Full J.image self.old token.now self.new (gather (alone (with_port
+            (arrived_in self.old.entries token.now.wave token.now.instr) token.now.port token.now.value))
+            0 0 0 (ports J.image token.now.instr)) }
         ensures spare { self.old.spare ≤ self.new.spare + 1 }
     {
         let wave = token.wave();
         let instr = token.instr();
-        let key = self.pages.put(place, key, wave, instr, next);
+        let port = token.port();
+        let value = token.value();
+        let key = self.pages.put(place, key, wave, instr, port, value);
         self.fired.push_reserved(key);
         if asks {
             self.asked.push_reserved(key);
@@ -379,21 +364,68 @@ impl<J: Job> Table<J> {
     {
         results.clear();
         let program = code.program();
+        let wave = token.wave();
         let instr = token.instr();
         let op = program.op(instr);
+        let spotted = self.pages.find(self.pages.near(), wave, instr);
+        let place = spotted.place;
+        match spotted.key {
+            None => {
+                let found = Found {
+                    place,
+                    key: None,
+                    arrived: None,
+                };
+                self.take(program, op, token, found, results)
+            }
+            Some(key) => {
+                let arrived = self.pages.arrived(key);
+                let found = Found {
+                    place,
+                    key: Some(key),
+                    arrived: Some(arrived),
+                };
+                self.take(program, op, token, found, results)
+            }
+        }
+    }
+
+    // Takes a token, whose instance is found so.
+    #[inline(always)]
+    fn take(
+        &mut self,
+        program: &Program<'_>,
+        op: Op,
+        token: &Token<J>,
+        found: Found,
+        results: &mut Results<J>,
+    ) -> Took
+        requires program { ProgramIs program.now }
+        requires image { image_of program.now ≡ J.image }
+        requires op { op ≡ (instr_at (image_of program.now) token.now.instr).op }
+        requires formed { Formed J.image }
+        requires sound { Sound J.image }
+        requires key { KeyIs self.old.entries found.key token.now.wave token.now.instr }
+        requires arrived { found.arrived ≡ arrived_in self.old.entries token.now.wave token.now.instr }
+        requires empty { NoResults results.old }
+        ensures answer { Answered J.image self.old token.now self.new results.new result }
+        ensures fires { FiresSo result (will_fire J.image self.old token.now) }
+        ensures memory { result ≡ took.NoMemory → 0 < self.old.spare → token.now.wave + 1 < 2 ^ 64 → ⊥ }
+        ensures spare { self.old.spare ≤ self.new.spare + 1 }
+    {
         let count = op.ports();
-        let look = self.look(token, count);
-        match look.seen {
+        let seen = self.meet(token, count, found.arrived);
+        match seen {
             Seen::Old => Took::Old,
-            Seen::Waits(next) => {
+            Seen::Waits => {
                 if self.make_room().is_err() {
                     return Took::NoMemory;
                 }
-                self.keep(token, look.place, look.key, next, count);
+                self.keep(token, found.place, found.key, count);
                 Took::Waits
             }
-            Seen::Fills(next, operands) => {
-                let Ok(took) = self.hand_on(program, token, operands, results) else {
+            Seen::Fills(operands) => {
+                let Ok(took) = self.hand_on(program, op, token, operands, results) else {
                     results.clear();
                     return Took::NoMemory;
                 };
@@ -401,7 +433,7 @@ impl<J: Job> Table<J> {
                     results.clear();
                     return Took::NoMemory;
                 }
-                self.fire(token, look.place, look.key, next, op.is_memory());
+                self.fire(token, found.place, found.key, op.is_memory());
                 took
             }
         }
@@ -412,17 +444,18 @@ impl<J: Job> Table<J> {
     fn hand_on(
         &self,
         program: &Program<'_>,
+        op: Op,
         token: &Token<J>,
         operands: Operands,
         results: &mut Results<J>,
     ) -> Result<Took, NoMemory>
         requires program { ProgramIs program.now }
         requires image { image_of program.now ≡ J.image }
+        requires op { op ≡ (instr_at (image_of program.now) token.now.instr).op }
         requires formed { Formed J.image }
         requires sound { Sound J.image }
-        requires seen { (next : Arrived)
-            × SeenSo (arrived_in self.now.entries token.now.wave token.now.instr)
-            token.now.port token.now.value (ports J.image token.now.instr) (Fills next operands) }
+        requires seen { SeenSo (arrived_in self.now.entries token.now.wave token.now.instr)
+            token.now.port token.now.value (ports J.image token.now.instr) (Fills operands) }
         requires empty { NoResults results.old }
         ensures outcome { IfOk result (HandedOn J.image token.now (listed operands) results.new) }
         ensures few { token.now.wave + 1 < 2 ^ 64 → IsOk result }
@@ -430,7 +463,6 @@ impl<J: Job> Table<J> {
         let _ = &self.fired;
         let wave = token.wave();
         let instr = token.instr();
-        let op = program.op(instr);
         if op.is_memory() {
             let request = Request::right(wave, instr, operands.first(), operands.second());
             results.request = Some(request);

@@ -1,36 +1,10 @@
-use Rattle.std.proofs.Common.{ℕ, sym, subst}
+use Rattle.std.proofs.Common.{ℕ, ap, ◌∙◌}
+use Rattle.ws_isa.specs.Image.{instr_at}
 use Rattle.core_run.specs.Places.{image_of}
-use Rattle.match_table.specs.declared.meeting.Seen.{Seen}
-use Rattle.match_table.specs.Pages.{arrived_in}
-use Rattle.match_table.specs.Ports.{listed, SeenSo}
-use Rattle.match_table.specs.Matching.{Full}
-use Rattle.match_table.proofs.Answered.{count_is, memory_is, answered}
 use Rattle.match_table.proofs.table.Table.accept_into.Goals as goal
 
-pub look-look-requires-clause-ports : goal.look-look-requires-clause-ports
-look-look-requires-clause-ports g c = count_is g.J.Job.image (image_of c.program-program.result.now) c.args.token.now.instr c.instr-instr.result c.op-op.result c.op-op.ensures c.program-program.ensures.image c.instr-instr.ensures c.ports-count.result c.ports-count.ensures
+pub take-requires-clause-op : goal.take-requires-clause-op
+take-requires-clause-op g c = c.op-op.ensures ∙ ap (λ (k : ℕ). (instr_at (image_of c.program-program.result.now) k).op) c.instr-instr.ensures
 
-pub keep-requires-clause-ports : goal.keep-requires-clause-ports
-keep-requires-clause-ports g c = count_is g.J.Job.image (image_of c.program-program.result.now) c.args.token.now.instr c.instr-instr.result c.op-op.result c.op-op.ensures c.program-program.ensures.image c.instr-instr.ensures c.ports-count.result c.ports-count.ensures
-
-pub hand_on-requires-clause-seen : goal.hand_on-requires-clause-seen
-hand_on-requires-clause-seen g c =
-    let count = count_is g.J.Job.image (image_of c.program-program.result.now) c.args.token.now.instr c.instr-instr.result c.op-op.result c.op-op.ensures c.program-program.ensures.image c.instr-instr.ensures c.ports-count.result c.ports-count.ensures in
-    let seen = subst (λ (k : ℕ × Seen). SeenSo (arrived_in c.args.self.now.entries c.args.token.now.wave c.args.token.now.instr) c.args.token.now.port c.args.token.now.value k.0 k.1) (λ j. (count.0 j, c.in-Fills.is j)) c.look-look.ensures.seen in
-    (c.in-Fills.next, seen)
-
-pub fire-requires-clause-asks : goal.fire-requires-clause-asks
-fire-requires-clause-asks g c = memory_is g.J.Job.image (image_of c.program-program.result.now) c.args.token.now.instr c.instr-instr.result c.op-op.result c.op-op.ensures c.program-program.ensures.image c.instr-instr.ensures c.is_memory.result c.is_memory.ensures
-
-pub fire-requires-clause-full : goal.fire-requires-clause-full
-fire-requires-clause-full g c =
-    let count = count_is g.J.Job.image (image_of c.program-program.result.now) c.args.token.now.instr c.instr-instr.result c.op-op.result c.op-op.ensures c.program-program.ensures.image c.instr-instr.ensures c.ports-count.result c.ports-count.ensures in
-    let seen = subst (λ (k : ℕ × Seen). SeenSo (arrived_in c.args.self.now.entries c.args.token.now.wave c.args.token.now.instr) c.args.token.now.port c.args.token.now.value k.0 k.1) (λ j. (count.0 j, c.in-Fills.is j)) c.look-look.ensures.seen in
-    seen.2
-
-pub returns-else-is_err-2-clause-answer : goal.returns-else-is_err-2-clause-answer
-returns-else-is_err-2-clause-answer g c =
-    let count = count_is g.J.Job.image (image_of c.program-program.result.now) c.args.token.now.instr c.instr-instr.result c.op-op.result c.op-op.ensures c.program-program.ensures.image c.instr-instr.ensures c.ports-count.result c.ports-count.ensures in
-    let seen = subst (λ (k : ℕ × Seen). SeenSo (arrived_in c.args.self.now.entries c.args.token.now.wave c.args.token.now.instr) c.args.token.now.port c.args.token.now.value k.0 k.1) (λ j. (count.0 j, c.in-Fills.is j)) c.look-look.ensures.seen in
-    let full = subst (Full g.J.Job.image c.make_room-in-Fills.new.self c.args.token.now c.fire.new.self) (sym seen.3) c.fire.ensures.full in
-    answered g.J.Job.image c.args.self.now c.make_room-in-Fills.new.self c.fire.new.self c.args.token.now (listed c.in-Fills.operands) c.hand_on.new.results c.in-Ok.took c.make_room-in-Fills.ensures.entries c.make_room-in-Fills.ensures.fired c.fire.ensures.arrives full c.in-Ok.ensures.outcome
+pub take-requires-in-Some-clause-op : goal.take-requires-in-Some-clause-op
+take-requires-in-Some-clause-op g c = c.op-op.ensures ∙ ap (λ (k : ℕ). (instr_at (image_of c.program-program.result.now) k).op) c.instr-instr.ensures
