@@ -1,7 +1,7 @@
 -- Where a run ends.
-use Rattle.std.proofs.Common.{◌≡◌, ◌+◌, ◌-◌, ◌<◌, ◌≤◌, ◌⊎◌, inl, inr, ℕ, Bool, true, false, cond, List, Option, Some, None, is_some, length, sym, refl, ap, ◌∙◌, subst, arith}
+use Rattle.std.proofs.Common.{◌≡◌, ◌+◌, ◌<◌, ◌≤◌, ◌⊎◌, inl, inr, ℕ, Bool, true, false, cond, List, Option, Some, None, is_some, length, sym, refl, ap, ◌∙◌, subst, arith}
 use Rattle.std.proofs.lemmas.Bool.{both_ways, and_parts}
-use Rattle.ws_words.specs.Outside.{Outside, World, row}
+use Rattle.ws_words.specs.Outside.{Outside, World}
 use Rattle.ws_isa.specs.Image.{Image, Token, ports, is_memory}
 use Rattle.ws_isa.specs.Formed.{Formed}
 use Rattle.image_walk.specs.Walk.{Inst, mem, walk}
@@ -20,26 +20,16 @@ use Rattle.core_law.proofs.Effects.{effect_is}
 use Rattle.core_law.proofs.Quiet.{no_op_no_write, mem_same}
 use Rattle.core_law.proofs.Ends.{one_fault}
 use Rattle.core_law.proofs.ShownFit.{lists_true}
-use Rattle.core_run.proofs.Issuing.{printed_alike, took_alike}
 use Rattle.core_run.proofs.Firings.{StepsOf, none_fires, steps_of}
 use Rattle.df_job.specs.Began.{Began}
 use Rattle.df_job.specs.Rights.{IsRight}
-use Rattle.port_set.specs.Slots.{port_at}
 use Rattle.store_buf.specs.declared.kept.Kept.{Kept}
 use Rattle.store_buf.specs.Requests.{entry_of, operands_if}
 use Rattle.store_buf.specs.Contents.{Content, FaultIs, IsBuffer, buffer_in}
-use Rattle.store_buf.specs.Outdoors.{Holding, OutIs, SlotIs}
+use Rattle.store_buf.specs.Outdoors.{OutIs}
+use Rattle.store_buf.proofs.Outside.{out_of}
 use Rattle.crew_collect.specs.Owing.{AllKnown, HaveCome, IsMissing}
 use Rattle.crew_collect.specs.Ends.{AllRun, SomeRun, FaultRun}
-
--- loads neither print, nor store, nor give words to ports
-pub out_of : (began : List (Option Began)) (o : Outside) (h : Holding) → OutIs began (effect_of o) h → OutIs began o h
-out_of began o h x = record {
-  cells_are = x.cells_are;
-  input_is = x.input_is;
-  printed_are = sym (printed_alike o.acts) ∙ x.printed_are;
-  slots_are = λ slot a b. subst (λ (ws : List ℕ). SlotIs (port_at began slot) (row o.left (slot - 1)) ws (port_at h.ports slot)) (took_alike slot o.acts) (x.slots_are slot a b);
-}
 
 nothing : {A : Type 0} (x : A) → None ≡ Some x → ⊥
 nothing x e = cc

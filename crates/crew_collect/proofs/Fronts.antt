@@ -21,8 +21,8 @@ use Rattle.df_job.specs.Rights.{operands_of}
 use Rattle.store_buf.specs.Requests.{issued_in, answer_if, operands_if}
 use Rattle.store_buf.specs.Contents.{Content, IsBuffer, PortWaits}
 use Rattle.store_buf.specs.Outdoors.{OutIs, RoseSince, port_of}
+use Rattle.store_buf.proofs.Outside.{out_of}
 use Rattle.crew_collect.specs.Ends.{FrontRun, PortRun}
-use Rattle.crew_collect.proofs.Endings.{out_of}
 
 module _ (image : Image) (world : World) (began : List (Option Began)) (c : Content) (m : Outside)
     (is : IsBuffer image world began c m) where

@@ -4,6 +4,7 @@ pub mod Finding
 pub mod Laters
 pub mod Ordering
 pub mod Outdoors
+pub mod Ended
 pub mod Outers
 pub mod Holds
 pub mod Contents

@@ -8,7 +8,8 @@ use Rattle.image_walk.specs.Walk.{mem, walk, CostAtMost}
 use Rattle.port_set.specs.Ports.{Told}
 use Rattle.crew_run.specs.declared.finish.CrewFinish.{CrewFinish}
 use Rattle.crew_run.specs.declared.finish.CrewFinish.TheVariants as finish
-use Rattle.crew_run.specs.Answer.{CrewTells, Rested, Spent, Tripped, PortFailed}
+use Rattle.store_buf.specs.Ended.{Rested, Spent, Tripped, PortFailed}
+use Rattle.crew_run.specs.Answer.{CrewTells}
 use Rattle.wsc_top.specs.declared.status.Status.{Status}
 use Rattle.wsc_top.specs.declared.status.Status.TheVariants.{Done, Budget, Fault, PortFault}
 use Rattle.wsc_top.specs.declared.task.RunOptions.{RunOptions}
