@@ -6,3 +6,5 @@ pub mod Bares
 pub mod Parts
 pub mod Calls
 pub mod Held
+pub mod Runs
+pub mod Answer

@@ -1,0 +1,293 @@
+//! A run of an image on one thread, over one table and one buffer with partial store queues.
+
+ghost use Rattle.std.specs.Prelude.{◌≡◌, ◌+◌, ◌≤◌, ◌++◌, ◌∷◌, List, [], Option, true, length};
+ghost use Rattle.std.specs.Prelude.{MatchOption, OnOk};
+ghost use Rattle.ws_isa.specs.Image.{instr_at};
+ghost use Rattle.core_law.specs.Shown.{Tables};
+ghost use Rattle.match_table.specs.Tables.{part};
+ghost use Rattle.port_set.specs.Ports.{Told};
+ghost use Rattle.port_set.specs.Slots.{AllOpen, contents};
+ghost use Rattle.store_buf.specs.Outdoors.{AllBegan, AllTell, began_of, world_with};
+ghost use Rattle.part_store.specs.declared.finish.PartFinish.TheVariants as finish;
+ghost use Rattle.part_store.specs.Parted.{is_store_op};
+ghost use Rattle.part_store.specs.Answer.{PartTells};
+ghost use Rattle.part_store.specs.Runs.{Covers, EndingSo, IsGoing, IsOffered, IsWhole, Paid, PaidWhile};
+
+use crate::finish::{Ending, PartEnd, PartFinish, finish};
+use crate::part::PartBuffer;
+use df_job::{Code, Job, Request, Token, TokenList, start};
+use image_walk::Checked;
+use match_table::{Accept, Table};
+use port_set::{Port, Slots};
+use std::alloc::Global;
+use std::marker::Brand;
+use store_buf::{BufFault, told_ports_begin};
+use ws_isa::Op;
+use ws_words::{NoMemory, Words};
+
+// A table, a buffer, and the tokens on the way.
+#[derive(Drop)]
+struct Run<J: Job, P: Port> {
+    table: Table<J>,
+    buffer: PartBuffer<J, P>,
+    way: TokenList<J>,
+}
+
+/// Runs an image on one thread, until the whole walk has been run, so many instances have fired, the
+/// walk's first load or store past the end is next, a port fails, or memory runs out. Each port tells
+/// the words that it has left, and none is closed.
+pub fn part_image<P: Port>(
+    alloc: Global,
+    image: &Checked,
+    input: Words,
+    ports: Slots<P>,
+    budget: u64,
+) -> PartEnd<P>
+    requires told { AllTell (contents P.tells ports) }
+    requires open { AllOpen (contents P.tells ports) }
+    ensures tells { PartTells image.now (world_with input (contents P.tells ports))
+        (contents P.tells ports) budget result.finish (contents P.tells result.ports) }
+    ensures open { AllOpen (contents P.tells result.ports) }
+{
+    part_run::<Brand, P>(alloc, image, input, ports, budget)
+}
+
+/// Runs the image of a job, as `part_image` does. The job names this image, this input, and the ports
+/// as they are handed in, with the words that they have left.
+pub fn part_run<J: Job, P: Port>(
+    alloc: Global,
+    image: &Checked,
+    input: Words,
+    ports: Slots<P>,
+    budget: u64,
+) -> PartEnd<P>
+    requires image { image.now ≡ J.image }
+    requires world { J.world ≡ world_with input (contents P.tells ports) }
+    requires began { J.began ≡ began_of (contents P.tells ports) }
+    requires told { AllTell (contents P.tells ports) }
+    requires open { AllOpen (contents P.tells ports) }
+    ensures tells { PartTells J.image J.world (contents P.tells ports) budget result.finish
+        (contents P.tells result.ports) }
+    ensures open { AllOpen (contents P.tells result.ports) }
+{
+    told_ports_begin();
+    match Code::<'_, J>::of(alloc, image) {
+        Ok(code) => run_over(alloc, &code, input, ports, budget),
+        Err(_) => stays(ports),
+    }
+}
+
+// Runs the code of a job with these ports.
+fn run_over<J: Job, P: Port>(
+    alloc: Global,
+    code: &Code<'_, J>,
+    input: Words,
+    ports: Slots<P>,
+    budget: u64,
+) -> PartEnd<P>
+    requires input { input ≡ J.world.input }
+    requires ports { AllBegan J.began J.world.left (contents P.tells ports) }
+    requires began { J.began ≡ began_of (contents P.tells ports) }
+    requires open { AllOpen (contents P.tells ports) }
+    ensures tells { PartTells J.image J.world (contents P.tells ports) budget result.finish
+        (contents P.tells result.ports) }
+    ensures open { AllOpen (contents P.tells result.ports) }
+{
+    match PartBuffer::begin(alloc, code, input, ports) {
+        Ok(buffer) => run_from(alloc, code, buffer, budget),
+        Err(ports) => stays(ports),
+    }
+}
+
+// Runs the code of a job with its opening buffer.
+fn run_from<J: Job, P: Port>(
+    alloc: Global,
+    code: &Code<'_, J>,
+    buffer: PartBuffer<J, P>,
+    budget: u64,
+) -> PartEnd<P>
+    requires none { buffer.kept ≡ [] }
+    ensures tells { (handed : List (Option Told)) → J.began ≡ began_of handed →
+        PartTells J.image J.world handed budget result.finish (contents P.tells result.ports) }
+    ensures open { AllOpen (contents P.tells result.ports) }
+{
+    let mut run = Run {
+        table: Table::new(alloc),
+        buffer,
+        way: TokenList::empty(alloc),
+    };
+    let ending = match start(alloc, code) {
+        Ok(pulse) => {
+            run.way = pulse;
+            run_on(alloc, code, &mut run, budget)
+        }
+        Err(_) => Ending::Stopped,
+    };
+    finish(code, run.table, run.buffer, ending, budget)
+}
+
+// For want of memory nothing was run.
+fn stays<P: Port>(ports: Slots<P>) -> PartEnd<P>
+    ensures finish { result.finish ≡ finish.NoMemory }
+    ensures ports { result.ports ≡ ports }
+{
+    PartEnd {
+        finish: PartFinish::NoMemory,
+        ports,
+    }
+}
+
+// Brings tokens to the table until none is on the way, the budget is spent, or the buffer is stopped.
+fn run_on<J: Job, P: Port>(
+    alloc: Global,
+    code: &Code<'_, J>,
+    run: &mut Run<J, P>,
+    budget: u64,
+) -> Ending
+    requires within { length run.old.table.fired ≤ budget }
+    requires paid { PaidWhile J.image (part run.old.table) run.old.buffer run.old.way }
+    ensures within { length run.new.table.fired ≤ budget }
+    ensures ended { EndingSo J.image J.world budget run.new.table run.new.buffer result }
+{
+    for _ in 0..u64::MAX {
+        if let Some(ending) = step(alloc, code, run, budget) {
+            return ending;
+        }
+    }
+    Ending::Stopped
+}
+
+// Brings the last token to the table, if the run goes on.
+fn step<J: Job, P: Port>(
+    alloc: Global,
+    code: &Code<'_, J>,
+    run: &mut Run<J, P>,
+    budget: u64,
+) -> Option<Ending>
+    requires within { length run.old.table.fired ≤ budget }
+    requires paid { PaidWhile J.image (part run.old.table) run.old.buffer run.old.way }
+    ensures within { length run.new.table.fired ≤ budget }
+    ensures paid { MatchOption result
+        (PaidWhile J.image (part run.new.table) run.new.buffer run.new.way)
+        (λ ending. EndingSo J.image J.world budget run.new.table run.new.buffer ending) }
+{
+    if run.buffer.stop().is_some() {
+        return Some(Ending::Stopped);
+    }
+    let Some(token) = run.way.pop() else {
+        return Some(Ending::Whole);
+    };
+    if run.table.holds(token.wave(), token.instr(), token.port()) {
+        return None;
+    }
+    if run.table.fired_count() as u64 >= budget {
+        return Some(Ending::Spent);
+    }
+    match bring(alloc, code, run, token) {
+        Ok(()) => None,
+        Err(_) => Some(Ending::Stopped),
+    }
+}
+
+// Brings a token to the table, and what comes of it to the buffer.
+fn bring<J: Job, P: Port>(
+    alloc: Global,
+    code: &Code<'_, J>,
+    run: &mut Run<J, P>,
+    token: Token<J>,
+) -> Result<(), NoMemory>
+    requires paid { Paid J.image (part run.old.table) run.old.buffer (run.old.way ++ token ∷ []) }
+    ensures fired { length run.new.table.fired ≤ length run.old.table.fired + 1 }
+    ensures paid { OnOk result
+        (PaidWhile J.image (part run.new.table) run.new.buffer run.new.way) }
+{
+    let _ = code.program();
+    let _ = token.wave();
+    run.table.facts();
+    let address = address_of(code, &token);
+    match run.table.accept(alloc, code, token) {
+        Ok(Accept::Waits) => match address {
+            Some(token) => tell(code, &mut run.buffer, &mut run.way, token),
+            None => Ok(()),
+        },
+        Ok(Accept::Fires(tokens)) => take_all(tokens, &mut run.way),
+        Ok(Accept::Asks(request)) => ask(code, &mut run.buffer, &mut run.way, request),
+        Err(_) => Err(NoMemory),
+    }
+}
+
+// Brings an address to the buffer.
+fn tell<J: Job, P: Port>(
+    code: &Code<'_, J>,
+    buffer: &mut PartBuffer<J, P>,
+    way: &mut TokenList<J>,
+    token: Token<J>,
+) -> Result<(), NoMemory>
+    requires store { is_store_op (instr_at J.image token.instr).op ≡ true }
+    requires port { token.port ≡ 0 }
+    ensures paid { OnOk result ((t : Tables) → Paid J.image t buffer.old way.old
+        → PaidWhile J.image t buffer.new way.new) }
+{
+    let answer = buffer.address(code, token);
+    offer(answer, way)
+}
+
+// Brings a request to the buffer.
+fn ask<J: Job, P: Port>(
+    code: &Code<'_, J>,
+    buffer: &mut PartBuffer<J, P>,
+    way: &mut TokenList<J>,
+    request: Request<J>,
+) -> Result<(), NoMemory>
+    ensures paid { OnOk result ((t : Tables) → Paid J.image t buffer.old way.old
+        → PaidWhile J.image t buffer.new way.new) }
+    ensures asked { OnOk result (IsGoing buffer.new
+        → IsWhole buffer.new request.wave request.instr) }
+{
+    buffer.facts();
+    let answer = buffer.submit(code, request);
+    offer(answer, way)
+}
+
+// The same token once more, where it is the address of a store.
+fn address_of<J: Job>(code: &Code<'_, J>, token: &Token<J>) -> Option<Token<J>>
+    ensures { MatchOption result (Unit {0}) (λ address. (address ≡ token.now)
+        × (is_store_op (instr_at J.image token.now.instr).op ≡ true) × (token.now.port ≡ 0)) }
+{
+    match code.program().op(token.instr()) {
+        Op::Store(_) => {
+            if token.port() == 0 {
+                Some(token.again())
+            } else {
+                None
+            }
+        }
+        _ => None,
+    }
+}
+
+// Puts what a buffer answered on the way. Where the buffer is stopped it tells so itself.
+fn offer<J: Job>(
+    answer: Result<TokenList<J>, BufFault>,
+    way: &mut TokenList<J>,
+) -> Result<(), NoMemory>
+    ensures { OnOk result (IsOffered answer way.old way.new) }
+{
+    match answer {
+        Ok(tokens) => take_all(tokens, way),
+        Err(BufFault::NoMemory) => Err(NoMemory),
+        Err(_) => Ok(()),
+    }
+}
+
+// Puts all tokens of a list on the way.
+fn take_all<J: Job>(tokens: TokenList<J>, way: &mut TokenList<J>) -> Result<(), NoMemory>
+    ensures old { OnOk result (Covers way.old way.new) }
+    ensures taken { OnOk result (Covers tokens way.new) }
+{
+    let mut rest = tokens;
+    while let Some(token) = rest.pop() {
+        way.push(token)?;
+    }
+    Ok(())
+}
