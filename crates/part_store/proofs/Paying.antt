@@ -19,11 +19,9 @@ use Rattle.store_buf.specs.declared.kept.Kept.{Kept}
 use Rattle.store_buf.specs.Requests.{entry_of}
 use Rattle.part_store.specs.Contents.{Content}
 use Rattle.part_store.specs.Runs.{AllReach, Covers, IsWhole, Paid}
+use Rattle.part_store.proofs.Reaching.{nothing}
 use Rattle.part_store.proofs.Reaching as R
 use Rattle.part_store.proofs.Times as T
-
-nothing : {A : Type 0} (x : A) → None ≡ Some x → ⊥
-nothing x e = cc
 
 -- an instance to which a token hasn't come hasn't fired
 pub not_fired : (image : Image) (world : World) (formed : Formed image) (sound : Sound image) (t : Tables) → TablesOk image world t → (x : Token) → IsRight image world x → t.held x.wave x.instr x.port ≡ None → HasFired t.fired x.wave x.instr → ⊥

@@ -10,6 +10,9 @@ use Rattle.match_table.specs.Tables.{held}
 use Rattle.match_table.specs.Matching.{Arrives}
 use Rattle.part_store.specs.Runs.{AllReach, Covers, Reaches}
 
+pub nothing : {A : Type 0} (x : A) → None ≡ Some x → ⊥
+nothing x e = cc
+
 pub covers_self : (ts : List Token) → Covers ts ts
 covers_self ts w i p v h = h
 

@@ -29,10 +29,8 @@ use Rattle.part_store.specs.Rules.{NoRule, is_past_at, operands_at}
 use Rattle.part_store.specs.Runs.{AllReach, Paid}
 use Rattle.part_store.proofs.Fronts as F
 use Rattle.part_store.proofs.Ops as O
+use Rattle.part_store.proofs.Reaching.{nothing}
 use Rattle.part_store.proofs.Times as T
-
-nothing : {A : Type 0} (x : A) → None ≡ Some x → ⊥
-nothing x e = cc
 
 none_in : (es : List Entry) → ((e : Entry) → In e es → ⊥) → es ≡ []
 none_in [] f = refl
