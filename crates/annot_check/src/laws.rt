@@ -27,7 +27,7 @@ pub fn shape_is_of_blocks()
 
 /// A table that has for each block what is kept of the paths inside its wave, and that is closed
 /// under blocks and edges, gives the rules on links and ripples.
-pub fn passed_tables_give_order()
+pub(crate) fn passed_tables_give_order()
     ensures links { (image : Image) (known : ℕ → Option Lasts) → ShapeRules image →
         Passed image known → LinkRules image }
     ensures ripples { (image : Image) (known : ℕ → Option Lasts) → ShapeRules image →

@@ -6,7 +6,7 @@ use Rattle.ws_isa.specs.Image.{Array}
 use Rattle.ws_isa.specs.Shown as image
 use Rattle.cfg_core.specs.Graph.{GraphArray}
 use Rattle.cfg_core.specs.Shown.{has_name, shown_arrays, shown_cells, shown_act, shown_acts}
-use Rattle.wave_gen.specs.Listing.{array_of}
+use Rattle.wave_gen.specs.Words.{array_of}
 use Rattle.wave_build.specs.Compiled.{in_graph}
 
 pub same_arrays : (xs : List GraphArray) → map in_graph (map array_of xs) ≡ xs

@@ -18,7 +18,7 @@ use Rattle.cfg_core.specs.Graph.{Graph, GraphArray}
 use Rattle.cfg_core.specs.Rules.{IsGraph}
 use Rattle.cfg_core.specs.Walk.{Config, At, Over, walk, opening}
 use Rattle.cfg_core.specs.Shown.{shown_acts, IsInside, AllInside}
-use Rattle.wave_gen.specs.Listing.{array_of, arrays_of}
+use Rattle.wave_gen.specs.Words.{array_of, arrays_of}
 use Rattle.wave_gen.specs.Keeps.{KeepsWalk, EndlessWith}
 use Rattle.wave_link.specs.Passed.{WalksFor}
 use Rattle.wave_build.specs.Compiled.{in_graph, shown, Shows, Begins, WalksAsRun}

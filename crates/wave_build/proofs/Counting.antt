@@ -5,7 +5,7 @@ use Rattle.std.proofs.lemmas.Bool.Decides.{nat_tests}
 use Rattle.cfg_core.specs.Rules.{In}
 use Rattle.call_gen.specs.Spelled.{below}
 use Rattle.call_gen.proofs.Slots.{in_below, below_count}
-use Rattle.wave_gen.specs.Listing.{live_from}
+use Rattle.wave_gen.specs.Words.{live_from}
 
 one_more : (c : Bool) (x : ℕ) (xs : List ℕ) → length (cond c (x ∷ xs) xs) ≤ suc (length xs)
 one_more true x xs = omega arith

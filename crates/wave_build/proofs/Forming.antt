@@ -16,10 +16,9 @@ use Rattle.call_gen.specs.Keeps.{SendsAtMost}
 use Rattle.call_gen.specs.Sizes.{cell_count, Sizes, LandingsAtMost, BlockWithin, IsWithin, larger, most_hidden_arrays, hidden_cells, spelled_sizes}
 use Rattle.live_vars.specs.Marks.{has}
 use Rattle.cfg_build.specs.Keeps as program
-use Rattle.wave_gen.specs.Listing.{array_of, arrays_of}
 use Rattle.wave_gen.specs.Limits.{BringsAtMost, LandsAtMost, KeepsLimits}
 use Rattle.wave_gen.specs.Lists.{ListsFit}
-use Rattle.wave_gen.specs.Words.{GraphOfWords}
+use Rattle.wave_gen.specs.Words.{GraphOfWords, array_of, arrays_of}
 use Rattle.wave_link.specs.Room.{LeavesRoom}
 use Rattle.wave_build.specs.Passed.{Passed}
 use Rattle.wave_build.specs.Small.{lowered_sizes, joined_sizes}

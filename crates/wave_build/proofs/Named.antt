@@ -12,7 +12,7 @@ use Rattle.src_ast.specs.Written.{IsWritten}
 use Rattle.cfg_core.specs.Graph.{GraphArray}
 use Rattle.cfg_core.specs.Shown.{shown_arrays}
 use Rattle.cfg_build.specs.Keeps.{arrays_of}
-use Rattle.wave_gen.specs.Listing.{array_of}
+use Rattle.wave_gen.specs.Words.{array_of}
 
 word_same : (text : List ℕ) → IsTrue (is_word text) → formed.is_word text ≡ true
 word_same [] h = h

@@ -12,8 +12,8 @@ use Rattle.image_walk.specs.Open.{OpenToNotes}
 use Rattle.cfg_core.specs.Graph.{GraphArray}
 use Rattle.cfg_core.specs.Shown.{shown_acts, AllInside}
 use Rattle.cfg_build.specs.Keeps as program
-use Rattle.wave_gen.specs.Listing.{array_of}
-use Rattle.wave_gen.specs.Words.{WorldOfWords}
+use Rattle.wave_gen.specs.NoNop.{HasNoNop}
+use Rattle.wave_gen.specs.Words.{WorldOfWords, array_of}
 use Rattle.wave_link.specs.Kept.{KeepsBlocks}
 use Rattle.wave_link.specs.Triggers.{TriggeredNear}
 use Rattle.wave_link.specs.Vain.{NoneInVain}
@@ -73,12 +73,13 @@ abbrev pub KeepsBound : List Part → Image → Type 0
 KeepsBound parts image = (world : World) → WorldOfWords world → (n : ℕ) (o : Outside) →
     Passes parts world n o → CostAtMost image world (bound parts * suc n)
 
--- There is a draft without notes of which this is an image: its blocks are kept but for what is
--- added, each no-op that is added is needed, since no notes do without it, and gets its token
--- nearby.
+-- There is a draft without notes and without no-ops of which this is an image: its blocks are kept
+-- but for what is added, so that each no-op is an added one; each of these is needed, since no notes
+-- do without it, and gets its token nearby.
 pub record HasDraft (image : Image) : Type 0 where
   pub draft : Image
   pub open_to_notes : OpenToNotes draft
+  pub no_nop : HasNoNop draft
   pub blocks : KeepsBlocks draft image
   pub needed : NoneInVain draft image
   pub never_linked : NeverLinked draft image

@@ -17,7 +17,7 @@ ghost use Rattle.wave_gen.specs.Cost.{CostsAtMost};
 ghost use Rattle.wave_gen.specs.Fitting.{Fits};
 ghost use Rattle.wave_gen.specs.Limits.{KeepsLimits};
 ghost use Rattle.wave_gen.specs.Lists.{ListsFit};
-ghost use Rattle.wave_gen.specs.Listing as listing;
+ghost use Rattle.wave_gen.specs.Words as words;
 ghost use Rattle.wave_gen.specs.Words.{GraphOfWords};
 ghost use Rattle.wave_link.specs.Passed.{WalksFor};
 ghost use Rattle.wave_link.specs.Room.{LeavesRoom};
@@ -27,13 +27,13 @@ ghost use Rattle.wave_build.specs.Passed.{Joined, Lowered, Passed};
 use src_ast::written_is_narrow;
 
 /// The joined graph of a program has no Send, as `reached` asks.
-pub fn joined_graphs_send_nothing()
+pub(crate) fn joined_graphs_send_nothing()
     ensures { (parts : List Part) (lowered joined : Graph) →
         Lowered parts lowered → Joined lowered joined → HasNoSend joined }
 {}
 
 /// Plans can be made of the graph that the passes give.
-pub fn passed_graphs_fit()
+pub(crate) fn passed_graphs_fit()
     ensures { (parts : List Part) (lowered joined kept spelled : Graph)
         (needed live : List (List ℕ)) (cut : Cut) →
         Passed parts lowered joined kept spelled needed live cut →
@@ -42,20 +42,20 @@ pub fn passed_graphs_fit()
 
 /// The draft of that graph leaves room for what is added to it, where the program is written: no limit
 /// of images is passed.
-pub fn passed_drafts_leave_room()
+pub(crate) fn passed_drafts_leave_room()
     ensures { (parts : List Part) (lowered joined kept spelled : Graph)
         (needed live : List (List ℕ)) (cut : Cut) →
         Passed parts lowered joined kept spelled needed live cut → IsWritten parts →
         most_variables parts ≤ most_locals → shown_arrays spelled.arrays ≡ arrays_of parts →
         GraphOfWords spelled → (draft : Image) → KeepsLimits spelled (has live) draft →
-        ListsFit draft → draft.arrays ≡ listing.arrays_of spelled → LeavesRoom draft }
+        ListsFit draft → draft.arrays ≡ words.arrays_of spelled → LeavesRoom draft }
 {
     written_is_narrow();
 }
 
 /// Where the walk of that graph ends, the walk of an image of a draft that costs what its blocks
 /// weigh stays within the bound of the program.
-pub fn passed_walks_stay_within()
+pub(crate) fn passed_walks_stay_within()
     ensures { (parts : List Part) (lowered joined kept spelled : Graph)
         (needed live : List (List ℕ)) (cut : Cut) → widest parts ≤ most_statement_nodes →
         Passed parts lowered joined kept spelled needed live cut →

@@ -10,7 +10,3 @@ mod laws;
 mod words;
 
 pub use compiler::compile;
-pub use laws::{
-    joined_graphs_send_nothing, passed_drafts_leave_room, passed_graphs_fit,
-    passed_walks_stay_within,
-};

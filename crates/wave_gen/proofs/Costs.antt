@@ -18,9 +18,9 @@ use Rattle.wave_gen.specs.Waits.{Code, count, names_at, chosen, Place, pass, pla
 use Rattle.wave_gen.specs.Plans.{Leaves, Plan, pulse, tails_of, end_wants, steered, steers, plan_at, made_at, starts_at, begins, draft_of, code_of}
 use Rattle.wave_gen.specs.Gen.{gen_term, gen_ops}
 use Rattle.wave_gen.specs.Drawn.{gen_terms}
-use Rattle.wave_gen.specs.Listing.{gen_exit, entries_of, listing, index_of, place_of, width_of, plans_of, needed, nothing_zeroed, arrays_of, graph_draft}
+use Rattle.wave_gen.specs.Listing.{gen_exit, entries_of, listing, index_of, place_of, width_of, plans_of, needed, nothing_zeroed, graph_draft}
 use Rattle.wave_gen.specs.Fitting.{Fits}
-use Rattle.wave_gen.specs.Words.{GraphOfWords, WorldOfWords}
+use Rattle.wave_gen.specs.Words.{GraphOfWords, WorldOfWords, arrays_of}
 use Rattle.wave_gen.specs.Cost.{op_quarters, exit_quarters, live_in, quarters, CostsAtMost}
 use Rattle.wave_gen.proofs.Weights.{total, weights}
 use Rattle.wave_gen.specs.Shared.{shared, none_known}

@@ -12,7 +12,8 @@ use Rattle.wave_cut.specs.Cut.{Cut}
 use Rattle.wave_gen.specs.Wire.{Wants}
 use Rattle.wave_gen.specs.Plans.{Plan, past, steered, end_wants, plan_at, made_at, starts_at, begins, instr_of, blocks_of, draft_of}
 use Rattle.wave_gen.specs.Gen.{gen_ops}
-use Rattle.wave_gen.specs.Listing.{gen_exit, of_wave, waves_from, turned, listing, place_of, width_of, plans_of, needed, arrays_of}
+use Rattle.wave_gen.specs.Listing.{gen_exit, of_wave, waves_from, turned, listing, place_of, width_of, plans_of, needed}
+use Rattle.wave_gen.specs.Words.{arrays_of}
 use Rattle.wave_gen.specs.Fitting.{Fits}
 use Rattle.wave_gen.specs.Limits.{most_quarters}
 use Rattle.wave_gen.proofs.Weights.{total}

@@ -3,7 +3,7 @@ use Rattle.std.proofs.Common.{ℕ, zero, suc, ◌+◌, ◌≡◌, ◌<◌, ◌�
 use Rattle.std.proofs.lemmas.Bool.{cases_Bool, cases_lt, cases_eq, both_ways, cond-true, cond-false}
 use Rattle.ws_isa.specs.Image.{Image, Array, is_stop, stops, target}
 use Rattle.wave_gen.specs.Wire.{Spot, Wants}
-use Rattle.wave_gen.specs.Listing.{live_from}
+use Rattle.wave_gen.specs.Words.{live_from}
 use Rattle.wave_gen.specs.Plans.{Leaves, Onto, Either, Lands, Halts, Plan, same_spot, same_spots, differing, steered, is_among, past, steers, sends, end_wants, plan_at, starts_at, exit_of, source_of, draft_of}
 use Rattle.wave_gen.proofs.SteeredNames.{or_count, or_among}
 use Rattle.wave_gen.proofs.Planned.{PlansAre, EdgesAre, Inner}

@@ -10,7 +10,8 @@ use Rattle.cfg_core.specs.Rules.{TermIn, OpIn, ExitIn}
 use Rattle.live_vars.specs.Live.{Mentions, OneMentions, OpReads, ExitReads, ReadsFirst}
 use Rattle.wave_gen.specs.Plans.{is_among}
 use Rattle.wave_gen.proofs.Planned.{Apart}
-use Rattle.wave_gen.specs.Listing.{live_from, most_vars}
+use Rattle.wave_gen.specs.Listing.{most_vars}
+use Rattle.wave_gen.specs.Words.{live_from}
 
 pub among_in : (x : ℕ) (ys : List ℕ) → is_among x ys ≡ true → In x ys
 among_in x [] e = absurd (both_ways false refl e)

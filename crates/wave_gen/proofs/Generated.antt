@@ -15,13 +15,15 @@ use Rattle.cfg_core.specs.Shape.{ArmsAlone}
 use Rattle.wave_gen.specs.Plans.{Plan, plan_at, draft_of}
 use Rattle.wave_gen.specs.Kept.{LeadsAhead}
 use Rattle.wave_gen.specs.Lists.{ListsFit}
+use Rattle.wave_gen.specs.NoNop.{HasNoNop}
 use Rattle.wave_gen.specs.Cost.{CostsAtMost}
 use Rattle.wave_gen.specs.Limits.{KeepsLimits}
-use Rattle.wave_gen.specs.Words.{GraphOfWords, WorldOfWords}
+use Rattle.wave_gen.specs.Words.{GraphOfWords, WorldOfWords, arrays_of}
 use Rattle.wave_gen.specs.Keeps.{KeepsWalk, EndlessWith}
-use Rattle.wave_gen.specs.Listing.{landings_of, arrays_of, width_of, plans_of, needed, graph_draft}
+use Rattle.wave_gen.specs.Listing.{landings_of, width_of, plans_of, needed, graph_draft}
 use Rattle.wave_gen.specs.Fitting.{Fits}
 use Rattle.wave_gen.proofs.GraphOpen.{graph_open, graph_lists, graph_walks}
+use Rattle.wave_gen.proofs.NoNops.{graph_no_nop}
 use Rattle.wave_gen.proofs.Limits.{graph_limits}
 use Rattle.wave_gen.proofs.Costs.{graph_costs}
 use Rattle.wave_gen.proofs.Endless.{endless}
@@ -61,6 +63,7 @@ fits g planes cut r l c w n a b = record {
 pub record Kept (g : Graph) (live : ℕ → ℕ → Bool) (draft : Image) : Type 0 where
   pub open_to_notes : OpenToNotes draft
   pub lists : ListsFit draft
+  pub no_nop : HasNoNop draft
   pub limits : KeepsLimits g live draft
   pub arrays : draft.arrays ≡ arrays_of g
   pub walk : GraphOfWords g → (world : World) → WorldOfWords world → (turns : ℕ) → KeepsWalk g draft world turns
@@ -76,6 +79,7 @@ unfolding graph_draft
 kept g live cut f draft e = subst (Kept g live) (sym e) (record {
   open_to_notes = graph_open g live cut f;
   lists = graph_lists g live cut f;
+  no_nop = graph_no_nop g live cut f;
   limits = graph_limits g live cut f;
   arrays = arrays_kept g live cut;
   walk = λ words world w turns. graph_walks g live cut f words world w turns;

@@ -15,9 +15,9 @@ use Rattle.wave_gen.specs.Plans.{Plan, plan_at, draft_of}
 use Rattle.wave_gen.specs.Gen.{gen_ops}
 use Rattle.wave_gen.specs.Shared.{none_known}
 use Rattle.wave_gen.proofs.Sharing.{shared_items}
-use Rattle.wave_gen.specs.Listing.{gen_exit, place_of, width_of, plans_of, needed, nothing_zeroed, array_of, arrays_of, graph_draft}
+use Rattle.wave_gen.specs.Listing.{gen_exit, place_of, width_of, plans_of, needed, nothing_zeroed, graph_draft}
 use Rattle.wave_gen.specs.Fitting.{Fits}
-use Rattle.wave_gen.specs.Words.{GraphOfWords, WorldOfWords}
+use Rattle.wave_gen.specs.Words.{GraphOfWords, WorldOfWords, array_of, arrays_of}
 use Rattle.wave_gen.specs.Lists.{ListsFit}
 use Rattle.wave_gen.specs.Keeps.{KeepsWalk}
 use Rattle.wave_gen.proofs.WordsStay.{words_fine}

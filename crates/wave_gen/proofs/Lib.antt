@@ -63,6 +63,7 @@ mod AllInstrs
 mod OpsIn
 mod OpenDrafts
 mod GraphOpen
+mod NoNops
 mod Growth
 mod Paced
 mod WordsStay

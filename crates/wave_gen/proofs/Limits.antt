@@ -16,8 +16,8 @@ use Rattle.wave_cut.specs.Cut.{Cut}
 use Rattle.wave_gen.specs.Plans.{Plan, Leaves, Onto, Either, Lands, Halts, pulse, plan_at, begins, pads_of, exit_of, source_of, draft_of}
 use Rattle.wave_gen.proofs.Planned.{PlansAre}
 use Rattle.wave_gen.specs.Gen.{top_word, gen_ops}
-use Rattle.wave_gen.specs.Words.{TermOfWords, OpOfWords, ExitOfWords, GraphOfWords}
-use Rattle.wave_gen.specs.Listing.{gen_exit, start_block, landings_of, in_some, has_pads, listing, place_of, width_of, plans_of, needed, arrays_of, graph_draft}
+use Rattle.wave_gen.specs.Words.{TermOfWords, OpOfWords, ExitOfWords, GraphOfWords, start_block, arrays_of}
+use Rattle.wave_gen.specs.Listing.{gen_exit, landings_of, in_some, has_pads, listing, place_of, width_of, plans_of, needed, graph_draft}
 use Rattle.wave_gen.specs.Limits.{BringsAtMost, LandsAtMost, KeepsLimits}
 use Rattle.wave_gen.specs.Fitting.{Fits}
 use Rattle.wave_gen.proofs.Tied.{all_at}

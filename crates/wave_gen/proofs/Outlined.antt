@@ -14,7 +14,8 @@ use Rattle.wave_gen.specs.Plans.{Leaves, pulse}
 use Rattle.wave_gen.specs.Gen.{gen_ops}
 use Rattle.wave_gen.specs.Shared.{shared, none_known}
 use Rattle.wave_gen.specs.Drawn.{exit_next}
-use Rattle.wave_gen.specs.Listing.{gen_exit, live_from, in_some, landings_of, start_block, plan_of, turned, place_of, width_of}
+use Rattle.wave_gen.specs.Listing.{gen_exit, in_some, landings_of, plan_of, turned, place_of, width_of}
+use Rattle.wave_gen.specs.Words.{live_from, start_block}
 use Rattle.wave_gen.specs.View as shown
 use Rattle.wave_gen.specs.Placed.{OutlineIs, flag, place, turned_at}
 use Rattle.wave_gen.specs.declared.plan.Plan.{Plan}

@@ -13,7 +13,8 @@ use Rattle.wave_gen.specs.Plans.{Plan, plan_at, pulse, is_among}
 use Rattle.wave_gen.proofs.Planned.{Apart, AllIn, Inner, Outer, PadsFit, EdgesAre, ValuesApart}
 use Rattle.wave_gen.specs.Gen.{gen_term}
 use Rattle.wave_gen.specs.Drawn.{gen_terms, exit_next}
-use Rattle.wave_gen.specs.Listing.{gen_exit, entries_of, landings_of, in_some, has_pads, start_block, turned, listing, place_of, index_of, plans_of}
+use Rattle.wave_gen.specs.Listing.{gen_exit, entries_of, landings_of, in_some, has_pads, turned, listing, place_of, index_of, plans_of}
+use Rattle.wave_gen.specs.Words.{start_block}
 use Rattle.wave_gen.specs.Fitting.{Fits}
 use Rattle.wave_gen.proofs.Tied.{all_at}
 use Rattle.wave_gen.proofs.ReadTerms.{next_after}

@@ -10,7 +10,8 @@ use Rattle.wave_gen.specs.Gen.{gen_ops}
 use Rattle.wave_gen.specs.Shared.{none_known}
 use Rattle.wave_gen.proofs.Sharing.{shared_give}
 use Rattle.wave_gen.proofs.More.{ItemsGive, SourceGives, PlansGive}
-use Rattle.wave_gen.specs.Listing.{gen_exit, landings_of, in_some, has_pads, start_block, listing, place_of, width_of, plans_of}
+use Rattle.wave_gen.specs.Listing.{gen_exit, landings_of, in_some, has_pads, listing, place_of, width_of, plans_of}
+use Rattle.wave_gen.specs.Words.{start_block}
 use Rattle.wave_gen.specs.Fitting.{Fits}
 use Rattle.wave_gen.proofs.ItemsGiving.{gives_append, ops_give_all, exit_gives_all, exit_source_gives}
 use Rattle.wave_gen.proofs.Sorted.{nth_some}

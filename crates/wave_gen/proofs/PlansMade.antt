@@ -19,7 +19,8 @@ use Rattle.wave_gen.proofs.Fresh.{block_once}
 use Rattle.wave_gen.specs.Drawn.{exit_next}
 use Rattle.wave_gen.proofs.DrawnPlans.{Leads, here, Keeps, LandsAll, ExitDrawn, BlockDrawn}
 use Rattle.wave_gen.proofs.IsDrawn.{IsDrawn}
-use Rattle.wave_gen.specs.Listing.{gen_exit, live_from, entries_of, landings_of, in_some, start_block, turned, listing, place_of, index_of, most_vars, width_of, plans_of, needed, nothing_zeroed}
+use Rattle.wave_gen.specs.Listing.{gen_exit, entries_of, landings_of, in_some, turned, listing, place_of, index_of, most_vars, width_of, plans_of, needed, nothing_zeroed}
+use Rattle.wave_gen.specs.Words.{live_from, start_block}
 use Rattle.wave_gen.specs.Fitting.{Fits}
 use Rattle.wave_gen.proofs.ItemKinds.{items_append, ops_items, exit_items, exit_source}
 use Rattle.wave_gen.proofs.Sorted.{nth_some}

@@ -9,7 +9,7 @@ use Rattle.cfg_core.specs.Graph.{Term, Number, Var, Cell, Flip, Not, Neg, Binary
 use Rattle.cfg_core.specs.Walk.{Over, walk, opening}
 use Rattle.cfg_core.specs.Weights.{path}
 use Rattle.wave_link.specs.Passed.{blocks_left}
-use Rattle.wave_gen.specs.Listing.{live_from}
+use Rattle.wave_gen.specs.Words.{live_from}
 
 -- What a term weighs: a variable is there already. A number weighs what a copy does, where it was
 -- made before. A 0 is the pulse; it weighs what a constant that it triggers weighs more.

@@ -6,7 +6,8 @@ use Rattle.cfg_core.specs.Rules.{IsGraph, calls}
 use Rattle.cfg_core.specs.Shape.{BranchesApart}
 use Rattle.live_vars.specs.Live.{Live}
 use Rattle.wave_cut.specs.Cut.{Cut, IsCut, AreWaves}
-use Rattle.wave_gen.specs.Listing.{start_block, landings_of}
+use Rattle.wave_gen.specs.Listing.{landings_of}
+use Rattle.wave_gen.specs.Words.{start_block}
 
 -- A graph with its live variables and its waves, without calls: what is live where a Send lands is
 -- what it brings, and nothing is live at the start. Each branch leads forward, to two blocks that no

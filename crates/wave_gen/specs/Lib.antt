@@ -7,6 +7,7 @@ pub mod Plans
 pub mod Gen
 pub mod Drawn
 pub mod Lists
+pub mod NoNop
 pub mod Keeps
 pub mod Listing
 pub mod Fitting

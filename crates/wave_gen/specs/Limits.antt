@@ -6,8 +6,7 @@ use Rattle.ws_isa.specs.Image as image
 use Rattle.ws_isa.specs.Image.{Image, IsBlock, IsIn, flat, instr_at}
 use Rattle.ws_isa.specs.Formed.{ConstWithin, PadsRise}
 use Rattle.cfg_core.specs.Graph.{Term, Send, Graph, spots, spot_at, block_at}
-use Rattle.wave_gen.specs.Words.{GraphOfWords}
-use Rattle.wave_gen.specs.Listing.{start_block}
+use Rattle.wave_gen.specs.Words.{GraphOfWords, start_block}
 use Rattle.wave_gen.specs.Cost.{quarters}
 
 -- How many quarters of an instruction the code of a block has at most: what the block weighs, and

@@ -2,18 +2,15 @@
 use Rattle.std.specs.Prelude.{ℕ, zero, suc, ◌+◌, ◌-◌, Bool, false, cond, not, ◌||◌, eqb, ltb, List, [], ◌∷◌, ◌++◌, length, map}
 use Rattle.ws_isa.specs.declared.instr.Op.TheVariants.{Merge}
 use Rattle.cfg_core.specs.Graph as graph
-use Rattle.cfg_core.specs.Graph.{Graph, Spot, spots, spot_at, block_at, entry_of}
+use Rattle.cfg_core.specs.Graph.{Graph, Spot, spots, spot_at, block_at}
 use Rattle.ws_isa.specs.Image.{Array, Image, nth, or_else}
 use Rattle.wave_cut.specs.Cut.{Cut, wave, is_first}
+use Rattle.wave_gen.specs.Words.{start_block, live_from}
 use Rattle.wave_gen.specs.Wire.{Item}
 use Rattle.wave_gen.specs.Plans.{Leaves, Onto, Either, Lands, Halts, Plan, pulse, is_among, draft_of}
 use Rattle.wave_gen.specs.Gen.{gen_term, gen_ops}
 use Rattle.wave_gen.specs.Shared.{shared, none_known}
 use Rattle.wave_gen.specs.Drawn.{gen_source, gen_terms, exit_next}
-
--- where the walk of a graph begins
-abbrev pub start_block : Graph → ℕ
-start_block g = entry_of g (length g.procs - 1)
 
 -- the items before an exit, and the exit
 pub record Leaving : Type 0 where
@@ -32,11 +29,6 @@ gen_exit place k (graph.Send t ts ls) =
     leaving (a.items ++ m.items) (Lands Merge (a.name ∷ []) (pulse ∷ m.names) (map place ls))
 gen_exit place k (graph.Return t) = leaving (gen_term k t).items Halts
 gen_exit place k _ = leaving [] Halts
-
--- the names of those of n variables from x on that are live
-abbrev pub live_from : (ℕ → Bool) → ℕ → ℕ → List ℕ
-live_from live x zero = []
-live_from live x (suc n) = cond (live x) (suc x ∷ live_from live (suc x) n) (live_from live (suc x) n)
 
 -- the names that a block needs
 abbrev pub entries_of : Graph → (ℕ → ℕ → Bool) → ℕ → List ℕ
@@ -123,13 +115,6 @@ needed g live cut n x = is_among x (entries_of g live (block_of_plan g cut n))
 
 abbrev pub nothing_zeroed : ℕ → List ℕ
 nothing_zeroed b = []
-
--- an array of a graph as a draft has it, under its name
-abbrev pub array_of : graph.GraphArray → Array
-array_of a = record { name = a.name; length = a.length }
-
-abbrev pub arrays_of : Graph → List Array
-arrays_of g = map array_of g.arrays
 
 -- the draft of a graph, by its live variables and waves
 unfoldable pub graph_draft : Graph → List Array → (ℕ → ℕ → Bool) → Cut → Image

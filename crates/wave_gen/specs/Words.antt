@@ -1,9 +1,33 @@
--- Graphs and worlds of words.
-use Rattle.std.specs.Prelude.{ℕ, ◌<◌}
+-- What contracts say of graphs and of their drafts: where walks begin, arrays, live names; graphs and
+-- worlds of words.
+use Rattle.std.specs.Prelude.{ℕ, zero, suc, ◌-◌, ◌<◌, Bool, cond, List, [], ◌∷◌, length, map}
 use Rattle.std.specs.List.{AllByRecursion}
 use Rattle.ws_words.specs.Outside.{World}
+use Rattle.ws_isa.specs.Image.{Array}
 use Rattle.ws_isa.specs.Formed.{word_limit}
-use Rattle.cfg_core.specs.Graph.{Term, Number, Var, Cell, Flip, Not, Neg, Binary, Op, Assign, Store, Print, Read, Give, Take, Choose, Tick, TickBy, Exit, Goto, Branch, Call, Return, Send, Stop, Graph, spots}
+use Rattle.cfg_core.specs.Graph.{Term, Number, Var, Cell, Flip, Not, Neg, Binary}
+use Rattle.cfg_core.specs.Graph.{Op, Assign, Store, Print, Read, Give, Take, Choose, Tick, TickBy}
+use Rattle.cfg_core.specs.Graph.{Exit, Goto, Branch, Call, Return, Send, Stop}
+use Rattle.cfg_core.specs.Graph.{GraphArray, Graph, spots, entry_of}
+
+-- where the walk of a graph begins
+abbrev pub start_block : Graph → ℕ
+start_block g = entry_of g (length g.procs - 1)
+
+-- an array of a graph as a draft has it, under its name
+abbrev pub array_of : GraphArray → Array
+array_of a = record { name = a.name; length = a.length }
+
+abbrev pub arrays_of : Graph → List Array
+arrays_of g = map array_of g.arrays
+
+-- the names of those of n variables from x on that are live
+abbrev pub live_from : (ℕ → Bool) → ℕ → ℕ → List ℕ
+live_from live x zero = []
+live_from live x (suc n) =
+    cond (live x) (suc x ∷ live_from live (suc x) n) (live_from live (suc x) n)
+
+-- Words.
 
 abbrev pub IsWord : ℕ → Type 0
 IsWord n = n < word_limit

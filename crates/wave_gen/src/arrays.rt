@@ -3,7 +3,7 @@
 ghost use Rattle.std.specs.Prelude.{◌≡◌, map, IfOk};
 ghost use Rattle.ws_isa.specs.View as image;
 ghost use Rattle.cfg_core.specs.View as view;
-ghost use Rattle.wave_gen.specs.Listing.{array_of, arrays_of};
+ghost use Rattle.wave_gen.specs.Words.{array_of, arrays_of};
 
 use cfg_core::{Graph, GraphArray};
 use std::alloc::Global;

@@ -13,7 +13,6 @@ mod exits;
 mod fork;
 mod frame;
 mod kept;
-mod laws;
 mod make;
 mod maker;
 mod marks;
@@ -28,5 +27,4 @@ mod table;
 mod tails;
 mod values;
 
-pub use laws::graph_drafts_keep;
 pub use make::generate;

@@ -11,11 +11,11 @@ ghost use Rattle.wave_cut.specs.Cut.{IsCut, AreWaves};
 ghost use Rattle.call_gen.specs.Keeps.{HasNoCall, NoneLiveAcross};
 ghost use Rattle.cfg_core.specs.Shape.{ArmsAlone};
 ghost use Rattle.wave_gen.specs.Lists.{ListsFit};
+ghost use Rattle.wave_gen.specs.NoNop.{HasNoNop};
 ghost use Rattle.wave_gen.specs.Cost.{CostsAtMost};
 ghost use Rattle.wave_gen.specs.Limits.{KeepsLimits};
-ghost use Rattle.wave_gen.specs.Words.{GraphOfWords, WorldOfWords};
+ghost use Rattle.wave_gen.specs.Words.{GraphOfWords, WorldOfWords, arrays_of};
 ghost use Rattle.wave_gen.specs.Keeps.{KeepsWalk, EndlessWith};
-ghost use Rattle.wave_gen.specs.Listing.{arrays_of};
 
 use crate::arrays::arrays;
 use crate::draft::make_draft;
@@ -47,6 +47,7 @@ pub fn generate(
     // formed but for notes: references, lists, waves and pads; and so far go its numbers
     ensures open_to_notes { IfOk result (λ made. OpenToNotes (image.draft made)) }
     ensures lists { IfOk result (λ made. ListsFit (image.draft made)) }
+    ensures no_nop { IfOk result (λ made. HasNoNop (image.draft made)) }
     ensures limits { IfOk result (λ made.
         KeepsLimits (view.graph graph.now) (has live.now) (image.draft made)) }
     ensures arrays { IfOk result (λ made.

@@ -10,7 +10,8 @@ ghost use Rattle.wave_gen.specs.Gen.{gen_ops};
 ghost use Rattle.wave_gen.specs.Drawn.{exit_next};
 ghost use Rattle.wave_gen.specs.Shared.{shared, none_known};
 ghost use Rattle.wave_gen.specs.Listing as listing;
-ghost use Rattle.wave_gen.specs.Listing.{gen_exit, live_from, plan_of, plans_of, place_of, width_of};
+ghost use Rattle.wave_gen.specs.Listing.{gen_exit, plan_of, plans_of, place_of, width_of};
+ghost use Rattle.wave_gen.specs.Words.{live_from};
 ghost use Rattle.wave_gen.specs.View as plans;
 ghost use Rattle.wave_gen.specs.Placed.{OutlineIs, flag, place};
 

@@ -18,7 +18,7 @@ use Rattle.wave_link.specs.declared.links.Place.{Place}
 use Rattle.wave_link.specs.Layout.{Tables, is_steer_op}
 use Rattle.wave_link.specs.Notes.{note_at}
 use Rattle.wave_link.specs.Grown.{number_in, renamed, extra_dest, note_for, nop_instr, grown_exit, grown_pad, annotated}
-use Rattle.wave_link.specs.Passed.{adds}
+use Rattle.wave_link.specs.Adds.{adds}
 use Rattle.wave_link.specs.Room.{LeavesRoom}
 use Rattle.wave_link.proofs.Parts.{tables_in}
 use Rattle.wave_link.proofs.Edges.{exit_kept, wave_kept, count_kept}
@@ -71,7 +71,8 @@ block_of_all P image (suc n) a h = go image.blocks n (omega (arith, h.1)) a
     go (x ∷ xs) zero l a = a.0
     go (x ∷ xs) (suc n) l a = go xs n (omega arith) a.1
 
-instr_of_all : (P : Instr → Type 0) (image : Image) (k : ℕ) → AllByRecursion P (flat image.blocks) → IsInstr image k → P (instr_at image k)
+-- what holds of all instructions holds of each
+pub instr_of_all : (P : Instr → Type 0) (image : Image) (k : ℕ) → AllByRecursion P (flat image.blocks) → IsInstr image k → P (instr_at image k)
 unfolding instr_at
 instr_of_all P image zero a h = absurd (omega (arith, h.0))
 instr_of_all P image (suc n) a h = go (flat image.blocks) n (omega (arith, h.1)) a

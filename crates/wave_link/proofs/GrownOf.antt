@@ -14,7 +14,7 @@ use Rattle.image_walk.proofs.Steps.{first_le}
 use Rattle.image_walk.proofs.There.{now_there, start_there, edge_there, edges_there}
 use Rattle.wave_link.specs.Layout.{is_steer_op}
 use Rattle.wave_link.specs.Grown.{grown_exit, annotated}
-use Rattle.wave_link.specs.Passed.{adds}
+use Rattle.wave_link.specs.Adds.{adds}
 use Rattle.wave_link.proofs.Parts.{tables_in}
 use Rattle.wave_link.proofs.Edges.{exit_kept, target_kept, stops_kept, first_kept, count_kept}
 use Rattle.wave_link.proofs.Numbers.{one_if, shift, new, nop, first_is, ends_are, new_is, instr_is_grown, nop_is_there}

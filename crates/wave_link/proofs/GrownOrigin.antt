@@ -5,7 +5,7 @@ use Rattle.ws_isa.specs.Image.{Image, flat, first_number, IsIn, IsBlock, IsInstr
 use Rattle.image_walk.proofs.Blocks.{number_last}
 use Rattle.image_walk.proofs.Steps.{first_le}
 use Rattle.wave_link.specs.Grown.{annotated}
-use Rattle.wave_link.specs.Passed.{adds}
+use Rattle.wave_link.specs.Adds.{adds}
 use Rattle.wave_link.proofs.Numbers.{one_if, shift, new, nop, first_is, ends_are, new_is}
 use Rattle.wave_link.proofs.GrownRows.{Located, located, instr_positive}
 

@@ -9,7 +9,7 @@ use Rattle.wave_link.specs.declared.states.Ways.{Ways}
 use Rattle.wave_link.specs.declared.states.State.{State}
 use Rattle.wave_link.specs.States.{reached, is_vain, state_in, states_step, states_from}
 use Rattle.wave_link.specs.Outlines.{firsts_of, one_more_op, ops_from, outline_of, outlines_from, outlines_of}
-use Rattle.wave_link.specs.Passed.{adds}
+use Rattle.wave_link.specs.Adds.{adds}
 
 -- instruction k of block b, by its place
 pub record InBlock (image : Image) (b k : ℕ) : Type 0 where

@@ -12,7 +12,7 @@ use Rattle.image_walk.proofs.Slots.{has_append_cases, has_append_right}
 use Rattle.image_walk.proofs.There.{There, dests_there, others_there}
 use Rattle.wave_link.specs.Layout.{Tables, is_steer_op}
 use Rattle.wave_link.specs.Grown.{extra_dest, grown_exit, nop_instr, annotated}
-use Rattle.wave_link.specs.Passed.{adds}
+use Rattle.wave_link.specs.Adds.{adds}
 use Rattle.wave_link.specs.Triggers.{IsAdded, Names, IsSteerBefore, TriggeredNear}
 use Rattle.wave_link.proofs.Parts.{tables_in}
 use Rattle.wave_link.proofs.Edges.{exit_kept}

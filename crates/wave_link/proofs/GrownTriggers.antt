@@ -11,7 +11,7 @@ use Rattle.wave_link.specs.declared.links.Place.{Place}
 use Rattle.wave_link.specs.Layout.{is_steer_op, Tables, Extras, steered, extras_step}
 use Rattle.wave_link.specs.Grown.{number_in, extra_dest, grown_instr, grown_pad, grown_from, annotated}
 use Rattle.wave_link.specs.Grown.{renamed as table_renamed}
-use Rattle.wave_link.specs.Passed.{adds}
+use Rattle.wave_link.specs.Adds.{adds}
 use Rattle.wave_link.proofs.Parts.{tables_in, places_in}
 use Rattle.wave_link.proofs.Edges.{target_kept}
 use Rattle.wave_link.proofs.Numbers.{one_if, shift, new, nop, nops_are, nop_positive, note_in, instr_is_grown}

@@ -10,7 +10,7 @@ use Rattle.wave_link.specs.declared.outline.Way.TheVariants.{Out, On, Fork}
 use Rattle.wave_link.specs.declared.outline.Outline.{Outline}
 use Rattle.wave_link.specs.Outlines.{firsts_from, firsts_of, way_of, outline_of, outlines_from, outlines_of, with_nop, with_nops_from, with_nops}
 use Rattle.wave_link.specs.Grown.{added_in}
-use Rattle.wave_link.specs.Passed.{adds}
+use Rattle.wave_link.specs.Adds.{adds}
 use Rattle.wave_link.proofs.LinksTables.{no_outline, outline_in, Leads, Parts}
 
 -- Outlines.

@@ -17,7 +17,7 @@ use Rattle.wave_link.specs.declared.states.State.TheVariants.{Shared}
 use Rattle.wave_link.specs.Outlines.{one_more_op, ops_from, writer_from, with_nop}
 use Rattle.wave_link.specs.States.{reached, ways_step, ways_of, state_in, is_vain, needs_nop, spread_state, states_step}
 use Rattle.wave_link.specs.Notes.{head_at, head_link, heads_of, lows_of, place_at}
-use Rattle.wave_link.specs.Passed.{adds}
+use Rattle.wave_link.specs.Adds.{adds}
 use Rattle.wave_link.proofs.Numbers.{place_of}
 use Rattle.wave_link.proofs.LinksTables.{outline_in, stepped, stepped_next, ways_are, nop_at_place, behind_step, place_there, low_next, head_there, Leads}
 use Rattle.wave_link.proofs.LinksRun.{Run}

@@ -16,7 +16,7 @@ use Rattle.wave_link.specs.States.{reached, state_in, is_vain, needs_nop}
 use Rattle.wave_link.specs.Notes.{place_at, note_at, writer_next}
 use Rattle.wave_link.specs.Layout.{Tables}
 use Rattle.wave_link.specs.Grown.{seq_next, grown_instrs, nop_instr, nop_at, grown_block, annotated}
-use Rattle.wave_link.specs.Passed.{adds}
+use Rattle.wave_link.specs.Adds.{adds}
 use Rattle.wave_link.specs.Ripples.{ExactRipples}
 use Rattle.wave_link.proofs.Parts.{tables_in}
 use Rattle.wave_link.proofs.Edges.{count_kept, wave_kept, target_kept, stops_kept, first_kept}

@@ -9,7 +9,7 @@ use Rattle.wave_link.specs.declared.links.Place.{Place}
 use Rattle.wave_link.specs.Notes.{writer_next}
 use Rattle.wave_link.specs.Layout.{with_nop, nops_from, count_up, numbers_from, Tables}
 use Rattle.wave_link.specs.Grown.{number_in, note_for, seq_next, grown_instr, grown_instrs, nop_instr, nop_at, no_place, grown_block, grown_from, added_in, annotated}
-pub use Rattle.wave_link.specs.Passed.{adds}
+pub use Rattle.wave_link.specs.Adds.{adds}
 use Rattle.wave_link.proofs.Parts.{tables_in, places_in}
 use Rattle.wave_link.proofs.Edges.{count_kept}
 

@@ -14,7 +14,7 @@ use Rattle.image_walk.proofs.There.{dests_there, others_there, There}
 use Rattle.wave_link.specs.declared.links.Place.{Place}
 use Rattle.wave_link.specs.Layout.{Tables}
 use Rattle.wave_link.specs.Grown.{extra_dest, number_in, grown_exit, grown_pad, grown_from, annotated}
-use Rattle.wave_link.specs.Passed.{adds}
+use Rattle.wave_link.specs.Adds.{adds}
 use Rattle.wave_link.proofs.Parts.{tables_in, places_in}
 use Rattle.wave_link.proofs.Edges.{exit_kept, wave_kept, target_kept, stops_kept, first_kept, count_kept}
 use Rattle.wave_link.proofs.Numbers.{one_if, shift, new, nop, first_is, ends_are, new_is, instr_is_grown, nop_is_there}

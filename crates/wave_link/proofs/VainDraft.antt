@@ -11,7 +11,7 @@ use Rattle.wave_link.specs.declared.states.State.{State}
 use Rattle.wave_link.specs.Outlines.{with_nop, ops_from}
 use Rattle.wave_link.specs.States.{reached, state_in, is_vain, needs_nop}
 use Rattle.wave_link.specs.Grown.{annotated}
-use Rattle.wave_link.specs.Passed.{adds}
+use Rattle.wave_link.specs.Adds.{adds}
 use Rattle.wave_link.specs.Vain.{without, Unlinkable, NeededNop, NoneInVain}
 use Rattle.wave_link.proofs.GrownSources.{added_is}
 use Rattle.wave_link.proofs.Edges.{count_kept, wave_kept, target_kept, stops_kept, first_kept}

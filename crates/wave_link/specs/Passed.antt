@@ -1,14 +1,8 @@
 -- How the walk of an image follows its draft's.
-use Rattle.std.specs.Prelude.{ℕ, zero, suc, ◌+◌, ◌-◌, ◌≡◌, ◌≤◌, Bool, true, false, cond, get_or, length}
+use Rattle.std.specs.Prelude.{ℕ, zero, suc, ◌+◌, ◌-◌, ◌≡◌, ◌≤◌, true, cond, length}
 use Rattle.ws_words.specs.Outside.{World}
 use Rattle.ws_isa.specs.Image.{Image, size_of}
 use Rattle.image_walk.specs.Walk.{Pos, pos, is_within, mem, walk, has_ended, CostAtMost}
-use Rattle.wave_link.specs.Grown.{added_in}
-
--- block b of the draft gets a no-op
-unfoldable pub adds : Image → ℕ → Bool
-adds draft zero = false
-adds draft (suc n) = get_or (added_in draft.blocks) n false
 
 -- n where a step leaves a block, else 0
 abbrev pub where_left : Image → Pos → ℕ → ℕ

@@ -22,7 +22,7 @@ use Rattle.cfg_core.specs.Graph as graph
 use Rattle.cfg_core.specs.Graph.{GraphArray}
 use Rattle.cfg_core.specs.Shown.{shown_arrays, shown_cells, shown_among, hidden, is_hidden}
 use Rattle.cfg_build.specs.Keeps as program
-use Rattle.wave_gen.specs.Listing.{array_of}
+use Rattle.wave_gen.specs.Words.{array_of}
 use Rattle.wave_build.specs.Compiled.{in_graph, shown, ShowsArrays, Shows, WalksAsRun}
 use Rattle.seq_run.specs.Laws.{HasAnswer}
 use Rattle.seq_run.proofs.FirstPasts.{not_within, one_array, one_before}

@@ -4,7 +4,7 @@ use Rattle.ws_isa.specs.View as image
 use Rattle.src_ast.specs.View as ast
 use Rattle.cfg_core.specs.Graph.{GraphArray}
 use Rattle.cfg_core.specs.View as view
-use Rattle.wave_gen.specs.Listing.{array_of}
+use Rattle.wave_gen.specs.Words.{array_of}
 use Rattle.wave_build.proofs.CompilingBound.{all_passed, keeps_bound}
 use Rattle.wave_build.proofs.CompilingRuns.{arms_alone}
 use Rattle.wave_build.proofs.CompilingShown.{same_shown}
@@ -52,6 +52,7 @@ returns-clause-draft c =
     record {
       draft = image.draft c.in_ok-draft.draft;
       open_to_notes = c.in_ok-draft.ensures.open_to_notes;
+      no_nop = c.in_ok-draft.ensures.no_nop;
       blocks = m.blocks;
       needed = m.needed;
       never_linked = m.never_linked;

@@ -1,7 +1,7 @@
 use Rattle.std.proofs.Common.{◌≡◌, ◌++◌, map, drop}
 use Rattle.ws_isa.specs.View as image
 use Rattle.cfg_core.specs.View as view
-use Rattle.wave_gen.specs.Listing.{array_of}
+use Rattle.wave_gen.specs.Words.{array_of}
 use Rattle.wave_gen.proofs.arrays.arrays.Given as goal
 
 abbrev pub invariant-loop-a : goal.invariant-loop-a

@@ -8,7 +8,8 @@ use Rattle.wave_cut.specs.Cut.{Cut}
 use Rattle.wave_gen.specs.Plans.{Plan, draft_of}
 use Rattle.wave_gen.specs.View as shown
 use Rattle.wave_gen.specs.declared.plan.Plan as declared
-use Rattle.wave_gen.specs.Listing.{arrays_of, width_of, plans_of}
+use Rattle.wave_gen.specs.Listing.{width_of, plans_of}
+use Rattle.wave_gen.specs.Words.{arrays_of}
 use Rattle.wave_gen.proofs.Generated.{fits, kept, leads}
 use Rattle.wave_gen.proofs.make.generate.Goals as goal
 
@@ -41,4 +42,4 @@ returns c =
     ∙ ap (λ (n : ℕ). draft_of (arrays_of g) n (map shown.plan c.deref.result.now)) width
     ∙ ap (λ (ps : List Plan). draft_of (arrays_of g) (width_of g) ps) plans in
     let k = kept g (has c.args.live.now) cut (fits g c.args.live.now cut r.rules r.live r.cut r.waves r.no_call r.across r.arms) (image.draft c.in_ok-draft.draft) draft in
-    record { open_to_notes = k.open_to_notes; lists = k.lists; limits = k.limits; arrays = k.arrays; walk = k.walk; endless = k.endless; cost = k.cost }
+    record { open_to_notes = k.open_to_notes; lists = k.lists; no_nop = k.no_nop; limits = k.limits; arrays = k.arrays; walk = k.walk; endless = k.endless; cost = k.cost }

@@ -1,7 +1,7 @@
 use Rattle.std.proofs.Common.{◌≡◌, ◌++◌, ◌∷◌, ◌-◌}
 use Rattle.live_vars.specs.Marks.{has}
 use Rattle.wave_gen.specs.Plans.{pulse}
-use Rattle.wave_gen.specs.Listing.{live_from}
+use Rattle.wave_gen.specs.Words.{live_from}
 use Rattle.wave_gen.proofs.plans.Outline.entries.Given as goal
 
 abbrev pub invariant-loop-x : goal.invariant-loop-x
