@@ -1,3 +1,5 @@
+pub mod Few
+pub mod Coming
 pub mod Listed
 pub mod Union
 pub mod Rights

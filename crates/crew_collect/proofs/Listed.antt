@@ -1,5 +1,5 @@
 -- Where an instance stands in a list of fired ones.
-use Rattle.std.proofs.Common.{◌≡◌, ◌<◌, ◌⊎◌, inl, inr, ℕ, zero, suc, Bool, true, false, cond, List, [], ◌∷◌, length, filter, slice_index_or, sym, refl, ap, ◌∙◌, subst, arith}
+use Rattle.std.proofs.Common.{◌≡◌, ◌<◌, inl, inr, ℕ, zero, suc, Bool, true, false, cond, List, [], ◌∷◌, length, slice_index_or, sym, refl, ap, ◌∙◌, arith}
 use Rattle.ws_isa.specs.Image.{Image, is_memory}
 use Rattle.core_law.specs.Core.{Key, HasFired}
 use Rattle.match_table.specs.Tables.{of_memory}

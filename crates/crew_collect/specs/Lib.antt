@@ -1,3 +1,4 @@
 pub mod Together
+pub mod Coming
 pub mod Owing
 pub mod Ends

@@ -1,10 +1,12 @@
 //! What is known where a run ends.
 
-ghost use Rattle.std.specs.Prelude.{◌≡◌, Some};
+ghost use Rattle.std.specs.Prelude.{◌≡◌, ◌*◌, ◌≤◌, ℕ, Some};
 ghost use Rattle.ws_words.specs.Outside.{Outside};
+ghost use Rattle.image_walk.specs.Walk.{CostAtMost, Ports};
 ghost use Rattle.core_law.specs.Shown.{owed};
 ghost use Rattle.store_buf.specs.Contents.{buffer_in};
 ghost use Rattle.crew_collect.specs.Together.{AllServe, part_of};
+ghost use Rattle.crew_collect.specs.Coming.{Came};
 ghost use Rattle.crew_collect.specs.Owing.{AllKnown, HaveCome, IsMissing};
 ghost use Rattle.crew_collect.specs.Ends.{AllRun, FaultRun, FrontRun, IsGoing, PortRun, SomeRun};
 
@@ -88,4 +90,14 @@ pub fn front_run<J: Job, P: Port>(buffer: &Buffer<J, P>)
     ensures { FrontRun J.image J.world J.began buffer.now.outside }
 {
     buffer.facts();
+}
+
+/// Where the walk has at most so many instances, no more than three tokens for each have come.
+pub fn few_tokens<J: Job>(code: &Code<'_, J>, tables: &Tables<J>)
+    requires { AllServe tables.now }
+    ensures { (old : Ports) (count cost : ℕ) → Came old (part_of tables.now).held count
+        → CostAtMost J.image J.world cost → count ≤ 3 * cost }
+{
+    let _ = code.program();
+    facts(tables);
 }
