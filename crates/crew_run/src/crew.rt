@@ -1,16 +1,20 @@
 //! The run of a crew.
 
-ghost use Rattle.std.specs.Prelude.{◌≡◌, ◌≤◌, ◌-◌, length};
+ghost use Rattle.std.specs.Prelude.{◌≡◌, ◌+◌, ◌*◌, ◌≤◌, ◌-◌, ℕ, length};
+ghost use Rattle.image_walk.specs.Walk.{CostAtMost};
 ghost use Rattle.port_set.specs.Slots.{AllOpen, contents};
 ghost use Rattle.store_buf.specs.Outdoors.{AllBegan};
+ghost use Rattle.crew_tables.specs.Growth.{AllGrow};
+ghost use Rattle.crew_tables.specs.Rows.{contents as all_contents};
 ghost use Rattle.crew_collect.specs.Together.{AllServe, part_of};
 ghost use Rattle.crew_run.specs.declared.finish.CrewFinish.TheVariants.{NoMemory};
 ghost use Rattle.crew_run.specs.Finishes.{EndsSo};
-ghost use Rattle.crew_run.specs.Verdicts.{EndingSo};
+ghost use Rattle.crew_run.specs.Verdicts.{EndingSo, MovedOn};
 
 use crate::finish::{CrewEnd, CrewFinish, finish};
 use crate::judge::{Course, Ending, find_course};
 use crate::turn::turn;
+use crew_collect::ends::few_tokens;
 use crew_collect::limits::{fired, fitting};
 use crew_tables::Tables;
 use df_job::{Code, Job, TokenList};
@@ -22,15 +26,18 @@ use std::thread::Threads;
 use store_buf::Buffer;
 use ws_words::Words;
 
-/// Where a run has ended.
+/// Where a run has ended, and after how many phases.
 #[derive(Drop)]
 pub struct Ended<J: Job, P: Port> {
     pub tables: Tables<J>,
     pub buffer: Buffer<J, P>,
     pub ending: Ending,
+    pub phases: u64,
 }
 
-/// Runs phase after phase until the run has ended.
+/// Runs phase after phase until the run has ended. Each phase but the last has brought a token that no
+/// table had, so that there are no more phases than one and the tokens that the tables hold: no more
+/// than one and three for each instance of the walk.
 pub fn run_on<J: Job + Send + Sync, P: Port + Send, G: Gate, R: Threads + Wait + Sync>(
     rt: &R,
     alloc: Global,
@@ -48,22 +55,54 @@ pub fn run_on<J: Job + Send + Sync, P: Port + Send, G: Gate, R: Threads + Wait +
     ensures within { length (part_of result.tables).fired ≤ budget }
     ensures ended { EndingSo J.image J.world J.began (part_of result.tables).fired
         (budget - length (part_of result.tables).fired) result.buffer result.ending }
+    ensures grow { AllGrow (all_contents tables) (all_contents result.tables) }
+    ensures moved { MovedOn (part_of tables).held (part_of result.tables).held result.phases }
+    ensures few { (cost : ℕ) → CostAtMost J.image J.world cost → result.phases ≤ 3 * cost + 1 }
+{
+    let ended = run_phases(rt, alloc, tables, buffer, workers, budget, code, gate);
+    few_tokens(code, &ended.tables);
+    ended
+}
+
+// Runs phase after phase.
+fn run_phases<J: Job + Send + Sync, P: Port + Send, G: Gate, R: Threads + Wait + Sync>(
+    rt: &R,
+    alloc: Global,
+    tables: Tables<J>,
+    buffer: Buffer<J, P>,
+    workers: u32,
+    budget: u64,
+    code: &Code<'_, J>,
+    gate: &G,
+) -> Ended<J, P>
+    requires serve { AllServe tables }
+    requires within { length (part_of tables).fired ≤ budget }
+    requires workers { (1 ≤ workers) × (workers ≤ 8) }
+    ensures serve { AllServe result.tables }
+    ensures within { length (part_of result.tables).fired ≤ budget }
+    ensures ended { EndingSo J.image J.world J.began (part_of result.tables).fired
+        (budget - length (part_of result.tables).fired) result.buffer result.ending }
+    ensures grow { AllGrow (all_contents tables) (all_contents result.tables) }
+    ensures moved { MovedOn (part_of tables).held (part_of result.tables).held result.phases }
 {
     let mut tables = tables;
     let mut buffer = buffer;
     let mut tokens = TokenList::empty(alloc);
-    for _ in rt.forever() {
+    for phases in 0..u64::MAX {
         let left = budget - fired(&tables);
-        match find_course(rt, alloc, code, &tables, &mut buffer, tokens, left) {
+        match find_course(alloc, code, &tables, &mut buffer, tokens, left) {
             Course::Ends(ending) => {
                 return Ended {
                     tables,
                     buffer,
                     ending,
+                    phases,
                 };
             }
-            Course::Go(all) => {
-                let after = turn(rt, alloc, tables, buffer, all, workers, left, code, gate);
+            Course::Go { token, tokens: all } => {
+                let after = turn(
+                    rt, alloc, tables, buffer, &token, all, workers, budget, code, gate,
+                );
                 tables = after.tables;
                 buffer = after.buffer;
                 tokens = after.let_go;
@@ -72,15 +111,19 @@ pub fn run_on<J: Job + Send + Sync, P: Port + Send, G: Gate, R: Threads + Wait +
                         tables,
                         buffer,
                         ending: Ending::Starved,
+                        phases: phases + 1,
                     };
                 }
             }
         }
     }
+
+    // So many tokens take more memory than there is.
     Ended {
         tables,
         buffer,
         ending: Ending::Starved,
+        phases: u64::MAX,
     }
 }
 

@@ -1,22 +1,22 @@
 //! What a crew does after a phase.
 
-ghost use Rattle.std.specs.Prelude.{◌≡◌, [], All};
+ghost use Rattle.std.specs.Prelude.{◌≡◌, ℕ, [], All, IfErr, IfSome, OnOk};
 ghost use Rattle.ws_words.specs.Outside.{Outside};
 ghost use Rattle.core_law.specs.Shown.{owed as owed_in};
 ghost use Rattle.store_buf.specs.Contents.{buffer_in};
 ghost use Rattle.crew_collect.specs.Together.{AllServe, part_of};
 ghost use Rattle.crew_collect.specs.Owing.{AllKnown, HaveCome, IsMissing};
 ghost use Rattle.crew_collect.specs.Ends.{IsGoing};
-ghost use Rattle.crew_run.specs.Verdicts.{CourseSo, VerdictSo};
+ghost use Rattle.crew_run.specs.Verdicts.{CourseSo, EndingSo, GoesWith};
 
+use crate::own::is_there;
 use crew_collect::ends::{all_run, some_run};
 use crew_collect::missing::missing;
 use crew_collect::unknown::unknown;
 use crew_tables::Tables;
-use df_job::{Code, Job, Request, TokenList};
+use df_job::{Code, Job, Request, Token, TokenList};
 use port_set::Port;
 use std::alloc::Global;
-use std::sync::Wait;
 use store_buf::Buffer;
 
 /// Why a run has ended: the whole walk has been run; the budget is spent and something is owed; the
@@ -29,25 +29,18 @@ pub enum Ending {
     Starved,
 }
 
-// What a crew does after a phase: it goes on with these tokens; it looks again, since requests were
-// submitted; or it has ended.
-#[derive(Drop)]
-enum Verdict<J: Job> {
-    Go(TokenList<J>),
-    Again,
-    Ends(Ending),
-}
-
-/// Whether a run goes on, with these tokens, or has ended.
+/// Whether a run goes on, with these tokens, of which one is named that no table has had; or has ended.
 #[derive(Drop)]
 pub enum Course<J: Job> {
-    Go(TokenList<J>),
+    Go {
+        token: Token<J>,
+        tokens: TokenList<J>,
+    },
     Ends(Ending),
 }
 
 /// Whether a run goes on where these tokens were let go in the last phase and so many may still fire.
-pub fn find_course<J: Job, P: Port, R: Wait>(
-    rt: &R,
+pub fn find_course<J: Job, P: Port>(
     alloc: Global,
     code: &Code<'_, J>,
     tables: &Tables<J>,
@@ -56,48 +49,75 @@ pub fn find_course<J: Job, P: Port, R: Wait>(
     left: u64,
 ) -> Course<J>
     requires serve { AllServe tables.now }
-    ensures { CourseSo J.image J.world J.began (part_of tables.now).fired left buffer.new result }
-{
-    let mut tokens = tokens;
-    for _ in rt.forever() {
-        match judge(alloc, code, tables, buffer, tokens, left) {
-            Verdict::Ends(ending) => return Course::Ends(ending),
-            Verdict::Again => tokens = TokenList::empty(alloc),
-            Verdict::Go(all) => return Course::Go(all),
-        }
-    }
-    Course::Ends(Ending::Starved)
-}
-
-// What is to be done where these tokens were let go in the last phase and so many may still fire.
-fn judge<J: Job, P: Port>(
-    alloc: Global,
-    code: &Code<'_, J>,
-    tables: &Tables<J>,
-    buffer: &mut Buffer<J, P>,
-    tokens: TokenList<J>,
-    left: u64,
-) -> Verdict<J>
-    requires serve { AllServe tables.now }
-    ensures { VerdictSo J.image J.world J.began (part_of tables.now).fired left buffer.new result }
+    ensures { CourseSo J.image J.world J.began (part_of tables.now) left buffer.new result }
 {
     if let Some(_) = buffer.stop() {
-        return Verdict::Ends(Ending::Stopped);
+        return Course::Ends(Ending::Stopped);
     }
-    if left > 0 && tokens.len() > 0 {
-        return Verdict::Go(tokens);
+    let mut tokens = tokens;
+    if left > 0
+        && let Some(token) = wanted(tables, &mut tokens)
+    {
+        return go(token, tokens);
     }
-    let Ok(requests) = unknown(alloc, code, tables, buffer) else {
-        return Verdict::Ends(Ending::Starved);
-    };
-    if requests.len() > 0 {
-        submit_all(code, buffer, requests);
-        return Verdict::Again;
+    if let Err(ending) = ask(alloc, code, tables, buffer) {
+        return Course::Ends(ending);
     }
     let most = if left == 0 { 1 } else { usize::MAX };
     match missing(alloc, code, tables, buffer, most) {
         Ok(owed) => settle(code, tables, buffer, owed, left),
-        Err(_) => Verdict::Ends(Ending::Starved),
+        Err(_) => Course::Ends(Ending::Starved),
+    }
+}
+
+// The last of these tokens that no table has had. Those behind it are let go.
+fn wanted<J: Job>(tables: &Tables<J>, tokens: &mut TokenList<J>) -> Option<Token<J>>
+    ensures { IfSome result (IsMissing (part_of tables.now).held) }
+{
+    while let Some(token) = tokens.pop() {
+        if !is_there(tables, &token) {
+            return Some(token);
+        }
+    }
+    None
+}
+
+// Goes on with this token, which stands behind the others too.
+fn go<J: Job>(token: Token<J>, tokens: TokenList<J>) -> Course<J>
+    ensures { GoesWith token result }
+{
+    let mut tokens = tokens;
+    let _ = tokens.push(token.again());
+    Course::Go { token, tokens }
+}
+
+// Submits the requests of instances that have fired and that the buffer doesn't know, so that it knows
+// all, unless it is stopped or memory runs out.
+fn ask<J: Job, P: Port>(
+    alloc: Global,
+    code: &Code<'_, J>,
+    tables: &Tables<J>,
+    buffer: &mut Buffer<J, P>,
+) -> Result<(), Ending>
+    requires { IsGoing buffer.old }
+    ensures going { OnOk result (IsGoing buffer.new) }
+    ensures known { OnOk result (AllKnown J.image (part_of tables.now) buffer.new.kept) }
+    ensures ends { IfErr result (λ ending. (left : ℕ) → EndingSo J.image J.world J.began
+        (part_of tables.now).fired left buffer.new ending) }
+{
+    let Ok(requests) = unknown(alloc, code, tables, buffer) else {
+        return Err(Ending::Starved);
+    };
+    if requests.len() == 0 {
+        return Ok(());
+    }
+    submit_all(code, buffer, requests);
+    if let Some(_) = buffer.stop() {
+        return Err(Ending::Stopped);
+    }
+    match unknown(alloc, code, tables, buffer) {
+        Ok(requests) if requests.len() == 0 => Ok(()),
+        _ => Err(Ending::Starved),
     }
 }
 
@@ -108,27 +128,27 @@ fn settle<J: Job, P: Port>(
     buffer: &Buffer<J, P>,
     owed: TokenList<J>,
     left: u64,
-) -> Verdict<J>
+) -> Course<J>
     requires serve { AllServe tables.now }
     requires going { IsGoing buffer.now }
     requires known { AllKnown J.image (part_of tables.now) buffer.now.kept }
     requires missing { All (IsMissing (part_of tables.now).held) owed }
     requires none { owed ≡ [] → (m : Outside) → HaveCome (part_of tables.now).held
         (owed_in J.image (part_of tables.now) (buffer_in J.image buffer.now m)) }
-    ensures { VerdictSo J.image J.world J.began (part_of tables.now).fired left buffer.now result }
+    ensures { CourseSo J.image J.world J.began (part_of tables.now) left buffer.now result }
 {
-    if left > 0 && owed.len() > 0 {
-        return Verdict::Go(owed);
-    }
     let mut owed = owed;
     match owed.pop() {
         None => {
             all_run(code, tables, buffer);
-            Verdict::Ends(Ending::Whole)
+            Course::Ends(Ending::Whole)
         }
         Some(token) => {
+            if left > 0 {
+                return go(token, owed);
+            }
             some_run(code, tables, buffer, &token);
-            Verdict::Ends(Ending::Spent)
+            Course::Ends(Ending::Spent)
         }
     }
 }

@@ -5,6 +5,7 @@ pub mod crew;
 pub mod finish;
 pub mod judge;
 mod laws;
+pub mod own;
 pub mod run;
 pub mod turn;
 

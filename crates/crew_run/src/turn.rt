@@ -1,11 +1,13 @@
 //! A turn: the budget is shared out, tokens are dealt, and workers run.
 
-ghost use Rattle.std.specs.Prelude.{◌≡◌, ◌+◌, ◌<◌, ◌≤◌, ◌^◌, length};
+ghost use Rattle.std.specs.Prelude.{◌≡◌, ◌<◌, ◌≤◌, length, true, false};
+ghost use Rattle.core_law.specs.Core.{has};
 ghost use Rattle.crew_collect.specs.Together.{AllServe, part_of};
 ghost use Rattle.crew_tables.specs.Growth.{AllGrow};
 ghost use Rattle.crew_tables.specs.Rows.{contents};
 
-use crew_collect::limits::{fitting, limits};
+use crate::own::see_brought;
+use crew_collect::limits::{fired, fitting, limits};
 use crew_tables::{Tables, table_of};
 use df_job::{Code, Job, Token, TokenList};
 use fire_crew::phase::{PhaseEnd, phase};
@@ -19,27 +21,68 @@ use std::thread::Threads;
 use store_buf::Buffer;
 use ws_words::NoMemory;
 
-/// A phase with these tokens, in which at most so many instances fire. No table loses anything.
+/// A phase with these tokens. No more instances fire than the budget allows, and no table loses
+/// anything. Where more may fire then a table has had the token that is named: if no worker brought it,
+/// the caller's thread does, with no other at work.
 pub fn turn<J: Job + Send + Sync, P: Port + Send, G: Gate, R: Threads + Wait + Sync>(
     rt: &R,
     alloc: Global,
     tables: Tables<J>,
     buffer: Buffer<J, P>,
+    token: &Token<J>,
     tokens: TokenList<J>,
     workers: u32,
-    left: u64,
+    budget: u64,
     code: &Code<'_, J>,
     gate: &G,
 ) -> PhaseEnd<J, P>
     requires serve { AllServe tables }
-    requires left { length (part_of tables).fired + left < 2 ^ 64 }
+    requires within { length (part_of tables).fired ≤ budget }
     requires workers { (1 ≤ workers) × (workers ≤ 8) }
     ensures serve { AllServe result.tables }
-    ensures within { length (part_of result.tables).fired ≤ length (part_of tables).fired + left }
+    ensures within { length (part_of result.tables).fired ≤ budget }
+    ensures grow { AllGrow (contents tables) (contents result.tables) }
+    ensures come { result.starved ≡ false → length (part_of result.tables).fired < budget
+        → has ((part_of result.tables).held token.now.wave token.now.instr token.now.port) ≡ true }
+{
+    let first = table_of(token.wave(), token.instr());
+    let mut after = work(
+        rt, alloc, tables, buffer, tokens, first, workers, budget, code, gate,
+    );
+    let brought = see_brought(
+        alloc,
+        code,
+        &mut after.tables,
+        &mut after.buffer,
+        token,
+        &mut after.let_go,
+        budget,
+    );
+    after.starved = after.starved || brought.is_err();
+    after
+}
+
+// The work of a phase, in which the table `first` may fire where any may.
+fn work<J: Job + Send + Sync, P: Port + Send, G: Gate, R: Threads + Wait + Sync>(
+    rt: &R,
+    alloc: Global,
+    tables: Tables<J>,
+    buffer: Buffer<J, P>,
+    tokens: TokenList<J>,
+    first: u64,
+    workers: u32,
+    budget: u64,
+    code: &Code<'_, J>,
+    gate: &G,
+) -> PhaseEnd<J, P>
+    requires serve { AllServe tables }
+    requires within { length (part_of tables).fired ≤ budget }
+    requires workers { (1 ≤ workers) × (workers ≤ 8) }
+    ensures serve { AllServe result.tables }
+    ensures within { length (part_of result.tables).fired ≤ budget }
     ensures grow { AllGrow (contents tables) (contents result.tables) }
 {
-    let mut tokens = tokens;
-    let first = first_table(&mut tokens);
+    let left = budget - fired(&tables);
     let Ok(limits) = limits(alloc, &tables, left, first) else {
         return stays(tables, buffer, tokens);
     };
@@ -65,16 +108,6 @@ fn stays<J: Job, P: Port>(
         let_go: tokens,
         starved: true,
     }
-}
-
-/// The number of the table of one of these tokens.
-pub fn first_table<J: Job>(tokens: &mut TokenList<J>) -> u64 {
-    let Some(token) = tokens.pop() else {
-        return 0;
-    };
-    let number = table_of(token.wave(), token.instr());
-    let _ = tokens.push(token);
-    number
 }
 
 // Seats with these tokens.
