@@ -1,7 +1,7 @@
 //! Laws over the definitions of reading and printing.
 
-ghost use Rattle.std.specs.Prelude.{◌≡◌, ℕ, List, Ok, Some, false};
-ghost use Rattle.std.specs.List.{flat_map};
+ghost use Rattle.std.specs.Prelude.{◌≡◌, ℕ, ◌==◌, not, IsTrue, List, ◌++◌, codes, Ok, Some, false};
+ghost use Rattle.std.specs.List.{flat_map, list_all};
 ghost use Rattle.ws_isa.specs.Image.{Image};
 ghost use Rattle.ws_isa.specs.Formed.{Formed};
 ghost use Rattle.ws_isa.specs.Samples.{image_a, image_b};
@@ -25,6 +25,14 @@ pub fn printed_lexemes_are_lexed()
 /// The printed form of a formed image is read as that image.
 pub fn printed_reads_again()
     ensures { (image : Image) → Formed image → read (printed image) ≡ Ok image }
+{}
+
+/// No byte of a printed text is `%`, with which the markers of sections begin, and its last byte is a
+/// line feed.
+pub fn printed_texts_have_no_marker()
+    ensures bytes { (image : Image) → Formed image
+        → IsTrue (list_all (λ b. not (b == 37)) (printed image)) }
+    ensures end { (image : Image) → (front : List ℕ) × (printed image ≡ front ++ codes "\n") }
 {}
 
 /// The image of a text is formed: it is within the limits of version 2, its references are there,
