@@ -1,5 +1,6 @@
 -- The text of events is read as those events.
-use Rattle.std.proofs.Common.{◌≡◌, ℕ, ◌+◌, ◌^◌, ◌<◌, false, true, List, [], ◌∷◌, ◌++◌, map, flat_map, codes, Option, Some, None, Ok, Result, refl, sym, ap, ◌∙◌, min, arith}
+use Rattle.std.proofs.Common.{◌≡◌, ℕ, ◌+◌, ◌^◌, ◌<◌, false, true, List, [], ◌∷◌, ◌++◌, map, flat_map, codes, Option, Some, None, Ok, Result, refl, sym, ap, ◌∙◌, subst, min, length, take, get_or, arith}
+use Rattle.std.proofs.lemmas.List.{take_more, flat_map_more}
 use Rattle.asm_text.specs.declared.lexeme.Lexeme.{Lexeme}
 use Rattle.asm_text.specs.Lexing.{Lexed, lexed, scan}
 use Rattle.asm_text.specs.Printed.{start, text_of, line_text}
@@ -64,3 +65,19 @@ module _ (again : (ls : List Lexeme) → AreLexemes ls → lexed (text_of start 
   pub reads_again : (n : ℕ) (events : List Event) → AllFit events → events_in n (events_text events) ≡ Ok (numbered n events)
   unfolding events_in
   reads_again n events h = ap (λ (text : List ℕ). events_from n (lines_of text)) (lines_text events) ∙ ap (events_from n) (lines (map lexemes_of events) (all_lexemes events h)) ∙ from_again n events h
+
+-- events within their fields, and one behind them
+
+fit_behind : (events : List Event) (event : Event) → AllFit events → Fits event → AllFit (events ++ event ∷ [])
+fit_behind [] event h f = (f, tt)
+fit_behind (e ∷ events) event h f = (h.0, fit_behind events event h.1 f)
+
+pub fit_more : (events : List Event) (i : ℕ) (d : Event) → i < length events → AllFit (take i events) → Fits (get_or events i d) → AllFit (take (i + 1) events)
+fit_more events i d lt h f = subst AllFit (sym (take_more events i d lt)) (fit_behind (take i events) (get_or events i d) h f)
+
+-- the text of one event more
+pub text_more : (events : List Event) (i : ℕ) (d : Event) (initial old new : List ℕ) → i < length events → old ≡ initial ++ flat_map event_line (take i events)
+    → new ≡ old ++ event_line (get_or events i d) → new ≡ initial ++ flat_map event_line (take (i + 1) events)
+text_more events i d initial old new lt h e =
+    e ∙ ap (λ t. t ++ event_line (get_or events i d)) h ∙ flat_map_more event_line initial (take i events) (get_or events i d)
+    ∙ ap (λ (xs : List Event). initial ++ flat_map event_line xs) (sym (take_more events i d lt))

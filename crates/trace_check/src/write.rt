@@ -3,7 +3,7 @@
 ghost use Rattle.std.specs.Prelude.{◌≡◌, ◌∷◌, ◌++◌, decimal, OnOk};
 ghost use Rattle.asm_text.specs.Printed.{line_text};
 ghost use Rattle.core_run.specs.declared.engine.Event.TheVariants as of_event;
-ghost use Rattle.trace_check.specs.Traces.{lexemes_of, event_line, events_text};
+ghost use Rattle.trace_check.specs.Traces.{lexemes_of, event_line, events_text, Fits, AllFit};
 
 use core_run::Event;
 use ws_io::put_decimal;
@@ -20,8 +20,9 @@ fn put_number(text: &mut Bytes, number: u64) -> Result<(), NoMemory>
 // Puts the line of a match behind a text.
 #[tactic(auto, unfolding(asm_text::specs::Printed::text_of, crate::specs::Traces::lexemes_of))]
 fn put_match(text: &mut Bytes, wave: u64, instr: u32, port: u8) -> Result<(), NoMemory>
-    ensures { OnOk result
+    ensures text { OnOk result
         (text.new ≡ text.old ++ line_text (lexemes_of (of_event.Match wave instr port))) }
+    ensures fit { Fits (of_event.Match wave instr port) }
 {
     text.extend(b"match")?;
     put_number(text, wave)?;
@@ -33,8 +34,9 @@ fn put_match(text: &mut Bytes, wave: u64, instr: u32, port: u8) -> Result<(), No
 // Puts the line of an issue behind a text.
 #[tactic(auto, unfolding(asm_text::specs::Printed::text_of, crate::specs::Traces::lexemes_of))]
 fn put_issue(text: &mut Bytes, wave: u64, instr: u32) -> Result<(), NoMemory>
-    ensures { OnOk result
+    ensures text { OnOk result
         (text.new ≡ text.old ++ line_text (lexemes_of (of_event.Issue wave instr))) }
+    ensures fit { Fits (of_event.Issue wave instr) }
 {
     text.extend(b"issue")?;
     put_number(text, wave)?;
@@ -44,7 +46,8 @@ fn put_issue(text: &mut Bytes, wave: u64, instr: u32) -> Result<(), NoMemory>
 
 // Puts the line of an event behind a text.
 fn put_event(text: &mut Bytes, event: Event) -> Result<(), NoMemory>
-    ensures { OnOk result (text.new ≡ text.old ++ event_line event) }
+    ensures text { OnOk result (text.new ≡ text.old ++ event_line event) }
+    ensures fit { Fits event }
 {
     match event {
         Event::Match { wave, instr, port } => put_match(text, wave, instr, port),
@@ -52,9 +55,10 @@ fn put_event(text: &mut Bytes, event: Event) -> Result<(), NoMemory>
     }
 }
 
-/// Puts a line for each event behind a text.
+/// Puts a line for each event behind a text. Their numbers are within their fields.
 pub fn put_events(text: &mut Bytes, events: &[Event]) -> Result<(), NoMemory>
-    ensures { OnOk result (text.new ≡ text.old ++ events_text events.now) }
+    ensures text { OnOk result (text.new ≡ text.old ++ events_text events.now) }
+    ensures fit { OnOk result (AllFit events.now) }
 {
     for event in events {
         put_event(text, *event)?;
