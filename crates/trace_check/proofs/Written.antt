@@ -1,8 +1,8 @@
 -- The text of events is read as those events.
-use Rattle.std.proofs.Common.{◌≡◌, ℕ, ◌+◌, ◌^◌, ◌<◌, false, true, List, [], ◌∷◌, ◌++◌, map, flat_map, codes, Option, Some, None, Ok, Result, refl, sym, ap, ◌∙◌, subst, min, length, take, get_or, arith}
+use Rattle.std.proofs.Common.{◌≡◌, ℕ, ◌+◌, ◌^◌, ◌<◌, false, List, [], ◌∷◌, ◌++◌, map, flat_map, Some, None, Ok, refl, sym, ap, ◌∙◌, subst, min, length, take, get_or, arith}
 use Rattle.std.proofs.lemmas.List.{take_more, flat_map_more}
 use Rattle.asm_text.specs.declared.lexeme.Lexeme.{Lexeme}
-use Rattle.asm_text.specs.Lexing.{Lexed, lexed, scan}
+use Rattle.asm_text.specs.Lexing.{lexed, scan}
 use Rattle.asm_text.specs.Printed.{start, text_of, line_text}
 use Rattle.asm_text.specs.Spelled.{AreLexemes, AllLexemes, texts}
 use Rattle.asm_text.specs.Reading.{lines_of}
@@ -10,7 +10,6 @@ use Rattle.core_law.specs.Core as law
 use Rattle.core_run.specs.declared.engine.Event.{Event}
 use Rattle.core_run.specs.declared.engine.Event.TheVariants.{Match, Issue}
 use Rattle.core_run.specs.Cores as cores
-use Rattle.trace_check.specs.declared.events.Lined.{Lined}
 use Rattle.trace_check.specs.Traces.{event_of, of_lexed, said, events_from, events_in, lexemes_of, event_line, events_text, numbered, Fits, AllFit}
 use Rattle.trace_check.specs.Replays.{events_of}
 
