@@ -1,5 +1,5 @@
 -- Tokens that have come or are on the way.
-use Rattle.std.proofs.Common.{ℕ, ◌≡◌, ◌⊎◌, List, [], ◌∷◌, ◌++◌, Some, None, refl, sym, ◌∙◌, subst, inl, inr}
+use Rattle.std.proofs.Common.{ℕ, ◌≡◌, ◌⊎◌, List, [], ◌∷◌, ◌++◌, Some, None, Result, Ok, Err, refl, sym, ap, ◌∙◌, subst, inl, inr}
 use Rattle.ws_isa.specs.Image.{Token}
 use Rattle.image_walk.specs.Walk.{Ports}
 use Rattle.core_law.specs.Core.{IsSent}
@@ -8,7 +8,9 @@ use Rattle.core_law.proofs.Slots.{is_sent_append_left, is_sent_append_right, is_
 use Rattle.match_table.specs.Tables as table
 use Rattle.match_table.specs.Tables.{held}
 use Rattle.match_table.specs.Matching.{Arrives}
-use Rattle.part_store.specs.Runs.{AllReach, Covers, Reaches}
+use Rattle.store_buf.specs.declared.fault.BufFault.{BufFault}
+use Rattle.store_buf.specs.declared.fault.BufFault.TheVariants as fault
+use Rattle.part_store.specs.Runs.{AllReach, Covers, IsOffered, Reaches}
 
 pub nothing : {A : Type 0} (x : A) → None ≡ Some x → ⊥
 nothing x e = cc
@@ -21,6 +23,25 @@ covers_left some rest all c w i p v h = c w i p v (is_sent_append_left some rest
 
 pub covers_right : (some rest all : List Token) → Covers (some ++ rest) all → Covers rest all
 covers_right some rest all c w i p v h = c w i p v (is_sent_append_right some rest w i p v h)
+
+-- beside the same others
+pub covers_beside : (some all others : List Token) → Covers some all → Covers (some ++ others) (all ++ others)
+covers_beside some all others c w i p v h = elim (is_sent_append_cases some others w i p v h) [
+  | inl g ↦ is_sent_append_left all others w i p v (c w i p v g)
+  | inr g ↦ is_sent_append_right all others w i p v g
+]
+
+pub covers_wider : (some all others : List Token) → Covers some all → Covers some (all ++ others)
+covers_wider some all others c w i p v h = is_sent_append_left all others w i p v (c w i p v h)
+
+pub offered_beside : (answer : Result (List Token) BufFault) (old new others : List Token) → IsOffered answer old new → IsOffered answer (old ++ others) (new ++ others)
+offered_beside (Ok ts) old new others o = (covers_beside old new others o.0, covers_wider ts new others o.1)
+offered_beside (Err (fault.Index a)) old new others o = ap (λ (ts : List Token). ts ++ others) o
+offered_beside (Err (fault.Port p)) old new others o = ap (λ (ts : List Token). ts ++ others) o
+offered_beside (Err fault.NoMemory) old new others o = absurd o
+offered_beside (Err fault.Old) old new others o = ap (λ (ts : List Token). ts ++ others) o
+offered_beside (Err (fault.Stopped p)) old new others o = ap (λ (ts : List Token). ts ++ others) o
+offered_beside (Err (fault.Ended a)) old new others o = ap (λ (ts : List Token). ts ++ others) o
 
 -- what reaches its port there reaches it here
 pub reach_by : (f g : Ports) (way more ts : List Token) → ((w i p : ℕ) → Reaches f way w i p → Reaches g more w i p) → AllReach f way ts → AllReach g more ts

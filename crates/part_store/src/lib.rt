@@ -13,6 +13,7 @@ pub mod parts;
 pub mod queues;
 pub mod quiet;
 mod run;
+mod way;
 
 pub use finish::{PartEnd, PartFinish};
 pub use part::PartBuffer;

@@ -1,8 +1,10 @@
-//! A run of an image on one thread, over one table and one buffer with partial store queues.
+//! A run of an image on one thread, over one table and one buffer with partial store queues. Tokens are brought
+//! in rounds: what comes of the tokens of a round is brought after the last of them, so all that is on the way
+//! comes in turn.
 
 ghost use Rattle.std.specs.Prelude.{◌≡◌, ◌+◌, ◌≤◌, ◌++◌, ◌∷◌, List, [], Option, true, length};
 ghost use Rattle.std.specs.Prelude.{MatchOption, OnOk};
-ghost use Rattle.ws_isa.specs.Image.{instr_at};
+ghost use Rattle.ws_isa.specs.Image.{Token as Plain, instr_at};
 ghost use Rattle.core_law.specs.Shown.{Tables};
 ghost use Rattle.match_table.specs.Tables.{part};
 ghost use Rattle.port_set.specs.Ports.{Told};
@@ -11,26 +13,29 @@ ghost use Rattle.store_buf.specs.Outdoors.{AllBegan, AllTell, began_of, world_wi
 ghost use Rattle.part_store.specs.declared.finish.PartFinish.TheVariants as finish;
 ghost use Rattle.part_store.specs.Parted.{is_store_op};
 ghost use Rattle.part_store.specs.Answer.{PartTells};
-ghost use Rattle.part_store.specs.Runs.{Covers, EndingSo, IsGoing, IsOffered, IsWhole, Paid, PaidWhile};
+ghost use Rattle.part_store.specs.Runs.{EndingSo, IsGoing, IsWhole, Paid, PaidWhile};
 
 use crate::finish::{Ending, PartEnd, PartFinish, finish};
 use crate::part::PartBuffer;
+use crate::way::{offer, take, take_all};
 use df_job::{Code, Job, Request, Token, TokenList, start};
 use image_walk::Checked;
 use match_table::{Accept, Table};
 use port_set::{Port, Slots};
 use std::alloc::Global;
 use std::marker::Brand;
-use store_buf::{BufFault, told_ports_begin};
+use store_buf::told_ports_begin;
 use ws_isa::Op;
 use ws_words::{NoMemory, Words};
 
-// A table, a buffer, and the tokens on the way.
+// A table, a buffer, and the tokens on the way: those of this round, and what came of those that were
+// taken of it.
 #[derive(Drop)]
 struct Run<J: Job, P: Port> {
     table: Table<J>,
     buffer: PartBuffer<J, P>,
     way: TokenList<J>,
+    next: TokenList<J>,
 }
 
 /// Runs an image on one thread, until the whole walk has been run, so many instances have fired, the
@@ -115,6 +120,7 @@ fn run_from<J: Job, P: Port>(
         table: Table::new(alloc),
         buffer,
         way: TokenList::empty(alloc),
+        next: TokenList::empty(alloc),
     };
     let ending = match start(alloc, code) {
         Ok(pulse) => {
@@ -145,7 +151,8 @@ fn run_on<J: Job, P: Port>(
     budget: u64,
 ) -> Ending
     requires within { length run.old.table.fired ≤ budget }
-    requires paid { PaidWhile J.image (part run.old.table) run.old.buffer run.old.way }
+    requires paid { PaidWhile J.image (part run.old.table) run.old.buffer
+        (run.old.next ++ run.old.way) }
     ensures within { length run.new.table.fired ≤ budget }
     ensures ended { EndingSo J.image J.world budget run.new.table run.new.buffer result }
 {
@@ -157,7 +164,7 @@ fn run_on<J: Job, P: Port>(
     Ending::Stopped
 }
 
-// Brings the last token to the table, if the run goes on.
+// Brings a token of the round to the table, if the run goes on.
 fn step<J: Job, P: Port>(
     alloc: Global,
     code: &Code<'_, J>,
@@ -165,16 +172,18 @@ fn step<J: Job, P: Port>(
     budget: u64,
 ) -> Option<Ending>
     requires within { length run.old.table.fired ≤ budget }
-    requires paid { PaidWhile J.image (part run.old.table) run.old.buffer run.old.way }
+    requires paid { PaidWhile J.image (part run.old.table) run.old.buffer
+        (run.old.next ++ run.old.way) }
     ensures within { length run.new.table.fired ≤ budget }
     ensures paid { MatchOption result
-        (PaidWhile J.image (part run.new.table) run.new.buffer run.new.way)
+        (PaidWhile J.image (part run.new.table) run.new.buffer
+            (run.new.next ++ run.new.way))
         (λ ending. EndingSo J.image J.world budget run.new.table run.new.buffer ending) }
 {
     if run.buffer.stop().is_some() {
         return Some(Ending::Stopped);
     }
-    let Some(token) = run.way.pop() else {
+    let Some(token) = take(&mut run.way, &mut run.next) else {
         return Some(Ending::Whole);
     };
     if run.table.holds(token.wave(), token.instr(), token.port()) {
@@ -196,10 +205,12 @@ fn bring<J: Job, P: Port>(
     run: &mut Run<J, P>,
     token: Token<J>,
 ) -> Result<(), NoMemory>
-    requires paid { Paid J.image (part run.old.table) run.old.buffer (run.old.way ++ token ∷ []) }
+    requires paid { Paid J.image (part run.old.table) run.old.buffer
+        (run.old.next ++ run.old.way ++ token ∷ []) }
     ensures fired { length run.new.table.fired ≤ length run.old.table.fired + 1 }
     ensures paid { OnOk result
-        (PaidWhile J.image (part run.new.table) run.new.buffer run.new.way) }
+        (PaidWhile J.image (part run.new.table) run.new.buffer
+            (run.new.next ++ run.new.way)) }
 {
     let _ = code.program();
     let _ = token.wave();
@@ -207,11 +218,11 @@ fn bring<J: Job, P: Port>(
     let address = address_of(code, &token);
     match run.table.accept(alloc, code, token) {
         Ok(Accept::Waits) => match address {
-            Some(token) => tell(code, &mut run.buffer, &mut run.way, token),
+            Some(token) => tell(code, &mut run.buffer, &mut run.next, token),
             None => Ok(()),
         },
-        Ok(Accept::Fires(tokens)) => take_all(tokens, &mut run.way),
-        Ok(Accept::Asks(request)) => ask(code, &mut run.buffer, &mut run.way, request),
+        Ok(Accept::Fires(tokens)) => take_all(tokens, &mut run.next),
+        Ok(Accept::Asks(request)) => ask(code, &mut run.buffer, &mut run.next, request),
         Err(_) => Err(NoMemory),
     }
 }
@@ -220,33 +231,35 @@ fn bring<J: Job, P: Port>(
 fn tell<J: Job, P: Port>(
     code: &Code<'_, J>,
     buffer: &mut PartBuffer<J, P>,
-    way: &mut TokenList<J>,
+    next: &mut TokenList<J>,
     token: Token<J>,
 ) -> Result<(), NoMemory>
     requires store { is_store_op (instr_at J.image token.instr).op ≡ true }
     requires port { token.port ≡ 0 }
-    ensures paid { OnOk result ((t : Tables) → Paid J.image t buffer.old way.old
-        → PaidWhile J.image t buffer.new way.new) }
+    ensures paid { OnOk result ((t : Tables) (others : List Plain)
+        → Paid J.image t buffer.old (next.old ++ others)
+        → PaidWhile J.image t buffer.new (next.new ++ others)) }
 {
     let answer = buffer.address(code, token);
-    offer(answer, way)
+    offer(answer, next)
 }
 
 // Brings a request to the buffer.
 fn ask<J: Job, P: Port>(
     code: &Code<'_, J>,
     buffer: &mut PartBuffer<J, P>,
-    way: &mut TokenList<J>,
+    next: &mut TokenList<J>,
     request: Request<J>,
 ) -> Result<(), NoMemory>
-    ensures paid { OnOk result ((t : Tables) → Paid J.image t buffer.old way.old
-        → PaidWhile J.image t buffer.new way.new) }
+    ensures paid { OnOk result ((t : Tables) (others : List Plain)
+        → Paid J.image t buffer.old (next.old ++ others)
+        → PaidWhile J.image t buffer.new (next.new ++ others)) }
     ensures asked { OnOk result (IsGoing buffer.new
         → IsWhole buffer.new request.wave request.instr) }
 {
     buffer.facts();
     let answer = buffer.submit(code, request);
-    offer(answer, way)
+    offer(answer, next)
 }
 
 // The same token once more, where it is the address of a store.
@@ -264,30 +277,4 @@ fn address_of<J: Job>(code: &Code<'_, J>, token: &Token<J>) -> Option<Token<J>>
         }
         _ => None,
     }
-}
-
-// Puts what a buffer answered on the way. Where the buffer is stopped it tells so itself.
-fn offer<J: Job>(
-    answer: Result<TokenList<J>, BufFault>,
-    way: &mut TokenList<J>,
-) -> Result<(), NoMemory>
-    ensures { OnOk result (IsOffered answer way.old way.new) }
-{
-    match answer {
-        Ok(tokens) => take_all(tokens, way),
-        Err(BufFault::NoMemory) => Err(NoMemory),
-        Err(_) => Ok(()),
-    }
-}
-
-// Puts all tokens of a list on the way.
-fn take_all<J: Job>(tokens: TokenList<J>, way: &mut TokenList<J>) -> Result<(), NoMemory>
-    ensures old { OnOk result (Covers way.old way.new) }
-    ensures taken { OnOk result (Covers tokens way.new) }
-{
-    let mut rest = tokens;
-    while let Some(token) = rest.pop() {
-        way.push(token)?;
-    }
-    Ok(())
 }

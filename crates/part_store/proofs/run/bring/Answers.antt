@@ -1,4 +1,4 @@
-use Rattle.std.proofs.Common.{ℕ, subst}
+use Rattle.std.proofs.Common.{ℕ, ◌++◌, subst}
 use Rattle.match_table.specs.declared.table.Accept.TheVariants.{Waits, Fires, Asks}
 use Rattle.match_table.specs.Matching.{Accepted}
 use Rattle.match_table.specs.Tables.{part}
@@ -6,6 +6,7 @@ use Rattle.part_store.specs.Runs.{IsWhole}
 use Rattle.part_store.proofs.Bringing.{both_ok}
 use Rattle.part_store.proofs.Coming.{map_ok}
 use Rattle.part_store.proofs.Paying.{not_fired, taken_waits, taken_fires, taken_asks}
+use Rattle.part_store.proofs.Reaching.{covers_beside, covers_wider}
 use Rattle.part_store.proofs.run.bring.Goals as goal
 
 pub returns-in-Some-clause-paid : goal.returns-in-Some-clause-paid
@@ -17,7 +18,7 @@ returns-in-Some-clause-paid g c =
     let answer : Accepted {J = g.row.J.Denot} image old x c.accept.new.self Waits =
     subst (λ a. Accepted {J = g.row.J.Denot} image old x c.accept.new.self a) c.in-Ok-Waits.field-0-is c.in-Ok-Waits.ensures.answer in
     let fresh = not_fired image world c.program.ensures.formed c.program.ensures.sound (part old) c.facts.ensures.part x c.wave.ensures.right answer.0.free in
-    map_ok c.tell.result (λ tell. tell (part c.accept.new.self) (taken_waits image old x c.accept.new.self answer.0 fresh c.args.run.now.buffer c.args.run.now.way c.requires.paid answer.2)) c.tell.ensures.paid
+    map_ok c.tell.result (λ tell. tell (part c.accept.new.self) c.args.run.now.way (taken_waits image old x c.accept.new.self answer.0 fresh c.args.run.now.buffer (c.args.run.now.next ++ c.args.run.now.way) c.requires.paid answer.2)) c.tell.ensures.paid
 
 pub returns-in-None-clause-paid : goal.returns-in-None-clause-paid
 returns-in-None-clause-paid g c = λ going.
@@ -28,7 +29,7 @@ returns-in-None-clause-paid g c = λ going.
     let answer : Accepted {J = g.row.J.Denot} image old x c.accept.new.self Waits =
     subst (λ a. Accepted {J = g.row.J.Denot} image old x c.accept.new.self a) c.in-Ok-Waits.field-0-is c.in-Ok-Waits.ensures.answer in
     let fresh = not_fired image world c.program.ensures.formed c.program.ensures.sound (part old) c.facts.ensures.part x c.wave.ensures.right answer.0.free in
-    taken_waits image old x c.accept.new.self answer.0 fresh c.args.run.now.buffer c.args.run.now.way c.requires.paid answer.2
+    taken_waits image old x c.accept.new.self answer.0 fresh c.args.run.now.buffer (c.args.run.now.next ++ c.args.run.now.way) c.requires.paid answer.2
 
 pub returns-in-Ok-Fires-clause-paid : goal.returns-in-Ok-Fires-clause-paid
 returns-in-Ok-Fires-clause-paid g c =
@@ -40,8 +41,9 @@ returns-in-Ok-Fires-clause-paid g c =
     subst (λ a. Accepted {J = g.row.J.Denot} image old x c.accept.new.self a) c.in-Ok-Fires.field-0-is c.in-Ok-Fires.ensures.answer in
     let fresh = not_fired image world c.program.ensures.formed c.program.ensures.sound (part old) c.facts.ensures.part x c.wave.ensures.right answer.0.free in
     let full = answer.1 in
-    both_ok c.take_all.result (λ keep sent going. taken_fires image old x c.accept.new.self answer.0 fresh c.args.run.now.buffer c.args.run.now.way c.requires.paid
-    c.take_all.new.way c.in-Ok-Fires.tokens full.0 full.1 full.2.0 full.2.1 keep sent) c.take_all.ensures.old c.take_all.ensures.taken
+    both_ok c.take_all.result (λ keep sent going. taken_fires image old x c.accept.new.self answer.0 fresh c.args.run.now.buffer (c.args.run.now.next ++ c.args.run.now.way) c.requires.paid
+    (c.take_all.new.way ++ c.args.run.now.way) c.in-Ok-Fires.tokens full.0 full.1 full.2.0 full.2.1
+    (covers_beside c.args.run.now.next c.take_all.new.way c.args.run.now.way keep) (covers_wider c.in-Ok-Fires.tokens c.take_all.new.way c.args.run.now.way sent)) c.take_all.ensures.old c.take_all.ensures.taken
 
 pub returns-in-Ok-Asks-clause-paid : goal.returns-in-Ok-Asks-clause-paid
 returns-in-Ok-Asks-clause-paid g c =
@@ -53,6 +55,6 @@ returns-in-Ok-Asks-clause-paid g c =
     subst (λ a. Accepted {J = g.row.J.Denot} image old x c.accept.new.self a) c.in-Ok-Asks.field-0-is c.in-Ok-Asks.ensures.answer in
     let fresh = not_fired image world c.program.ensures.formed c.program.ensures.sound (part old) c.facts.ensures.part x c.wave.ensures.right answer.0.free in
     let full = answer.1 in
-    both_ok c.ask.result (λ tell whole going. taken_asks image old x c.accept.new.self answer.0 fresh c.args.run.now.buffer c.args.run.now.way c.requires.paid
-    c.ask.new.buffer c.ask.new.way full.0 full.1 full.2.0 (λ t paid. tell t paid going)
+    both_ok c.ask.result (λ tell whole going. taken_asks image old x c.accept.new.self answer.0 fresh c.args.run.now.buffer (c.args.run.now.next ++ c.args.run.now.way) c.requires.paid
+    c.ask.new.buffer (c.ask.new.next ++ c.args.run.now.way) full.0 full.1 full.2.0 (λ t paid. tell t c.args.run.now.way paid going)
     (subst (λ (k : ℕ × ℕ). IsWhole c.ask.new.buffer k.0 k.1) (λ j. (full.2.1 j, full.2.2 j)) (whole going))) c.ask.ensures.paid c.ask.ensures.asked

@@ -1,7 +1,7 @@
 use Rattle.std.proofs.Common.{◌⊎◌, ℕ, length}
 use Rattle.core_law.specs.Core.{IsSent}
 use Rattle.part_store.specs.Runs.{Covers}
-use Rattle.part_store.proofs.run.take_all.Given as goal
+use Rattle.part_store.proofs.way.take_all.Given as goal
 
 abbrev pub invariant-loop-token : goal.invariant-loop-token
 invariant-loop-token g l = Covers l.initial.way l.way × ((w i p v : ℕ) → IsSent l.fn.tokens w i p v → IsSent l.way w i p v ⊎ IsSent l.rest w i p v)

@@ -1,5 +1,5 @@
 use Rattle.part_store.proofs.Reaching.{covers_push, taken_on}
-use Rattle.part_store.proofs.run.take_all.Goals as goal
+use Rattle.part_store.proofs.way.take_all.Goals as goal
 
 pub loop-token-preserved : goal.loop-token-preserved
 loop-token-preserved g c =
