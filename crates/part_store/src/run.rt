@@ -1,6 +1,6 @@
-//! A run of an image on one thread, over one table and one buffer with partial store queues. Tokens are brought
-//! in rounds: what comes of the tokens of a round is brought after the last of them, so all that is on the way
-//! comes in turn.
+//! A run of an image on one thread, over one table and one buffer with partial store queues. Tokens are
+//! brought in rounds: what comes of the tokens of a round is brought after the last of them, so all that
+//! is on the way comes in turn.
 
 ghost use Rattle.std.specs.Prelude.{◌≡◌, ◌+◌, ◌≤◌, ◌++◌, ◌∷◌, List, [], Option, true, length};
 ghost use Rattle.std.specs.Prelude.{MatchOption, OnOk};
@@ -177,7 +177,7 @@ fn step<J: Job, P: Port>(
     ensures within { length run.new.table.fired ≤ budget }
     ensures paid { MatchOption result
         (PaidWhile J.image (part run.new.table) run.new.buffer
-            (run.new.next ++ run.new.way))
+        (run.new.next ++ run.new.way))
         (λ ending. EndingSo J.image J.world budget run.new.table run.new.buffer ending) }
 {
     if run.buffer.stop().is_some() {
@@ -210,7 +210,7 @@ fn bring<J: Job, P: Port>(
     ensures fired { length run.new.table.fired ≤ length run.old.table.fired + 1 }
     ensures paid { OnOk result
         (PaidWhile J.image (part run.new.table) run.new.buffer
-            (run.new.next ++ run.new.way)) }
+        (run.new.next ++ run.new.way)) }
 {
     let _ = code.program();
     let _ = token.wave();
