@@ -16,7 +16,7 @@ use Rattle.wsc_top.specs.declared.task.Task.TheVariants.{Assembly}
 use Rattle.wsc_top.specs.declared.task.AssemblyTask.{AssemblyTask}
 use Rattle.wsc_top.specs.declared.task.AssemblyTask.TheVariants as task
 use Rattle.wsc_top.specs.declared.task.Report.TheVariants.{Full}
-use Rattle.wsc_top.specs.Tasks.{IsLine, task_of, task_by, options_of, grid_options}
+use Rattle.wsc_top.specs.Tasks.{IsLine, task_of, task_by, options_of, decoupled_options, grid_options}
 use Rattle.wsc_top.specs.Executions.{EndsRun}
 use Rattle.wsc_top.specs.Clocked.{InRange, TaskInRange, clocked_status}
 use Rattle.wsc_top.proofs.Replays.{no_fault}
@@ -59,7 +59,7 @@ task_in_range command.Replay given ranges t e = let same : task.Replay ≡ t = c
 task_in_range command.Gen given ranges t e = absurd cc
 task_in_range command.Bench given ranges t e = absurd cc
 task_in_range command.Multi given ranges t e = absurd cc
-task_in_range command.Decouple given ranges t e = absurd cc
+task_in_range command.Decouple given ranges t e = let same : task.Exec (decoupled_options (line_of command.Decouple given)) ≡ t = cc in subst TaskInRange same tt
 task_in_range command.Grid given ranges t e = let same : task.Grid (grid_options (line_of command.Grid given)) ≡ t = cc in subst TaskInRange same (given_in_range given ranges)
 
 -- a line asks for no other grid

@@ -1,5 +1,5 @@
 -- What the program does for a line of the command line, of what is built so far.
-use Rattle.std.specs.Prelude.{◌≡◌, ℕ, List, Option, Some, None}
+use Rattle.std.specs.Prelude.{◌≡◌, ℕ, true, false, List, Option, Some}
 use Rattle.wsc_words.specs.Lines as lines
 use Rattle.wsc_words.specs.declared.line.Line.{Line}
 use Rattle.wsc_words.specs.declared.command.Command.{Command}
@@ -15,8 +15,21 @@ use Rattle.wsc_top.specs.declared.task.AssemblyTask.TheVariants as assembly
 
 -- how a line asks for a run of which this is told
 abbrev pub options_of : Line → Report → RunOptions
-options_of line report =
-    record { workers = line.workers; budget = line.budget; report = report }
+options_of line report = record {
+  workers = line.workers;
+  decoupled = false;
+  budget = line.budget;
+  report = report;
+}
+
+-- how a line asks for a run with decoupled stores
+abbrev pub decoupled_options : Line → RunOptions
+decoupled_options line = record {
+  workers = 1;
+  decoupled = true;
+  budget = line.budget;
+  report = Full line.memory line.stats;
+}
 
 -- how a line asks for a run on a grid
 abbrev pub grid_options : Line → GridOptions
@@ -48,7 +61,7 @@ task_by command.Gen line = Some (Generate line.number)
 task_by command.Bench line =
     Some (Bench (record { number = line.number; run = options_of line Brief }))
 task_by command.Multi line = Some (Multi (options_of line (Full line.memory line.stats)))
-task_by command.Decouple line = None
+task_by command.Decouple line = Some (Assembly (assembly.Exec (decoupled_options line)))
 
 -- what a line asks for, where that is built
 abbrev pub task_of : Line → Option Task

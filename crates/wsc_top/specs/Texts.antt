@@ -36,7 +36,7 @@ abbrev pub budget_line : List ℕ
 budget_line = codes "budget\n"
 
 abbrev pub usage_text : List ℕ
-usage_text = codes "usage: wsc run|plain|format|compile|check|exec|list|trace|replay|gen|bench|multi|grid [--workers N] [--budget N] [--turns N] [--elements N] [--waves N] [--memory] [--stats] [NUMBER]\n"
+usage_text = codes "usage: wsc run|plain|format|compile|check|exec|list|trace|replay|gen|bench|multi|decouple|grid [--workers N] [--budget N] [--turns N] [--elements N] [--waves N] [--memory] [--stats] [NUMBER]\n"
 
 abbrev pub unread_text : List ℕ
 unread_text = codes "fault read\n"

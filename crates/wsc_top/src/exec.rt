@@ -1,17 +1,23 @@
 //! The run of an image.
 
-ghost use Rattle.std.specs.Prelude.{◌≡◌, [], Some, IfOk, OnErr};
+ghost use Rattle.std.specs.Prelude.{◌≡◌, ℕ, List, [], Option, Some, IfOk, OnErr};
+ghost use Rattle.ws_words.specs.Outside.{World};
+ghost use Rattle.ws_isa.specs.Image.{Image};
+ghost use Rattle.port_set.specs.Ports.{Told};
 ghost use Rattle.port_set.specs.Slots.{AllOpen, contents};
-ghost use Rattle.store_buf.specs.Outdoors.{world_with};
+ghost use Rattle.store_buf.specs.Outdoors.{AllTell, world_with};
+ghost use Rattle.crew_run.specs.Answer.{CrewTells};
+ghost use Rattle.part_store.specs.Answer.{PartTells};
 ghost use Rattle.wsc_top.specs.Executions.{Executes, HasBegun};
 ghost use Rattle.wsc_top.specs.Answers.{TellWords};
 
 use crate::run_texts::answer;
 use crate::status::Status;
 use crate::task::RunOptions;
-use crew_run::run_image;
+use crew_run::{CrewFinish, RunEnd, run_image};
 use fire_crew::Gate;
 use image_walk::Checked;
+use part_store::{PartFinish, part_image};
 use port_set::{Port, Slots};
 use std::alloc::Global;
 use std::sync::Wait;
@@ -53,17 +59,7 @@ pub fn executed<P: Port + Send, G: Gate, R: Threads + Wait + Sync>(
     ensures threads { result.threads.items ≡ [] }
     ensures open { AllOpen (contents P.tells result.ports) }
 {
-    let workers = options.workers.max(1).min(MOST_WORKERS);
-    let end = run_image(
-        rt,
-        alloc,
-        &image,
-        input,
-        ports,
-        workers,
-        options.budget,
-        gate,
-    );
+    let end = run(rt, alloc, options, &image, input, ports, gate);
     let arrays = image.image().arrays.as_slice();
     let answer = answer(alloc, options.report, options.budget, arrays, &end.finish);
     Reply {
@@ -71,5 +67,81 @@ pub fn executed<P: Port + Send, G: Gate, R: Threads + Wait + Sync>(
         image: Some(image),
         threads: Vec::new(alloc),
         ports: end.ports,
+    }
+}
+
+// Runs an image by a crew, or with decoupled stores.
+fn run<P: Port + Send, G: Gate, R: Threads + Wait + Sync>(
+    rt: &R,
+    alloc: Global,
+    options: RunOptions,
+    image: &Checked,
+    input: Words,
+    ports: Slots<P>,
+    gate: &G,
+) -> RunEnd<P>
+    requires told { AllTell (contents P.tells ports) }
+    requires open { AllOpen (contents P.tells ports) }
+    ensures tells { CrewTells image.now (world_with input (contents P.tells ports))
+        (contents P.tells ports) options.budget result.finish (contents P.tells result.ports) }
+    ensures open { AllOpen (contents P.tells result.ports) }
+{
+    let budget = options.budget;
+    if options.decoupled {
+        return decoupled(alloc, image, input, ports, budget);
+    }
+    let workers = options.workers.max(1).min(MOST_WORKERS);
+    run_image(rt, alloc, image, input, ports, workers, budget, gate)
+}
+
+// Runs an image with decoupled stores.
+fn decoupled<P: Port>(
+    alloc: Global,
+    image: &Checked,
+    input: Words,
+    ports: Slots<P>,
+    budget: u64,
+) -> RunEnd<P>
+    requires told { AllTell (contents P.tells ports) }
+    requires open { AllOpen (contents P.tells ports) }
+    ensures tells { CrewTells image.now (world_with input (contents P.tells ports))
+        (contents P.tells ports) budget result.finish (contents P.tells result.ports) }
+    ensures open { AllOpen (contents P.tells result.ports) }
+{
+    let end = part_image(alloc, image, input, ports, budget);
+    RunEnd {
+        finish: as_of_a_crew(end.finish),
+        ports: end.ports,
+    }
+}
+
+// The end of a run, as one of a crew.
+fn as_of_a_crew(finish: PartFinish) -> CrewFinish
+    ensures { (image : Image) (world : World) (handed : List (Option Told)) (budget : ℕ)
+        (back : List (Option Told)) → PartTells image world handed budget finish back
+        → CrewTells image world handed budget result back }
+{
+    match finish {
+        PartFinish::Done {
+            printed,
+            arrays,
+            fired,
+        } => CrewFinish::Done {
+            printed,
+            arrays,
+            fired,
+        },
+        PartFinish::Budget { printed, fired } => CrewFinish::Budget { printed, fired },
+        PartFinish::Fault {
+            array,
+            printed,
+            arrays,
+        } => CrewFinish::Fault {
+            array,
+            printed,
+            arrays,
+        },
+        PartFinish::Port { port, printed } => CrewFinish::Port { port, printed },
+        PartFinish::NoMemory => CrewFinish::NoMemory,
     }
 }

@@ -1,7 +1,7 @@
 //! What a line of the command line asks for.
 
 ghost use Rattle.std.specs.Prelude.{◌≡◌, map, string_bytes, IfOk, IfSome, IfNone};
-ghost use Rattle.wsc_top.specs.Tasks.{task_of, options_of, grid_options, IsLine, IsNoLine};
+ghost use Rattle.wsc_top.specs.Tasks.{task_of, options_of, decoupled_options, grid_options, IsLine, IsNoLine};
 ghost use Rattle.wsc_top.specs.declared.task.Report.TheVariants.{Full};
 
 use std::alloc::Global;
@@ -38,6 +38,9 @@ pub enum Report {
 pub struct RunOptions {
     /// How many workers bring tokens, from 1 to 8.
     pub workers: u32,
+    /// Whether one thread brings them instead, to a buffer in which a store's address may come before its
+    /// data.
+    pub decoupled: bool,
     /// The most instances that may fire.
     pub budget: u64,
     /// What is told of it.
@@ -118,8 +121,21 @@ fn options_of(line: &Line, report: Report) -> RunOptions
 {
     RunOptions {
         workers: line.workers,
+        decoupled: false,
         budget: line.budget,
         report,
+    }
+}
+
+// How a line asks for a run with decoupled stores.
+fn decoupled_options(line: &Line) -> RunOptions
+    ensures { result ≡ decoupled_options line.now }
+{
+    RunOptions {
+        workers: 1,
+        decoupled: true,
+        budget: line.budget,
+        report: full(line),
     }
 }
 
@@ -171,7 +187,7 @@ fn task_of(line: &Line) -> Option<Task>
             run: options_of(line, Report::Brief),
         })),
         Command::Multi => Some(Task::Multi(options_of(line, full(line)))),
-        Command::Decouple => None,
+        Command::Decouple => Some(Task::Assembly(AssemblyTask::Exec(decoupled_options(line)))),
     }
 }
 

@@ -20,7 +20,7 @@ use ws_words::{Bytes, Cells, NoMemory, Words};
 
 /// The line that says which command lines there are.
 pub const USAGE: &[u8] =
-    b"usage: wsc run|plain|format|compile|check|exec|list|trace|replay|gen|bench|multi|grid \
+    b"usage: wsc run|plain|format|compile|check|exec|list|trace|replay|gen|bench|multi|decouple|grid \
     [--workers N] [--budget N] [--turns N] [--elements N] [--waves N] [--memory] [--stats] [NUMBER]\n";
 
 /// The answer where reading failed.

@@ -9,8 +9,8 @@ pub returns-clause-executes : goal.returns-clause-executes
 returns-clause-executes g c =
     let arrays : map view.array c.as_slice-arrays.result.now ≡ c.args.image.arrays = ap (map view.array) c.as_slice-arrays.ensures.value ∙ ap (λ i. i.arrays) c.image.ensures.image in
     executed_so c.args.options c.args.image (world_with c.args.input (contents g.P.Port.tells c.args.ports)) (contents g.P.Port.tells c.args.ports) _ _ _ _
-    c.run_image-end.ensures.tells arrays c.answer-answer.ensures
+    c.run-end.ensures.tells arrays c.answer-answer.ensures
 
 pub returns-clause-begun : goal.returns-clause-begun
 returns-clause-begun g c =
-    where_failed _ _ (run_begun c.args.options c.args.image (world_with c.args.input (contents g.P.Port.tells c.args.ports)) (contents g.P.Port.tells c.args.ports) _ c.args.options.budget _ c.run_image-end.ensures.tells)
+    where_failed _ _ (run_begun c.args.options c.args.image (world_with c.args.input (contents g.P.Port.tells c.args.ports)) (contents g.P.Port.tells c.args.ports) _ c.args.options.budget _ c.run-end.ensures.tells)
