@@ -3,6 +3,7 @@
 
     bench/edits.py             those of the crates whose contracts have changed since they were last tried
     bench/edits.py --all       those of every crate
+    bench/edits.py --fit       none: only whether each can be applied, and of which crates they are due
     bench/edits.py NAME..      those of these crates
 
 The edits of crates/*/must-fail are tried by every run of the gate. Those of edits/NAME are tried here, each in the
@@ -96,6 +97,7 @@ def main():
     parser = argparse.ArgumentParser(description=__doc__, formatter_class=argparse.RawDescriptionHelpFormatter)
     parser.add_argument("names", nargs="*", metavar="NAME", help="a crate that has edits")
     parser.add_argument("--all", action="store_true", help="the edits of every crate")
+    parser.add_argument("--fit", action="store_true", help="try none")
     args = parser.parse_args()
     every = sorted(path.name for path in EDITS.iterdir() if path.is_dir())
     strange = [name for name in args.names if name not in every]
@@ -106,6 +108,9 @@ def main():
     tried = read_tried()
     sums = {name: checksum(name) for name in every}
     wanted = every if args.all else args.names or [it for it in every if tried.get(it) != sums[it]]
+    if args.fit:
+        print(f"{len(every)} crates, {len(bad)} misfits, due: {' '.join(wanted) or 'none'}")
+        return 1 if bad else 0
     refused = []
     for name in are_refused(wanted) if wanted else []:
         refused.append(name)
