@@ -1,22 +1,19 @@
 //! From source to control graph.
 //!
-//! `lower` makes the control graph of an accepted program, and fails for want of memory alone. Its
-//! contract says
-//!
-//! - that the walk of the graph is the run of the program that passes loads and stores past the
-//!   end, turn by turn, and shows all of it (`KeepsRun` and `ShowsRun` in specs/Keeps.antt);
-//! - that its arrays are those of the program (`arrays_of` there) and none is hidden, so that none
-//!   that is hidden is loaded or stored past its end (`StaysInside` of cfg_core);
-//! - what later passes rest on: the parameters and variables of its procedures (`rooms_of` in
-//!   specs/Keeps.antt), the rules of graphs (`IsGraph` of cfg_core), operations and exits of the
-//!   first form alone (`IsFirstForm`), and the order of its blocks and the edges between them
-//!   (`IsShaped` of cfg_core);
-//! - what turns pay for (`TwoBlocksATurn` and `TurnsPayWork` of cfg_core), and how large the graph is
-//!   (`IsSized` and `IsSmall` in specs/Sizes.antt).
-//!
-//! Which blocks there are is not promised. They stand in the order of the text, and each statement
-//! and each test takes its turn in front of what it does: specs/Lowered.antt has them for whole
-//! programs, and specs/Building.antt as the code makes them, one after another.
+//! `lower` gives a control graph of an accepted program: **in every world and after every number of turns**
+//! its walk has ended exactly where the run has that passes loads and stores past the end, or is going
+//! exactly where that run is, with the same acts in the same order (so the same printed words and the same
+//! words of ports), the same arrays, input and words of ports left (`run`, `shown`); its arrays are the
+//! program's, by name and length, none is hidden, and no load or store of a hidden array goes past an end
+//! (`arrays`, `inside`); it keeps the six rules of graphs (`rules`); its procedures have the program's
+//! parameters and variables (`procs`); it has no operation and no exit of later passes, and each of its ticks
+//! takes one turn (`form`); each edge leads to a later block, but for a `Goto` back to a loop's header, which
+//! takes a turn and branches, and the two edges of a branch lead to two blocks that no other edge enters
+//! (`shape`); its walk passes at most two blocks for each turn, and one more (`turns`, by the law on
+//! weights); each act, test and call has a turn of its own, and for each turn a block has at most the nodes
+//! of the widest statement, with one more for a missing `return` (`work`); it has exactly the blocks,
+//! operations, nodes and turns that the program's statements count for (`size`), and within the limits of the
+//! language few (`small`).
 #![tactic(auto)]
 
 mod arrays;

@@ -1,7 +1,10 @@
 //! The control graph of a program and its walk.
 //!
-//! The definitions stand in specs/: the graph as plain data, its walk, the rules of a graph, and
-//! what its acts show to others.
+//! Control graphs and their walk: `run_graph` says that a run ended exactly where the walk ends within the
+//! turns, with what it leaves, and never answers a fault; a walk comes to an end or to its last turn
+//! (`walks_answer`), its turns are exact (`turns_are_exact`), where no array is hidden it shows all that it
+//! does and leaves (`nothing_hidden`), and the blocks that it passes weigh at most what a potential of the
+//! blocks and its turns pay, for any weights of blocks (`weights_are_paid`).
 #![tactic(auto)]
 
 pub mod blocks;

@@ -1,4 +1,13 @@
-// The laws of the core, over definitions.
+//! The laws of the core, over definitions.
+//!
+//! The law of a core that makes events in any order: a match of a token on its way, or an issue of a request
+//! that waits. From the opening state of a formed and sound image every list of events leads to a state that
+//! is fit and grounded, in which each instance has fired once at most (`reach`); each enabled event can be
+//! made, in one way (`makes`, `alone`), and keeps states fit (`kept`); a fit state at rest has fired every
+//! instance of the walk and issued every operation, or its chain is stopped at the walk's first load or store
+//! past the end (`rest`, `stopped`); **whatever the order, memory is the same at rest** (`determined`). How
+//! many have fired is counted beside the walk (`counts`); what tables and a buffer stand for between locks is
+//! fit (`shown_is_fit`), and at rest where they owe nothing (`owing_nothing_is_rest`).
 #![tactic(auto)]
 
 ghost use Rattle.std.specs.Prelude.{◌≡◌, ◌≤◌, ◌<◌, ◌⊎◌, ℕ, suc, List, length, Some, true, false};

@@ -1,4 +1,9 @@
 //! A crew of workers that fire the instances of a job.
+//!
+//! `phase` gives tables and buffer back: whatever the workers did, each table serves its own instances, has
+//! kept within its limit, and has lost nothing: what it held it holds, and its list of those that fired goes
+//! on behind what was there (`AllGrow`). What is right of tokens, requests, tables and the buffer is a fact
+//! of their types. No clause says that any token was brought, or that the gate was called: tests show it.
 #![tactic(auto)]
 
 pub mod follow;

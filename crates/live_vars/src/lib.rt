@@ -1,8 +1,8 @@
-//! Live variables: for each block of a control graph those that some path from its start reads
-//! before it writes them.
+//! Live variables: for each block of a control graph those that some path from its start reads before it
+//! writes them.
 //!
-//! The definition stands in specs/Live.antt. The sets are kept as planes of words: a plane has a
-//! word for each block and 64 variables.
+//! `live` gives, for every graph, exactly the variables that some path from a block's start reads before it
+//! writes them (`AreLive`); `has` answers by it.
 #![tactic(auto)]
 
 mod block;

@@ -1,4 +1,14 @@
 //! The sequential run of a program, over a tree with numbers for names.
+//!
+//! `run_plain` says that a run ended exactly where the sequential run ends within the turns, with what it
+//! printed, its arrays, what its ports took and its number of turns; that it met an index fault exactly where
+//! the sequential run meets its first one within them, with the array, the turn, and all that stood before
+//! that act; and otherwise what it printed in exactly so many turns. With each number of turns exactly one of
+//! the three is so (`one_answer`), and what a run leaves is what its acts leave (`acts_tell_all`). `resolve`
+//! puts numbers in place of names: each names something, each call names an earlier procedure and has as many
+//! values as that has parameters, and procedures, parameters, variables, array lengths and statements keep
+//! the language's limits; a run over numbers is the run over names (`names_are_places`), its turns are exact
+//! (`turns_are_exact`), and no part of it leaves more turns than it was given (`turns_never_grow`).
 #![tactic(auto)]
 
 ghost use Rattle.std.specs.Prelude.{◌≡◌, ◌+◌, ◌≤◌, ℕ, List};

@@ -1,7 +1,11 @@
 //! The tree of a program, its lexemes, and what is wrong with a text.
 //!
-//! The definitions of the source language stand in specs/: lexemes, grammar, faults and the
-//! sequential meaning.
+//! `print_program` gives the printed form; `bound_of` the bound, for programs that are written and accepted
+//! (`written_is_narrow`, `accepted_has_few_variables`); a program that is read and accepted is written
+//! (`read_is_written`), and the printed form of a written program has lexemes within the limits whose tree is
+//! the same program (`printed_reads_the_same`); programs that differ in places alone print, run and are
+//! accepted alike (`same_programs_are_printed_alike`, `same_programs_run_alike`,
+//! `same_programs_are_accepted_alike`).
 #![tactic(auto)]
 
 mod bound;

@@ -1,4 +1,7 @@
 //! Names, kinds, counts and limits: which programs are accepted.
+//!
+//! `check` answers exactly the programs that keep all rules, and otherwise the first rule that isn't kept, at
+//! its place; each program is accepted or has one first broken rule (`each_program_is_checked_once`).
 #![tactic(auto)]
 
 mod accepted;

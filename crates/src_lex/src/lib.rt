@@ -1,4 +1,8 @@
 //! The lexemes of a text, or its first fault.
+//!
+//! `lex` answers exactly the lexemes of the text where they keep the limits, and otherwise its first fault at
+//! its place; each text has exactly one of the two (`each_text_is_lexed_once`); a program whose printed form
+//! has lexemes within the limits and reads as the same program is written (`what_reads_the_same_is_written`).
 #![tactic(auto)]
 
 mod class;

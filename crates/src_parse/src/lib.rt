@@ -1,4 +1,7 @@
 //! The tree that a program's lexemes spell, or the place where they are wrong.
+//!
+//! `parse` answers exactly the tree of the lexemes, and otherwise the first lexeme that no program continues,
+//! or the text's end; lexemes have exactly one tree or one such place (`lexemes_are_parsed_once`).
 #![tactic(auto)]
 
 mod expression;

@@ -1,8 +1,14 @@
 //! From an accepted program to an image, and what follows from the contracts of the passes.
 //!
-//! The definitions stand in specs/: what an image does of its program (Compiled.antt), what the
-//! contracts of the passes over graphs say, in their order (Passed.antt), how large the graphs
-//! become (Small.antt), and what the walk of a program's image costs (Bounds.antt).
+//! `compile` makes the image of an accepted, written program, formed and sound. It shows the program's arrays
+//! (`arrays`). **In every world of words its walk is, as far as it shows, the run that passes loads and
+//! stores past the end**: one ends where the other does, and leaves the same acts, cells, input and words of
+//! ports; each does first what the other has done; the cost is bounded exactly where the run ends; and no
+//! hidden array is loaded or stored past its end (`walk`). Where that run ends in n turns, **the walk costs
+//! at most the program's bound for each turn, and once more** (`cost`). Numbers and ripples are as `annotate`
+//! gives them (`numbers`, `ripples`). **No no-op is in vain**: the image is that of a draft without no-ops,
+//! so each of its no-ops was added, and without it some paths of its wave can't be linked (`draft`). **No
+//! limit of images is passed, and so none is tested**.
 #![tactic(auto)]
 
 mod compiler;

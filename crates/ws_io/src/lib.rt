@@ -1,4 +1,9 @@
 //! Sources and sinks of bytes, reading and writing whole texts, and numbers in decimal digits.
+//!
+//! `read_all` answers all that is left, or says what it took and why; `write_all` adds the whole text and
+//! flushes, or a front of it where the count of faults rose, and takes no memory; `put_decimal` adds a
+//! number's digits without leading zeros, or nothing; `decimal` reads exactly the digits whose value is below
+//! 2^64; the sources and sinks over memory do exactly what they say.
 #![tactic(auto)]
 
 mod calls;

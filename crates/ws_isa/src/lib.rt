@@ -1,7 +1,8 @@
 //! Instructions and images of the WaveScalar machine.
 //!
-//! The definitions stand in specs/: the image as plain data, what the machine reads of it, and when
-//! an image is formed.
+//! `first_numbers` gives the number of each block's first instruction; `Op`'s ports, kinds and results are
+//! the definition's. Its types are the instructions, images and drafts of the machine; `specs/` has them as
+//! plain data, and says when an image is formed.
 #![tactic(auto)]
 
 mod image;

@@ -1,4 +1,8 @@
 //! Words, the operators on them, and the lists that every layer shares.
+//!
+//! `apply` is the operator's formula modulo 2^64; the lists, and lists of lists, are lists; each call of
+//! `Memory` does its act on what a run has outside its variables and gives that act's word, and `is_within`
+//! says which loads and stores are within their array.
 #![tactic(auto)]
 
 pub mod alu;
