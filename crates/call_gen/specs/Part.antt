@@ -29,15 +29,18 @@ part_block name x = record { named = x.named; ops = x.ops; exit = name x.exit }
 -- of blocks, the first of which has this number, those that are kept
 abbrev pub part_blocks : (ℕ → Bool) → (Exit → Exit) → ℕ → List Block → List Block
 part_blocks keep name b [] = []
-part_blocks keep name b (x ∷ xs) = if keep b then part_block name x ∷ part_blocks keep name (suc b) xs else part_blocks keep name (suc b) xs
+part_blocks keep name b (x ∷ xs) = if keep b then part_block name x ∷ part_blocks keep name (suc b) xs
+    else part_blocks keep name (suc b) xs
 
 abbrev pub part_proc : (ℕ → Bool) → (Exit → Exit) → ℕ → GraphProc → GraphProc
-part_proc keep name b p = record { params = p.params; vars = p.vars; blocks = part_blocks keep name b p.blocks }
+part_proc keep name b p =
+    record { params = p.params; vars = p.vars; blocks = part_blocks keep name b p.blocks }
 
 -- of procedures, the first of which begins at this block, those whose first block is kept
 abbrev pub part_procs : (ℕ → Bool) → (Exit → Exit) → ℕ → List GraphProc → List GraphProc
 part_procs keep name b [] = []
-part_procs keep name b (p ∷ ps) = if keep b then part_proc keep name b p ∷ part_procs keep name (b + length p.blocks) ps else part_procs keep name (b + length p.blocks) ps
+part_procs keep name b (p ∷ ps) = if keep b then part_proc keep name b p
+    ∷ part_procs keep name (b + length p.blocks) ps else part_procs keep name (b + length p.blocks) ps
 
 -- whether a procedure is kept, and its new number
 abbrev pub keeps : Graph → (ℕ → Bool) → ℕ → Bool
@@ -98,11 +101,15 @@ pub record Finding (g : Graph) (flags : List Bool) (waits : List ℕ) : Type 0 w
   pub main : flag_at flags (entry_of g (length g.procs - 1)) ≡ true
   pub only : (b : ℕ) → flag_at flags b ≡ true → Reached g b
   pub waiting : (b : ℕ) → In b waits → flag_at flags b ≡ true
-  pub led : (b c : ℕ) → flag_at flags b ≡ true → c < length (spots g) → Next g (block_at g b).exit c → In b waits ⊎ (flag_at flags c ≡ true)
+  pub led : (b c : ℕ) → flag_at flags b ≡ true → c < length (spots g) → Next g (block_at g b).exit c
+      → In b waits ⊎ (flag_at flags c ≡ true)
 
 -- the numbers that the part is made from
 pub record PartIs (part : Part) : Type 0 where
   pub table : TableIs part.table
   pub count : length part.flags.items ≡ length (spots (view.graph part.table.graph.now))
-  pub places : (b : ℕ) → b < length part.flags.items → slice_index part.places.items b ≡ before (flag_at part.flags.items) b
-  pub numbers : (f : ℕ) → f < length (view.graph part.table.graph.now).procs → slice_index part.numbers.items f ≡ number (view.graph part.table.graph.now) (flag_at part.flags.items) f
+  pub places : (b : ℕ) → b < length part.flags.items
+      → slice_index part.places.items b ≡ before (flag_at part.flags.items) b
+  pub numbers : (f : ℕ) → f < length (view.graph part.table.graph.now).procs
+      → slice_index part.numbers.items f ≡ number (view.graph part.table.graph.now)
+      (flag_at part.flags.items) f

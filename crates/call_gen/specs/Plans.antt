@@ -26,9 +26,13 @@ pub record PlanIs (plan : Plan) : Type 0 where
   pub few : Few (view.graph plan.table.graph.now)
   pub homes : plan.homes.items ≡ map (λ s. s.home) (spots (view.graph plan.table.graph.now))
   pub count : length plan.places.items ≡ length (spots (view.graph plan.table.graph.now))
-  pub places : (b : ℕ) → b < length (spots (view.graph plan.table.graph.now)) → slice_index plan.places.items b ≡ moved (view.graph plan.table.graph.now) b
-  pub addresses : (b : ℕ) → b < length (spots (view.graph plan.table.graph.now)) → CallPlaced (view.graph plan.table.graph.now) b (slice_index plan.addresses.items b)
-  pub called : (f : ℕ) → f < length (view.graph plan.table.graph.now).procs → slice_index_or plan.called.items f false ≡ is_called (view.graph plan.table.graph.now) f
-  pub cells : (f : ℕ) → f < length (view.graph plan.table.graph.now).procs → slice_index plan.cells.items f ≡ first_cell (view.graph plan.table.graph.now) f
+  pub places : (b : ℕ) → b < length (spots (view.graph plan.table.graph.now))
+      → slice_index plan.places.items b ≡ moved (view.graph plan.table.graph.now) b
+  pub addresses : (b : ℕ) → b < length (spots (view.graph plan.table.graph.now))
+      → CallPlaced (view.graph plan.table.graph.now) b (slice_index plan.addresses.items b)
+  pub called : (f : ℕ) → f < length (view.graph plan.table.graph.now).procs
+      → slice_index_or plan.called.items f false ≡ is_called (view.graph plan.table.graph.now) f
+  pub cells : (f : ℕ) → f < length (view.graph plan.table.graph.now).procs
+      → slice_index plan.cells.items f ≡ first_cell (view.graph plan.table.graph.now) f
   pub total : plan.total ≡ cells_in_all (view.graph plan.table.graph.now)
   pub some : plan.total < 2 ^ 32

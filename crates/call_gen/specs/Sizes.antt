@@ -16,7 +16,8 @@ abbrev pub cell_count : List GraphArray → ℕ
 cell_count [] = 0
 cell_count (a ∷ arrays) = a.length + cell_count arrays
 
--- Bounds: arrays, cells of one array and of all, procedures, their parameters and variables, blocks, operations and nodes of a block, blocks that call, values and landings of a Send.
+-- Bounds: arrays, cells of one array and of all, procedures, their parameters and variables, blocks,
+-- operations and nodes of a block, blocks that call, values and landings of a Send.
 pub record Sizes : Type 0 where
   pub arrays : ℕ
   pub length : ℕ
@@ -68,7 +69,9 @@ most_hidden_arrays = 192
 abbrev pub hidden_cells : Sizes → ℕ
 hidden_cells z = z.procs * suc z.vars
 
--- The bounds of a graph whose calls are spelled out: a door for each procedure and a return point for each call; two nodes for each variable that is saved or loaded, and two for addresses; as many landings as there are calls.
+-- The bounds of a graph whose calls are spelled out: a door for each procedure and a return point for each
+-- call; two nodes for each variable that is saved or loaded, and two for addresses; as many landings as
+-- there are calls.
 abbrev pub spelled_sizes : Sizes → Sizes
 spelled_sizes z = record {
   arrays = z.arrays + most_hidden_arrays;

@@ -47,7 +47,8 @@ abbrev pub ExitWrites : Exit → ℕ → Type 0
 ExitWrites (Call (Some y) f ts back) x = x ≡ y
 ExitWrites _ x = ⊥
 
--- An edge on which a variable keeps its value, unless the exit writes it. A Send has none: it writes every variable of the block that it enters, those that the block names and, with 0, all others.
+-- An edge on which a variable keeps its value, unless the exit writes it. A Send has none: it writes every
+-- variable of the block that it enters, those that the block names and, with 0, all others.
 abbrev pub Carries : Exit → ℕ → Type 0
 Carries (Goto b) c = c ≡ b
 Carries (Branch t a b) c = (c ≡ a) ⊎ (c ≡ b)
@@ -67,4 +68,5 @@ ReadsFirst (op ∷ ops) exit x = OpReads op x ⊎ ((OpWrites op x → ⊥) × Re
 -- Some path from the start of block b reads x before it writes it. A call's path goes on at its return block.
 pub data Live (g : Graph) : ℕ → ℕ → Type 0 where
   reads : (b x : ℕ) → ReadsFirst (block_at g b).ops (block_at g b).exit x → Live g b x
-  passes : (b c x : ℕ) → (WrittenIn (block_at g b).ops x → ⊥) → (ExitWrites (block_at g b).exit x → ⊥) → Carries (block_at g b).exit c → Live g c x → Live g b x
+  passes : (b c x : ℕ) → (WrittenIn (block_at g b).ops x → ⊥) → (ExitWrites (block_at g b).exit x → ⊥)
+      → Carries (block_at g b).exit c → Live g c x → Live g b x

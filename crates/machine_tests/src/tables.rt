@@ -14,7 +14,10 @@ use ws_words::NoMemory;
 
 // A loop that doubles a number in each of its waves.
 pub(crate) const DOUBLES: &str =
-    "wavescalar 1\nwave 1\nblock 1\npad 0 1.0\n1: advance -> 2.0 3.0 4.0\n2: nop <., 1, .>.0\n3: const 0 -> 5.0\n4: const 1 -> 6.0\ngo 2\nwave 2\nblock 2\n5: advance -> 7.0 8.0\n6: advance -> 9.0 9.1 10.1 10.2\n7: nop <., 1, .>.0\n8: merge -> 5.0\n9: add -> 10.0\n10: phi -> 6.0\ngo 2\nend\n";
+    "wavescalar 1\nwave 1\nblock 1\npad 0 1.0\n1: advance -> 2.0 3.0 4.0\n2: nop <., 1, .>.0\n\
+    3: const 0 -> 5.0\n4: const 1 -> 6.0\ngo 2\nwave 2\nblock 2\n5: advance -> 7.0 8.0\n\
+    6: advance -> 9.0 9.1 10.1 10.2\n7: nop <., 1, .>.0\n8: merge -> 5.0\n9: add -> 10.0\n\
+    10: phi -> 6.0\ngo 2\nend\n";
 
 // A port of an instance: a wave, an instruction and a port.
 type Place = (u64, u32, u8);

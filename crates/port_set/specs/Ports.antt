@@ -4,8 +4,8 @@ use Rattle.ws_io.specs.Streams.{Rose}
 use Rattle.port_set.specs.declared.port.PortError.{PortError}
 use Rattle.port_set.specs.declared.port.PortError.TheVariants.{Failed, NoMemory}
 
--- the words that a port has left and the words that it took, where it tells them, how often it has failed, and whether
--- it is closed
+-- the words that a port has left and the words that it took, where it tells them, how often it has failed,
+-- and whether it is closed
 pub record Told : Type 0 where
   pub left : Option (List ℕ)
   pub took : Option (List ℕ)

@@ -5,8 +5,8 @@ use Rattle.port_set.specs.Ports.{Told}
 use Rattle.port_set.specs.declared.port.PortError.{PortError}
 use Rattle.port_set.specs.declared.port.PortError.TheVariants.{Failed, NoMemory}
 
--- The words left, the words taken, the calls so far, the numbers of the calls that fail, how many have failed, and
--- whether it is closed. Calls are numbered from 1, gives and takes together.
+-- The words left, the words taken, the calls so far, the numbers of the calls that fail, how many have
+-- failed, and whether it is closed. Calls are numbered from 1, gives and takes together.
 pub record Tape : Type 0 where
   pub left : List ℕ
   pub took : List ℕ

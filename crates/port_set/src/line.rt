@@ -36,7 +36,12 @@ impl<K: Sink> LinePort<K> {
 impl<K: Sink + Drop> Port for LinePort<K> {
     ghost use Rattle.std.specs.Prelude.{Some, None, []};
 
-    ghost tells = { λ port. record { left = Some []; took = None; faults = K.faults port.sink; closed = port.closed } };
+    ghost tells = { λ port. record {
+      left = Some [];
+      took = None;
+      faults = K.faults port.sink;
+      closed = port.closed;
+    } };
 
     fn give(&mut self) -> Result<u64, PortError>
         requires { self.old.closed ≡ false }

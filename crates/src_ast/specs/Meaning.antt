@@ -21,7 +21,8 @@ abbrev pub place_of : List Name → List ℕ → ℕ
 place_of [] x = 0
 place_of (n ∷ ns) x = if pointwise nat_eq n.text x then 0 else suc (place_of ns x)
 
--- the variables that are visible, parameters first, the arrays and the procedures, each in order of declaration
+-- the variables that are visible, parameters first, the arrays and the procedures, each in order of
+-- declaration
 pub record Scope : Type 0 where
   pub names : List Name
   pub arrays : List Name
@@ -40,7 +41,8 @@ array_number scope a = suc (place_of scope.arrays a.text)
 abbrev pub value : Scope → Expression → List ℕ → List (List ℕ) → ℕ
 value scope (Number n) vars cells = n
 value scope (Variable x) vars cells = slice_index vars (var_number scope x)
-value scope (Cell a e) vars cells = slice_index (row cells (array_number scope a - 1)) (value scope e vars cells)
+value scope (Cell a e) vars cells =
+    slice_index (row cells (array_number scope a - 1)) (value scope e vars cells)
 value scope (Signed sign e) vars cells = signed_value sign (value scope e vars cells)
 value scope (Binary op a b) vars cells = applied op (value scope a vars cells) (value scope b vars cells)
 
@@ -48,7 +50,8 @@ value scope (Binary op a b) vars cells = applied op (value scope a vars cells) (
 abbrev pub loads_of : Scope → Expression → List ℕ → List (List ℕ) → List Act
 loads_of scope (Number n) vars cells = []
 loads_of scope (Variable x) vars cells = []
-loads_of scope (Cell a e) vars cells = loads_of scope e vars cells ++ loads (array_number scope a) (value scope e vars cells) ∷ []
+loads_of scope (Cell a e) vars cells = loads_of scope e vars cells
+    ++ loads (array_number scope a) (value scope e vars cells) ∷ []
 loads_of scope (Signed sign e) vars cells = loads_of scope e vars cells
 loads_of scope (Binary op a b) vars cells = loads_of scope a vars cells ++ loads_of scope b vars cells
 
@@ -66,7 +69,10 @@ abbrev pub value_of : Scope → Expression → State → ℕ × State
 value_of scope e s = (value scope e s.vars s.out.cells, with_acts s (loads_of scope e s.vars s.out.cells))
 
 abbrev pub values_of : Scope → List Expression → State → List ℕ × State
-values_of scope es s = (values scope es s.vars s.out.cells, with_acts s (all_loads scope es s.vars s.out.cells))
+values_of scope es s = (
+  values scope es s.vars s.out.cells,
+  with_acts s (all_loads scope es s.vars s.out.cells),
+)
 
 abbrev pub target : Scope → Option Name → Option ℕ
 target scope None = None
@@ -78,14 +84,23 @@ Calls = ℕ → List ℕ → Outside → ℕ → CallEnd
 
 abbrev mutual
   pub run_one : Scope → Calls → Statement → State → ℕ → PartEnd
-  run_one scope calls (Assign at x e) s k = turn k s (λ j. let v = value_of scope e s in Ended (write v.1 (var_number scope x) v.0) j)
-  run_one scope calls (Store at a e f) s k = turn k s (λ j. let i = value_of scope e s in let v = value_of scope f i.1 in Ended (stored v.1 (array_number scope a) i.0 v.0) j)
-  run_one scope calls (Print at e) s k = turn k s (λ j. let v = value_of scope e s in Ended (printed v.1 v.0) j)
+  run_one scope calls (Assign at x e) s k =
+      turn k s (λ j. let v = value_of scope e s in Ended (write v.1 (var_number scope x) v.0) j)
+  run_one scope calls (Store at a e f) s k =
+      turn k s (λ j. let i = value_of scope e s in let v = value_of scope f i.1 in
+      Ended (stored v.1 (array_number scope a) i.0 v.0) j)
+  run_one scope calls (Print at e) s k =
+      turn k s (λ j. let v = value_of scope e s in Ended (printed v.1 v.0) j)
   run_one scope calls (Read at x) s k = turn k s (λ j. Ended (has_read s (var_number scope x)) j)
   run_one scope calls (Give at p q x) s k = turn k s (λ j. Ended (given s p (var_number scope x)) j)
-  run_one scope calls (Take at p q e) s k = turn k s (λ j. let v = value_of scope e s in Ended (taken v.1 p v.0) j)
-  run_one scope calls (Call at x f args) s k = turn k s (λ j. let vs = values_of scope args s in back_in vs.1.vars (target scope x) (calls (proc_number scope f) vs.0 vs.1.out j))
-  run_one scope calls (If at e a b) s k = turn k s (λ j. let v = value_of scope e s in if v.0 == 0 then run_all scope calls b v.1 j else run_all scope calls a v.1 j)
+  run_one scope calls (Take at p q e) s k =
+      turn k s (λ j. let v = value_of scope e s in Ended (taken v.1 p v.0) j)
+  run_one scope calls (Call at x f args) s k =
+      turn k s (λ j. let vs = values_of scope args s in
+      back_in vs.1.vars (target scope x) (calls (proc_number scope f) vs.0 vs.1.out j))
+  run_one scope calls (If at e a b) s k =
+      turn k s (λ j. let v = value_of scope e s in if v.0 == 0 then run_all scope calls b v.1 j
+      else run_all scope calls a v.1 j)
   run_one scope calls (While at e body) s k = loop (suc k) (value_of scope e) (run_all scope calls body) s k
 
   pub run_all : Scope → Calls → Statements → State → ℕ → PartEnd
@@ -104,7 +119,8 @@ scope_of arrays procs p = record { names = p.params ++ p.vars; arrays = arrays; 
 -- parameters have the arguments, and the other variables begin at 0
 abbrev pub run_procedure : Scope → Calls → Procedure → List ℕ → Outside → ℕ → CallEnd
 run_procedure scope calls p args o k =
-    ending (run_all scope calls p.body (record { vars = args ++ zeros (length p.vars); out = o }) k) (finish scope p.ending)
+    ending (run_all scope calls p.body (record { vars = args ++ zeros (length p.vars); out = o }) k)
+    (finish scope p.ending)
 
 abbrev pub arrays_of : List Part → List Name
 arrays_of [] = []
@@ -127,7 +143,13 @@ names_of (p ∷ ps) = p.name ∷ names_of ps
 
 -- what stands past the last procedure
 abbrev pub no_procedure : Procedure
-no_procedure = record { name = record { text = []; place = record { line = 0; column = 0 } }; params = []; vars = []; body = Nothing; ending = None }
+no_procedure = record {
+  name = record { text = []; place = record { line = 0; column = 0 } };
+  params = [];
+  vars = [];
+  body = Nothing;
+  ending = None;
+}
 
 abbrev pub nth_procedure : List Procedure → ℕ → Procedure
 nth_procedure [] k = no_procedure
@@ -151,13 +173,15 @@ calls_below (suc n) parts f args o k =
     if f == n then run_number parts (calls_below n parts) n args o k else calls_below n parts f args o k
 
 abbrev pub run_at : ℕ → List Part → World → ℕ → CallEnd
-run_at main parts world k = run_number parts (calls_below main parts) main [] (opening_out (empty_cells (lengths_of parts)) world) k
+run_at main parts world k =
+    run_number parts (calls_below main parts) main [] (opening_out (empty_cells (lengths_of parts)) world) k
 
 -- main, the last procedure, with at most k turns
 abbrev pub run : List Part → World → ℕ → CallEnd
 run parts world k = run_at (length (procs_of parts) - 1) parts world k
 
--- The passing run: a load past the end of its array gives 0, a store past it changes nothing, and the run goes on.
+-- The passing run: a load past the end of its array gives 0, a store past it changes nothing, and the run
+-- goes on.
 -- It takes exactly n turns and leaves this
 abbrev pub Passes : List Part → World → ℕ → Outside → Type 0
 Passes parts world n end = (v : ℕ) × (run parts world n ≡ Returned v end 0)

@@ -1,4 +1,5 @@
--- The sequential run: it ends at the first load or store past the end of its array. It is the passing run up to there.
+-- The sequential run: it ends at the first load or store past the end of its array. It is the passing run
+-- up to there.
 use Rattle.std.specs.Prelude.{◌≡◌, ℕ, ◌<◌, List}
 use Rattle.ws_words.specs.Outside.{Act, Outside, World, opening_out}
 use Rattle.ws_words.specs.Past.{AreWithin, FirstPast, after_acts}

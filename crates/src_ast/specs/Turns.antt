@@ -40,4 +40,6 @@ ending (Out o) go = Stopped o
 -- at most `fuel` tests of a loop; each takes a turn, so one more than the turns left is fuel enough
 abbrev pub loop : ℕ → (State → ℕ × State) → (State → ℕ → PartEnd) → State → ℕ → PartEnd
 loop zero test body s k = Out s.out
-loop (suc fuel) test body s k = turn k s (λ j. let v = test s in if v.0 == 0 then Ended v.1 j else and_then (body v.1 j) (loop fuel test body))
+loop (suc fuel) test body s k =
+    turn k s (λ j. let v = test s in if v.0 == 0 then Ended v.1 j
+    else and_then (body v.1 j) (loop fuel test body))

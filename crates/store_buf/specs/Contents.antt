@@ -18,8 +18,8 @@ use Rattle.store_buf.specs.Requests.{entry_of, issued_in}
 use Rattle.store_buf.specs.Outdoors.{Holding, OutIs, RoseAt, RoseSince, port_of}
 use Rattle.store_buf.specs.Holds.{Issues, part}
 
--- its requests in the order in which they came, where the chain stands, the array of the operation past the end at which
--- that is stopped, the port that failed, whether a port found no memory, and what is outside
+-- its requests in the order in which they came, where the chain stands, the array of the operation past the
+-- end at which that is stopped, the port that failed, whether a port found no memory, and what is outside
 pub record Content : Type 0 where
   pub kept : List Kept
   pub chain : Chain
@@ -35,10 +35,12 @@ buffer_in image c m = part image c.kept c.chain (has c.fault) m
 -- the array is that of the walk's first operation past the end
 abbrev pub FaultIs : Image → World → Option ℕ → Type 0
 FaultIs image world None = Unit {0}
-FaultIs image world (Some array) = (t : ℕ) × (f : FaultsAt image world t) × (array ≡ array_at image f.inst.instr)
+FaultIs image world (Some array) = (t : ℕ) × (f : FaultsAt image world t)
+    × (array ≡ array_at image f.inst.instr)
 
 -- it is a buffer of a run with this memory: legal, and what it holds is outside
-pub record IsBuffer (image : Image) (world : World) (began : List (Option Began)) (c : Content) (m : Outside) : Type 0 where
+pub record IsBuffer (image : Image) (world : World) (began : List (Option Began)) (c : Content)
+    (m : Outside) : Type 0 where
   pub ok : BufferOk image world (buffer_in image c m)
   pub outside : OutIs began m c.outside
   pub fault : FaultIs image world c.fault
@@ -46,14 +48,16 @@ pub record IsBuffer (image : Image) (world : World) (began : List (Option Began)
 -- a request that had not come has come, and waits
 pub record Arrives (image : Image) (old : Buffer) (r : Asked) (new : Buffer) : Type 0 where
   pub fresh : old.kept r.wave r.instr ≡ None
-  pub kept : (w i : ℕ) → new.kept w i ≡ with_key r.wave r.instr (Some (operands_of (ports image r.instr) r.first r.second)) old.kept w i
+  pub kept : (w i : ℕ) → new.kept w i ≡ with_key r.wave r.instr
+      (Some (operands_of (ports image r.instr) r.first r.second)) old.kept w i
   pub issued : (w i : ℕ) → new.issued w i ≡ old.issued w i
   pub chain : new.chain ≡ old.chain
   pub stopped : new.stopped ≡ old.stopped
   pub memory : new.memory ≡ old.memory
 
 -- the request has come, and issues in turn with these result tokens lead on
-pub record Submitted (image : Image) (world : World) (began : List (Option Began)) (old : Content) (m : Outside) (r : Asked) (tokens : List Token) (new : Content) : Type 0 where
+pub record Submitted (image : Image) (world : World) (began : List (Option Began)) (old : Content)
+    (m : Outside) (r : Asked) (tokens : List Token) (new : Content) : Type 0 where
   pub arrived : Buffer
   pub arrives : Arrives image (buffer_in image old m) r arrived
   pub memory : Outside
@@ -62,7 +66,8 @@ pub record Submitted (image : Image) (world : World) (began : List (Option Began
 
 -- so it is with each memory with which it was a buffer of the run
 abbrev pub Leads : Image → World → List (Option Began) → Content → Asked → List Token → Content → Type 0
-Leads image world began old r tokens new = (m : Outside) → IsBuffer image world began old m → Submitted image world began old m r tokens new
+Leads image world began old r tokens new = (m : Outside) → IsBuffer image world began old m
+    → Submitted image world began old m r tokens new
 
 -- the walk has these tokens
 abbrev pub RightTokens : Image → World → List Token → Type 0
@@ -95,22 +100,31 @@ abbrev pub IsNew : Content → Asked → Type 0
 IsNew c r = entry_of c.kept r.wave r.instr ≡ None
 
 -- the request has come, and now the chain is stopped, a port has failed or found no memory, or none of these
-abbrev pub Comes : Image → World → List (Option Began) → Content → Asked → List Token → Option ℕ → Option ℕ → Bool → Content → Type 0
+abbrev pub Comes : Image → World → List (Option Began) → Content → Asked → List Token → Option ℕ → Option ℕ
+    → Bool → Content → Type 0
 Comes image world began old r tokens fault failed starved new =
-    Runs old × IsNew old r × Leads image world began old r tokens new × (new.fault ≡ fault) × (new.failed ≡ failed) × (new.starved ≡ starved)
+    Runs old × IsNew old r × Leads image world began old r tokens new × (new.fault ≡ fault)
+    × (new.failed ≡ failed) × (new.starved ≡ starved)
 
--- What came of a request. Where it isn't answered for want of memory, it is the buffer's own and nothing has changed, or it is a
--- port's.
-abbrev pub SubmitSo : Image → World → List (Option Began) → Content → Asked → Result (List Token) BufFault → Content → Type 0
-SubmitSo image world began old r (Ok tokens) new = Comes image world began old r tokens None None false new × Idle image new
-SubmitSo image world began old r (Err (Index array)) new = (tokens : List Token) × Comes image world began old r tokens (Some array) None false new
+-- What came of a request. Where it isn't answered for want of memory, it is the buffer's own and nothing
+-- has changed, or it is a port's.
+abbrev pub SubmitSo : Image → World → List (Option Began) → Content → Asked → Result (List Token) BufFault
+    → Content → Type 0
+SubmitSo image world began old r (Ok tokens) new = Comes image world began old r tokens None None false new
+    × Idle image new
+SubmitSo image world began old r (Err (Index array)) new = (tokens : List Token)
+    × Comes image world began old r tokens (Some array) None false new
 SubmitSo image world began old r (Err (Port port)) new =
-    ((tokens : List Token) × Comes image world began old r tokens None (Some port) false new) × RoseAt port old.outside.ports new.outside.ports × PortWaits image new.kept new.chain port
+    ((tokens : List Token) × Comes image world began old r tokens None (Some port) false new)
+    × RoseAt port old.outside.ports new.outside.ports × PortWaits image new.kept new.chain port
 SubmitSo image world began old r (Err NoMemory) new =
     (Runs old × IsNew old r × (new ≡ old))
-    ⊎ (((tokens : List Token) × Comes image world began old r tokens None None true new) × ((port : ℕ) × PortWaits image new.kept new.chain port))
-SubmitSo image world began old r (Err Old) new = Runs old × ((k : Kept) × (entry_of old.kept r.wave r.instr ≡ Some k)) × (new ≡ old)
-SubmitSo image world began old r (Err (Stopped port)) new = (old.fault ≡ None) × (old.failed ≡ Some port) × (new ≡ old)
+    ⊎ (((tokens : List Token) × Comes image world began old r tokens None None true new)
+    × ((port : ℕ) × PortWaits image new.kept new.chain port))
+SubmitSo image world began old r (Err Old) new = Runs old
+    × ((k : Kept) × (entry_of old.kept r.wave r.instr ≡ Some k)) × (new ≡ old)
+SubmitSo image world began old r (Err (Stopped port)) new = (old.fault ≡ None) × (old.failed ≡ Some port)
+    × (new ≡ old)
 SubmitSo image world began old r (Err (Ended array)) new = (old.fault ≡ Some array) × (new ≡ old)
 
 -- the tokens, where there is no fault

@@ -16,16 +16,27 @@ use Rattle.store_buf.specs.Outdoors.{Holding, OutIs}
 
 -- the part of the core's state that a buffer is
 abbrev pub part : Image → List Kept → Chain → Bool → Outside → Buffer
-part image ks chain stopped m = record { kept = kept_in image ks; issued = issued_in ks; issued_keys = issued_keys ks; chain = chain; stopped = stopped; memory = m }
+part image ks chain stopped m =
+    record {
+      kept = kept_in image ks;
+      issued = issued_in ks;
+      issued_keys = issued_keys ks;
+      chain = chain;
+      stopped = stopped;
+      memory = m;
+    }
 
 -- the requests that wait
 abbrev pub waiting_in : Image → List Kept → ℕ → ℕ → Option (List ℕ)
 waiting_in image ks w i = waits_if (issued_in ks w i) (kept_in image ks w i) None
 
 -- these requests, this chain and these holdings stand for a buffer with this memory
-pub record Holds (image : Image) (world : World) (began : List (Option Began)) (order : Order) (stopped : Bool) (h : Holding) (m : Outside) : Type 0 where
-  pub going : Going image world (issued_in order.kept.items) (waiting_in image order.kept.items) stopped (chain_of order.chain) m order.early.items
-  pub right : (w i : ℕ) (xs : List ℕ) → kept_in image order.kept.items w i ≡ Some xs → RightRequest image world w i xs
+pub record Holds (image : Image) (world : World) (began : List (Option Began)) (order : Order)
+    (stopped : Bool) (h : Holding) (m : Outside) : Type 0 where
+  pub going : Going image world (issued_in order.kept.items) (waiting_in image order.kept.items) stopped
+      (chain_of order.chain) m order.early.items
+  pub right : (w i : ℕ) (xs : List ℕ) → kept_in image order.kept.items w i ≡ Some xs
+      → RightRequest image world w i xs
   pub outside : OutIs began m h
 
 -- one issue: the request waits and is issuable, and takes its effect; these are its result tokens
@@ -56,5 +67,7 @@ pub record Stopped (image : Image) (old : Buffer) (w i : ℕ) (new : Buffer) : T
 -- issues in turn, and all their result tokens
 pub data Issues (image : Image) : Buffer → List Token → Buffer → Type 0 where
   stays : {b : Buffer} → Issues image b [] b
-  goes : {b c d : Buffer} {some rest : List Token} (w i : ℕ) → Issued image b w i some c → Issues image c rest d → Issues image b (some ++ rest) d
-  stops : {b c d : Buffer} {rest : List Token} (w i : ℕ) → Stopped image b w i c → Issues image c rest d → Issues image b rest d
+  goes : {b c d : Buffer} {some rest : List Token} (w i : ℕ) → Issued image b w i some c
+      → Issues image c rest d → Issues image b (some ++ rest) d
+  stops : {b c d : Buffer} {rest : List Token} (w i : ℕ) → Stopped image b w i c → Issues image c rest d
+      → Issues image b rest d

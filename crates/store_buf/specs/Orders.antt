@@ -11,7 +11,9 @@ abbrev pub EarlyIssued : (ℕ → ℕ → Option ℕ) → Chain → List ℕ →
 EarlyIssued issued chain early = (i : ℕ) → In i early → (a : ℕ) × (issued chain.wave i ≡ Some a)
 
 -- it is legal, and the issued loads that the chain hasn't passed are listed
-pub record Going (image : Image) (world : World) (issued : ℕ → ℕ → Option ℕ) (waiting : ℕ → ℕ → Option (List ℕ)) (stopped : Bool) (chain : Chain) (memory : Outside) (early : List ℕ) : Type 0 where
+pub record Going (image : Image) (world : World) (issued : ℕ → ℕ → Option ℕ)
+    (waiting : ℕ → ℕ → Option (List ℕ)) (stopped : Bool) (chain : Chain) (memory : Outside)
+    (early : List ℕ) : Type 0 where
   pub legal : Legal image world issued waiting stopped chain memory
   pub early_issued : EarlyIssued issued chain early
   pub early_all : HasEarly image world issued chain early

@@ -19,13 +19,14 @@ abbrev pub more : Option (List ℕ) → List ℕ → Option (List ℕ)
 more None words = None
 more (Some old) words = Some (old ++ words)
 
--- A slot that held no port holds none, and the walk is given no words there. A port has left what the walk has left there,
--- and has taken the walk's words since the run began.
+-- A slot that held no port holds none, and the walk is given no words there. A port has left what the walk
+-- has left there, and has taken the walk's words since the run began.
 abbrev pub SlotIs : Option Began → List ℕ → List ℕ → Option Told → Type 0
 SlotIs None left took None = left ≡ []
 SlotIs None left took (Some port) = ⊥
 SlotIs (Some began) left took None = ⊥
-SlotIs (Some began) left took (Some port) = (port.left ≡ Some left) × (port.took ≡ more began.took took) × (began.faults ≤ port.faults)
+SlotIs (Some began) left took (Some port) = (port.left ≡ Some left) × (port.took ≡ more began.took took)
+    × (began.faults ≤ port.faults)
 
 -- in each slot it is so
 abbrev pub SlotsAre : List (Option Began) → Outside → List (Option Told) → Type 0
@@ -46,7 +47,8 @@ pub record OutIs (began : List (Option Began)) (o : Outside) (h : Holding) : Typ
   pub slots_are : SlotsAre began o h.ports
 
 -- the answer of a memory operation, and what it leaves
-pub record Answers (began : List (Option Began)) (op : Op) (xs : List ℕ) (o : Outside) (word : ℕ) (h : Holding) : Type 0 where
+pub record Answers (began : List (Option Began)) (op : Op) (xs : List ℕ) (o : Outside) (word : ℕ)
+    (h : Holding) : Type 0 where
   pub answer : word ≡ answer_op op xs o
   pub after : OutIs began (after_op op xs o) h
 
@@ -97,10 +99,12 @@ abbrev pub BeganSo : Option Began → List ℕ → Option Told → Type 0
 BeganSo None left None = left ≡ []
 BeganSo None left (Some port) = ⊥
 BeganSo (Some began) left None = ⊥
-BeganSo (Some began) left (Some port) = (port.left ≡ Some left) × (port.took ≡ began.took) × (port.faults ≡ began.faults)
+BeganSo (Some began) left (Some port) = (port.left ≡ Some left) × (port.took ≡ began.took)
+    × (port.faults ≡ began.faults)
 
 abbrev pub AllBegan : List (Option Began) → List (List ℕ) → List (Option Told) → Type 0
-AllBegan began left ports = (slot : ℕ) → 1 ≤ slot → slot ≤ 7 → BeganSo (port_at began slot) (row left (slot - 1)) (port_at ports slot)
+AllBegan began left ports = (slot : ℕ) → 1 ≤ slot → slot ≤ 7
+    → BeganSo (port_at began slot) (row left (slot - 1)) (port_at ports slot)
 
 abbrev pub began_at : Option Told → Option Began
 began_at None = None

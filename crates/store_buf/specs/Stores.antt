@@ -62,26 +62,32 @@ module _ {P : Type 0} where
     pub starved : new.starved ≡ old.starved
 
   -- one issue, or a stop at an index fault
-  pub record OneIssue (image : Image) (world : World) (began : List (Option Began)) (old : Store P) (m : Outside) (new : Store P) (tokens : List Token) : Type 0 where
+  pub record OneIssue (image : Image) (world : World) (began : List (Option Began)) (old : Store P)
+      (m : Outside) (new : Store P) (tokens : List Token) : Type 0 where
     pub wave : ℕ
     pub instr : ℕ
     pub memory : Outside
-    pub event : Issued image (buffer_of image old m) wave instr tokens (buffer_of image new memory) ⊎ (Stopped image (buffer_of image old m) wave instr (buffer_of image new memory) × (tokens ≡ []))
+    pub event : Issued image (buffer_of image old m) wave instr tokens (buffer_of image new memory)
+        ⊎ (Stopped image (buffer_of image old m) wave instr (buffer_of image new memory) × (tokens ≡ []))
     pub right : RightTokens image world tokens
     pub fault : FaultIs image world new.fault
     pub stands : StandsFor image world began new memory
 
-  -- for each buffer for which the parts stood there is an issue to one for which they stand; its tokens came behind others
+  -- for each buffer for which the parts stood there is an issue to one for which they stand; its tokens
+  -- came behind others
   abbrev pub IssueLeads : Image → Store P → Store P → List Token → List Token → Type 0
   IssueLeads image old new before after = (tokens : List Token) × (after ≡ before ++ tokens)
-      × ((world : World) (began : List (Option Began)) (m : Outside) → Formed image → Sound image → StandsFor image world began old m → OneIssue image world began old m new tokens)
+      × ((world : World) (began : List (Option Began)) (m : Outside) → Formed image → Sound image
+      → StandsFor image world began old m → OneIssue image world began old m new tokens)
 
   -- nothing has changed but what ports tell of their faults
   abbrev pub StaysSo : Image → Store P → Store P → Type 0
-  StaysSo image old new = (world : World) (began : List (Option Began)) (m : Outside) → StandsFor image world began old m → StandsFor image world began new m
+  StaysSo image old new = (world : World) (began : List (Option Began)) (m : Outside)
+      → StandsFor image world began old m → StandsFor image world began new m
 
   -- issues in turn, for each buffer for which the parts stood
-  pub record Turns (image : Image) (world : World) (began : List (Option Began)) (old : Store P) (m : Outside) (new : Store P) (tokens : List Token) : Type 0 where
+  pub record Turns (image : Image) (world : World) (began : List (Option Began)) (old : Store P)
+      (m : Outside) (new : Store P) (tokens : List Token) : Type 0 where
     pub memory : Outside
     pub issues : Issues image (buffer_of image old m) tokens (buffer_of image new memory)
     pub right : RightTokens image world tokens
@@ -90,28 +96,39 @@ module _ {P : Type 0} where
 
   abbrev pub AllLead : Image → Store P → Store P → List Token → List Token → Type 0
   AllLead image old new before after = (tokens : List Token) × (after ≡ before ++ tokens)
-      × ((world : World) (began : List (Option Began)) (m : Outside) → Formed image → Sound image → StandsFor image world began old m → Turns image world began old m new tokens)
+      × ((world : World) (began : List (Option Began)) (m : Outside) → Formed image → Sound image
+      → StandsFor image world began old m → Turns image world began old m new tokens)
 
   -- the operation on a port that doesn't answer is next, and its request waits
   abbrev pub SilentSo : Image → Store P → Store P → Silent → Type 0
-  SilentSo image old new (Failed port) = PortWaits image new.order.kept.items (chain_of new.order.chain) port × RoseAt port old.outer.ports new.outer.ports
-  SilentSo image old new (NoMemory port) = PortWaits image new.order.kept.items (chain_of new.order.chain) port
+  SilentSo image old new (Failed port) =
+      PortWaits image new.order.kept.items (chain_of new.order.chain) port
+      × RoseAt port old.outer.ports new.outer.ports
+  SilentSo image old new (NoMemory port) =
+      PortWaits image new.order.kept.items (chain_of new.order.chain) port
 
   -- how issues in turn have ended
   abbrev pub SettledSo : Image → Store P → Result (Unit {0}) BufFault → Store P → Type 0
-  SettledSo image old (Ok _) new = (new.fault ≡ None) × (new.failed ≡ old.failed) × (new.starved ≡ false) × NoneMay image new.order
-  SettledSo image old (Err (fault.Index array)) new = (new.fault ≡ Some array) × (new.failed ≡ old.failed) × (new.starved ≡ false)
-  SettledSo image old (Err (fault.Port port)) new = (new.fault ≡ None) × (new.failed ≡ Some port) × (new.starved ≡ false)
-      × RoseAt port old.outer.ports new.outer.ports × PortWaits image new.order.kept.items (chain_of new.order.chain) port
-  SettledSo image old (Err fault.NoMemory) new = (new.fault ≡ None) × (new.failed ≡ old.failed) × (new.starved ≡ true)
+  SettledSo image old (Ok _) new = (new.fault ≡ None) × (new.failed ≡ old.failed) × (new.starved ≡ false)
+      × NoneMay image new.order
+  SettledSo image old (Err (fault.Index array)) new = (new.fault ≡ Some array) × (new.failed ≡ old.failed)
+      × (new.starved ≡ false)
+  SettledSo image old (Err (fault.Port port)) new = (new.fault ≡ None) × (new.failed ≡ Some port)
+      × (new.starved ≡ false)
+      × RoseAt port old.outer.ports new.outer.ports
+      × PortWaits image new.order.kept.items (chain_of new.order.chain) port
+  SettledSo image old (Err fault.NoMemory) new = (new.fault ≡ None) × (new.failed ≡ old.failed)
+      × (new.starved ≡ true)
       × ((port : ℕ) × PortWaits image new.order.kept.items (chain_of new.order.chain) port)
   SettledSo image old (Err _) new = ⊥
 
   -- what is true of a buffer's store whenever no call is at work
-  pub record Standing (image : Image) (world : World) (began : List (Option Began)) (s : Store P) : Type 0 where
+  pub record Standing (image : Image) (world : World) (began : List (Option Began))
+      (s : Store P) : Type 0 where
     pub ok : StoreOk s
     pub early_issued : EarlyIssued (issued_in s.order.kept.items) (chain_of s.order.chain) s.order.early.items
-    pub early_all : HasEarly image world (issued_in s.order.kept.items) (chain_of s.order.chain) s.order.early.items
+    pub early_all : HasEarly image world (issued_in s.order.kept.items)
+        (chain_of s.order.chain) s.order.early.items
     pub memory : Outside
     pub is : IsBuffer image world began (content_of s) memory
     pub idle : s.failed ≡ None → s.starved ≡ false → Idle image (content_of s)
@@ -119,8 +136,11 @@ module _ {P : Type 0} where
 
   -- a right request leads on as contracts say, and what is true of a store stays true
   abbrev pub SubmitLeads : Image → Store P → Kept → List Token → Result (Unit {0}) BufFault → Store P → Type 0
-  SubmitLeads image old k tokens result new = (world : World) (began : List (Option Began)) → Formed image → Sound image → IsAsked image world (asked_of k) → Standing image world began old →
-      Standing image world began new × RightTokens image world tokens × SubmitSo image world began (content_of old) (asked_of k) (with_tokens tokens result) (content_of new)
+  SubmitLeads image old k tokens result new = (world : World) (began : List (Option Began)) → Formed image
+      → Sound image → IsAsked image world (asked_of k) → Standing image world began old →
+      Standing image world began new × RightTokens image world tokens
+      × SubmitSo image world began (content_of old) (asked_of k) (with_tokens tokens result)
+      (content_of new)
 
   -- what is left to issue
   abbrev pub left_over : Store P → ℕ

@@ -43,7 +43,8 @@ Joins g cut b = (p : ℕ) × (q : ℕ) × Edge g p b × Edge g q b × (wave cut 
 abbrev pub Unentered : Graph → ℕ → Type 0
 Unentered g b = (p : ℕ) → Edge g p b → ⊥
 
--- The rule: a wave begins at a procedure's entry, a loop's header, a return point, a block that no edge enters, and a join of waves, and nowhere else.
+-- The rule: a wave begins at a procedure's entry, a loop's header, a return point, a block that no edge
+-- enters, and a join of waves, and nowhere else.
 abbrev pub Rule : Graph → Cut → ℕ → Type 0
 Rule g cut b = (is_first cut b ≡ true) ↔ (Begins g b ⊎ (Unentered g b ⊎ Joins g cut b))
 
@@ -56,7 +57,8 @@ pub record IsCut (g : Graph) (cut : Cut) : Type 0 where
   pub rule : (b : ℕ) → b < length (spots g) → Rule g cut b
   -- each block lies in one wave, and each wave has one first block
   pub lies : (b : ℕ) → b < length (spots g) → (1 ≤ wave cut b) × (wave cut b ≤ length cut.heads)
-  pub heads : (k : ℕ) → k < length cut.heads → (slice_index cut.heads k < length (spots g)) × (wave cut (slice_index cut.heads k) ≡ suc k)
+  pub heads : (k : ℕ) → k < length cut.heads → (slice_index cut.heads k < length (spots g))
+      × (wave cut (slice_index cut.heads k) ≡ suc k)
   pub rising : (j k : ℕ) → j < k → k < length cut.heads → slice_index cut.heads j < slice_index cut.heads k
   -- an inside edge leads forward and stays in its wave: so a wave is acyclic and has one entry
   pub inside : (p b : ℕ) → b < length (spots g) → Inside g cut p b → (p < b) × (wave cut p ≡ wave cut b)
@@ -66,9 +68,11 @@ pub data InsidePath (g : Graph) (cut : Cut) : ℕ → ℕ → Type 0 where
   one : (p b : ℕ) → b < length (spots g) → Inside g cut p b → InsidePath g cut p b
   more : (p b c : ℕ) → InsidePath g cut p b → c < length (spots g) → Inside g cut b c → InsidePath g cut p c
 
--- no path leads from a block to itself; an edge from another wave leads to a first block; and a path leads to each other block from the first one of its wave
+-- no path leads from a block to itself; an edge from another wave leads to a first block; and a path leads
+-- to each other block from the first one of its wave
 pub record AreWaves (g : Graph) (cut : Cut) : Type 0 where
   pub acyclic : (b : ℕ) → InsidePath g cut b b → ⊥
-  pub one_entry : (p b : ℕ) → b < length (spots g) → Edge g p b → (wave cut p ≡ wave cut b → ⊥) → is_first cut b ≡ true
+  pub one_entry : (p b : ℕ) → b < length (spots g) → Edge g p b → (wave cut p ≡ wave cut b → ⊥)
+      → is_first cut b ≡ true
   pub one_first : (b c : ℕ) → is_first cut b ≡ true → is_first cut c ≡ true → wave cut b ≡ wave cut c → b ≡ c
   pub reached : (b : ℕ) → b < length (spots g) → (is_first cut b ≡ true) ⊎ InsidePath g cut (head cut b) b

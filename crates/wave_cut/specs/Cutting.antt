@@ -22,8 +22,10 @@ abbrev pub Says : Exit → ℕ → ℕ → Type 0
 Says exit b c = (Leads exit c × (c ≤ b)) ⊎ Returns exit c
 
 -- what is known of block b by these edges and the waves of the blocks that they come from
-pub record Known (g : Graph) (E : ℕ → ℕ → Type 0) (waves : List ℕ) (b : ℕ) (begins : Bool) (from : ℕ) : Type 0 where
-  pub begun : begins ≡ true → Begins g b ⊎ ((p : ℕ) × (q : ℕ) × E p b × E q b × (slice_index waves p ≡ slice_index waves q → ⊥))
+pub record Known (g : Graph) (E : ℕ → ℕ → Type 0) (waves : List ℕ) (b : ℕ) (begins : Bool)
+    (from : ℕ) : Type 0 where
+  pub begun : begins ≡ true → Begins g b
+      ⊎ ((p : ℕ) × (q : ℕ) × E p b × E q b × (slice_index waves p ≡ slice_index waves q → ⊥))
   pub free : begins ≡ false → Begins g b → ⊥
   pub none : begins ≡ false → from ≡ 0 → (p : ℕ) → E p b → ⊥
   pub some : begins ≡ false → (from ≡ 0 → ⊥) → (p : ℕ) × E p b
@@ -35,7 +37,9 @@ Before g i p b = Edge g p b × (p < i)
 
 -- block b is the first one of its wave
 pub record Heads (g : Graph) (waves heads : List ℕ) (b : ℕ) : Type 0 where
-  pub begins : Begins g b ⊎ (Unentered g b ⊎ ((p : ℕ) × (q : ℕ) × Before g b p b × Before g b q b × (slice_index waves p ≡ slice_index waves q → ⊥)))
+  pub begins : Begins g b ⊎
+      (Unentered g b ⊎ ((p : ℕ) × (q : ℕ) × Before g b p b × Before g b q b
+      × (slice_index waves p ≡ slice_index waves q → ⊥)))
   pub first : slice_index heads (slice_index waves b - 1) ≡ b
 
 -- block b lies in the wave of the blocks before it
@@ -54,9 +58,11 @@ pub record Cutting (g : Graph) (i : ℕ) (begins : List Bool) (from waves heads 
   pub flags : length begins ≡ length (spots g)
   pub froms : length from ≡ length (spots g)
   pub count : length waves ≡ i
-  pub known : (b : ℕ) → b < length (spots g) → Known g (Before g i) waves b (slice_index_or begins b false) (slice_index from b)
+  pub known : (b : ℕ) → b < length (spots g)
+      → Known g (Before g i) waves b (slice_index_or begins b false) (slice_index from b)
   pub numbered : (b : ℕ) → b < i → Numbered g waves heads b
-  pub firsts : (k : ℕ) → k < length heads → (slice_index heads k < i) × (slice_index waves (slice_index heads k) ≡ suc k)
+  pub firsts : (k : ℕ) → k < length heads → (slice_index heads k < i)
+      × (slice_index waves (slice_index heads k) ≡ suc k)
   pub rising : (j k : ℕ) → j < k → k < length heads → slice_index heads j < slice_index heads k
   pub few : length heads ≤ i
 
@@ -74,7 +80,8 @@ abbrev pub entered_from : ℕ → ℕ → List ℕ → List ℕ
 entered_from c wave from = if slice_index from c == 0 then slice_set from c wave else from
 
 abbrev pub entered_begins : ℕ → ℕ → List Bool → List ℕ → List Bool
-entered_begins c wave begins from = if (slice_index from c == 0) || (slice_index from c == wave) then begins else slice_set begins c true
+entered_begins c wave begins from = if (slice_index from c == 0) || (slice_index from c == wave) then begins
+    else slice_set begins c true
 
 abbrev pub left_from : Exit → ℕ → List ℕ → List ℕ
 left_from (Goto c) wave from = entered_from c wave from
@@ -83,5 +90,6 @@ left_from _ wave from = from
 
 abbrev pub left_begins : Exit → ℕ → List Bool → List ℕ → List Bool
 left_begins (Goto c) wave begins from = entered_begins c wave begins from
-left_begins (Branch t c d) wave begins from = entered_begins d wave (entered_begins c wave begins from) (entered_from c wave from)
+left_begins (Branch t c d) wave begins from =
+    entered_begins d wave (entered_begins c wave begins from) (entered_from c wave from)
 left_begins _ wave begins from = begins

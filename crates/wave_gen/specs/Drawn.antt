@@ -24,10 +24,13 @@ gen_source k (Number zero) = source [] Merge (pulse ∷ []) k
 gen_source k (Number (suc n)) = source [] (Const (suc n)) (pulse ∷ []) k
 gen_source k (Var x) = source [] Merge (suc x ∷ []) k
 gen_source k (Cell a t) = let g = gen_term k t in source g.items (Load a) (g.name ∷ []) g.next
-gen_source k (Flip t) = let g = gen_term k t in source (g.items ++ Make g.next (Const top_word) (g.name ∷ []) ∷ []) (Alu Sub) (g.next ∷ g.name ∷ []) (suc g.next)
+gen_source k (Flip t) = let g = gen_term k t in
+    source (g.items ++ Make g.next (Const top_word) (g.name ∷ []) ∷ []) (Alu Sub) (g.next ∷ g.name ∷ [])
+    (suc g.next)
 gen_source k (Not t) = let g = gen_term k t in source g.items (Alu Eq) (g.name ∷ pulse ∷ []) g.next
 gen_source k (Neg t) = let g = gen_term k t in source g.items (Alu Sub) (pulse ∷ g.name ∷ []) g.next
-gen_source k (Binary op a b) = let g = gen_term k a in let h = gen_term g.next b in source (g.items ++ h.items) (Alu op) (g.name ∷ h.name ∷ []) h.next
+gen_source k (Binary op a b) = let g = gen_term k a in let h = gen_term g.next b in
+    source (g.items ++ h.items) (Alu op) (g.name ∷ h.name ∷ []) h.next
 
 -- values, each under a name of its own
 pub record Many : Type 0 where

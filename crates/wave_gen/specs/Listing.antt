@@ -23,7 +23,8 @@ leaving items exit = record { items = items; exit = exit }
 -- `place` numbers the plans of blocks, names from k on are free
 abbrev pub gen_exit : (ℕ → ℕ) → ℕ → graph.Exit → Leaving
 gen_exit place k (graph.Goto c) = leaving [] (Onto (place c))
-gen_exit place k (graph.Branch t a b) = let s = gen_source k t in leaving s.items (Either s.op s.from (place a) (place b))
+gen_exit place k (graph.Branch t a b) = let s = gen_source k t in
+    leaving s.items (Either s.op s.from (place a) (place b))
 gen_exit place k (graph.Send t ts ls) =
     let a = gen_term k t in let m = gen_terms a.next ts in
     leaving (a.items ++ m.items) (Lands Merge (a.name ∷ []) (pulse ∷ m.names) (map place ls))
@@ -81,7 +82,8 @@ abbrev pub index_of : List ℕ → ℕ → ℕ
 index_of [] b = 0
 index_of (x ∷ xs) b = cond (eqb x b) 0 (suc (index_of xs b))
 
--- Waves in the draft's order: that of the start is the first one, and the waves of other procedures come behind it.
+-- Waves in the draft's order: that of the start is the first one, and the waves of other procedures come
+-- behind it.
 abbrev pub turned : Graph → Cut → ℕ → ℕ
 turned g cut b =
     let s = wave cut (start_block g) in
@@ -103,7 +105,8 @@ abbrev pub width_of : Graph → ℕ
 width_of g = suc (most_vars (spots g))
 
 unfoldable pub plans_of : Graph → (ℕ → ℕ → Bool) → Cut → List Plan
-plans_of g live cut = map (plan_of g live (turned g cut) (is_first cut) (place_of g cut) (width_of g)) (listing g cut)
+plans_of g live cut = map (plan_of g live (turned g cut) (is_first cut) (place_of g cut) (width_of g))
+    (listing g cut)
 
 -- the block of which this plan is made
 abbrev pub block_of_plan : Graph → Cut → ℕ → ℕ
