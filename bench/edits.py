@@ -40,13 +40,19 @@ def contracts_of(text):
                 depth = None
 
 
+def without_layout(text):
+    """The text without its comments, blanks and last separators, so that a new layout changes no checksum."""
+    code = "".join("".join(line.split()) for line in text.splitlines() if not line.strip().startswith(("--", "//")))
+    return code.replace(";}", "}").replace(",)", ")")
+
+
 def checksum(name):
     """A checksum of the contracts of a crate."""
     total = hashlib.sha256()
     for path in sorted((ROOT / "crates" / name / "specs").glob("**/*.antt")):
-        total.update(path.read_bytes())
+        total.update(without_layout(path.read_text()).encode())
     for path in sorted((ROOT / "crates" / name / "src").glob("**/*.rt")):
-        total.update("\n".join(contracts_of(path.read_text())).encode())
+        total.update(without_layout("\n".join(contracts_of(path.read_text()))).encode())
     return total.hexdigest()[:16]
 
 
