@@ -18,13 +18,14 @@ use Rattle.asm_text.specs.State.{opening, next_place, is_number, are_numbers, is
 use Rattle.asm_text.specs.Printed.{few_landings, keeps_first_limits}
 use Rattle.asm_text.specs.Spelling.{Version, Array, Wave, Block, Pad, Exit, End, instr_items, wave_items, block_items, blocks_items, items, Naming, IsFor, Pairs, TargetIsFor, Spells, SpellsExit, Short, array_line_of}
 use Rattle.asm_text.proofs.Items.{InstrIn, BlockIn, First, firsts_of, blocks_formed, dests_small}
-use Rattle.asm_text.proofs.Walks.{length_map}
 use Rattle.asm_text.proofs.Held.{last_wave}
 use Rattle.ws_isa.specs.Image as plain
 use Rattle.asm_text.specs.declared.line.Line.TheVariants as line
 use Rattle.asm_text.specs.declared.state.Place.TheVariants as place
-use Rattle.asm_text.proofs.Labels.{halves, pairs_length, nil_of, cons_of, or_true, empty, IsPlain, plain_line, label_number, labels_number, targets_number, label_short, labels_short, targets_ports, targets_few, Sound, own_next, own_new, own_sound}
+use Rattle.asm_text.proofs.Labels.{halves, pairs_length, nil_of, cons_of, empty, IsPlain, plain_line, label_number, labels_number, targets_number, label_short, labels_short, targets_ports, targets_few, Sound, own_next, own_new, own_sound}
 use Rattle.asm_text.proofs.Inside.{port_count, last_pad, Rise, rise_first, rise_rest, PadWithin, Inside, behind_instrs, still_inside, still_instrs, op_within, Open, Begun, ports_on, limit_of, go_next, branch_next, send_next, stop_next, same_wave, new_wave, begun_next}
+use Rattle.ws_words.proofs.Lists.{length_map}
+use Rattle.ws_words.proofs.Bools.{or_true}
 
 -- Lines lead from one state to another.
 abbrev pub Walks : State → List Line → State → Type 0

@@ -13,10 +13,7 @@ use Rattle.asm_text.specs.declared.writer.After.TheVariants as after
 use Rattle.asm_text.specs.Printed.{gap, bytes_of, mark_bytes, is_joined, behind, text_of, line_text}
 use Rattle.asm_text.specs.Spelled.{IsLexeme, AreLexemes, AllLexemes}
 use Rattle.asm_text.proofs.Spelt.{decimal_digits}
-
-or_true : (x : Bool) → (x || true) ≡ true
-or_true true = refl
-or_true false = refl
+use Rattle.ws_words.proofs.Bools.{or_true}
 
 letter_byte : (b : ℕ) → is_letter b ≡ true → is_word_byte b ≡ true
 letter_byte b h = ap (λ t. t || is_digit b) h

@@ -16,16 +16,11 @@ use Rattle.ws_isa.specs.View as view
 use Rattle.asm_text.specs.declared.build.Builder.{Builder}
 use Rattle.asm_text.specs.Building.{◌>>=◌, Built, or_zero, ports_at, view_of}
 use Rattle.asm_text.specs.Reading.{lines_of, passed, made, nothing, is_ended, read, Fault}
-use Rattle.asm_text.proofs.Walks.{length_map}
 use Rattle.asm_text.proofs.HeldSteps.{then_ok}
 use Rattle.asm_text.proofs.HeldNames.{NamesThere, Among, DestFor, passed_names}
 use Rattle.asm_text.proofs.Held.{DestsFor, OpFor, ExitFor, InstrHeld, PadHeld, Rises, BlockHeld, InstrsHeld, Exited, Stands, so_far}
 use Rattle.asm_text.proofs.HeldTexts.{AtEnd, nothing_held, lines_held}
-
-all_with : {A : Type 0} (P Q : A → Type 0) → ((x : A) → P x → Q x) → (xs : List A) → AllByRecursion P xs
-    → AllByRecursion Q xs
-all_with P Q f [] h = tt
-all_with P Q f (x ∷ xs) h = (f x h.0, all_with P Q f xs h.1)
+use Rattle.ws_words.proofs.Lists.{all_with, length_map}
 
 -- the ports of instructions
 abbrev ports_in : List Instr → List ℕ

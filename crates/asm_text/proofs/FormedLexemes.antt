@@ -10,6 +10,8 @@ use Rattle.asm_text.specs.declared.lexeme.Lexeme.{Lexeme}
 use Rattle.asm_text.specs.declared.lexeme.Lexeme.TheVariants.{Word, Number, Mark}
 use Rattle.asm_text.specs.Lexing.{is_blank, lone, number_of, mark_of, begins, front, Lexed, found_items, behind, scan, lexed}
 use Rattle.asm_text.proofs.Runs.{prefix_all}
+use Rattle.ws_words.proofs.Numbers.{one_more}
+use Rattle.ws_words.proofs.Lists.{all_append}
 
 abbrev pub LexemeFits : Lexeme → Type 0
 LexemeFits (Word w) = is_word w ≡ true
@@ -24,16 +26,8 @@ pub either : {A : Type 0} (P : A → Type 0) (b : Bool) (x y : Option A) → (b 
 either P true x y h k = h refl
 either P false x y h k = k refl
 
-pub all_append : {A : Type 0} (P : A → Type 0) (xs ys : List A) → AllByRecursion P xs → AllByRecursion P ys
-    → AllByRecursion P (xs ++ ys)
-all_append P [] ys h k = k
-all_append P (x ∷ xs) ys h k = (h.0, all_append P xs ys h.1 k)
-
 abbrev FrontFits : Front → Type 0
 FrontFits f = AllFit (found_items f.found)
-
-one_more : (n : ℕ) → 1 + n ≡ suc n
-one_more n = omega arith
 
 word_run : (b : ℕ) (text : List ℕ) → is_letter b ≡ true
     → is_word (take (prefix_len is_word_byte (b ∷ text)) (b ∷ text)) ≡ true

@@ -5,10 +5,10 @@ use Rattle.ws_isa.specs.Image.{Array, Block, Pad, Instr, flat, ports_of}
 use Rattle.ws_isa.specs.Formed.{most_arrays, most_length, most_cells, most_instrs, total_length, NameFormed, WavesFrom}
 use Rattle.asm_text.specs.declared.state.State.{State}
 use Rattle.asm_text.specs.State.{is_above}
-use Rattle.asm_text.proofs.FormedLexemes.{all_append}
 use Rattle.asm_text.proofs.Resolved.{pushed}
 use Rattle.asm_text.proofs.HeldNames.{length_snoc}
 use Rattle.asm_text.proofs.Held.{Rises, last_pad, last_wave, ArraysHeld, InstrHeld, InstrsHeld, PadHeld, PadsHeld, BlockHeld, BlocksHeld}
+use Rattle.ws_words.proofs.Lists.{all_append}
 
 pub all_snoc : {A : Type 0} (P : A → Type 0) (xs : List A) (x : A) → AllByRecursion P xs → P x
     → AllByRecursion P (xs ++ x ∷ [])

@@ -20,9 +20,10 @@ use Rattle.asm_text.specs.declared.state.State.{State}
 use Rattle.asm_text.specs.State.{counted, with_name, opening}
 use Rattle.asm_text.specs.Building.{Maybe, by_name, place_of, instr_of, block_of, ports_at, dest_of, dests_of, blocks_of, each}
 use Rattle.asm_text.specs.Reading.{step, reading, passed, is_ended}
-use Rattle.asm_text.proofs.FormedLexemes.{all_append, either}
+use Rattle.asm_text.proofs.FormedLexemes.{either}
 use Rattle.asm_text.proofs.FormedLines.{DestsGiven, OthersGiven}
 use Rattle.asm_text.proofs.HeldSteps.{if_ok, then_ok, line_ok, behind_ok}
+use Rattle.ws_words.proofs.Lists.{all_append}
 
 -- the numbers of names are among so many
 abbrev pub NamesIn : ℕ → Names → Type 0

@@ -9,6 +9,7 @@ use Rattle.asm_text.specs.declared.fault.AsmKind.TheVariants as Kind
 use Rattle.asm_text.specs.State.{next_place, is_plain, is_numbered, is_within, is_new, is_other_version, counted, checked_at, checked, moved, behind}
 use Rattle.asm_text.specs.Building.{◌>>=◌, Maybe}
 use Rattle.asm_text.specs.Reading.{on_line}
+use Rattle.ws_words.proofs.Bools.{not_false}
 
 pub if_ok : {A E : Type 0} (P : A → Type 0) (b : Bool) (x y : Result A E) → (b ≡ true → IfOk x P)
     → (b ≡ false → IfOk y P) → IfOk (cond b x y) P
@@ -24,10 +25,6 @@ pub line_ok : {A B : Type 0} (P : A → Type 0) (Q : B → Type 0) (n : ℕ) (r 
     → IfOk r P → ((a : A) → P a → IfOk (f a) Q) → IfOk (on_line n r >>= f) Q
 line_ok P Q n (Err k) f h g = tt
 line_ok P Q n (Ok a) f h g = g a h
-
-not_false : (b : Bool) → not b ≡ false → b ≡ true
-not_false true e = refl
-not_false false e = absurd (true≢false e)
 
 -- a line that is taken may stand where it does, with its numbers in order, and keeps the limits
 pub behind_ok : (t : State) (l : Line) (wide : Bool) (Q : State → Type 0)

@@ -2,13 +2,12 @@
 use Rattle.std.proofs.Common.{◌≡◌, ◌^◌, ◌<◌, ◌≤◌, nat_le, ◌&&◌, length, Bool, true, List, [], ◌∷◌, ◌++◌, arith}
 use Rattle.std.specs.List.{AllByRecursion, list_all}
 use Rattle.std.proofs.lemmas.Bool.{and_parts, leb-true}
-use Rattle.ws_isa.specs.declared.instr.Op.{Op}
-use Rattle.ws_isa.specs.declared.instr.Op.TheVariants.{Alu, Steer, Phi, Send, Store}
 use Rattle.ws_isa.specs.declared.instr.Dest.{Dest}
-use Rattle.ws_isa.specs.Image.{Instr, Block, Image, flat, ports_of, ports, instr_at}
+use Rattle.ws_isa.specs.Image.{Instr, Block, Image, flat, ports, instr_at}
 use Rattle.ws_isa.specs.Formed.{most_instrs, DestIn, DestsIn, OpIn, ExitIn, DestsSuit, OthersSuit, SomeLanding, PadsRise, NoteSuits, InstrWithin, BlockWithin, Formed}
 use Rattle.asm_text.specs.Limits.{first_most_instrs, first_most_blocks}
 use Rattle.asm_text.specs.Printed.{keeps_first_block, keeps_first_limits}
+use Rattle.ws_isa.proofs.Images.{three_ports}
 
 pub record InstrIn (image : Image) (i : Instr) : Type 0 where
   pub within : InstrWithin i
@@ -98,14 +97,6 @@ blocks_formed image f =
     in
     blocks_in image (keeps_first_limits image) image.blocks f.blocks (λ k. (firsts_of image k).each)
     (all_flat (InstrIn image) image.blocks instrs) r.pads r.exits f.suited.landings f.pads
-
-three_ports : (op : Op) → ports_of op ≤ 3
-three_ports (Alu o) = omega arith
-three_ports Steer = omega arith
-three_ports Phi = omega arith
-three_ports (Send k) = omega arith
-three_ports (Store a) = omega arith
-three_ports op = omega arith
 
 -- a destination that is there has small numbers
 pub record Small (d : Dest) : Type 0 where

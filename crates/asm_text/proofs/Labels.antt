@@ -1,5 +1,5 @@
 -- Lists in pairs; what labels stand for, and the tests that a line makes of them.
-use Rattle.std.proofs.Common.{◌≡◌, ◌⊎◌, inl, inr, ℕ, suc, ◌+◌, ◌≤◌, ◌||◌, is_none, length, Bool, true, false, List, [], ◌∷◌, ◌++◌, Option, Some, None, refl, sym, ap, ◌∙◌, arith}
+use Rattle.std.proofs.Common.{◌≡◌, ◌⊎◌, inl, inr, ℕ, suc, ◌+◌, ◌≤◌, ◌||◌, is_none, length, Bool, true, List, [], ◌∷◌, ◌++◌, Option, Some, None, refl, sym, ap, ◌∙◌, arith}
 use Rattle.std.specs.List.{AllByRecursion, list_all}
 use Rattle.std.proofs.lemmas.Bool.{le-leb, eq-eqb}
 use Rattle.std.proofs.lemmas.Option.{none-some, same_Some}
@@ -13,6 +13,7 @@ use Rattle.asm_text.specs.State.{is_number, are_numbers, is_next, are_ports, is_
 use Rattle.asm_text.specs.Spelling.{Naming, IsFor, Pairs, TargetIsFor, Short}
 use Rattle.asm_text.proofs.Items.{Small}
 use Rattle.asm_text.proofs.Given.{named_in_more}
+use Rattle.ws_words.proofs.Bools.{or_true}
 
 -- Parts of paired lists.
 
@@ -55,10 +56,6 @@ cons_of R [] y ys h = absurd h
 cons_of R (l ∷ ls) y ys h = (l, ls, refl, h.0, h.1)
 
 -- Labels.
-
-pub or_true : (b : Bool) → (b || true) ≡ true
-or_true true = refl
-or_true false = refl
 
 abbrev pub empty : Naming
 empty = record { blocks = []; instrs = [] }

@@ -20,12 +20,12 @@ use Rattle.asm_text.proofs.Held.{last_wave}
 use Rattle.ws_isa.specs.declared.instr.Op.{Op}
 use Rattle.ws_isa.specs.declared.instr.Op.TheVariants.{Load, Store}
 use Rattle.asm_text.specs.Printed.{version}
-use Rattle.asm_text.proofs.Walks.{length_map}
 use Rattle.ws_isa.specs.Image as plain
 use Rattle.asm_text.specs.declared.line.Line.TheVariants as line
 use Rattle.asm_text.proofs.Labels.{halves, nil_of, cons_of, Sound}
 use Rattle.asm_text.proofs.Inside.{port_count}
 use Rattle.asm_text.proofs.Accepts.{IsIn}
+use Rattle.ws_words.proofs.Lists.{length_map}
 
 -- The counts of an image, as the state behind its text has them.
 pub record Counts (image : plain.Image) (s : State) : Type 0 where

@@ -28,15 +28,12 @@ use Rattle.asm_text.proofs.Held.{Held, Stands, Exited, so_far, after}
 use Rattle.asm_text.proofs.HeldLines.{line_held}
 use Rattle.asm_text.proofs.HeldTexts.{nothing_held}
 use Rattle.asm_text.proofs.Given.{Given, line_given}
-use Rattle.asm_text.proofs.Walks.{length_map}
 use Rattle.asm_text.proofs.First.{FirstHeld, line_first, first_kept}
 use Rattle.asm_text.proofs.Told.{number, naming, told_items, NoNames, Told, Extends, Taken, line_told}
+use Rattle.ws_words.proofs.Lists.{length_map}
+use Rattle.ws_words.proofs.Bools.{not_false}
 
 -- A line that is taken.
-
-not_false : (b : Bool) → not b ≡ false → b ≡ true
-not_false true e = refl
-not_false false e = absurd (true≢false e)
 
 narrow_version : (l : Line) (wide : Bool) → is_other_version l wide ≡ false → wide ≡ false
     → is_other_version l false ≡ false

@@ -1,5 +1,5 @@
 -- The lines of a text so far spell the items that are built of them so far.
-use Rattle.std.proofs.Common.{◌≡◌, ℕ, suc, ◌+◌, ◌==◌, ◌&&◌, ◌||◌, not, nat_lt, is_none, length, length-append, Bool, true, false, IfOk, List, [], ◌∷◌, ◌++◌, map, Option, Some, None, Ok, Err, if◌then◌else◌, refl, sym, ap, subst, ◌∙◌, append_assoc, append-nil, arith}
+use Rattle.std.proofs.Common.{◌≡◌, ℕ, suc, ◌+◌, ◌==◌, ◌&&◌, ◌||◌, not, nat_lt, length, length-append, Bool, true, false, IfOk, List, [], ◌∷◌, ◌++◌, map, Option, Some, None, Ok, Err, if◌then◌else◌, refl, sym, ap, subst, ◌∙◌, append_assoc, append-nil, arith}
 use Rattle.std.proofs.lemmas.List.{map-append}
 use Rattle.std.proofs.lemmas.Bool.{true≢false, false≢true, eqb-true, eq-eqb, ne_eqb}
 use Rattle.std.proofs.lemmas.Option.{none-some, same_Some}
@@ -24,8 +24,10 @@ use Rattle.asm_text.specs.Building.{Maybe, Built, dests_of, blocks_of, instr_of,
 use Rattle.asm_text.specs.Spelling.{Item, Version, Array, Wave, Block, Pad, Instr, Exit, End, instr_items, wave_items, blocks_items, Naming, IsFor, Pairs, TargetIsFor, Spells, SpellsExit}
 use Rattle.asm_text.proofs.Held.{last_wave, Stands, so_far, Held, after}
 use Rattle.asm_text.proofs.HeldSteps.{if_ok, then_ok}
-use Rattle.asm_text.proofs.Walks.{length_map}
 use Rattle.asm_text.proofs.Pairing.{pairs_snoc, instr_for, block_for, dests_for, blocks_for, instr_items_snoc, blocks_items_snoc}
+use Rattle.ws_words.proofs.Lists.{length_map}
+use Rattle.ws_words.proofs.Options.{none_of}
+use Rattle.ws_words.proofs.Bools.{plain_of}
 
 -- Items so far.
 
@@ -114,10 +116,6 @@ named_after (x ∷ names) more w n e =
     named_by (is w x.0) x.1 (named names w) (named ((names ++ (w, n) ∷ []) ++ more) w) n
     (named_after names more w n) e
 
-none_of : (o : Option ℕ) → is_none o ≡ true → o ≡ None
-none_of None e = refl
-none_of (Some n) e = absurd (false≢true e)
-
 own_for : (names more final : Names) (l : Label) (count n : ℕ) → is_next l count ≡ true
     → is_new_label names l ≡ true → final ≡ with_name names l (count + 1) ++ more → n ≡ count + 1
     → IsFor final l n
@@ -129,10 +127,6 @@ own_for names more final (Named w) count n e k f h =
 plain_name : (names : Names) (l : Label) (n : ℕ) → is_number l ≡ true → names ≡ [] → with_name names l n ≡ []
 plain_name names (At m) n e h = h
 plain_name names (Named w) n e h = absurd (false≢true e)
-
-plain_of : (v p : Bool) → (v || p) ≡ true → v ≡ false → p ≡ true
-plain_of true p h e = absurd (true≢false e)
-plain_of false p h e = h
 
 -- One more line and its item.
 told_more : (s t u : State) (b c : Built) (l : Line) (ls : List Line) (x : Item) → Told s t b ls

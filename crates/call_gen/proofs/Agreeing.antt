@@ -10,7 +10,8 @@ use Rattle.cfg_core.specs.Graph.{Term, Number, Var, Cell, Flip, Not, Neg, Binary
 use Rattle.cfg_core.specs.Rules.{TermIn, OpIn}
 use Rattle.cfg_core.specs.Walk.{value, loads_of, values, all_loads, value_of, values_of, Outcome, Done, Out, and_then, spend, run_op, run_ops}
 use Rattle.live_vars.specs.Live.{Mentions, OneMentions, OpReads, OpWrites}
-use Rattle.call_gen.proofs.Visible.{Same, Seen, none_seen, seen_both, seen_load, seen_store, seen_read, seen_print, seen_give, seen_take, same_more, row_left, with_row_left, with_row_count}
+use Rattle.call_gen.proofs.Visible.{Same, Seen, none_seen, seen_both, seen_load, seen_store, seen_read, seen_print, seen_give, seen_take, same_more, row_left, with_row_left}
+use Rattle.cfg_core.proofs.ArraysThere.{length_with_row as with_row_count}
 
 -- the values of the variables below n of which P holds
 abbrev pub Agree : ℕ → (ℕ → Type 0) → List ℕ → List ℕ → Type 0

@@ -18,12 +18,12 @@ use Rattle.call_gen.proofs.Visible.{Same}
 use Rattle.call_gen.proofs.Agreeing.{States, Outcomes, ops_same}
 use Rattle.call_gen.proofs.Needed.{After, needed_is_live}
 use Rattle.call_gen.proofs.Slots.{Roomy}
-use Rattle.call_gen.proofs.Landing.{zero_at, zeros_count}
 use Rattle.call_gen.proofs.Facts.{Given, Placed, Celled}
 use Rattle.call_gen.proofs.Standing.{run_both, total, rows, size, Stack, Alike, Relates, places, owed, Reaches, reaches_by, reaches_more, reaches_past, reaches_later, left_few, numbers_at}
 use Rattle.call_gen.proofs.Leaves.{goes_on, branches}
 use Rattle.call_gen.proofs.Returning.{returns}
 use Rattle.call_gen.proofs.Calling.{calls, at_door, goes_in}
+use Rattle.ws_words.proofs.Numbers.{zero_at, zeros_count}
 
 module _ (g : Graph) (live : List (List ℕ)) (G : Given g live) (F : Placed g live) (C : Celled g) (w : ℕ → ℕ) where
   abbrev h : Graph

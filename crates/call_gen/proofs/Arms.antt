@@ -9,11 +9,13 @@ use Rattle.cfg_core.specs.Shape.{OnlyFrom, IsShaped, ArmsAlone}
 use Rattle.call_gen.specs.Spelled.{count_of, is_call, is_called, moved, door, landings, left, after, below, spelled_blocks, spelled_procs, spelled}
 use Rattle.call_gen.specs.Keeps.{NoSend}
 use Rattle.call_gen.proofs.Facts.{Given, Placed}
-use Rattle.call_gen.proofs.Placing.{nth_left, nth_right, take_left, take_right, count_both, spots_in_count, spots_in_both, in_blocks, door_in, door_later, head_count, after_count}
+use Rattle.call_gen.proofs.Placing.{take_left, take_right, count_both, in_blocks, door_in, door_later, head_count, after_count}
 use Rattle.call_gen.proofs.Places.{all_placed}
 use Rattle.call_gen.proofs.PartWalk.{spot_is, there_from, exit_in}
 use Rattle.call_gen.proofs.PartRules.{none_past}
 use Rattle.call_gen.proofs.Cycles.{lands_at, moved_less, moved_apart}
+use Rattle.cfg_core.proofs.Spots.{nth_left, nth_right, spots_in_both}
+use Rattle.cfg_core.proofs.Weighing.{count_in as spots_in_count}
 
 -- P holds of the place of each, where the first has this place
 abbrev AllFrom : {A : Type 0} → (ℕ → Type 0) → ℕ → List A → Type 0

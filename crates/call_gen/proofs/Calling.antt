@@ -14,12 +14,15 @@ use Rattle.call_gen.specs.Spelled.{is_called, is_calling, moved, door, address, 
 use Rattle.call_gen.proofs.Visible.{Same, with_more}
 use Rattle.call_gen.proofs.Agreeing.{States, terms_states, terms_values}
 use Rattle.call_gen.proofs.Needed.{After}
-use Rattle.call_gen.proofs.Slots.{peek, pokes, Roomy, pokes_roomy, pokes_in, pokes_other, below_all, filter_in, below_count, below_at, below_apart, apart_push}
+use Rattle.call_gen.proofs.Slots.{peek, pokes, Roomy, pokes_roomy, pokes_in, pokes_other, below_all, below_count, below_at, below_apart, apart_push}
 use Rattle.call_gen.proofs.Spilling.{same_nil, Saved, saves_run, clears_run}
-use Rattle.call_gen.proofs.Landing.{landed_count, landed_other, landed_at, zero_at, zeros_count, values_count, values_push, loads_push, entered_at, entered_count}
+use Rattle.call_gen.proofs.Landing.{landed_other, landed_at, values_push, loads_push, entered_at, entered_count}
 use Rattle.call_gen.proofs.Facts.{Given, Placed, Celled}
 use Rattle.call_gen.proofs.Standing.{total, rows, size, Waits, Stack, owed, Reaches, reaches_by, reaches_later, exit_in, callee_earlier, SameAbove, stack_kept, stack_any}
-use Rattle.call_gen.proofs.Leaves.{decide, kept, kept_low, kept_live, kept_address, kept_in, at, at_apart, result_not, writes}
+use Rattle.call_gen.proofs.Leaves.{kept, kept_low, kept_live, kept_address, kept_in, at, at_apart, result_not, writes}
+use Rattle.cfg_core.proofs.Spots.{filter_in, landed_count, values_count}
+use Rattle.ws_words.proofs.Numbers.{zero_at, zeros_count}
+use Rattle.ws_words.proofs.Bools.{decide}
 
 -- At the door of procedure f, from which both go on into its first block.
 module _ (g : Graph) (live : List (List ℕ)) (G : Given g live) (F : Placed g live) (f : ℕ) (there : f < length g.procs) where

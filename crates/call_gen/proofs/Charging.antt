@@ -20,15 +20,7 @@ use Rattle.call_gen.proofs.Covering.{each_is_placed}
 use Rattle.call_gen.proofs.Alongside.{first_is, weighs}
 use Rattle.call_gen.proofs.Places.{all_placed, all_celled}
 use Rattle.call_gen.proofs.Crossing.{Known, live_there, door_live, point_live, named_door}
-
--- a filter leaves no more
-pub filter_few : (p : ℕ → Bool) (xs : List ℕ) → length (filter p xs) ≤ length xs
-filter_few p [] = omega arith
-filter_few p (x ∷ xs) = by_test (p x) (filter_few p xs)
-  where
-    by_test : (v : Bool) → length (filter p xs) ≤ length xs → length (if v then x ∷ filter p xs else filter p xs) ≤ suc (length xs)
-    by_test true h = omega arith
-    by_test false h = omega arith
+use Rattle.ws_words.proofs.Bools.{and_parts as and_true}
 
 filter_push : (p : ℕ → Bool) (xs : List ℕ) (y : ℕ) → length (filter p (xs ++ y ∷ [])) ≡ length (filter p xs) + (if p y then 1 else 0)
 filter_push p [] y = by_test (p y)
@@ -67,11 +59,6 @@ filter_between p m k (suc n) h i = elim (cases_lt n k) [
     by_test high true e r q = absurd (let lt : n < k = i n (omega arith) e in omega (arith, lt, high))
     by_test high false e r q =
         let none : 0 + (if p n then 1 else 0) ≡ 0 + 0 = ap (λ (c : Bool). 0 + (if c then 1 else 0)) e in omega (arith, none, r, q)
-
-and_true : (a c : Bool) → (a && c) ≡ true → (a ≡ true) × (c ≡ true)
-and_true true true e = (refl, refl)
-and_true true false e = absurd (cc)
-and_true false c e = absurd (cc)
 
 -- values with an address after them
 pub terms_push : (ts : List Term) (n : ℕ) → sum_by term_nodes (ts ++ Number n ∷ []) ≡ sum_by term_nodes ts + 1

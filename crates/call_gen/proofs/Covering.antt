@@ -6,9 +6,11 @@ use Rattle.cfg_core.specs.Graph.{Block, GraphProc, Graph, Spot, spots, spots_in,
 use Rattle.cfg_core.specs.Rules.{calls}
 use Rattle.call_gen.specs.Spelled.{count_of, is_call, moved, door, after, spelled_blocks, spelled_procs, spelled}
 use Rattle.call_gen.specs.Charged.{IsPlaced}
-use Rattle.call_gen.proofs.Placing.{nth_left, nth_right, take_left, take_right, count_both, spots_in_count, after_count, head_spots, head_count, in_blocks, door_in, door_later}
+use Rattle.call_gen.proofs.Placing.{take_left, take_right, count_both, after_count, head_spots, head_count, in_blocks, door_in, door_later}
 use Rattle.call_gen.proofs.PartWalk.{spot_from, there_from}
 use Rattle.call_gen.proofs.Standing.{places}
+use Rattle.cfg_core.proofs.Spots.{nth_left, nth_right}
+use Rattle.cfg_core.proofs.Weighing.{count_in as spots_in_count}
 
 -- Here stands a block of these, or after it the point to which its call returns.
 record AtBlock (ss : List Spot) (k : ℕ) : Type 0 where

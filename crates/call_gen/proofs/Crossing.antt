@@ -13,11 +13,12 @@ use Rattle.live_vars.specs.Marks.{has}
 use Rattle.call_gen.specs.Spelled.{is_called, moved, door, landings, address, below, is_result, is_saved, saved, save, load, saves, left, clear, is_unset, spelled}
 use Rattle.call_gen.specs.Keeps.{NoneAcross, NoneAtStart, NoneLiveAcross, SendsAtMost, ParamsAtMost}
 use Rattle.call_gen.proofs.Facts.{Given, Placed}
-use Rattle.call_gen.proofs.Slots.{in_below, below_all, in_filter, filter_in}
+use Rattle.call_gen.proofs.Slots.{in_below, below_all}
 use Rattle.call_gen.proofs.Standing.{exit_in, numbers_at}
 use Rattle.call_gen.proofs.Leaves.{kept_live, kept_address}
 use Rattle.call_gen.proofs.Places.{all_placed, all_celled}
 use Rattle.call_gen.proofs.Cycles.{Sort, is_door, is_plain, is_point, is_none, every_spot, lands_at}
+use Rattle.cfg_core.proofs.Spots.{filter_in, in_filter}
 
 -- read before it is written
 abbrev pub ReadsIn : List Op → ℕ → Type 0

@@ -10,9 +10,10 @@ use Rattle.cfg_core.proofs.Turns.{has_tick_turns}
 use Rattle.call_gen.specs.Spelled.{callee_is, count_of, is_call, is_called, moved, landings, saves, left, spelled}
 use Rattle.call_gen.specs.Keeps.{NoSend}
 use Rattle.call_gen.proofs.Facts.{Given, Placed}
-use Rattle.call_gen.proofs.Placing.{nth_there, plain_of, point_of, door_of, home_is, nth_left, nth_right}
+use Rattle.call_gen.proofs.Placing.{nth_there, plain_of, point_of, door_of, home_is}
 use Rattle.call_gen.proofs.Sorts.{all_spots, landing_from}
 use Rattle.call_gen.proofs.Standing.{exit_in, callee_earlier}
+use Rattle.cfg_core.proofs.Spots.{nth_left, nth_right}
 
 module _ (g : Graph) (live : List (List ℕ)) (G : Given g live) (F : Placed g live) where
   abbrev h : Graph

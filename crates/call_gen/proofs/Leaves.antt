@@ -6,23 +6,21 @@ use Rattle.std.proofs.lemmas.Bool.Decides.{nat_tests}
 use Rattle.std.proofs.lemmas.List.{get_or-set_same, get_or-set_other, length-set}
 use Rattle.ws_words.specs.Outside.{Outside, State, zeros}
 use Rattle.cfg_core.specs.Graph.{Term, Exit, Goto, Branch, Call, Graph, Spot, spots, spot_at, block_at, proc_at, or_else}
-use Rattle.cfg_core.specs.Rules.{In, Apart, TermIn, ExitIn}
+use Rattle.cfg_core.specs.Rules.{In}
 use Rattle.cfg_core.specs.Walk.{Outcome, run_ops, value_of, Frame, At, landed, with_result, leave, passed, step}
 use Rattle.live_vars.specs.Live.{ExitWrites, Live}
 use Rattle.live_vars.specs.Marks.{has}
 use Rattle.call_gen.specs.Spelled.{is_called, is_calling, moved, cell, below, is_result, is_saved, saved, load, spelled}
 use Rattle.call_gen.proofs.Visible.{Same}
-use Rattle.call_gen.proofs.Agreeing.{Agree, States}
+use Rattle.call_gen.proofs.Agreeing.{States}
 use Rattle.call_gen.proofs.Needed.{After}
-use Rattle.call_gen.proofs.Slots.{peek, Roomy, peeks_in, peeks_other, peeks_count, in_below, below_all, in_filter, filter_in}
+use Rattle.call_gen.proofs.Slots.{peek, Roomy, peeks_in, peeks_other, peeks_count, in_below, below_all}
 use Rattle.call_gen.proofs.Spilling.{loads_run}
-use Rattle.call_gen.proofs.Landing.{zeros_count}
 use Rattle.call_gen.proofs.Facts.{Given, Placed, Celled}
 use Rattle.call_gen.proofs.Standing.{total, rows, size, Stack, Stands, owed, Reaches, if_reaches, reaches_by, reaches_later, exit_in, stack_any}
-
-all_from : (P : ℕ → Type 0) (xs : List ℕ) → ((x : ℕ) → In x xs → P x) → AllByRecursion P xs
-all_from P [] h = tt
-all_from P (x ∷ xs) h = (h x (inl refl), all_from P xs (λ y i. h y (inr i)))
+use Rattle.ws_words.proofs.Numbers.{zeros_count}
+use Rattle.cfg_core.proofs.Spots.{all_from, filter_in, in_filter}
+use Rattle.ws_words.proofs.Bools.{decide}
 
 -- a call's result, as a test
 pub result_not : (r : Option ℕ) (f : ℕ) (ts : List Term) (back x : ℕ) → (ExitWrites (Call r f ts back) x → ⊥) → is_result r x ≡ false
@@ -36,10 +34,6 @@ result_not (Some y) f ts back x never = by_test (x == y) refl
 result_is : (r : Option ℕ) (f : ℕ) (ts : List Term) (back x : ℕ) → ExitWrites (Call r f ts back) x → is_result r x ≡ true
 result_is None f ts back x h = absurd h
 result_is (Some y) f ts back x h = grind (arith, nat_tests)
-
-pub decide : (b : Bool) → (b ≡ true) ⊎ (b ≡ false)
-decide true = inl refl
-decide false = inr refl
 
 -- the variable into which a call's result lands
 result_place : (r : Option ℕ) (v : ℕ) → (((y : ℕ) × (r ≡ Some y)) → or_else r v < v) → or_else r v < suc v

@@ -5,7 +5,7 @@ use Rattle.std.proofs.lemmas.Bool.{cases_lt}
 use Rattle.cfg_core.specs.Graph.{Exit, Block, GraphProc, Spot, spots_in, spots_from, nth, or_else, no_proc, entry_from}
 use Rattle.cfg_core.specs.Rules.{ProcNumbers}
 use Rattle.call_gen.specs.Part.{before, part_block, part_blocks, part_proc, part_procs}
-use Rattle.call_gen.proofs.Placing.{nth_left, nth_right}
+use Rattle.cfg_core.proofs.Spots.{nth_left, nth_right}
 
 -- Counts of what is kept.
 

@@ -1,8 +1,8 @@
 -- A closed part of a graph keeps the six rules, and the order of blocks and edges.
-use Rattle.std.proofs.Common.{ℕ, zero, suc, ◌+◌, ◌-◌, ◌≡◌, ◌<◌, ◌≤◌, Bool, true, List, [], ◌∷◌, length, refl, sym, ap, ◌∙◌, subst, inl, inr, Option, Some, arith}
+use Rattle.std.proofs.Common.{ℕ, suc, ◌+◌, ◌-◌, ◌≡◌, ◌<◌, ◌≤◌, Bool, true, List, [], ◌∷◌, length, refl, sym, ap, ◌∙◌, subst, inl, inr, Option, Some, arith}
 use Rattle.std.specs.List.{AllByRecursion}
 use Rattle.std.proofs.lemmas.Bool.{cases_lt}
-use Rattle.cfg_core.specs.Graph.{Term, Number, Var, Cell, Flip, Not, Neg, Binary, Op, Assign, Store, Print, Read, Give, Take, Choose, Tick, TickBy, Exit, Goto, Branch, Call, Return, Send, Stop, GraphProc, Graph, Spot, spots, nth, or_else, no_spot, spot_at, block_at, entry_of}
+use Rattle.cfg_core.specs.Graph.{Term, Number, Var, Cell, Flip, Not, Neg, Binary, Op, Assign, Store, Print, Read, Give, Take, Choose, Tick, TickBy, Exit, Goto, Branch, Call, Return, Send, Stop, GraphProc, Graph, Spot, spots, nth, no_spot, spot_at, block_at, entry_of}
 use Rattle.cfg_core.specs.Rules.{TermIn, OpIn, StaysIn, ExitIn, Leads, BlockNumbers, Lands, CallsEarlier, calls, has_tick, has_turn, ChoosesBare, Quiet, one, more, IsGraph}
 use Rattle.cfg_core.specs.Edges.{Edge, IsHeader}
 use Rattle.cfg_core.specs.Shape.{is_branch, TestsInATurn, OnlyFrom, BranchesApart, IsShaped, ArmsAlone}
@@ -13,8 +13,9 @@ use Rattle.call_gen.specs.Part.{before, keeps, number, name, part}
 use Rattle.call_gen.proofs.Facts.{Placed}
 use Rattle.call_gen.proofs.Places.{all_placed}
 use Rattle.call_gen.proofs.PartPlaces.{before_less, before_apart, before_order, part_spot, part_from, procs_numbered}
-use Rattle.call_gen.proofs.PartWalk.{Closed, spot_is, spot_from, there_from, numbers_at, exit_in, earlier_at}
+use Rattle.call_gen.proofs.PartWalk.{Closed, spot_from, there_from, numbers_at, exit_in, earlier_at}
 use Rattle.call_gen.proofs.PartWalk as walks
+use Rattle.cfg_core.proofs.Spots.{past}
 
 -- what names something names it where there are as many arrays
 module _ (g h : Graph) (same : g.arrays ≡ h.arrays) where
@@ -50,11 +51,6 @@ module _ (g h : Graph) (same : g.arrays ≡ h.arrays) where
 all_of : {A : Type 0} (P : A → Type 0) (xs : List A) → ((k : ℕ) (x : A) → nth xs k ≡ Some x → P x) → AllByRecursion P xs
 all_of P [] h = tt
 all_of P (x ∷ xs) h = (h 0 x refl, all_of P xs (λ k y e. h (suc k) y e))
-
-past : (xs : List Spot) (k : ℕ) → length xs ≤ k → or_else (nth xs k) no_spot ≡ no_spot
-past [] k le = refl
-past (x ∷ xs) zero le = absurd (omega arith)
-past (x ∷ xs) (suc k) le = past xs k (omega arith)
 
 pub none_past : (h : Graph) (k : ℕ) → length (spots h) ≤ k → spot_at h k ≡ no_spot
 unfolding spot_at

@@ -3,22 +3,13 @@ use Rattle.std.proofs.Common.{ℕ, zero, suc, ◌+◌, ◌-◌, ◌||◌, ◌≡
 use Rattle.std.specs.List.{AllByRecursion}
 use Rattle.std.proofs.lemmas.Bool.{cases_lt}
 use Rattle.std.proofs.lemmas.List.{length-append}
-use Rattle.cfg_core.specs.Graph.{Term, Exit, Call, Block, GraphProc, Graph, Spot, spots, spots_in, spots_from, nth, or_else, no_spot, no_proc, spot_at, block_at, proc_at, entry_from, entry_of}
+use Rattle.cfg_core.specs.Graph.{Term, Exit, Call, Block, GraphProc, Graph, Spot, spots_in, spots_from, nth, or_else, no_proc, entry_from}
 use Rattle.cfg_core.specs.Rules.{calls, ProcNumbers}
 use Rattle.call_gen.specs.Spelled.{callee_is, some_of, count_of, is_call, landings_from, after, spelled_block, return_block, spelled_blocks, door_block, spelled_procs}
+use Rattle.cfg_core.proofs.Spots.{nth_left, nth_right, spots_in_both}
+use Rattle.cfg_core.proofs.Weighing.{count_in as spots_in_count}
 
 -- Lists by place.
-
-pub nth_left : {A : Type 0} (xs ys : List A) (k : ℕ) → k < length xs → nth (xs ++ ys) k ≡ nth xs k
-nth_left [] ys k lt = absurd (omega arith)
-nth_left (x ∷ xs) ys zero lt = refl
-nth_left (x ∷ xs) ys (suc k) lt = nth_left xs ys k (omega arith)
-
-pub nth_right : {A : Type 0} (xs ys : List A) (n k m : ℕ) → length xs ≡ n → m ≡ n + k → nth (xs ++ ys) m ≡ nth ys k
-nth_right [] ys n k m e em = ap (nth ys) (omega (arith, e, em))
-nth_right (x ∷ xs) ys zero k m e em = absurd (omega (arith, e))
-nth_right (x ∷ xs) ys (suc n) k zero e em = absurd (omega (arith, em))
-nth_right (x ∷ xs) ys (suc n) k (suc m) e em = nth_right xs ys n k m (omega (arith, e)) (omega (arith, em))
 
 pub nth_there : {A : Type 0} (xs : List A) (k : ℕ) → k < length xs → (x : A) × (nth xs k ≡ Some x)
 nth_there [] k lt = absurd (omega arith)
@@ -39,14 +30,6 @@ take_right (x ∷ xs) ys (suc n) k (suc m) e em = ap (λ (zs : List _). x ∷ zs
 pub count_both : (p : Spot → Bool) (xs ys : List Spot) → count_of p (xs ++ ys) ≡ count_of p xs + count_of p ys
 count_both p [] ys = omega arith
 count_both p (x ∷ xs) ys = omega (arith, count_both p xs ys)
-
-pub spots_in_count : (home vars : ℕ) (xs : List Block) → length (spots_in home vars xs) ≡ length xs
-spots_in_count home vars [] = refl
-spots_in_count home vars (x ∷ xs) = ap suc (spots_in_count home vars xs)
-
-pub spots_in_both : (home vars : ℕ) (xs ys : List Block) → spots_in home vars (xs ++ ys) ≡ spots_in home vars xs ++ spots_in home vars ys
-spots_in_both home vars [] ys = refl
-spots_in_both home vars (x ∷ xs) ys = ap (λ (zs : List Spot). record { home = home; vars = vars; block = x } ∷ zs) (spots_in_both home vars xs ys)
 
 module _ (g : Graph) (live : List (List ℕ)) where
   abbrev pub plain_of : Spot → ℕ → Spot

@@ -11,7 +11,8 @@ use Rattle.call_gen.proofs.Needed.{After}
 use Rattle.call_gen.proofs.Slots.{Roomy}
 use Rattle.call_gen.proofs.Facts.{Given, Placed, Celled}
 use Rattle.call_gen.proofs.Standing.{total, rows, size, Stack, owed, Reaches, reaches_by, exit_in}
-use Rattle.call_gen.proofs.Leaves.{decide, comes_back}
+use Rattle.call_gen.proofs.Leaves.{comes_back}
+use Rattle.ws_words.proofs.Bools.{decide}
 
 module _ (g : Graph) (live : List (List ℕ)) (G : Given g live) (F : Placed g live) (C : Celled g) (b : ℕ) (there : b < length (spots g)) (term : Term) (is : (block_at g b).exit ≡ Return term) (s t : State) (k extra : ℕ) (hidden : List (List ℕ)) (roomy : Roomy (total g live) hidden) (st : States g (rows g live) (size g live) (spot_at g b).vars extra hidden (After g (Return term)) s t) where
   abbrev h : Graph

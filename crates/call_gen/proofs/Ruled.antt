@@ -6,7 +6,7 @@ use Rattle.std.proofs.lemmas.List.{length-append, length-replicate, length_push}
 use Rattle.cfg_core.specs.Graph.{Term, Number, Var, Cell, Flip, Not, Neg, Binary, Op, Assign, Store, Print, Read, Give, Take, Choose, Tick, TickBy, Exit, Goto, Branch, Call, Return, Send, Stop, GraphProc, Graph, Spot, spots, nth, or_else, no_spot, no_proc, spot_at, block_at, proc_at, entry_of}
 use Rattle.cfg_core.specs.Rules.{IsArray, TermIn, OpIn, StaysIn, ResultIn, ExitIn, In, Apart, BlockNumbers, ProcNumbers, Lands, CallsEarlier, calls, has_tick, ChoosesBare, IsGraph}
 use Rattle.cfg_core.proofs.Total.{each_at}
-use Rattle.call_gen.specs.Spelled.{is_called, moved, door, landings, address, cell, array_of, index_of, cells_in_all, hidden_arrays, below, saved, save, load, saves, left, clear, spelled_block, return_block, is_unset, door_block, spelled_procs, spelled}
+use Rattle.call_gen.specs.Spelled.{is_called, moved, door, landings, address, cell, array_of, cells_in_all, hidden_arrays, below, saved, save, load, saves, left, clear, is_unset, spelled_procs, spelled}
 use Rattle.call_gen.specs.Keeps.{NoCall, HasNoCall}
 use Rattle.call_gen.proofs.Facts.{Given, Placed, Celled}
 use Rattle.call_gen.proofs.Slots.{below_all, below_apart, apart_push, below_count}
@@ -15,6 +15,8 @@ use Rattle.call_gen.proofs.Leaves.{kept_low}
 use Rattle.call_gen.proofs.Calling.{unset_low}
 use Rattle.call_gen.proofs.Places.{all_placed, all_celled}
 use Rattle.call_gen.proofs.Cycles.{Sort, is_door, is_plain, is_point, is_none, every_spot, lands_at, no_cycle}
+use Rattle.ws_words.proofs.Lists.{all_append as all_both, all_have}
+use Rattle.cfg_core.proofs.Spots.{all_from as all_in, past}
 
 map_all : {A B : Type 0} (P : B → Type 0) (f : A → B) (xs : List A) → ((x : A) → P (f x)) → AllByRecursion P (map f xs)
 map_all P f [] h = tt
@@ -23,23 +25,6 @@ map_all P f (x ∷ xs) h = (h x, map_all P f xs h)
 map_in : (P : Op → Type 0) (f : ℕ → Op) (xs : List ℕ) → ((x : ℕ) → In x xs → P (f x)) → AllByRecursion P (map f xs)
 map_in P f [] h = tt
 map_in P f (x ∷ xs) h = (h x (inl refl), map_in P f xs (λ y i. h y (inr i)))
-
-all_both : {A : Type 0} (P : A → Type 0) (xs ys : List A) → AllByRecursion P xs → AllByRecursion P ys → AllByRecursion P (xs ++ ys)
-all_both P [] ys h i = i
-all_both P (x ∷ xs) ys h i = (h.0, all_both P xs ys h.1 i)
-
-all_in : (P : ℕ → Type 0) (xs : List ℕ) → ((x : ℕ) → In x xs → P x) → AllByRecursion P xs
-all_in P [] h = tt
-all_in P (x ∷ xs) h = (h x (inl refl), all_in P xs (λ y i. h y (inr i)))
-
-all_have : {A : Type 0} (P Q : A → Type 0) (xs : List A) → ((x : A) → P x → Q x) → AllByRecursion P xs → AllByRecursion Q xs
-all_have P Q [] f h = tt
-all_have P Q (x ∷ xs) f h = (f x h.0, all_have P Q xs f h.1)
-
-past : (xs : List Spot) (k : ℕ) → length xs ≤ k → or_else (nth xs k) no_spot ≡ no_spot
-past [] k le = refl
-past (x ∷ xs) zero le = absurd (omega arith)
-past (x ∷ xs) (suc k) le = past xs k (omega arith)
 
 -- a block with a variable is there
 spot_there : (h : Graph) (k : ℕ) → 1 ≤ (spot_at h k).vars → k < length (spots h)

@@ -10,8 +10,8 @@ use Rattle.cfg_core.specs.Shown.{has_name, shown_arrays, shown_cells, shown_amon
 use Rattle.call_gen.specs.Spelled.{hidden_arrays, spelled}
 use Rattle.call_gen.specs.Visible.{visible_one, visible, OwnInside}
 use Rattle.call_gen.proofs.Visible.{load_seen, load_unseen, store_seen, store_unseen}
-use Rattle.call_gen.proofs.Placing.{nth_left, nth_right}
 use Rattle.call_gen.proofs.Standing.{rows, size, Alike}
+use Rattle.cfg_core.proofs.Spots.{nth_left, nth_right}
 
 -- arrays with as many hidden ones after them
 module _ (xs : List GraphArray) (count len : ℕ) where

@@ -13,21 +13,14 @@ use Rattle.call_gen.specs.Keeps.{NoCall, ParamsAtMost}
 use Rattle.call_gen.specs.Sizes.{call_count, cell_count, Sizes, LandingsAtMost, BlockWithin, ProcWithin, IsWithin, larger, most_hidden_arrays, hidden_cells, spelled_sizes}
 use Rattle.call_gen.proofs.Facts.{Given, Placed}
 use Rattle.call_gen.proofs.Slots.{below_count}
-use Rattle.call_gen.proofs.Charging.{filter_few, terms_push, each_sum}
+use Rattle.call_gen.proofs.Charging.{terms_push, each_sum}
 use Rattle.call_gen.proofs.Placing.{new_count}
 use Rattle.call_gen.proofs.Places.{all_placed}
 use Rattle.call_gen.proofs.PartWalk.{spot_is}
 use Rattle.call_gen.proofs.Cycles.{Sort, is_door, is_plain, is_point, is_none, every_spot}
 use Rattle.call_gen.proofs.Crossing.{few_at}
 use Rattle.call_gen.proofs.Ruled.{arrays_more, no_call}
-
-all_have : {A : Type 0} (P Q : A → Type 0) (xs : List A) → ((x : A) → P x → Q x) → AllByRecursion P xs → AllByRecursion Q xs
-all_have P Q [] f h = tt
-all_have P Q (x ∷ xs) f h = (f x h.0, all_have P Q xs f h.1)
-
-all_both : {A : Type 0} (P : A → Type 0) (xs ys : List A) → AllByRecursion P xs → AllByRecursion P ys → AllByRecursion P (xs ++ ys)
-all_both P [] ys h i = i
-all_both P (x ∷ xs) ys h i = (h.0, all_both P xs ys h.1 i)
+use Rattle.ws_words.proofs.Lists.{all_append as all_both, all_have, filter_few}
 
 calls_counted : (ss : List Spot) → call_count ss ≡ count_of is_call ss
 calls_counted [] = refl

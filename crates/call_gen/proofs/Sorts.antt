@@ -4,15 +4,9 @@ use Rattle.std.specs.List.{AllByRecursion}
 use Rattle.cfg_core.specs.Graph.{Term, Exit, Goto, Branch, Call, Return, Send, Stop, Block, GraphProc, Graph, Spot, spots_in, spots_from, nth, or_else, no_proc}
 use Rattle.cfg_core.specs.Rules.{In}
 use Rattle.call_gen.specs.Spelled.{callee_is, count_of, is_call, landings_from, after, spelled_blocks, spelled_procs}
-use Rattle.call_gen.proofs.Placing.{nth_left, nth_right, plain_of, point_of, door_of}
-
-all_both : {A : Type 0} (P : A → Type 0) (xs ys : List A) → AllByRecursion P xs → AllByRecursion P ys → AllByRecursion P (xs ++ ys)
-all_both P [] ys h i = i
-all_both P (x ∷ xs) ys h i = (h.0, all_both P xs ys h.1 i)
-
-in_both : (home vars : ℕ) (xs ys : List Block) → spots_in home vars (xs ++ ys) ≡ spots_in home vars xs ++ spots_in home vars ys
-in_both home vars [] ys = refl
-in_both home vars (x ∷ xs) ys = ap (λ (zs : List Spot). record { home = home; vars = vars; block = x } ∷ zs) (in_both home vars xs ys)
+use Rattle.call_gen.proofs.Placing.{plain_of, point_of, door_of}
+use Rattle.ws_words.proofs.Lists.{all_append as all_both}
+use Rattle.cfg_core.proofs.Spots.{spots_in_both as in_both, nth_left, nth_right}
 
 module _ (g : Graph) (live : List (List ℕ)) (P : Spot → Type 0) where
   -- what holds of each kind holds of all blocks

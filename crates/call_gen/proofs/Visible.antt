@@ -130,8 +130,3 @@ with_row_right [] ys zero k r e = ap (λ m. with_row ys m r) (let z : zero + k �
 with_row_right [] ys (suc n) k r e = absurd (omega (arith, e))
 with_row_right (x ∷ xs) ys zero k r e = absurd (omega (arith, e))
 with_row_right (x ∷ xs) ys (suc n) k r e = let z : suc n + k ≡ suc (n + k) = omega arith in ap (λ m. with_row (x ∷ (xs ++ ys)) m r) z ∙ ap (λ (zs : List (List ℕ)). x ∷ zs) (with_row_right xs ys n k r (omega (arith, e)))
-
-pub with_row_count : (xs : List (List ℕ)) (k : ℕ) (r : List ℕ) → length (with_row xs k r) ≡ length xs
-with_row_count [] k r = refl
-with_row_count (x ∷ xs) zero r = refl
-with_row_count (x ∷ xs) (suc k) r = ap suc (with_row_count xs k r)

@@ -17,6 +17,7 @@ use Rattle.cfg_core.specs.Graph.{Op, Exit}
 use Rattle.cfg_build.specs.Lowered.{begun}
 use Rattle.cfg_build.specs.Building.{Builder, number, closed, with_op, emit_one, emit, StepFits, StepsFit}
 use Rattle.cfg_build.proofs.Emitted.{number_closed, number_emit}
+use Rattle.seq_run.proofs.Follows.{heft_some}
 
 -- the next step, and those after it
 next_step : (ss : List Step) (i : ℕ) (x : Step) → i < length ss → x ≡ slice_index_or ss i x → source.steps (drop i ss) ≡ Then (source.step x) (source.steps (drop (i + 1) ss))
@@ -41,10 +42,6 @@ begun_then (Do a) rest = omega arith
 begun_then (Call x f ts) rest = omega arith
 begun_then (If t a b) rest = omega arith
 begun_then (While t body) rest = omega arith
-
-heft_some : (st : Steps) → 0 < heft st
-heft_some Nothing = omega arith
-heft_some (Then s rest) = omega arith
 
 -- a step among others weighs less than all of them
 pub step_lighter : (ss : List Step) (i : ℕ) (x : Step) → i < length ss → x ≡ slice_index_or ss i x → weight (source.step x) + 1 < heft (source.steps ss)

@@ -1,5 +1,5 @@
 -- The arrays of an accepted program keep the limits of the language.
-use Rattle.std.proofs.Common.{ℕ, suc, ◌+◌, ◌≡◌, ◌<◌, ◌≤◌, nat_lt, nat_le, Bool, true, false, ◌&&◌, not, List, [], ◌∷◌, ◌++◌, length, Some, refl, sym, ◌∙◌, arith}
+use Rattle.std.proofs.Common.{ℕ, ◌+◌, ◌≡◌, ◌<◌, ◌≤◌, nat_lt, nat_le, Bool, true, ◌&&◌, not, List, [], ◌∷◌, ◌++◌, length, Some, sym, ◌∙◌, arith}
 use Rattle.std.specs.List.{AllByRecursion, sum_by, list_all}
 use Rattle.std.proofs.lemmas.List.Sums.{sum_by-cons}
 use Rattle.std.proofs.lemmas.List.Folds.{list_all-append}
@@ -12,13 +12,11 @@ use Rattle.src_ast.specs.Rules.{Rule, declared_by, is_visible, has_main, arrays_
 use Rattle.cfg_core.specs.Graph.{GraphArray}
 use Rattle.cfg_build.specs.Keeps.{arrays_of}
 use Rattle.src_ast.specs.LanguageLimits.{most_arrays, most_array_cells, most_cells}
+use Rattle.ws_words.proofs.Bools.{and_parts}
+use Rattle.src_check.proofs.Parts.{arrays_in-append as arrays_both, cells_in-append as cells_both}
 
 abbrev pub Kept : List Rule → Type 0
 Kept rules = list_all (λ r. r.kept) rules ≡ true
-
-and_parts : (a b : Bool) → (a && b) ≡ true → (a ≡ true) × (b ≡ true)
-and_parts true b h = (refl, h)
-and_parts false b h = absurd (cc)
 
 pub kept_both : (xs ys : List Rule) → Kept (xs ++ ys) → Kept xs × Kept ys
 kept_both xs ys h =
@@ -38,16 +36,6 @@ array_kept before x n at h =
     let c = and_parts (nat_le n 65536) _ b.1 in
     let d = and_parts (nat_le (cells_in before + n) 1048576) true c.1 in
     record { room = ltb-true (arrays_in before) 64 b.0; short = leb-true n 65536 c.0; cells = leb-true (cells_in before + n) 1048576 d.0 }
-
-arrays_both : (ps qs : List Part) → arrays_in (ps ++ qs) ≡ arrays_in ps + arrays_in qs
-arrays_both [] qs = omega arith
-arrays_both (Array x n at ∷ ps) qs = omega (arith, arrays_both ps qs)
-arrays_both (Proc p ∷ ps) qs = arrays_both ps qs
-
-cells_both : (ps qs : List Part) → cells_in (ps ++ qs) ≡ cells_in ps + cells_in qs
-cells_both [] qs = omega arith
-cells_both (Array x n at ∷ ps) qs = omega (arith, cells_both ps qs)
-cells_both (Proc p ∷ ps) qs = cells_both ps qs
 
 -- the arrays of these parts after so many others with so many cells
 pub record FewArrays (others cells_before : ℕ) (parts : List Part) : Type 0 where

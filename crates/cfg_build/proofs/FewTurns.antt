@@ -10,6 +10,7 @@ use Rattle.cfg_build.specs.Sizes.{sum_in, sum_over, sum_procs, ending_ops}
 use Rattle.cfg_build.proofs.FewArrays.{Kept, kept_both}
 use Rattle.seq_run.proofs.InBodies.{body_few, ending_few}
 use Rattle.seq_run.proofs.PartRules.{proc_kept}
+use Rattle.src_check.proofs.Parts.{statements_in-append as statements_both}
 
 -- one for each statement
 
@@ -37,11 +38,6 @@ pub turns_are : (parts : List Part) → sum_procs (λ s. 1) ending_ops (procs_of
 turns_are [] = refl
 turns_are (Array x n at ∷ parts) = turns_are parts
 turns_are (Proc p ∷ parts) = omega (arith, all_each p.body, ending_same p.ending, turns_are parts)
-
-statements_both : (ps qs : List Part) → statements_in (ps ++ qs) ≡ statements_in ps + statements_in qs
-statements_both [] qs = omega arith
-statements_both (Array x n at ∷ ps) qs = statements_both ps qs
-statements_both (Proc p ∷ ps) qs = omega (arith, statements_both ps qs)
 
 few_from : (before parts : List Part) → statements_in before ≤ most_statements → Kept (rules_after before parts) → statements_in before + statements_in parts ≤ most_statements
 few_from before [] le h = omega (arith, le)

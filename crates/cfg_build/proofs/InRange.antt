@@ -9,7 +9,7 @@ use Rattle.cfg_core.specs.Graph.{Term, Number, Var, Cell, Flip, Not, Neg, Binary
 use Rattle.cfg_core.specs.Rules.{TermIn, OpIn, StaysIn, ResultIn, ExitIn, CallsEarlier}
 use Rattle.cfg_build.specs.Lowered.{op, Part, leaves, goes_to, last_part, begun, block, Made, led_by, whole, made}
 use Rattle.cfg_build.proofs.Stand.{HasAt, front, next_at}
-use Rattle.cfg_build.proofs.Places.{all_both}
+use Rattle.ws_words.proofs.Lists.{all_append as all_both}
 
 module _ (g : Graph) (arrays : ℕ) (same : length g.arrays ≡ arrays) where
   -- a term of the program names arrays and variables of the graph

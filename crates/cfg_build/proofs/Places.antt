@@ -54,11 +54,3 @@ each_nth P none past (x ∷ xs) b (suc k) c e h = each_nth P none past xs (suc b
 pub each_all : {A : Type 0} (P : ℕ → A → Type 0) (Q : A → Type 0) → ((n : ℕ) (x : A) → P n x → Q x) → (b : ℕ) (xs : List A) → Each P b xs → AllByRecursion Q xs
 each_all P Q f b [] h = tt
 each_all P Q f b (x ∷ xs) h = (f b x h.0, each_all P Q f (suc b) xs h.1)
-
-pub all_both : {A : Type 0} (P : A → Type 0) (xs ys : List A) → AllByRecursion P xs → AllByRecursion P ys → AllByRecursion P (xs ++ ys)
-all_both P [] ys h i = i
-all_both P (x ∷ xs) ys h i = (h.0, all_both P xs ys h.1 i)
-
-pub all_have : {A : Type 0} (P Q : A → Type 0) → ((x : A) → P x → Q x) → (xs : List A) → AllByRecursion P xs → AllByRecursion Q xs
-all_have P Q f [] h = tt
-all_have P Q f (x ∷ xs) h = (f x h.0, all_have P Q f xs h.1)

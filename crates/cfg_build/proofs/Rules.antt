@@ -1,17 +1,20 @@
 -- Lowered graphs keep the rules of graphs.
-use Rattle.std.proofs.Common.{ℕ, zero, suc, ◌+◌, ◌≡◌, ◌<◌, ◌⊎◌, Bool, true, false, ◌||◌, List, [], ◌∷◌, length, refl, sym, ap, subst, inl, inr, arith}
+use Rattle.std.proofs.Common.{ℕ, suc, ◌+◌, ◌≡◌, ◌<◌, ◌⊎◌, true, ◌||◌, List, [], ◌∷◌, length, refl, sym, ap, subst, inl, inr, arith}
 use Rattle.std.specs.List.{AllByRecursion}
 use Rattle.seq_run.specs.Resolved.{Proc, nth_proc, Program}
 use Rattle.seq_run.specs.InRange.{ProcIn, ProgramIn}
 use Rattle.cfg_core.specs.Graph.{Op, Assign, Store, Print, Read, Give, Take, Choose, Tick, TickBy, Exit, Goto, Branch, Call, Return, Send, Stop, Block, GraphProc, Graph, Spot, spots, spots_in, block_at, proc_at}
-use Rattle.cfg_core.specs.Rules.{Leads, Lands, ChoosesBare, CallsEarlier, calls, is_tick, has_tick, takes_turn, has_turn, Quiet, one, more, ProcNumbers, BlockNumbers, Apart, IsGraph}
+use Rattle.cfg_core.specs.Rules.{Leads, Lands, ChoosesBare, CallsEarlier, calls, has_tick, has_turn, Quiet, one, more, ProcNumbers, BlockNumbers, Apart, IsGraph}
 use Rattle.cfg_build.specs.Lowered.{begun, last_part, proc_blocks, arrays, procs, lowered}
 use Rattle.cfg_build.specs.Keeps.{IsFirstOp, IsFirstExit}
 use Rattle.cfg_build.proofs.Stand.{proc_is, count_procs, proc_spots, SpotsAt, proc_at_front, procs_after, all_spots_at}
-use Rattle.cfg_build.proofs.Places.{each_all, all_both, all_have}
+use Rattle.cfg_build.proofs.Places.{each_all}
 use Rattle.cfg_build.proofs.Edges.{Fine}
 use Rattle.cfg_build.proofs.Shaped.{labels_of, each_fine, fine_at}
 use Rattle.cfg_build.proofs.InRange.{BlockIn, made_in, last_in}
+use Rattle.ws_words.proofs.Lists.{all_append as all_both, all_with as all_have}
+use Rattle.cfg_core.proofs.Turns.{has_tick_turns as turns}
+use Rattle.cfg_core.proofs.Forward.{no_both, starts_quiet}
 
 -- Of an operation or an exit of the first form.
 
@@ -35,34 +38,6 @@ bare_op (Tick n) h = tt
 bare_op (TickBy t n m) h = absurd h
 
 -- No cycle without a turn.
-
-tick_turns : (o : Op) → is_tick o ≡ true → takes_turn o ≡ true
-tick_turns (Tick (suc n)) h = refl
-tick_turns (Tick zero) h = absurd (cc)
-tick_turns (Assign x t) h = absurd (cc)
-tick_turns (Store a t u) h = absurd (cc)
-tick_turns (Print t) h = absurd (cc)
-tick_turns (Read x) h = absurd (cc)
-tick_turns (Give p x) h = absurd (cc)
-tick_turns (Take p t) h = absurd (cc)
-tick_turns (Choose x t a b) h = absurd (cc)
-tick_turns (TickBy t n m) h = absurd (cc)
-
-turns : (ops : List Op) → has_tick ops ≡ true → has_turn ops ≡ true
-turns [] h = absurd (cc)
-turns (o ∷ ops) h = one_of (is_tick o) (takes_turn o) (has_tick ops) (has_turn ops) (tick_turns o) (turns ops) h
-  where
-    one_of : (a b c d : Bool) → (a ≡ true → b ≡ true) → (c ≡ true → d ≡ true) → (a || c) ≡ true → (b || d) ≡ true
-    one_of true b c d f g h = ap (λ v. v || d) (f refl)
-    one_of false true c d f g h = refl
-    one_of false false c d f g h = g h
-
-no_both : {v : Bool} → v ≡ true → v ≡ false → ⊥
-no_both h i = absurd (cc)
-
-starts_quiet : (g : Graph) (b c : ℕ) → Quiet g b c → has_turn (block_at g b).ops ≡ false
-starts_quiet g b c (one _ _ h l) = h
-starts_quiet g b c (more _ d _ q h l) = starts_quiet g b d q
 
 module _ (g : Graph) (only_on : (b c : ℕ) → Leads (block_at g b).exit c → (b < c) ⊎ (has_turn (block_at g c).ops ≡ true)) where
   forward : (b c : ℕ) → Quiet g b c → (b < c) ⊎ (has_turn (block_at g c).ops ≡ true)

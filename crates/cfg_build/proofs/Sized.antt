@@ -26,9 +26,9 @@ use Rattle.cfg_build.specs.Sizes.{sum_procs, own_blocks, own_ops, ending_ops, ow
 use Rattle.cfg_build.specs.Keeps.{arrays_of}
 use Rattle.cfg_build.proofs.FewArrays.{FewArrays}
 use Rattle.cfg_build.proofs.FewTurns.{turns_are}
-use Rattle.cfg_build.proofs.Places.{all_both}
 use Rattle.cfg_build.proofs.Stand.{proc_spots, count_procs}
 use Rattle.cfg_build.proofs.Totals.{total_procs, EachAtMost, ProcAtMost, procs_most, IsMeasure, own_of, procs_total, procs_same}
+use Rattle.ws_words.proofs.Lists.{all_append as all_both}
 
 -- Nodes of terms are those of expressions.
 

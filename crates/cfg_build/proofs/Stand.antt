@@ -5,6 +5,8 @@ use Rattle.seq_run.specs.Resolved.{Do, Call, If, While, Steps, Nothing, Then, Pr
 use Rattle.cfg_core.specs.Graph.{Block, Graph, Spot, spots, spots_in, spots_from, nth, or_else, spot_at, proc_at, entry_from, entry_of, no_spot, no_proc}
 use Rattle.cfg_build.specs.Lowered.{Part, goes_to, begun, whole, made, proc, procs, proc_blocks, last_part, lowered}
 use Rattle.cfg_build.proofs.Places.{StandAt, stand_all, stand_front, stand_back, Each, each_both}
+use Rattle.cfg_core.proofs.Weighing.{count_in as count_spots}
+use Rattle.cfg_core.proofs.Spots.{spots_in_both as spots_both}
 
 -- how many blocks stand after the first one
 pub length_made : (st : Steps) (c : ℕ) (rest : Part) → length (made st c rest).blocks ≡ begun st
@@ -22,14 +24,6 @@ length_made (Then (While t body) more) c rest =
 -- where the blocks of a procedure end
 pub proc_end : (p : Proc) (c : ℕ) → c + length (proc_blocks p c) ≡ suc (c + begun p.body)
 proc_end p c = omega (arith, length_made p.body c (last_part p.result))
-
-count_spots : (home vars : ℕ) (xs : List Block) → length (spots_in home vars xs) ≡ length xs
-count_spots home vars [] = refl
-count_spots home vars (x ∷ xs) = ap suc (count_spots home vars xs)
-
-spots_both : (home vars : ℕ) (xs ys : List Block) → spots_in home vars (xs ++ ys) ≡ spots_in home vars xs ++ spots_in home vars ys
-spots_both home vars [] ys = refl
-spots_both home vars (x ∷ xs) ys = ap (λ ss. record { home = home; vars = vars; block = x } ∷ ss) (spots_both home vars xs ys)
 
 -- the blocks of these procedures, of which the first has this number and begins at this block
 abbrev pub proc_spots : ℕ → List Proc → ℕ → List Spot

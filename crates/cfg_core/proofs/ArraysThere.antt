@@ -35,7 +35,7 @@ ConfigIn g (At b s frames k) = OutIn g s.out
 ConfigIn g (Over o k) = OutIn g o
 ConfigIn g (Going o) = OutIn g o
 
-length_with_row : (rows : List (List ℕ)) (k : ℕ) (r : List ℕ) → length (with_row rows k r) ≡ length rows
+pub length_with_row : (rows : List (List ℕ)) (k : ℕ) (r : List ℕ) → length (with_row rows k r) ≡ length rows
 length_with_row [] k r = refl
 length_with_row (x ∷ rows) zero r = refl
 length_with_row (x ∷ rows) (suc k) r = ap suc (length_with_row rows k r)

@@ -3,6 +3,7 @@ use Rattle.std.proofs.Common.{ℕ, zero, suc, ◌+◌, ◌≡◌, ◌<◌, ◌�
 use Rattle.std.proofs.lemmas.Bool.Decides.{nat_tests}
 use Rattle.cfg_core.specs.Graph.{Exit, Goto, Branch, Call, Return, Send, Stop, Graph, Spot, nth, or_else, no_spot, spots, spot_at, block_at}
 use Rattle.cfg_core.specs.Rules.{In, Leads, has_turn, Quiet, one, more}
+use Rattle.ws_words.proofs.Bools.{and_left, and_right}
 
 -- each edge of an exit leads to a later block or to one that takes a turn
 abbrev pub OnlyOn : Graph → ℕ → Exit → Type 0
@@ -13,10 +14,10 @@ abbrev pub AllOn : Graph → ℕ → List Spot → Type 0
 AllOn g c [] = Unit {0}
 AllOn g c (s ∷ xs) = OnlyOn g c s.block.exit × AllOn g (suc c) xs
 
-no_both : {v : Bool} → v ≡ true → v ≡ false → ⊥
+pub no_both : {v : Bool} → v ≡ true → v ≡ false → ⊥
 no_both h i = absurd (cc)
 
-starts_quiet : (g : Graph) (b c : ℕ) → Quiet g b c → has_turn (block_at g b).ops ≡ false
+pub starts_quiet : (g : Graph) (b c : ℕ) → Quiet g b c → has_turn (block_at g b).ops ≡ false
 starts_quiet g b c (one _ _ h l) = h
 starts_quiet g b c (more _ d _ q h l) = starts_quiet g b d q
 
@@ -63,14 +64,6 @@ exit_on g c Stop = true
 abbrev pub all_on : Graph → ℕ → List Spot → Bool
 all_on g c [] = true
 all_on g c (s ∷ xs) = exit_on g c s.block.exit && all_on g (suc c) xs
-
-and_left : (a b : Bool) → (a && b) ≡ true → a ≡ true
-and_left true b h = refl
-and_left false b h = absurd (cc)
-
-and_right : (a b : Bool) → (a && b) ≡ true → b ≡ true
-and_right true b h = h
-and_right false b h = absurd (cc)
 
 edge_is : (g : Graph) (c d e : ℕ) → e ≡ d → edge_on g c d ≡ true → (c < e) ⊎ (has_turn (block_at g e).ops ≡ true)
 edge_is g c d e same h = subst (λ n. (c < n) ⊎ (has_turn (block_at g n).ops ≡ true)) (sym same) (by_test (nat_lt c d) refl h)

@@ -15,3 +15,4 @@ pub mod ArraysThere
 pub mod AllShown
 pub mod Paired
 pub mod Weighing
+pub mod Spots

@@ -9,6 +9,7 @@ use Rattle.cfg_core.specs.declared.blocks.GraphBlock.{GraphBlock}
 use Rattle.cfg_core.specs.declared.blocks.GraphProc.{GraphProc}
 use Rattle.cfg_core.specs.declared.table.Spot.{Spot}
 use Rattle.cfg_core.specs.declared.table.Room.{Room}
+use Rattle.ws_words.proofs.Lists.{map_append}
 
 -- the block of the table with a number is that of the graph
 pub spot_in : (xs : List Spot) (ys : List plain.Spot) (b : ℕ) (x : Spot) → map spot_in_code xs ≡ map spot_in_graph ys → b < length xs → x ≡ slice_index_or xs b x → SpotIs (or_else (nth ys b) no_spot) x
@@ -49,10 +50,6 @@ entry_past first procs rooms f e le = at first procs f (subst (λ (rs : List Roo
     at first [] f le = (refl, refl)
     at first (p ∷ procs) zero le = absurd (omega arith)
     at first (p ∷ procs) (suc f) le = at (first + length p.blocks) procs f (omega arith)
-
-map_append : {A B : Type 0} (f : A → B) (xs ys : List A) → map f (xs ++ ys) ≡ map f xs ++ map f ys
-map_append f [] ys = refl
-map_append f (x ∷ xs) ys = ap (λ zs. f x ∷ zs) (map_append f xs ys)
 
 in_graph : (home vars : ℕ) (blocks : List GraphBlock) → map spot_in_graph (spots_in home vars (map view.block blocks)) ≡ map (λ b. (vars, view.block b)) blocks
 in_graph home vars [] = refl

@@ -7,6 +7,7 @@ use Rattle.cfg_core.specs.Walk.{value_of, values_of, Outcome, Done, Out, run_ops
 use Rattle.cfg_core.specs.Rules.{In, Leads, has_turn, has_tick, calls, Lands, IsGraph}
 use Rattle.cfg_core.proofs.Turns.{AtMost, Fewer, ops_most, ops_fewer, has_tick_turns}
 use Rattle.cfg_core.proofs.Rank.{rank, rank_most, rank_falls}
+use Rattle.cfg_core.proofs.Forward.{no_both}
 
 -- what holds of all items and of the one past the end holds at each place
 pub each_at : {A : Type 0} (P : A → Type 0) (xs : List A) (none : A) → AllByRecursion P xs → P none → (k : ℕ) → P (or_else (nth xs k) none)
@@ -37,9 +38,6 @@ more_rows n a b r q lt le = grind arith
 
 no_more_rows : (n a b r q : ℕ) → a ≤ b → r < q → a * suc n + r < b * suc n + q
 no_more_rows n a b r q le lt = grind arith
-
-no_both : {v : Bool} → v ≡ true → v ≡ false → ⊥
-no_both h i = absurd (cc)
 
 by_bool : (b : Bool) (P : Type 0) → (b ≡ true → P) → (b ≡ false → P) → P
 by_bool true P f h = f refl

@@ -101,7 +101,7 @@ ops_fewer (op ∷ ops) h s k = by_first (takes_turn op) refl
     by_first true e f i = f e
     by_first false e f i = i e
 
-tick_turns : (op : Op) → is_tick op ≡ true → takes_turn op ≡ true
+pub tick_turns : (op : Op) → is_tick op ≡ true → takes_turn op ≡ true
 tick_turns (Tick zero) h = h
 tick_turns (Tick (suc n)) h = refl
 tick_turns (TickBy t n m) h = absurd (cc)

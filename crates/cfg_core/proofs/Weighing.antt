@@ -69,7 +69,7 @@ ops_take (op ∷ ops) s k =
 
 -- Procedures begin at blocks that are there.
 
-count_in : (home vars : ℕ) (xs : List Block) → length (spots_in home vars xs) ≡ length xs
+pub count_in : (home vars : ℕ) (xs : List Block) → length (spots_in home vars xs) ≡ length xs
 count_in home vars [] = refl
 count_in home vars (x ∷ xs) = ap suc (count_in home vars xs)
 

@@ -4,7 +4,6 @@ use Rattle.std.proofs.lemmas.Bool.{cases_Bool}
 use Rattle.ws_words.specs.Outside.{World}
 use Rattle.ws_isa.specs.declared.instr.Op.{Op}
 use Rattle.ws_isa.specs.declared.instr.Op.TheVariants.{Alu, Steer, Phi, Send, Store}
-use Rattle.ws_isa.specs.declared.instr.Dest.{Dest}
 use Rattle.ws_isa.specs.Image as plain
 use Rattle.ws_isa.specs.Image.{Image, or_else, instr_at, ports, ports_of, is_memory, is_memory_op, is_advance, is_advance_op, result_of, result_of_op, selector, selector_of, block_of, now_dests, edge_dests, tokens_to, sends}
 use Rattle.ws_isa.specs.Formed.{Formed}
@@ -29,6 +28,7 @@ use Rattle.core_run.specs.Places.{destinations}
 use Rattle.core_run.specs.Ways.{token_of, way_of, SentTo}
 use Rattle.core_run.specs.Chains.{chain_of}
 use Rattle.core_run.specs.Flows.{request_of, all_of, Holds}
+use Rattle.ws_isa.proofs.Images.{tokens_append}
 
 -- the operands beyond an operation's ports don't matter
 pub same_result : (op : Op) (o : Operands) → is_memory_op op ≡ false → result_of_op op (listed (ports_of op) o) ≡ result_of_op op (all_of o)
@@ -46,10 +46,6 @@ same_selector Phi o = refl
 same_selector (Send p) o = refl
 same_selector (Store a) o = refl
 same_selector _ o = refl
-
-tokens_append : (w v : ℕ) (xs ys : List Dest) → tokens_to w v (xs ++ ys) ≡ tokens_to w v xs ++ tokens_to w v ys
-tokens_append w v [] ys = refl
-tokens_append w v (x ∷ xs) ys = ap (λ (ts : List plain.Token). record { wave = w; instr = x.instr; port = x.port; value = v } ∷ ts) (tokens_append w v xs ys)
 
 pub sends_are : (image : Image) (w k : ℕ) (xs : List ℕ) (v : ℕ) → tokens_to (cond (is_advance_op (instr_at image k).op) (suc w) w) v (destinations image k (selector_of (instr_at image k).op xs)) ≡ sends image w k xs v
 unfolding destinations sends selector is_advance

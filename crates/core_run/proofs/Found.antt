@@ -1,5 +1,5 @@
 -- Tokens on the way, by place.
-use Rattle.std.proofs.Common.{ℕ, zero, suc, ◌≡◌, ◌<◌, ◌≤◌, List, [], ◌∷◌, ◌++◌, length, map, take, drop, slice_index_or, refl, sym, ap, ◌∙◌, inl, inr, arith}
+use Rattle.std.proofs.Common.{ℕ, zero, suc, ◌≡◌, ◌<◌, ◌≤◌, List, [], ◌∷◌, ◌++◌, length, map, take, drop, slice_index_or, sym, ap, ◌∙◌, inl, inr, arith}
 use Rattle.std.specs.List.{remove}
 use Rattle.std.proofs.lemmas.Bool.{cases_eq}
 use Rattle.ws_isa.specs.Image as plain
@@ -7,7 +7,8 @@ use Rattle.core_law.specs.Core.{IsSent}
 use Rattle.core_run.specs.declared.token.Token.{Token}
 use Rattle.core_run.specs.declared.way.Way.{Way}
 use Rattle.core_run.specs.Ways.{token_of, way_of, NoneAt, IsTokenAt, TakenAt, no_token}
-use Rattle.core_run.proofs.Issuing.{map_append, split_at, or_any}
+use Rattle.core_run.proofs.Issuing.{split_at, or_any}
+use Rattle.ws_words.proofs.Lists.{append_on, map_append}
 
 pub none_at : (ts : List Token) (w i p : ℕ) → ((k : ℕ) → k < length ts → IsTokenAt ts k w i p → ⊥) → NoneAt (map token_of ts) w i p
 none_at [] w i p f v h = h
@@ -31,10 +32,6 @@ none_further ts place n t w i p e l is not' rest k a b h = elim (cases_eq k plac
 pub found_at : (ts : List Token) (place : ℕ) (t : Token) (w i p : ℕ) → place < length ts → t ≡ slice_index_or ts place t → t.wave ≡ w → t.instr ≡ i → t.port ≡ p → IsTokenAt ts place w i p
 found_at ts place t w i p l is a b c = let same : t ≡ slice_index_or ts place no_token = or_any ts place t no_token l is in
     record { wave = ap (λ (x : Token). x.wave) (sym same) ∙ a; instr = ap (λ (x : Token). x.instr) (sym same) ∙ b; port = ap (λ (x : Token). x.port) (sym same) ∙ c }
-
-pub append_on : {A : Type 0} (xs ys zs : List A) → (xs ++ ys) ++ zs ≡ xs ++ (ys ++ zs)
-append_on [] ys zs = refl
-append_on (x ∷ xs) ys zs = ap (λ (l : List _). x ∷ l) (append_on xs ys zs)
 
 -- a list with one token taken out
 pub taken_out : (ts new : List Token) (k : ℕ) (t : Token) → k < length ts → new ≡ remove ts k → t ≡ slice_index_or ts k no_token →

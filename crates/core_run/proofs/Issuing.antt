@@ -37,6 +37,7 @@ use Rattle.core_run.specs.Outdoors.{OutIs, Answers}
 use Rattle.core_run.specs.Flows.{request_of, all_of, Holds}
 use Rattle.core_run.proofs.Nexts.{next_is, either}
 use Rattle.core_run.proofs.Arriving.{same_selector, sends_are, memory_is_op, ports_is_op, sent_beside}
+use Rattle.ws_words.proofs.Lists.{map_append}
 
 -- the operands beyond an operation's ports don't matter
 pub same_answer : (op : Op) (o : Operands) (m : Outside) → answer_op op (listed (ports_of op) o) m ≡ answer_op op (all_of o) m
@@ -102,10 +103,6 @@ out_effect o m h = record {
   same_printed = printed_alike o.acts ∙ h.same_printed;
   same_took = ports_alike o.acts ∙ h.same_took;
 }
-
-pub map_append : {A B : Type 0} (f : A → B) (xs ys : List A) → map f (xs ++ ys) ≡ map f xs ++ map f ys
-map_append f [] ys = refl
-map_append f (x ∷ xs) ys = ap (λ zs. f x ∷ zs) (map_append f xs ys)
 
 pub split_at : {A : Type 0} (xs : List A) (k : ℕ) (d : A) → k < length xs → take k xs ++ slice_index_or xs k d ∷ drop (suc k) xs ≡ xs
 split_at [] k d l = absurd (omega arith)

@@ -108,7 +108,7 @@ issue_quiet image s w i t (inr st) = st.becomes.fired
 same_refl : (s : State) → Same s s
 same_refl s = record { held = λ w i p. refl; way = λ w i p. refl; fired = refl; waiting = λ w i. refl; issued = λ w i. refl; chain = refl; stopped = refl; memory = refl }
 
-value_is : (a b : ℕ) (o : Option ℕ) → o ≡ Some a → o ≡ Some b → a ≡ b
+pub value_is : (a b : ℕ) (o : Option ℕ) → o ≡ Some a → o ≡ Some b → a ≡ b
 value_is a b o e f = let g : Some a ≡ Some b = sym e ∙ f in cc
 
 longer : (k : Key) (ks : List Key) → k ∷ ks ≡ ks → ⊥

@@ -32,7 +32,7 @@ use Rattle.core_run.specs.Answer.{Tells, Rested, Cut, Faulted, RunSo}
 use Rattle.core_run.proofs.Issuing.{printed_alike, ports_alike}
 use Rattle.core_run.proofs.Firings.{none_fires}
 
-no_fault_at : (image : Image) (world : World) → NoFault image world → (t : ℕ) → FaultsAt image world t → ⊥
+pub no_fault_at : (image : Image) (world : World) → NoFault image world → (t : ℕ) → FaultsAt image world t → ⊥
 no_fault_at image world none t f = both_ways _ (none t f.inst f.fired) f.is_past
 
 going_rest : (image : Image) (world : World) (s : State) → s.stopped ≡ false → Whole image world s ⊎ AtFault image world s → Whole image world s

@@ -22,11 +22,11 @@ use Rattle.core_run.specs.Ways.{token_of, way_of, NoneAt, TakenAt}
 use Rattle.core_run.specs.Flows.{request_of, Holds, Going, GoingBeside, Leads, SameParts, NotReady, NoneMay, no_asked}
 use Rattle.core_run.specs.Cores.{Keeps, IsAt, Runs, Makes, NotEnabled, IsEnabled, IsAtRest}
 use Rattle.core_run.proofs.Moving.{Reordered, stands_reordered, to_front}
-use Rattle.core_run.proofs.Found.{append_on}
 use Rattle.core_run.proofs.Driving.{same_holds, has_at, flagged, none_enabled, alone}
 use Rattle.core_run.proofs.Bounds.{has_asked}
 use Rattle.core_run.proofs.Issuing as I
 use Rattle.core_run.proofs.Issuing.{or_any}
+use Rattle.ws_words.proofs.Lists.{append_on}
 
 -- the same parts stand for the same
 pub kept_same : (core : Core) (flow : Flow) → SameParts core.flow flow → Keeps core (record { program = core.program; flow = flow })

@@ -2,8 +2,6 @@
 use Rattle.std.proofs.Common.{◌≡◌, ◌+◌, ◌*◌, ◌<◌, ◌≤◌, ℕ, zero, suc, Bool, cond, List, [], ◌∷◌, Some, length, eqb, inl, inr, refl, sym, subst, eq-eqb, ne_eqb, ◌⊎◌, arith}
 use Rattle.std.proofs.lemmas.Bool.{cases_eq}
 use Rattle.ws_words.specs.Outside.{World}
-use Rattle.ws_isa.specs.declared.instr.Op.{Op}
-use Rattle.ws_isa.specs.declared.instr.Op.TheVariants.{Alu, Steer, Phi, Send, Store}
 use Rattle.ws_isa.specs.Image.{Image, Token, instr_at, ports, ports_of}
 use Rattle.ws_isa.specs.Formed.{Formed}
 use Rattle.image_walk.specs.Sound.{Sound}
@@ -17,6 +15,7 @@ use Rattle.core_law.proofs.Ports.{nth_below}
 use Rattle.core_law.proofs.Counting.{count_within, keys_of, walk_has}
 use Rattle.core_run.proofs.Arriving.{ports_is_op}
 use Rattle.crew_collect.specs.Coming.{Came}
+use Rattle.ws_isa.proofs.Images.{three_ports as few_ports}
 
 abbrev key_of : Token → Key
 key_of t = record { wave = t.wave; instr = t.instr }
@@ -58,14 +57,6 @@ one_more t ts (suc (suc (suc n))) lt r = absurd (omega (arith, lt))
 three_ports : (ts : List Token) → ((w i p v : ℕ) → IsSent ts w i p v → p < 3) → length ts ≤ length (keys_at 0 ts) + (length (keys_at 1 ts) + length (keys_at 2 ts))
 three_ports [] f = omega arith
 three_ports (t ∷ ts) f = one_more t ts t.port (f t.wave t.instr t.port t.value (inl (refl, refl, refl, refl))) (three_ports ts (λ w i p v s. f w i p v (inr s)))
-
-few_ports : (op : Op) → ports_of op ≤ 3
-few_ports (Alu a) = omega arith
-few_ports Steer = omega arith
-few_ports Phi = omega arith
-few_ports (Send p) = omega arith
-few_ports (Store a) = omega arith
-few_ports _ = omega arith
 
 module _ (image : Image) (world : World) (formed : Formed image) (sound : Sound image) where
   facts : WalkFacts image world

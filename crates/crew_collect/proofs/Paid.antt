@@ -26,14 +26,11 @@ use Rattle.crew_tables.specs.Growth.{content_at, no_content}
 use Rattle.crew_collect.specs.Owing.{HaveCome, IsMissing, IsKnown, AllKnown, HasTold, ToldIn, HasAnswered}
 use Rattle.crew_collect.proofs.Listed.{none_fired, fired_place, asked_there}
 use Rattle.crew_collect.proofs.Union.{listed_at}
+use Rattle.match_table.proofs.Held.{has_none}
 
 pub has_some : (o : Option ℕ) → has o ≡ true → (u : ℕ) × (o ≡ Some u)
 has_some (Some u) e = (u, refl)
 has_some None e = cc
-
-pub has_none : (o : Option ℕ) → has o ≡ false → o ≡ None
-has_none (Some u) e = cc
-has_none None e = refl
 
 pub not_empty : (ts : List Token) (t : Token) → ts ++ t ∷ [] ≡ [] → ⊥
 not_empty [] t e = cc

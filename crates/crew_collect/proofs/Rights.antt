@@ -1,11 +1,11 @@
 -- What tables and a buffer owe is right.
-use Rattle.std.proofs.Common.{◌≡◌, ◌<◌, ◌≤◌, ℕ, suc, Bool, true, false, cond, List, Some, length, All, slice_index_or, slice_index, refl, sym, ap, ◌∙◌, subst, arith}
+use Rattle.std.proofs.Common.{◌≡◌, ◌<◌, ◌≤◌, ℕ, suc, Bool, true, false, cond, List, Some, length, All, slice_index_or, slice_index, refl, sym, ap, ◌∙◌, subst}
 use Rattle.std.proofs.lemmas.List.Elements.{All-get_or}
 use Rattle.ws_words.specs.Outside.{Outside, World}
 use Rattle.ws_isa.specs.declared.instr.Op.{Op}
 use Rattle.ws_isa.specs.declared.instr.Op.TheVariants.{Load, Store, Input, Output, Give, Take, Nop, Halt}
 use Rattle.ws_isa.specs.declared.instr.Dest.{Dest}
-use Rattle.ws_isa.specs.Image.{Image, instr_at, ports, ports_of, is_memory, is_memory_op, is_advance_op, selector_of, result_of, result_of_op, sends, tokens_to}
+use Rattle.ws_isa.specs.Image.{Image, instr_at, ports, is_memory, is_memory_op, is_advance_op, selector_of, result_of, result_of_op, sends, tokens_to}
 use Rattle.ws_isa.specs.Formed.{Formed}
 use Rattle.image_walk.specs.Sound.{Sound}
 use Rattle.image_walk.specs.Walk.{Inst}
@@ -20,7 +20,6 @@ use Rattle.core_run.specs.Places.{destinations}
 use Rattle.core_run.proofs.Arriving.{ports_is_op, memory_is_op, sends_are}
 use Rattle.df_job.specs.Rights.{operands_of}
 use Rattle.match_table.specs.declared.meeting.Operands.{Operands}
-use Rattle.match_table.specs.declared.meeting.Operands.TheVariants.{One, Two, Three}
 use Rattle.match_table.specs.declared.table.Fired.{Fired}
 use Rattle.match_table.specs.Ports.{listed}
 use Rattle.match_table.specs.Tables.{Content, held, key_of, of_memory, part}
@@ -30,22 +29,7 @@ use Rattle.store_buf.specs.Contents as buf
 use Rattle.store_buf.specs.Contents.{buffer_in}
 use Rattle.store_buf.specs.Ordering.{no_request}
 use Rattle.crew_collect.proofs.Listed.{none_fired, fired_there, asked_fired}
-
-memory_two : (op : Op) → is_memory_op op ≡ true → ports_of op ≤ 2
-memory_two (Load a) e = omega arith
-memory_two (Store a) e = omega arith
-memory_two Input e = omega arith
-memory_two Output e = omega arith
-memory_two (Give p) e = omega arith
-memory_two (Take p) e = omega arith
-memory_two Nop e = omega arith
-memory_two Halt e = omega arith
-memory_two _ e = cc
-
-two_operands : (o : Operands) (n : ℕ) → n ≡ length (listed o) → n ≤ 2 → operands_of n (slice_index (listed o) 0) (slice_index (listed o) 1) ≡ listed o
-two_operands (One a) n is le = rw is refl
-two_operands (Two a b) n is le = rw is refl
-two_operands (Three a b c) n is le = absurd (omega (arith, is, le))
+use Rattle.match_table.proofs.Answered.{memory_two, request_operands as two_operands}
 
 result_is : (image : Image) (k : ℕ) (xs : List ℕ) → result_of image k xs ≡ result_of_op (instr_at image k).op xs
 unfolding result_of

@@ -1,10 +1,9 @@
 -- Tables that serve apart are one part of the core's state.
-use Rattle.std.proofs.Common.{◌≡◌, ◌+◌, ◌<◌, ◌%◌, ◌⊎◌, inl, inr, ℕ, zero, suc, List, [], ◌∷◌, ◌++◌, Option, All, length, slice_index_or, sym, refl, ap, subst, arith}
+use Rattle.std.proofs.Common.{◌≡◌, ◌+◌, ◌<◌, ◌%◌, ◌⊎◌, inl, inr, ℕ, zero, suc, List, [], ◌∷◌, ◌++◌, All, length, slice_index_or, sym, refl, ap, subst, arith}
 use Rattle.std.proofs.lemmas.Nat.{mod_below}
 use Rattle.std.proofs.lemmas.List.Elements.{All-from_get_or}
 use Rattle.ws_words.specs.Outside.{World}
-use Rattle.ws_isa.specs.Image.{Image, or_else, ports}
-use Rattle.image_walk.specs.Walk.{Ports, gather}
+use Rattle.ws_isa.specs.Image.{Image, ports}
 use Rattle.core_law.specs.Core.{Key, HasFired, Once, operands_in}
 use Rattle.core_law.specs.Shown.{TablesOk}
 use Rattle.match_table.specs.Tables.{Content, held, part}
@@ -12,6 +11,7 @@ use Rattle.crew_tables.specs.Limits.{Serves}
 use Rattle.crew_collect.proofs.Listed.{none_fired, fired_there}
 use Rattle.crew_collect.specs.Together.{all_fired, together}
 use Rattle.crew_tables.specs.Growth.{content_at}
+use Rattle.core_run.proofs.StandsMatch.{gather_agree as gather_same}
 
 pub fired_left : (ks ls : List Key) (w i : ℕ) → HasFired ks w i → HasFired (ks ++ ls) w i
 fired_left [] ls w i h = absurd h
@@ -26,10 +26,6 @@ pub fired_cases : (ks ls : List Key) (w i : ℕ) → HasFired (ks ++ ls) w i →
 fired_cases [] ls w i h = inr h
 fired_cases (k ∷ ks) ls w i (inl h) = inl (inl h)
 fired_cases (k ∷ ks) ls w i (inr h) = elim (fired_cases ks ls w i h) [ inl x ↦ inl (inr x) | inr x ↦ inr x ]
-
-gather_same : (f g : Ports) (w i p n : ℕ) → ((q : ℕ) → f w i q ≡ g w i q) → gather f w i p n ≡ gather g w i p n
-gather_same f g w i p zero e = refl
-gather_same f g w i p (suc n) e = ap (λ (k : Option ℕ × List ℕ). or_else k.0 0 ∷ k.1) (λ j. (e p j, gather_same f g w i (suc p) n e j))
 
 once_append : (ks ls : List Key) → Once ks → Once ls → ((w i : ℕ) → HasFired ks w i → HasFired ls w i → ⊥) → Once (ks ++ ls)
 once_append [] ls a b apart = b

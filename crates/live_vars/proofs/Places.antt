@@ -1,10 +1,9 @@
 -- Blocks by number, in the graph and in its table.
-use Rattle.std.proofs.Common.{ℕ, zero, suc, ◌+◌, ◌≡◌, ◌<◌, ◌≤◌, List, [], ◌∷◌, length, map, slice_index_or, refl, sym, ap, subst, inl, inr, arith}
+use Rattle.std.proofs.Common.{ℕ, ◌+◌, ◌≡◌, ◌<◌, ◌≤◌, List, [], ◌∷◌, length, slice_index_or, sym, ap, subst, inl, inr, arith}
 use Rattle.std.proofs.lemmas.Bool.{cases_lt}
-use Rattle.std.proofs.lemmas.List.{length-map}
-use Rattle.cfg_core.specs.Graph.{Spot, nth, or_else, no_spot, spots, spot_at, Graph, block_at}
+use Rattle.cfg_core.specs.Graph.{Spot, no_spot, spots, spot_at, Graph, block_at}
 use Rattle.cfg_core.specs.View as view
-use Rattle.cfg_core.specs.Shows.{TableIs, spot_in_code, spot_in_graph}
+use Rattle.cfg_core.specs.Shows.{TableIs}
 use Rattle.cfg_core.specs.declared.table.Table.{Table}
 use Rattle.cfg_core.specs.declared.table.Spot as code
 use Rattle.cfg_core.proofs.Tables.{spot_in, spot_past}
@@ -12,16 +11,7 @@ use Rattle.live_vars.specs.Live.{Live, reads, passes, ReadsFirst, Carries}
 use Rattle.live_vars.specs.Marks.{Marks}
 use Rattle.live_vars.specs.Found.{Writes, Carried}
 use Rattle.live_vars.proofs.Bits.{marks_none}
-
-pub count_is : (table : Table) → TableIs table → length table.spots.items ≡ length (spots (view.graph table.graph.now))
-count_is table h =
-    let e : length (map spot_in_code table.spots.items) ≡ length (map spot_in_graph (spots (view.graph table.graph.now))) = ap length h.spots in
-    omega (arith, e, length-map table.spots.items spot_in_code, length-map (spots (view.graph table.graph.now)) spot_in_graph)
-
-past : (xs : List Spot) (b : ℕ) → length xs ≤ b → or_else (nth xs b) no_spot ≡ no_spot
-past [] b le = refl
-past (x ∷ xs) zero le = absurd (omega arith)
-past (x ∷ xs) (suc b) le = past xs b (omega arith)
+use Rattle.cfg_core.proofs.Spots.{past}
 
 pub spot_beyond : (g : Graph) (b : ℕ) → length (spots g) ≤ b → spot_at g b ≡ no_spot
 unfolding spot_at

@@ -2,7 +2,7 @@
 use Rattle.std.proofs.Common.{◌≡◌, ◌+◌, ◌<◌, ◌≤◌, ℕ, suc, Bool, true, false, not, ◌&&◌, cond, List, [], ◌∷◌, ◌++◌, Option, Some, None, length, slice_index, sym, refl, ap, ◌∙◌, subst, arith}
 use Rattle.ws_words.specs.Outside.{World}
 use Rattle.ws_isa.specs.declared.instr.Op.{Op}
-use Rattle.ws_isa.specs.declared.instr.Op.TheVariants.{Alu, Steer, Phi, Send, Load, Store, Input, Output, Give, Take, Nop, Halt}
+use Rattle.ws_isa.specs.declared.instr.Op.TheVariants.{Load, Store, Input, Output, Give, Take, Nop, Halt}
 use Rattle.ws_isa.specs.Image.{Image, Token, ports, ports_of, instr_at, is_memory, is_memory_op, is_advance_op, selector_of, result_of, result_of_op, sends, tokens_to}
 use Rattle.ws_isa.specs.declared.instr.Dest.{Dest}
 use Rattle.core_run.specs.Places.{destinations}
@@ -31,14 +31,7 @@ use Rattle.match_table.specs.declared.table.Took.{Took}
 use Rattle.match_table.specs.declared.table.Took.TheVariants as took
 use Rattle.match_table.specs.Matching.{Arrives, Full, Outcome, HandedOn, Accepted, Answered, will_fire}
 use Rattle.match_table.proofs.Kept.{port_below, full_with, full_operands, free_port, kept_ok, new_held, new_full, new_operands, same_fired, now_fired, fired_ok}
-
-three_ports : (op : Op) → ports_of op ≤ 3
-three_ports (Alu a) = omega arith
-three_ports Steer = omega arith
-three_ports Phi = omega arith
-three_ports (Send p) = omega arith
-three_ports (Store a) = omega arith
-three_ports _ = omega arith
+use Rattle.ws_isa.proofs.Images.{three_ports}
 
 pub ports_small : (image : Image) (i : ℕ) → ports image i ≤ 3
 ports_small image i = rw (ports_is_op image i) (three_ports (instr_at image i).op)
@@ -108,7 +101,7 @@ module _ {J : Type 0} where
   answered image old mid new t xs rs took.Old e f a b o = absurd o
   answered image old mid new t xs rs took.NoMemory e f a b o = absurd o
 
-memory_two : (op : Op) → is_memory_op op ≡ true → ports_of op ≤ 2
+pub memory_two : (op : Op) → is_memory_op op ≡ true → ports_of op ≤ 2
 memory_two (Load a) e = omega arith
 memory_two (Store a) e = omega arith
 memory_two Input e = omega arith
@@ -119,7 +112,7 @@ memory_two Nop e = omega arith
 memory_two Halt e = omega arith
 memory_two _ e = cc
 
-request_operands : (o : Operands) (n : ℕ) → n ≡ length (listed o) → n ≤ 2 → operands_of n (slice_index (listed o) 0) (slice_index (listed o) 1) ≡ listed o
+pub request_operands : (o : Operands) (n : ℕ) → n ≡ length (listed o) → n ≤ 2 → operands_of n (slice_index (listed o) 0) (slice_index (listed o) 1) ≡ listed o
 request_operands (One a) n is le = rw is refl
 request_operands (Two a b) n is le = rw is refl
 request_operands (Three a b c) n is le = absurd (omega (arith, is, le))

@@ -13,7 +13,8 @@ use Rattle.live_vars.specs.Live.{Mentions, OpReads, OpWrites}
 use Rattle.phi_conv.specs.Short.{is_bare, all_light}
 use Rattle.phi_conv.specs.Joined.{turns_of, is_among, added, copied, renamed, arm, written}
 use Rattle.phi_conv.proofs.Picked.{added_here, added_other}
-use Rattle.phi_conv.proofs.Light.{after, left_true, right_true}
+use Rattle.phi_conv.proofs.Light.{after}
+use Rattle.ws_words.proofs.Bools.{and_left as left_true, and_right as right_true}
 
 -- what matters before an operation, where P matters after it
 abbrev pub Before : Op → (ℕ → Type 0) → ℕ → Type 0

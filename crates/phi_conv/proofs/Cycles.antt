@@ -4,18 +4,14 @@ use Rattle.cfg_core.specs.Graph.{Term, Op, Assign, Store, Print, Read, Give, Tak
 use Rattle.cfg_core.specs.Rules.{takes_turn, has_turn, Leads, Quiet, one, more}
 use Rattle.phi_conv.specs.Short.{Short, is_bare, all_light, short, short_to}
 use Rattle.phi_conv.specs.Joined.{written_by, first_base, second_base, turns_of, arm, is_still, keep_test, test_of, choices, joining, joined_if, joined}
-use Rattle.phi_conv.proofs.Light.{right_true}
 use Rattle.phi_conv.specs.IsShort.{Way, direct, through}
 use Rattle.phi_conv.proofs.Ways.{ways}
 use Rattle.phi_conv.proofs.Placing.{block_is}
+use Rattle.ws_words.proofs.Bools.{either_right, and_right as right_true}
 
 either_left : (b c d : Bool) → (b || c) ≡ false → (c ≡ false → d ≡ false) → (b || d) ≡ false
 either_left true c d e f = e
 either_left false c d e f = f e
-
-either_right : (b c : Bool) → (b || c) ≡ false → c ≡ false
-either_right true c e = absurd (cc)
-either_right false c e = e
 
 quiet_left : (xs ys : List Op) → has_turn (xs ++ ys) ≡ false → has_turn xs ≡ false
 quiet_left [] ys e = refl

@@ -9,11 +9,12 @@ use Rattle.live_vars.specs.Marks.{has}
 use Rattle.phi_conv.specs.Short.{Short, short}
 use Rattle.phi_conv.specs.Joined.{first_base, second_base, turns_of, is_among, copied, added, renamed, arm, written, written_by, is_still, keep_test, test_if, test_of, choice, choices, joining, joined_if, joined}
 use Rattle.phi_conv.specs.Keeps.{NoCopyLive}
-use Rattle.phi_conv.proofs.Picked.{added_other, written_low, filter_in}
+use Rattle.phi_conv.proofs.Picked.{added_other, written_low}
 use Rattle.phi_conv.proofs.Placing.{joined_spot, spots_count, spot_is, block_is}
 use Rattle.phi_conv.proofs.Standing.{same_vars, numbers_at}
 use Rattle.phi_conv.proofs.Numbered.{first_in, second_in, test_in}
 use Rattle.phi_conv.proofs.Ruled.{keeps_rules}
+use Rattle.cfg_core.proofs.Spots.{filter_in}
 
 module _ (g : Graph) (v : ℕ) where
   -- what is mentioned is a variable of the procedure

@@ -4,18 +4,17 @@ use Rattle.std.specs.List.{AllByRecursion}
 use Rattle.ws_words.specs.Outside.{Outside, State, zeros}
 use Rattle.cfg_core.specs.Graph.{Term, Call, Send, Block, GraphProc, Graph, Spot, spots_in, spots_from, spots, nth, or_else, no_spot, no_proc, spot_at, block_at, proc_at, entry_from, entry_of}
 use Rattle.cfg_core.specs.Rules.{ProcNumbers, ResultIn, ExitIn, Lands, IsGraph}
-use Rattle.cfg_core.specs.Walk.{value_of, values, values_of, Frame, Config, At, landing, landed, leave}
+use Rattle.cfg_core.specs.Walk.{value_of, values_of, Frame, Config, At, landing, landed, leave}
 use Rattle.live_vars.specs.Live.{ExitWrites, Live}
 use Rattle.phi_conv.specs.Short.{Short, short}
 use Rattle.phi_conv.specs.Joined.{more_vars, joined_if, joined}
 use Rattle.phi_conv.proofs.Agreeing.{States, term_value, term_states, terms_values, terms_states}
 use Rattle.phi_conv.proofs.Placing.{block_is, spot_is, entry_is, proc_is}
 use Rattle.phi_conv.proofs.Standing.{After, ResultIs, vars_at, same_vars, numbers_at, Waits, Stack, Along}
-use Rattle.phi_conv.proofs.Leaves.{zero_at, zeros_count, landed_same, landed_length}
-
-values_count : (ts : List Term) (vars : List ℕ) (cells : List (List ℕ)) → length (values ts vars cells) ≡ length ts
-values_count [] vars cells = refl
-values_count (t ∷ ts) vars cells = ap suc (values_count ts vars cells)
+use Rattle.phi_conv.proofs.Leaves.{landed_same}
+use Rattle.cfg_core.proofs.Spots.{landed_count as landed_length, values_count}
+use Rattle.ws_words.proofs.Numbers.{zero_at, zeros_count}
+use Rattle.cfg_core.proofs.Weighing.{count_in as spots_count}
 
 -- what stands in a procedure's variables at its entry
 entered_at : (words : List ℕ) (n x : ℕ) → get_or (words ++ zeros n) x 0 ≡ get_or words x 0
@@ -35,10 +34,6 @@ HasVars v (Some s) = s.vars ≡ v
 nth_after : (xs ys : List Spot) (k : ℕ) → nth (xs ++ ys) (length xs + k) ≡ nth ys k
 nth_after [] ys k = ap (nth ys) (omega arith)
 nth_after (x ∷ xs) ys k = ap (nth (x ∷ (xs ++ ys))) (let z : suc (length xs) + k ≡ suc (length xs + k) = omega arith in z) ∙ nth_after xs ys k
-
-spots_count : (home v : ℕ) (bs : List Block) → length (spots_in home v bs) ≡ length bs
-spots_count home v [] = refl
-spots_count home v (b ∷ bs) = ap suc (spots_count home v bs)
 
 first_has : (home : ℕ) (p : GraphProc) (rest : List Spot) → 1 ≤ length p.blocks → HasVars p.vars (nth (spots_in home p.vars p.blocks ++ rest) 0)
 first_has home p rest some = by_blocks p.blocks some

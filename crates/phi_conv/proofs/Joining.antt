@@ -1,5 +1,5 @@
 -- What stands for a short branch does what the branch and the arm that it takes do.
-use Rattle.std.proofs.Common.{ℕ, zero, suc, ◌+◌, ◌-◌, ◌^◌, ◌≡◌, ◌<◌, ◌≤◌, ◌⊎◌, ◌==◌, not, Bool, true, false, if◌then◌else◌, List, [], ◌∷◌, ◌++◌, length, get_or, set, refl, sym, ap, ◌∙◌, inl, inr, arith}
+use Rattle.std.proofs.Common.{ℕ, zero, suc, ◌+◌, ◌-◌, ◌^◌, ◌≡◌, ◌<◌, ◌≤◌, ◌⊎◌, ◌==◌, Bool, true, false, if◌then◌else◌, List, [], ◌∷◌, ◌++◌, length, get_or, set, refl, sym, ap, ◌∙◌, inl, inr, arith}
 use Rattle.std.specs.List.{AllByRecursion, filter}
 use Rattle.std.proofs.lemmas.List.{get_or-set_other}
 use Rattle.ws_words.specs.declared.alu.Alu.TheVariants.{Sub}
@@ -16,7 +16,9 @@ use Rattle.phi_conv.proofs.Light.{after, then_cong, light_run}
 use Rattle.phi_conv.proofs.Copies.{Needs, Copies, if_apart, arm_copies, arm_keeps, after_out, after_length, arm_light, arm_no_turns}
 use Rattle.phi_conv.proofs.Choices.{chosen, Steady, by_zero, with_vars, choices_run, stays, gets, chosen_length}
 use Rattle.phi_conv.proofs.Agreeing.{States, Outcomes}
-use Rattle.phi_conv.proofs.Picked.{less_among, among_in, in_among, written_stays, written_more, written_low, in_filter, filter_in, all_from}
+use Rattle.phi_conv.proofs.Picked.{less_among, among_in, in_among, written_stays, written_more, written_low}
+use Rattle.ws_words.proofs.Bools.{not_true}
+use Rattle.cfg_core.proofs.Spots.{all_from, filter_in, in_filter}
 
 then_then : (o : Outcome) (f h : State → ℕ → Outcome) → and_then o (λ r j. and_then (f r j) h) ≡ and_then (and_then o f) h
 then_then (Done s k) f h = refl
@@ -44,10 +46,6 @@ value_agree (Flip t) vs ws cells h = ap (λ n. 2 ^ 64 - 1 - n) (value_agree t vs
 value_agree (Not t) vs ws cells h = ap (λ n. flag (n == 0)) (value_agree t vs ws cells h)
 value_agree (Neg t) vs ws cells h = ap (λ n. applied Sub 0 n) (value_agree t vs ws cells h)
 value_agree (Binary op a b) vs ws cells h = ap (λ n. applied op n (value b vs cells)) (value_agree a vs ws cells (λ y m. h y (inl m))) ∙ ap (λ n. applied op (value a ws cells) n) (value_agree b vs ws cells (λ y m. h y (inr m)))
-
-not_true : (a : Bool) → not a ≡ true → a ≡ false
-not_true false e = refl
-not_true true e = absurd (cc)
 
 module _ (g : Graph) (live : List (List ℕ)) (v : ℕ) (s : Short) (P : ℕ → Type 0) where
   -- where the copies for the first arm begin

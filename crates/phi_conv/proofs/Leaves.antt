@@ -1,26 +1,15 @@
 -- An exit that both graphs have leads both walks to configurations that go together.
-use Rattle.std.proofs.Common.{ℕ, zero, suc, ◌≡◌, ◌<◌, ◌≤◌, ◌==◌, List, [], ◌∷◌, length, get_or, set, refl, sym, ap, ◌∙◌, subst, inl, inr, arith}
+use Rattle.std.proofs.Common.{ℕ, ◌≡◌, ◌<◌, ◌≤◌, ◌==◌, List, [], ◌∷◌, length, get_or, set, refl, sym, ap, ◌∙◌, subst, inl, inr, arith}
 use Rattle.std.specs.List.{AllByRecursion}
 use Rattle.std.proofs.lemmas.Bool.{cases_eq}
 use Rattle.std.proofs.lemmas.List.{get_or-set_same, get_or-set_other, length-set}
-use Rattle.ws_words.specs.Outside.{State, zeros}
+use Rattle.ws_words.specs.Outside.{State}
 use Rattle.cfg_core.specs.Graph.{Term, Goto, Branch, Return, Stop, Graph, spots, spot_at}
 use Rattle.cfg_core.specs.Rules.{ExitIn, StaysIn, IsGraph}
 use Rattle.cfg_core.specs.Walk.{Frame, leave, landed}
 use Rattle.live_vars.specs.Live.{Live}
 use Rattle.phi_conv.proofs.Agreeing.{States, term_value, term_states, weaker}
 use Rattle.phi_conv.proofs.Standing.{After, vars_at, Stack, Along, goes_to, if_along, returns}
-
--- each of some zeros is 0
-pub zero_at : (n x : ℕ) → get_or (zeros n) x 0 ≡ 0
-zero_at zero x = refl
-zero_at (suc n) zero = refl
-zero_at (suc n) (suc x) = zero_at n x
-
--- there are so many
-pub zeros_count : (n : ℕ) → length (zeros n) ≡ n
-zeros_count zero = refl
-zeros_count (suc n) = ap suc (zeros_count n)
 
 -- words in the variables that a block names, over lists of two lengths
 pub landed_same : (v : ℕ) (xs ws vs us : List ℕ) → AllByRecursion (λ x. x < v) xs → v ≤ length vs → v ≤ length us → ((y : ℕ) → y < v → get_or vs y 0 ≡ get_or us y 0) → (y : ℕ) → y < v → get_or (landed xs ws vs) y 0 ≡ get_or (landed xs ws us) y 0
@@ -33,12 +22,6 @@ landed_same v (x ∷ xs) (w ∷ ws) vs us i lv lu h =
       | inr ne ↦ get_or-set_other vs x y w 0 ne ∙ h y lt ∙ sym (get_or-set_other us x y w 0 ne)
     ]
     )
-
--- a Send leaves as many variables
-pub landed_length : (xs ws vs : List ℕ) → length (landed xs ws vs) ≡ length vs
-landed_length [] ws vs = refl
-landed_length (x ∷ xs) [] vs = refl
-landed_length (x ∷ xs) (w ∷ ws) vs = landed_length xs ws (set vs x w) ∙ length-set vs x w
 
 module _ (g : Graph) (rules : IsGraph g) (h : Graph) (b : ℕ) (there : b < length (spots g)) where
   abbrev v : ℕ

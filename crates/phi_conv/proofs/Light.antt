@@ -1,20 +1,11 @@
 -- Operations that only assign and tick: what they do, and how many turns they take.
-use Rattle.std.proofs.Common.{ℕ, zero, suc, ◌+◌, ◌≡◌, ◌&&◌, Bool, true, false, List, [], ◌∷◌, ◌++◌, refl, ap, ◌∙◌, arith}
+use Rattle.std.proofs.Common.{ℕ, zero, suc, ◌+◌, ◌≡◌, ◌&&◌, true, List, [], ◌∷◌, ◌++◌, refl, ap, ◌∙◌, arith}
 use Rattle.ws_words.specs.Outside.{Act, State, write, with_acts}
 use Rattle.cfg_core.specs.Graph.{Term, Number, Var, Cell, Flip, Not, Neg, Binary, Op, Assign, Store, Print, Read, Give, Take, Choose, Tick, TickBy}
 use Rattle.cfg_core.specs.Walk.{value, loads_of, value_of, Outcome, Done, Out, and_then, spend, run_ops}
 use Rattle.phi_conv.specs.Short.{is_bare, all_light}
 use Rattle.phi_conv.specs.Joined.{turns_of}
-
--- of two that hold, the first
-pub left_true : (a b : Bool) → (a && b) ≡ true → a ≡ true
-left_true true b e = refl
-left_true false b e = e
-
--- of two that hold, the second
-pub right_true : (a b : Bool) → (a && b) ≡ true → b ≡ true
-right_true true b e = e
-right_true false b e = absurd (cc)
+use Rattle.ws_words.proofs.Bools.{and_left as left_true, and_right as right_true}
 
 -- a bare term loads nothing
 pub loads_nothing : (t : Term) (vs : List ℕ) (cells : List (List ℕ)) → is_bare t ≡ true → loads_of t vs cells ≡ []

@@ -1,31 +1,18 @@
 -- What the joined graph's operations and exits name exists.
-use Rattle.std.proofs.Common.{ℕ, ◌+◌, ◌≡◌, ◌<◌, ◌≤◌, Bool, true, false, if◌then◌else◌, List, [], ◌∷◌, ◌++◌, length, map, Option, Some, None, sym, ap, ◌∙◌, subst, arith}
+use Rattle.std.proofs.Common.{ℕ, ◌+◌, ◌≡◌, ◌<◌, ◌≤◌, Bool, true, false, if◌then◌else◌, List, [], ◌∷◌, ◌++◌, length, Option, Some, None, sym, ap, ◌∙◌, subst, arith}
 use Rattle.std.specs.List.{AllByRecursion, filter}
 use Rattle.cfg_core.specs.Graph.{Term, Number, Var, Cell, Flip, Not, Neg, Binary, Op, Assign, Store, Print, Read, Give, Take, Choose, Tick, TickBy, Exit, Goto, Branch, Call, Return, Send, Stop, GraphProc, Graph, Spot, spots, spot_at, block_at}
 use Rattle.cfg_core.specs.Rules.{TermIn, OpIn, StaysIn, ResultIn, ExitIn, IsGraph}
 use Rattle.live_vars.specs.Marks.{has}
 use Rattle.phi_conv.specs.Short.{Short, short_to}
-use Rattle.phi_conv.specs.Joined.{first_base, second_base, more_vars, is_among, copied, added, renamed, arm, written, written_by, is_still, keep_test, test_if, test_of, choice, choices, joining, joined}
-use Rattle.phi_conv.proofs.Picked.{written_low, filter_in, all_from}
+use Rattle.phi_conv.specs.Joined.{first_base, second_base, more_vars, is_among, copied, added, renamed, arm, written, written_by, is_still, keep_test, test_if, choice, choices, joining, joined}
+use Rattle.phi_conv.proofs.Picked.{written_low}
 use Rattle.phi_conv.specs.IsShort.{Way, direct, through}
 use Rattle.phi_conv.proofs.Ways.{ways}
-use Rattle.phi_conv.proofs.Placing.{map_count, spots_count, spot_is, proc_is}
+use Rattle.phi_conv.proofs.Placing.{spots_count, spot_is, proc_is}
 use Rattle.phi_conv.proofs.Standing.{vars_at, same_vars, numbers_at}
-
--- what holds of all items of two lists holds of all items of both
-pub all_both : {A : Type 0} (P : A → Type 0) (xs ys : List A) → AllByRecursion P xs → AllByRecursion P ys → AllByRecursion P (xs ++ ys)
-all_both P [] ys h i = i
-all_both P (x ∷ xs) ys h i = (h.0, all_both P xs ys h.1 i)
-
--- what holds of each value of a function at items of a list
-pub all_mapped : {A B : Type 0} (P : B → Type 0) (f : A → B) (xs : List A) → AllByRecursion (λ x. P (f x)) xs → AllByRecursion P (map f xs)
-all_mapped P f [] h = tt
-all_mapped P f (x ∷ xs) h = (h.0, all_mapped P f xs h.1)
-
--- what follows for each item
-pub all_so : {A : Type 0} (P Q : A → Type 0) → ((x : A) → P x → Q x) → (xs : List A) → AllByRecursion P xs → AllByRecursion Q xs
-all_so P Q f [] h = tt
-all_so P Q f (x ∷ xs) h = (f x h.0, all_so P Q f xs h.1)
+use Rattle.ws_words.proofs.Lists.{all_append as all_both, all_mapped, all_with as all_so, length_map as map_count}
+use Rattle.cfg_core.proofs.Spots.{all_from, filter_in}
 
 if_below : (b : Bool) (m n w : ℕ) → m < w → n < w → (if b then m else n) < w
 if_below true m n w h i = h

@@ -12,11 +12,12 @@ use Rattle.phi_conv.specs.Short.{Short, is_bare, all_light, short}
 use Rattle.phi_conv.specs.IsShort.{Way, direct, through}
 use Rattle.phi_conv.specs.Joined.{first_base, second_base, turns_of, added, renamed, arm, written_by, is_still, keep_test, test_of, choice, choices, joining, joined_if, joined_proc, joined}
 use Rattle.phi_conv.specs.Keeps.{most_more_ops, most_more_nodes, TurnsPayMost}
-use Rattle.phi_conv.proofs.Light.{right_true}
 use Rattle.phi_conv.proofs.Ways.{ways}
-use Rattle.phi_conv.proofs.Placing.{map_count, spots_count, block_is, entry_is}
+use Rattle.phi_conv.proofs.Placing.{spots_count, block_is, entry_is}
 use Rattle.phi_conv.proofs.Standing.{numbers_at}
 use Rattle.phi_conv.proofs.Sizing.{sum_both, joining_few, nodes_kept}
+use Rattle.ws_words.proofs.Lists.{length_map as map_count}
+use Rattle.ws_words.proofs.Bools.{and_right as right_true}
 
 -- the turns of what stands for a short branch
 

@@ -1,19 +1,15 @@
 -- Numbers of a list: those that were added, and those that pass a test.
 use Rattle.std.proofs.Common.{ℕ, ◌≡◌, ◌<◌, ◌⊎◌, ◌==◌, ◌||◌, Bool, true, false, if◌then◌else◌, List, [], ◌∷◌, ◌++◌, refl, sym, ap, ◌∙◌, inl, inr, arith}
-use Rattle.std.specs.List.{AllByRecursion, filter}
+use Rattle.std.specs.List.{AllByRecursion}
 use Rattle.std.proofs.lemmas.Bool.{cases_eq}
 use Rattle.std.proofs.lemmas.Bool.Decides.{nat_tests}
 use Rattle.cfg_core.specs.Graph.{Op, Assign, Store, Print, Read, Give, Take, Choose, Tick, TickBy, Graph}
 use Rattle.cfg_core.specs.Rules.{In, OpIn}
 use Rattle.phi_conv.specs.Joined.{is_among, added, written}
-
--- a number is itself
-pub is_self : (n : ℕ) → (n == n) ≡ true
-is_self n = by_test (n == n) refl
-  where
-    by_test : (b : Bool) → (n == n) ≡ b → (n == n) ≡ true
-    by_test true e = e
-    by_test false e = absurd (let z : n ≡ n → ⊥ = λ q. grind (arith, nat_tests) in z refl)
+use Rattle.ws_words.proofs.Bools.{or_comes as either, or_right as or_true, decide as true_or_false}
+use Rattle.cfg_core.proofs.Spots.{in_left}
+use Rattle.ws_words.proofs.Numbers.{is_self}
+use Rattle.cfg_core.proofs.Forward.{no_both as not_both}
 
 not_self : (n m : ℕ) → (n ≡ m → ⊥) → (n == m) ≡ false
 not_self n m ne = by_test (n == m) refl
@@ -21,21 +17,6 @@ not_self n m ne = by_test (n == m) refl
     by_test : (b : Bool) → (n == m) ≡ b → (n == m) ≡ false
     by_test true e = absurd (ne (grind (arith, nat_tests)))
     by_test false e = e
-
-either : (b c : Bool) → (b || c) ≡ true → (b ≡ true) ⊎ (c ≡ true)
-either true c e = inl refl
-either false c e = inr e
-
-or_true : (b c : Bool) → c ≡ true → (b || c) ≡ true
-or_true true c e = refl
-or_true false c e = e
-
-not_both : {b : Bool} → b ≡ true → b ≡ false → ⊥
-not_both e f = absurd (cc)
-
-true_or_false : (b : Bool) → (b ≡ true) ⊎ (b ≡ false)
-true_or_false true = inl refl
-true_or_false false = inr refl
 
 -- a number that isn't there where it isn't in a longer list
 pub less_among : (xs ys : List ℕ) (x : ℕ) → (is_among xs x ≡ true → is_among ys x ≡ true) → is_among ys x ≡ false → is_among xs x ≡ false
@@ -54,11 +35,6 @@ pub in_among : (xs : List ℕ) (x : ℕ) → In x xs → is_among xs x ≡ true
 in_among [] x i = absurd i
 in_among (y ∷ xs) x (inl e) = ap (λ b. b || is_among xs x) (ap (λ n. x == n) (sym e) ∙ is_self x)
 in_among (y ∷ xs) x (inr i) = or_true (x == y) (is_among xs x) (in_among xs x i)
-
-in_left : (x : ℕ) (xs ys : List ℕ) → In x xs → In x (xs ++ ys)
-in_left x [] ys h = absurd h
-in_left x (y ∷ xs) ys (inl e) = inl e
-in_left x (y ∷ xs) ys (inr h) = inr (in_left x xs ys h)
 
 in_right : (x : ℕ) (xs ys : List ℕ) → In x ys → In x (xs ++ ys)
 in_right x [] ys h = h
@@ -157,29 +133,3 @@ module _ (g : Graph) (v : ℕ) where
   written_low done (Choose x t a b ∷ ops) h f y i = written_low done ops h.1 f y i
   written_low done (Tick n ∷ ops) h f y i = written_low done ops h.1 f y i
   written_low done (TickBy t n m ∷ ops) h f y i = written_low done ops h.1 f y i
-
--- a number that passes is in the filtered list
-pub in_filter : (p : ℕ → Bool) (xs : List ℕ) (x : ℕ) → In x xs → p x ≡ true → In x (filter p xs)
-in_filter p [] x h e = absurd h
-in_filter p (y ∷ xs) x h e = by_test (p y) refl h (λ i. in_filter p xs x i e)
-  where
-    by_test : (b : Bool) → p y ≡ b → In x (y ∷ xs) → (In x xs → In x (filter p xs)) → In x (if b then y ∷ filter p xs else filter p xs)
-    by_test true ey (inl same) rest = inl same
-    by_test true ey (inr i) rest = inr (rest i)
-    by_test false ey (inl same) rest = let z : p x ≡ p y = ap p same in absurd (cc)
-    by_test false ey (inr i) rest = rest i
-
--- one in the filtered list passes
-pub filter_in : (p : ℕ → Bool) (xs : List ℕ) (x : ℕ) → In x (filter p xs) → In x xs × (p x ≡ true)
-filter_in p [] x h = absurd h
-filter_in p (y ∷ xs) x h = by_test (p y) refl h (λ i. filter_in p xs x i)
-  where
-    by_test : (b : Bool) → p y ≡ b → In x (if b then y ∷ filter p xs else filter p xs) → (In x (filter p xs) → In x xs × (p x ≡ true)) → In x (y ∷ xs) × (p x ≡ true)
-    by_test true ey (inl same) rest = (inl same, ap p same ∙ ey)
-    by_test true ey (inr i) rest = let r = rest i in (inr r.0, r.1)
-    by_test false ey i rest = let r = rest i in (inr r.0, r.1)
-
--- what holds of each number of a list holds of all
-pub all_from : (P : ℕ → Type 0) (xs : List ℕ) → ((x : ℕ) → In x xs → P x) → AllByRecursion P xs
-all_from P [] h = tt
-all_from P (x ∷ xs) h = (h x (inl refl), all_from P xs (λ y i. h y (inr i)))

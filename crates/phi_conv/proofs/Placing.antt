@@ -4,15 +4,7 @@ use Rattle.cfg_core.specs.Graph.{Block, GraphProc, Graph, Spot, spots_in, spots_
 use Rattle.phi_conv.specs.Short.{Short, short}
 use Rattle.phi_conv.specs.Joined.{more_vars, joined_if, joined_block, joined_proc, joined}
 use Rattle.phi_conv.specs.Keeps.{SameOrGoto, ExitsKept}
-
-map_both : {A B : Type 0} (f : A → B) (xs ys : List A) → map f (xs ++ ys) ≡ map f xs ++ map f ys
-map_both f [] ys = refl
-map_both f (x ∷ xs) ys = ap (λ (zs : List _). f x ∷ zs) (map_both f xs ys)
-
--- a mapped list is as long
-pub map_count : {A B : Type 0} (f : A → B) (xs : List A) → length (map f xs) ≡ length xs
-map_count f [] = refl
-map_count f (x ∷ xs) = ap suc (map_count f xs)
+use Rattle.ws_words.proofs.Lists.{map_append as map_both, length_map as map_count}
 
 module _ (g : Graph) (live : List (List ℕ)) where
   -- a block with the number of its procedure and its count of variables, joined

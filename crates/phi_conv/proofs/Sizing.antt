@@ -11,6 +11,7 @@ use Rattle.phi_conv.specs.Keeps.{most_more_ops, most_more_nodes, JoinedAt, Short
 use Rattle.phi_conv.proofs.Counting.{some_nodes}
 use Rattle.phi_conv.proofs.Ways.{ways, found}
 use Rattle.phi_conv.proofs.Placing.{block_is, spots_count}
+use Rattle.ws_words.proofs.Lists.{filter_few as filter_count, length_map as map_count}
 
 -- an arm
 
@@ -49,14 +50,14 @@ arm_count base done (TickBy t n m ∷ ops) = let b = arm_count base done ops in 
 
 -- the variables that it writes
 
-added_count : (done : List ℕ) (x : ℕ) → length (added done x) ≤ suc (length done)
+pub added_count : (done : List ℕ) (x : ℕ) → length (added done x) ≤ suc (length done)
 added_count done x = by_test (is_among done x)
   where
     by_test : (b : Bool) → length (if b then done else done ++ x ∷ []) ≤ suc (length done)
     by_test true = omega arith
     by_test false = omega (arith, length-append done (x ∷ []))
 
-written_count : (done : List ℕ) (ops : List Op) → length (written done ops) ≤ length done + all_nodes ops
+pub written_count : (done : List ℕ) (ops : List Op) → length (written done ops) ≤ length done + all_nodes ops
 written_count done [] = omega arith
 written_count done (Assign x t ∷ ops) = let a = some_nodes t in let c = added_count done x in let b = written_count (added done x) ops in omega (arith, a, b, c)
 written_count done (Store a t u ∷ ops) = let b = written_count done ops in omega (arith, b)
@@ -67,18 +68,6 @@ written_count done (Take p t ∷ ops) = let b = written_count done ops in omega 
 written_count done (Choose x t a b ∷ ops) = let b = written_count done ops in omega (arith, b)
 written_count done (Tick n ∷ ops) = let b = written_count done ops in omega (arith, b)
 written_count done (TickBy t n m ∷ ops) = let b = written_count done ops in omega (arith, b)
-
-filter_count : (p : ℕ → Bool) (xs : List ℕ) → length (filter p xs) ≤ length xs
-filter_count p [] = omega arith
-filter_count p (x ∷ xs) = by_test (p x) (filter_count p xs)
-  where
-    by_test : (b : Bool) → length (filter p xs) ≤ length xs → length (if b then x ∷ filter p xs else filter p xs) ≤ suc (length xs)
-    by_test true le = omega (arith, le)
-    by_test false le = omega (arith, le)
-
-map_count : {A B : Type 0} (f : A → B) (xs : List A) → length (map f xs) ≡ length xs
-map_count f [] = refl
-map_count f (x ∷ xs) = ap suc (map_count f xs)
 
 -- a sum over two lists
 pub sum_both : (f : Op → ℕ) (xs ys : List Op) → sum_by f (xs ++ ys) ≡ sum_by f xs + sum_by f ys

@@ -11,17 +11,7 @@ use Rattle.live_vars.specs.Live.{ExitReads, ExitWrites, Carries, WrittenIn, Read
 use Rattle.phi_conv.specs.Joined.{more_vars}
 use Rattle.phi_conv.proofs.Copies.{Needs}
 use Rattle.phi_conv.proofs.Agreeing.{Agree, States}
-
-nth_left : {A : Type 0} (xs ys : List A) (k : ℕ) → k < length xs → nth (xs ++ ys) k ≡ nth xs k
-nth_left [] ys k lt = absurd (omega arith)
-nth_left (x ∷ xs) ys zero lt = refl
-nth_left (x ∷ xs) ys (suc k) lt = nth_left xs ys k (omega arith)
-
-nth_right : {A : Type 0} (xs ys : List A) (n k m : ℕ) → length xs ≡ n → m ≡ n + k → nth (xs ++ ys) m ≡ nth ys k
-nth_right [] ys n k m e em = ap (nth ys) (omega (arith, e, em))
-nth_right (x ∷ xs) ys zero k m e em = absurd (omega (arith, e))
-nth_right (x ∷ xs) ys (suc n) k zero e em = absurd (omega (arith, em))
-nth_right (x ∷ xs) ys (suc n) k (suc m) e em = nth_right xs ys n k m (omega (arith, e)) (omega (arith, em))
+use Rattle.cfg_core.proofs.Spots.{nth_left, nth_right}
 
 nth_there : {A : Type 0} (xs : List A) (k : ℕ) (d : A) → k < length xs → nth xs k ≡ Some (or_else (nth xs k) d)
 nth_there [] k d lt = absurd (omega arith)

@@ -4,8 +4,9 @@ use Rattle.std.proofs.lemmas.Bool.Decides.{nat_tests}
 use Rattle.cfg_core.specs.Graph.{Term, Op, Exit, Goto, Branch, Call, Return, Send, Stop, Graph, block_at}
 use Rattle.phi_conv.specs.Short.{Short, all_light, all_nodes, most_nodes, goes_to, is_arm, goal, are_few, is_lone_arm, are_two_arms, two_arms, short_to}
 use Rattle.phi_conv.specs.IsShort.{Way, direct, through, IsShort}
-use Rattle.phi_conv.proofs.Light.{left_true, right_true}
-use Rattle.phi_conv.proofs.Picked.{is_self}
+use Rattle.ws_words.proofs.Bools.{and_left as left_true, and_right as right_true}
+use Rattle.ws_words.proofs.Numbers.{is_self}
+use Rattle.cfg_core.proofs.Forward.{no_both}
 
 goes : (x : Exit) (d : ℕ) → goes_to x d ≡ true → x ≡ Goto d
 goes (Goto c) d e = let same : c ≡ d = grind (arith, nat_tests) in ap Goto same
@@ -31,9 +32,6 @@ are_few_too n le = by_test (are_few n) refl
 -- each arm that goes on to j passes the test
 arm_is : (g : Graph) (b j : ℕ) → (block_at g b).exit ≡ Goto j → all_light (block_at g b).ops ≡ true → is_arm (block_at g b) j ≡ true
 arm_is g b j e light = ap (λ (x : Exit). goes_to x j && all_light (block_at g b).ops) e ∙ ap (λ t. t && all_light (block_at g b).ops) (is_self j) ∙ light
-
-no_both : {b : Bool} → b ≡ true → b ≡ false → ⊥
-no_both e f = absurd (cc)
 
 some_same : (a b : Short) → Some a ≡ Some b → a ≡ b
 some_same a b e = cc

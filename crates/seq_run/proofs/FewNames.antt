@@ -1,5 +1,5 @@
 -- An accepted program has few enough names for 32 bits.
-use Rattle.std.proofs.Common.{◌≡◌, ℕ, suc, ◌+◌, ◌<◌, ◌≤◌, ◌^◌, List, [], ◌∷◌, ◌++◌, length, arith}
+use Rattle.std.proofs.Common.{◌≡◌, ℕ, ◌+◌, ◌<◌, ◌≤◌, ◌^◌, List, [], ◌∷◌, ◌++◌, length, arith}
 use Rattle.std.specs.List.{AllByRecursion}
 use Rattle.src_ast.specs.declared.lexeme.Place.{Place}
 use Rattle.src_ast.specs.Syntax.{Part, Array, Proc}
@@ -8,16 +8,7 @@ use Rattle.src_ast.specs.Meaning.{procs_of}
 use Rattle.seq_run.specs.Tables.{FewVars}
 use Rattle.seq_run.proofs.InBodies.{Kept, kept_front, kept_after}
 use Rattle.seq_run.proofs.PartRules.{proc_kept, array_room, params_few, vars_few}
-
-arrays_append : (xs ys : List Part) → arrays_in (xs ++ ys) ≡ arrays_in xs + arrays_in ys
-arrays_append [] ys = omega arith
-arrays_append (Array x n at ∷ xs) ys = let h = arrays_append xs ys in omega (arith, h)
-arrays_append (Proc p ∷ xs) ys = arrays_append xs ys
-
-procs_append : (xs ys : List Part) → procs_in (xs ++ ys) ≡ procs_in xs + procs_in ys
-procs_append [] ys = omega arith
-procs_append (Array x n at ∷ xs) ys = procs_append xs ys
-procs_append (Proc p ∷ xs) ys = let h = procs_append xs ys in omega (arith, h)
+use Rattle.src_check.proofs.Parts.{arrays_in-append as arrays_append, procs_in-append as procs_append}
 
 few_from : (before parts : List Part) → arrays_in before ≤ 64 → procs_in before ≤ 64 → Kept (rules_after before parts) → (arrays_in before + procs_in before) + length parts ≤ 128
 few_from before [] la lp h = omega (arith, la, lp)

@@ -18,7 +18,7 @@ use Rattle.cfg_core.specs.Walk.{value, values, loads_of, all_loads, value_of, va
 use Rattle.cfg_core.specs.View as graph
 use Rattle.cfg_core.specs.declared.blocks.Term.{Term as CodeTerm}
 use Rattle.seq_run.specs.Resolved as resolved
-use Rattle.seq_run.specs.Resolved.{Action, Steps, Nothing, Then, Proc, done, run_one, run_all, run_proc, finish, calls_below, nth_proc}
+use Rattle.seq_run.specs.Resolved.{Steps, Nothing, Then, Proc, run_one, run_all, run_proc, finish, calls_below, nth_proc}
 use Rattle.seq_run.specs.Firsts.{first_past}
 use Rattle.seq_run.specs.Laws.{Begins}
 use Rattle.seq_run.specs.Seen.{seen, call_seen}
@@ -160,7 +160,7 @@ next_steps [] i x lt e = absurd (omega arith)
 next_steps (y ∷ ss) zero x lt e = ap (λ (z : Step). Then (view.step z) (view.steps ss)) (sym e)
 next_steps (y ∷ ss) (suc i) x lt e = next_steps ss i x (omega arith) e
 
-heft_some : (st : Steps) → 0 < heft st
+pub heft_some : (st : Steps) → 0 < heft st
 heft_some Nothing = omega arith
 heft_some (Then s rest) = omega arith
 
@@ -429,14 +429,6 @@ module _ (below f : ℕ) (ps : List CodeProc) (p : CodeProc) (lt : f < below) (i
         at : (x : PartEnd) → Extends (seen x) (call_seen (ending x (finish (view.result p.result))))
         at (Ended s j) = (λ e. absurd (cc), same_acts s.out.acts (finish (view.result p.result) s j) (call_begins s.out (finish (view.result p.result) s j) (finish_tells (view.result p.result) s j)))
         at (Out q) = (λ e. refl, begins_all q.acts)
-
--- the test is 0
-pub zero_flag : (n m : ℕ) → m ≡ n → m ≡ 0 → (n == 0) ≡ true
-zero_flag n m e z = ap (λ (v : ℕ). v == 0) (sym e ∙ z)
-
--- the test is not 0
-pub other_flag : (n m : ℕ) → m ≡ n → (m ≡ 0 → ⊥) → (n == 0) ≡ false
-other_flag n m e f = let g : n ≡ 0 → ⊥ = (λ h. f (e ∙ h)) in grind (arith, nat_tests)
 
 -- what a choice of the code stands for
 pub if_view : (t : CodeTerm) (a b : Vec Step Global) → view.step (code.If t a b) ≡ resolved.If (graph.term t) (view.steps a.items) (view.steps b.items)

@@ -1,5 +1,5 @@
 -- Where the rules are kept, each number in the body of a procedure names something.
-use Rattle.std.proofs.Common.{◌≡◌, ℕ, suc, ◌+◌, ◌<◌, ◌≤◌, nat_le, Bool, true, false, ◌&&◌, List, [], ◌∷◌, ◌++◌, Option, Some, None, length, refl, sym, ap, ◌∙◌, arith}
+use Rattle.std.proofs.Common.{◌≡◌, ℕ, suc, ◌+◌, ◌<◌, ◌≤◌, nat_le, true, ◌&&◌, List, [], ◌∷◌, ◌++◌, Option, Some, None, length, refl, sym, ap, ◌∙◌, arith}
 use Rattle.std.proofs.lemmas.List.Folds.{list_all-append}
 use Rattle.std.proofs.lemmas.Bool.{ltb-true, leb-true}
 use Rattle.std.specs.List.{list_all, AllByRecursion}
@@ -13,19 +13,11 @@ use Rattle.src_ast.specs.declared.tree.Unary.{Unary}
 use Rattle.src_ast.specs.declared.tree.Unary.TheVariants.{Flip, Not, Neg}
 use Rattle.seq_run.specs.Resolving.{signed, term, terms, one, all, result}
 use Rattle.seq_run.specs.InRange.{IsArray, IsPort, TermIn, ResultIn, StepIn, StepsIn, size, size_all}
+use Rattle.ws_words.proofs.Bools.{and_left as first_holds, and_right as second_holds}
 
 -- all of these rules are kept
 abbrev pub Kept : List Rule → Type 0
 Kept rs = list_all (λ r. r.kept) rs ≡ true
-
--- the first of two flags
-pub first_holds : (a b : Bool) → (a && b) ≡ true → a ≡ true
-first_holds true b h = refl
-first_holds false b h = h
-
-pub second_holds : (a b : Bool) → (a && b) ≡ true → b ≡ true
-second_holds true b h = h
-second_holds false b h = absurd (cc)
 
 -- the rules of the first list
 pub kept_front : (xs ys : List Rule) → Kept (xs ++ ys) → Kept xs

@@ -14,9 +14,12 @@ use Rattle.seq_run.specs.InRange.{ProcIn, ProgramIn, steps_in}
 use Rattle.seq_run.proofs.Declares.{procs_append}
 use Rattle.seq_run.proofs.Places.{length_procs}
 use Rattle.seq_run.proofs.Whole.{some_proc, accepted_has_proc, list_all_end}
-use Rattle.seq_run.proofs.Visible.{in_front_or_after, variable_place, no_variable, only_variables, array_place, procedure_place, proc_place, array_stays, proc_stays, nth_stays, Known, known_none, known_array, known_procedure, clash}
+use Rattle.seq_run.proofs.Visible.{in_front_or_after, variable_place, no_variable, only_variables, array_place, procedure_place, proc_place, array_stays, proc_stays, nth_stays, Known, known_none, known_array, known_procedure}
 use Rattle.seq_run.proofs.InBodies.{Kept, kept_front, kept_after, Seen, all_in, result_in, body_size, body_few, ending_few}
 use Rattle.seq_run.proofs.PartRules.{proc_kept, array_kept, params_few, vars_few, no_params}
+use Rattle.ws_words.proofs.Bools.{or_true}
+use Rattle.src_check.proofs.Parts.{statements_in-append as statements_append}
+use Rattle.cfg_core.proofs.Forward.{no_both as clash}
 
 lengths_more : (ps qs : List Part) → length (arrays_of ps) ≤ length (lengths_of (ps ++ qs))
 lengths_more [] qs = omega arith
@@ -99,11 +102,6 @@ module _ (before : List Part) where
   length_procedure : (p : Procedure) → length (procs_of (before ++ Proc p ∷ [])) ≡ suc (length (procs_of before))
   length_procedure p = let e = ap (λ (ps : List Procedure). length ps) (procs_append before (Proc p ∷ [])) in let l = length-append (procs_of before) (p ∷ []) in omega (arith, e, l)
 
-statements_append : (ps qs : List Part) → statements_in (ps ++ qs) ≡ statements_in ps + statements_in qs
-statements_append [] qs = omega arith
-statements_append (Array x n at ∷ ps) qs = statements_append ps qs
-statements_append (Proc p ∷ ps) qs = let h = statements_append ps qs in omega (arith, h)
-
 procs_in_is : (ps : List Part) → procs_in ps ≡ length (procs_of ps)
 procs_in_is [] = refl
 procs_in_is (Array x n at ∷ ps) = procs_in_is ps
@@ -180,10 +178,6 @@ length_texts : (parts : List Part) → length (texts (arrays_of parts)) ≡ leng
 length_texts [] = refl
 length_texts (Array x n at ∷ parts) = ap suc (length_texts parts)
 length_texts (Proc p ∷ parts) = length_texts parts
-
-or_true : (a : Bool) → (a || true) ≡ true
-or_true true = refl
-or_true false = refl
 
 main_front : (ps qs : List Part) → has_main ps ≡ true → has_main (ps ++ qs) ≡ true
 main_front [] qs h = absurd (cc)

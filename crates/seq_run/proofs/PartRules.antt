@@ -8,6 +8,7 @@ use Rattle.src_ast.specs.declared.fault.RefusalKind.TheVariants.{Twice, Main, Li
 use Rattle.src_ast.specs.Syntax.{Part, Array, Proc, Procedure}
 use Rattle.src_ast.specs.Rules.{Rule, Declared, variable, declared_by, variables, is_visible, is_main, has_main, arrays_in, procs_in, cells_in, statements_in, size_of_all, parameter_rules, variable_rules, body_rules, ending_rules, part_rules}
 use Rattle.seq_run.proofs.InBodies.{Kept, kept_front, kept_after, kept_one, kept_rest}
+use Rattle.ws_words.proofs.Bools.{not_true}
 
 -- the rules of a procedure, one by one
 pub record ProcKept (before : List Part) (p : Procedure) : Type 0 where
@@ -18,10 +19,6 @@ pub record ProcKept (before : List Part) (p : Procedure) : Type 0 where
   pub vars : Kept (variable_rules (variables p.params ++ declared_by before) (length p.params) p.vars)
   pub body : Kept (body_rules (variables (p.params ++ p.vars) ++ declared_by before) (statements_in before) p.body)
   pub ending : Kept (ending_rules (variables (p.params ++ p.vars) ++ declared_by before) (statements_in before + size_of_all p.body) p.ending)
-
-not_true : (b : Bool) → not b ≡ true → b ≡ false
-not_true true h = absurd (cc)
-not_true false h = refl
 
 -- what the rules say of a procedure
 pub proc_kept : (before : List Part) (p : Procedure) → Kept (part_rules before (Proc p)) → ProcKept before p

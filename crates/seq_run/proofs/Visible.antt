@@ -9,26 +9,13 @@ use Rattle.src_ast.specs.Syntax.{Part, Array, Proc, Procedure}
 use Rattle.src_ast.specs.Rules.{Sort, variable, array, procedure, Declared, declared_by, variables, is_visible, has_sort, same_sort}
 use Rattle.src_ast.specs.Meaning.{place_of, arrays_of, procs_of, names_of, nth_procedure}
 use Rattle.seq_run.proofs.Declares.{arrays_append, procs_append, names_append}
-
-pub or_cases : (a b : Bool) → (a || b) ≡ true → (a ≡ true) ⊎ (b ≡ true)
-or_cases true b h = inl refl
-or_cases false b h = inr h
+use Rattle.ws_words.proofs.Bools.{and_parts as both_hold, either_right as not_second, or_comes as or_cases}
+use Rattle.cfg_core.proofs.Forward.{no_both as clash}
+use Rattle.src_check.proofs.Parts.{declared_by-append as declared_append}
 
 not_first : (a b : Bool) → (a || b) ≡ false → a ≡ false
 not_first true b h = absurd (cc)
 not_first false b h = refl
-
-not_second : (a b : Bool) → (a || b) ≡ false → b ≡ false
-not_second true b h = absurd (cc)
-not_second false b h = h
-
-both_hold : (a b : Bool) → (a && b) ≡ true → (a ≡ true) × (b ≡ true)
-both_hold true b h = (refl, h)
-both_hold false b h = absurd (cc)
-
--- a flag has one value
-pub clash : {b : Bool} → b ≡ true → b ≡ false → ⊥
-clash h i = absurd (cc)
 
 -- among names in a row, a name is the first or the others
 pub in_front_or_after : (xs ys : List Declared) (text : List ℕ) (s : Sort) → has_sort (xs ++ ys) text s ≡ true → (has_sort xs text s ≡ true) ⊎ (has_sort ys text s ≡ true)
@@ -153,11 +140,6 @@ Known before = (text : List ℕ) (n : ℕ) → has_sort (declared_by before) tex
 -- nothing is known yet
 pub known_none : Known []
 known_none text n h = absurd (cc)
-
-declared_append : (ps qs : List Part) → declared_by (ps ++ qs) ≡ declared_by ps ++ declared_by qs
-declared_append [] qs = refl
-declared_append (Array x n at ∷ ps) qs = ap (λ (ds : List Declared). record { text = x.text; sort = array } ∷ ds) (declared_append ps qs)
-declared_append (Proc p ∷ ps) qs = ap (λ (ds : List Declared). record { text = p.name.text; sort = procedure (length p.params) } ∷ ds) (declared_append ps qs)
 
 module _ (before : List Part) (known : Known before) where
   known_front : (part : Part) (text : List ℕ) (n : ℕ) → has_sort (declared_by before) text (procedure n) ≡ true → length (nth_procedure (procs_of (before ++ part ∷ [])) (proc_place (before ++ part ∷ []) text)).params ≡ n

@@ -1,6 +1,6 @@
 -- A whole run.
 use mathlib.Core.Path.{fun_ext}
-use Rattle.std.proofs.Common.{◌≡◌, ℕ, zero, suc, ◌+◌, ◌-◌, ◌<◌, ◌≤◌, ◌⊎◌, inl, inr, Bool, true, false, ◌&&◌, List, [], ◌∷◌, ◌++◌, length, take, slice_index_or, refl, sym, ap, ◌∙◌, subst, append_assoc, arith}
+use Rattle.std.proofs.Common.{◌≡◌, ℕ, suc, ◌+◌, ◌-◌, ◌<◌, ◌≤◌, ◌⊎◌, inl, inr, Bool, true, false, ◌&&◌, List, [], ◌∷◌, ◌++◌, length, take, slice_index_or, refl, sym, ap, ◌∙◌, subst, append_assoc, arith}
 use Rattle.std.specs.List.{list_all}
 use Rattle.ws_words.specs.declared.plain.Plain.{Plain}
 use Rattle.ws_words.specs.declared.plain.Plain.TheVariants as plains
@@ -33,6 +33,7 @@ use Rattle.seq_run.proofs.FirstPasts.{within_front}
 use Rattle.seq_run.proofs.Follows.{calls_at, reply_shift}
 use Rattle.seq_run.proofs.OneAnswer.{fronts, one_end, one_fault, one_going, end_no_fault, end_no_going, fault_no_going}
 use Rattle.seq_run.proofs.Declares.{taken_more}
+use Rattle.ws_words.proofs.Numbers.{zeros_count as length_zeros}
 
 -- the cells before the first turn
 pub cells_more : (arrays : List ArrayShape) (i : ℕ) (x : ArrayShape) (cells now : List (List ℕ)) (row : List ℕ) → i < length arrays → x ≡ slice_index_or arrays i x → cells ≡ empty_cells (view.lengths (take i arrays)) → row ≡ zeros x.length → now ≡ cells ++ row ∷ [] → now ≡ empty_cells (view.lengths (take (i + 1) arrays))
@@ -42,10 +43,6 @@ cells_more arrays i x cells now row lt is so er en =
     at : (xs : List ArrayShape) → empty_cells (view.lengths (xs ++ x ∷ [])) ≡ empty_cells (view.lengths xs) ++ zeros x.length ∷ []
     at [] = refl
     at (y ∷ xs) = ap (λ (cs : List (List ℕ)). zeros y.length ∷ cs) (at xs)
-
-length_zeros : (n : ℕ) → length (zeros n) ≡ n
-length_zeros zero = refl
-length_zeros (suc n) = ap suc (length_zeros n)
 
 -- before the first turn the code holds what is outside then
 pub opening_shows : (o : Outside) (m : Memory) → o.acts ≡ [] → OutIs o m → Shows o o m

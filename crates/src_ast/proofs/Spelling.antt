@@ -1,14 +1,16 @@
 -- When what follows a lexeme can't be part of it.
-use Rattle.std.proofs.Common.{◌≡◌, ℕ, ◌+◌, ◌-◌, ◌*◌, ◌%◌, ◌^◌, ◌<◌, ◌≤◌, Bool, true, false, ◌||◌, ◌==◌, nat_le, IsTrue, List, [], ◌∷◌, ◌++◌, length, refl, sym, ap, ◌∙◌, decimal, arith, length-append}
+use Rattle.std.proofs.Common.{◌≡◌, ℕ, ◌+◌, ◌-◌, ◌*◌, ◌%◌, ◌^◌, ◌<◌, ◌≤◌, Bool, true, false, ◌||◌, ◌==◌, IsTrue, List, [], ◌∷◌, ◌++◌, length, refl, sym, ap, ◌∙◌, decimal, arith, length-append}
 use Rattle.std.specs.List.{list_all}
-use Rattle.std.proofs.lemmas.Bool.{and_parts, and_from, or_parts, or_from, not-true, not_from_false, true≢false, le-leb, ne_eqb}
+use Rattle.std.proofs.lemmas.Bool.{and_parts, and_from, or_parts, or_from, not-true, not_from_false, true≢false, ne_eqb}
 use Rattle.std.proofs.lemmas.List.Folds.{list_all-append}
 use Rattle.std.proofs.lemmas.Fmt.{decimal_by_steps}
-use Rattle.ws_words.specs.Digits.{is_digit, is_number, value_from, value_of}
+use Rattle.ws_words.specs.Digits.{is_digit, is_number, value_of}
 use Rattle.src_ast.specs.declared.lexeme.Shape.TheVariants as shape
 use Rattle.src_ast.specs.declared.lexeme.Mark.{Mark}
 use Rattle.src_ast.specs.declared.lexeme.Mark.TheVariants.{LParen, LessEq, MoreEq, Same, Differs, ShiftLeft, ShiftRight}
 use Rattle.src_ast.specs.Lexemes.{spelling, starts_without, is_letter, is_word, is_word_byte, IsLongest, Spells, word, number, mark}
+use Rattle.ws_words.proofs.Lists.{value_from-append}
+use Rattle.ws_words.proofs.Numbers.{is_digit_of}
 
 -- the second bytes of marks: `<`, `=` and `>`
 abbrev pub is_second : ℕ → Bool
@@ -57,13 +59,6 @@ spells_mark m text h = mark m refl (longest m text h)
 -- a word before what makes it no longer
 pub spells_word : (w text : List ℕ) → IsTrue (is_word w) → IsTrue (starts_without is_word_byte text) → Spells (shape.Word w) w text
 spells_word w text h k = word h k
-
-value_from-append : (n : ℕ) (xs ys : List ℕ) → value_from n (xs ++ ys) ≡ value_from (value_from n xs) ys
-value_from-append n [] ys = refl
-value_from-append n (x ∷ xs) ys = value_from-append (10 * n + (x - 48)) xs ys
-
-is_digit_of : (n : ℕ) → n < 10 → is_digit (48 + n) ≡ true
-is_digit_of n h = and_from (nat_le 48 (48 + n)) (nat_le (48 + n) 57) (le-leb 48 (48 + n) (omega arith)) (le-leb (48 + n) 57 (omega arith))
 
 more_digits : (ds : List ℕ) (n : ℕ) → n < 10 → is_number ds ≡ true → is_number (ds ++ (48 + n) ∷ []) ≡ true
 more_digits [] n h k = absurd (true≢false (sym k))

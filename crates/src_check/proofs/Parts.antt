@@ -11,6 +11,7 @@ use Rattle.src_check.specs.Names.{found, passes, StandsFor}
 use Rattle.src_check.specs.After.{IsAfter}
 use Rattle.src_check.specs.declared.checker.Checker.{Checker}
 use Rattle.src_check.proofs.Stands.{stands_with, stands_moved}
+use Rattle.ws_words.proofs.Bools.{or_false}
 
 -- the rules of an array by what the checker knows
 pub array_rules_as : (before : List Part) (x : Name) (n : ℕ) (at : Place) (known : Bool) (checker : Checker) → known ≡ is_visible (declared_by before) x.text → IsAfter checker before
@@ -39,27 +40,27 @@ procedure_rules_as before p known checker main count is_known at_main b at_count
     ++ (body_rules (variables (p.params ++ p.vars) ++ declared_by before) (sym b.statements i) p.body
     ++ ending_rules (variables (p.params ++ p.vars) ++ declared_by before) (sym counted i) p.ending)))
 
-declared_by-append : (ps qs : List Part) → declared_by (ps ++ qs) ≡ declared_by ps ++ declared_by qs
+pub declared_by-append : (ps qs : List Part) → declared_by (ps ++ qs) ≡ declared_by ps ++ declared_by qs
 declared_by-append [] qs = refl
 declared_by-append (Array x n at ∷ ps) qs = ap (λ l. record { text = x.text; sort = array } ∷ l) (declared_by-append ps qs)
 declared_by-append (Proc p ∷ ps) qs = ap (λ l. record { text = p.name.text; sort = procedure (length p.params) } ∷ l) (declared_by-append ps qs)
 
-arrays_in-append : (ps qs : List Part) → arrays_in (ps ++ qs) ≡ arrays_in ps + arrays_in qs
+pub arrays_in-append : (ps qs : List Part) → arrays_in (ps ++ qs) ≡ arrays_in ps + arrays_in qs
 arrays_in-append [] qs = omega arith
 arrays_in-append (Array x n at ∷ ps) qs = let h = arrays_in-append ps qs in omega arith
 arrays_in-append (Proc p ∷ ps) qs = arrays_in-append ps qs
 
-procs_in-append : (ps qs : List Part) → procs_in (ps ++ qs) ≡ procs_in ps + procs_in qs
+pub procs_in-append : (ps qs : List Part) → procs_in (ps ++ qs) ≡ procs_in ps + procs_in qs
 procs_in-append [] qs = omega arith
 procs_in-append (Array x n at ∷ ps) qs = procs_in-append ps qs
 procs_in-append (Proc p ∷ ps) qs = let h = procs_in-append ps qs in omega arith
 
-cells_in-append : (ps qs : List Part) → cells_in (ps ++ qs) ≡ cells_in ps + cells_in qs
+pub cells_in-append : (ps qs : List Part) → cells_in (ps ++ qs) ≡ cells_in ps + cells_in qs
 cells_in-append [] qs = omega arith
 cells_in-append (Array x n at ∷ ps) qs = let h = cells_in-append ps qs in omega arith
 cells_in-append (Proc p ∷ ps) qs = cells_in-append ps qs
 
-statements_in-append : (ps qs : List Part) → statements_in (ps ++ qs) ≡ statements_in ps + statements_in qs
+pub statements_in-append : (ps qs : List Part) → statements_in (ps ++ qs) ≡ statements_in ps + statements_in qs
 statements_in-append [] qs = omega arith
 statements_in-append (Array x n at ∷ ps) qs = statements_in-append ps qs
 statements_in-append (Proc p ∷ ps) qs = let h = statements_in-append ps qs in omega arith
@@ -72,15 +73,6 @@ has_main-append : (ps qs : List Part) → has_main (ps ++ qs) ≡ (has_main ps |
 has_main-append [] qs = refl
 has_main-append (Array x n at ∷ ps) qs = has_main-append ps qs
 has_main-append (Proc p ∷ ps) qs = ap (λ b. is_main p || b) (has_main-append ps qs) ∙ or_assoc (is_main p) (has_main ps) (has_main qs)
-
-or_false : (a : Bool) → (a || false) ≡ a
-or_false true = refl
-or_false false = refl
-
--- what is not so is false
-pub not_true : (b : Bool) → not b ≡ true → b ≡ false
-not_true true e = cc
-not_true false e = refl
 
 stands_after : {find : List ℕ → Option _} (before : List Part) (p : Part) → StandsFor find (declared_by (p ∷ []) ++ declared_by before) → StandsFor find (declared_by (before ++ p ∷ []))
 stands_after {find} before p st = subst (λ l. StandsFor find l) (sym (declared_by-append before (p ∷ []))) (stands_moved (declared_by (p ∷ [])) (declared_by before) st)

@@ -7,6 +7,7 @@ use Rattle.std.specs.Cmp.Lexicographic.{pointwise, bytes_decides}
 use Rattle.src_ast.specs.declared.lexeme.Name.{Name}
 use Rattle.src_ast.specs.Rules.{Sort, variable, Declared, variables}
 use Rattle.src_check.specs.Names.{StandsFor, passes}
+use Rattle.ws_words.proofs.Bools.{or_comm}
 
 abbrev finds : List Declared → List ℕ → (Sort → Bool) → Bool
 finds declared text test = list_any (λ d. pointwise nat_eq d.text text && test d.sort) declared
@@ -18,12 +19,6 @@ stands_same e st = record { agrees = λ text test. st.agrees text test ∙ ap (p
 -- nothing is found
 pub stands_for_none : {f : List ℕ → Option Sort} → ((text : List ℕ) → f text ≡ None) → StandsFor f []
 stands_for_none e = record { agrees = λ text test. sym (ap (passes test) (e text)) }
-
-or_comm : (a b : Bool) → (a || b) ≡ (b || a)
-or_comm true true = refl
-or_comm true false = refl
-or_comm false true = refl
-or_comm false false = refl
 
 -- lists that change places
 pub stands_moved : {f : List ℕ → Option Sort} (xs ys : List Declared) → StandsFor f (xs ++ ys) → StandsFor f (ys ++ xs)

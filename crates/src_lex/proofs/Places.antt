@@ -1,14 +1,10 @@
 -- Places after bytes.
-use Rattle.std.specs.Prelude.{◌≡◌, ℕ, ◌+◌, ◌≤◌, ◌<◌, ◌==◌, length, cond, true, false, List, [], ◌∷◌, ◌++◌, refl}
+use Rattle.std.specs.Prelude.{◌≡◌, ℕ, ◌+◌, ◌≤◌, ◌<◌, ◌==◌, length, cond, true, false, List, [], ◌∷◌, ◌++◌}
 use Rattle.std.proofs.Common.{take, arith, get_or}
 use Rattle.std.proofs.lemmas.List.{take_more}
 use Rattle.src_ast.specs.declared.lexeme.Place.{Place}
 use Rattle.src_ast.specs.Lexemes.{after, past}
-
--- the place after two lists of bytes
-pub after_append : (at : Place) (xs ys : List ℕ) → after at (xs ++ ys) ≡ after (after at xs) ys
-after_append at [] ys = refl
-after_append at (x ∷ xs) ys = after_append (past at x) xs ys
+use Rattle.src_ast.proofs.Pieces.{after-append as after_append}
 
 -- one byte more
 pub after_more : (at : Place) (xs : List ℕ) (i : ℕ) (d : ℕ) → i < length xs → after at (take (i + 1) xs) ≡ past (after at (take i xs)) (get_or xs i d)

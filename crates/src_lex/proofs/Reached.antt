@@ -11,8 +11,9 @@ use Rattle.src_ast.specs.declared.fault.TextFault.TheVariants.{Refused, NoMemory
 use Rattle.src_ast.specs.Lexemes.{start, after, is_gap, is_end, Leads, Lex, Spells, IsShort, KeepLimits, open_past, row_past, open_after, row_after}
 use Rattle.src_ast.specs.LexFaults.{Wrong, LexFault, IsLexFault}
 use Rattle.src_lex.specs.Reads.{Reads, IsWrongHere, Exceeds}
-use Rattle.src_lex.proofs.Places.{after_append, after_kept}
+use Rattle.src_lex.proofs.Places.{after_kept}
 use Rattle.src_lex.proofs.Gaps.{gap_append}
+use Rattle.src_ast.proofs.Pieces.{after-append as after_append}
 
 -- a text is read so far: these lexemes, this place and rest, these counts
 pub record Reached (text : List ℕ) (items : List Lexeme) (at : Place) (rest : List ℕ) (open' row : ℕ) : Type 0 where

@@ -1,12 +1,10 @@
 -- The longest run of bytes that pass a test; digits.
-use Rattle.std.specs.Prelude.{◌≡◌, ℕ, suc, ◌+◌, ◌<◌, length, cond, Bool, true, false, IsTrue, List, [], ◌∷◌, refl}
+use Rattle.std.specs.Prelude.{◌≡◌, ℕ, ◌+◌, ◌<◌, length, cond, Bool, true, false, IsTrue, List, [], ◌∷◌, refl}
 use Rattle.std.specs.List.{list_all, prefix_len}
 use Rattle.std.proofs.Common.{take, drop, arith}
 use Rattle.ws_words.specs.Digits.{is_digit, is_number}
 use Rattle.src_ast.specs.Lexemes.{starts_without}
-
-one_more : (n : ℕ) → 1 + n ≡ suc n
-one_more n = omega arith
+use Rattle.ws_words.proofs.Numbers.{one_more}
 
 -- the bytes of the longest run pass the test
 pub prefix_all : (p : ℕ → Bool) (xs : List ℕ) → IsTrue (list_all p (take (prefix_len p xs) xs))

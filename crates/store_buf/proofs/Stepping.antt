@@ -1,5 +1,5 @@
 -- A buffer issues a request that may be issued: an event of the core on the buffer's part.
-use Rattle.std.proofs.Common.{ℕ, suc, ◌-◌, ◌≡◌, ◌<◌, ◌≤◌, ◌⊎◌, ◌==◌, Bool, true, false, not, cond, ◌&&◌, ◌||◌, nat_le, List, [], ◌∷◌, length, Option, Some, None, slice_set, refl, sym, ap, ◌∙◌, subst, inl, inr, leb-true}
+use Rattle.std.proofs.Common.{ℕ, suc, ◌-◌, ◌≡◌, ◌<◌, ◌≤◌, ◌⊎◌, ◌==◌, true, false, not, cond, ◌&&◌, ◌||◌, nat_le, List, [], ◌∷◌, length, Option, Some, None, slice_set, refl, sym, ap, ◌∙◌, subst, inl, inr, leb-true}
 use Rattle.std.proofs.lemmas.Bool.{and_parts, both_ways}
 use Rattle.ws_words.specs.Outside.{Outside, World, row}
 use Rattle.ws_isa.specs.declared.instr.Op.{Op}
@@ -42,6 +42,7 @@ use Rattle.store_buf.proofs.Found as F
 use Rattle.store_buf.proofs.Ordered.{ready_waits}
 use Rattle.store_buf.proofs.Going as G
 use Rattle.store_buf.proofs.Alike.{going_alike, early_alike, once_of, entry_set}
+use Rattle.ws_words.proofs.Bools.{not_true as not_false}
 
 pub two_ports : (op : Op) (f s : ℕ) → is_memory_op op ≡ true → listed (ports_of op) (record { first = f; second = s; third = 0 }) ≡ operands_of (ports_of op) f s
 two_ports Phi f s e = absurd (both_ways false refl e)
@@ -51,10 +52,6 @@ no_selector : (op : Op) (xs : List ℕ) → is_memory_op op ≡ true → selecto
 no_selector Steer xs e = absurd (both_ways false refl e)
 no_selector (Send k) xs e = absurd (both_ways false refl e)
 no_selector _ xs e = refl
-
-not_false : (b : Bool) → not b ≡ true → b ≡ false
-not_false true e = absurd (both_ways false refl e)
-not_false false e = refl
 
 -- loads before their turn leave nothing
 out_effect : (began : List (Option Began)) (o : Outside) (h : Holding) → OutIs began o h → OutIs began (effect_of o) h

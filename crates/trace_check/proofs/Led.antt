@@ -4,7 +4,6 @@ use Rattle.std.proofs.lemmas.Bool.{true≢false}
 use Rattle.ws_words.specs.Outside.{World}
 use Rattle.ws_isa.specs.Image.{Image, is_memory, ports}
 use Rattle.image_walk.specs.Walk.{walk, CostAtMost}
-use Rattle.image_walk.specs.Operations.{FaultsAt, NoFault}
 use Rattle.core_law.specs.Core.{State, Event, Match, Issue, Run, Step, Enabled, Rest, is_full, arrived, asks, tells, matched, issue, core_opening}
 use Rattle.core_law.specs.Ends.{Whole, AtFault}
 use Rattle.core_run.specs.declared.engine.Core.{Core}
@@ -15,6 +14,7 @@ use Rattle.trace_check.specs.declared.recording.TraceEnd.{TraceEnd}
 use Rattle.trace_check.specs.declared.recording.TraceEnd.TheVariants as end
 use Rattle.trace_check.specs.Recorded.{Spent, EndIs, Traces, Led, Leads, IsDone, IsNext}
 use Rattle.trace_check.proofs.Making.{same_refl}
+use Rattle.core_run.proofs.Saying.{no_fault_at as no_fault}
 
 -- an event fires one instance at most, and an issue none
 fired_by : (image : Image) (s : State) (w i p v : ℕ) (a b : Bool) →
@@ -91,9 +91,6 @@ pub record Facts (image : Image) (world : World) (s : State) : Type 0 where
   pub stopped : s.stopped ≡ true → AtFault image world s
   pub all : Whole image world s → (t : ℕ) → length (walk image world t) ≤ length s.fired
   pub way : (w i p v : ℕ) → s.way w i p ≡ Some v → (t : ℕ) × (length s.fired < length (walk image world t))
-
-no_fault : (image : Image) (world : World) → NoFault image world → (t : ℕ) → FaultsAt image world t → ⊥
-no_fault image world none t f = true≢false (sym f.is_past ∙ none t f.inst f.fired)
 
 module _ (image : Image) (world : World) (budget : ℕ) (s : State) (facts : Facts image world s) where
   whole : Rest image s → s.stopped ≡ false → Whole image world s

@@ -1,10 +1,10 @@
 -- What the last state of a replayed trace tells of the walk.
 use Rattle.std.proofs.Common.{◌≡◌, ℕ, ◌+◌, ◌-◌, ◌≤◌, ◌⊎◌, ◌↔◌, Bool, true, false, List, [], ◌∷◌, ◌++◌, length, Option, Some, None, is_some, not, MatchOption, refl, sym, ap, ◌∙◌, subst, inl, inr, arith, length-append}
 use Rattle.std.proofs.lemmas.Bool.{true≢false}
-use Rattle.ws_words.specs.Outside.{Act, loads, stores, reads, prints, gives, takes, Outside, World, printed_words}
+use Rattle.ws_words.specs.Outside.{Outside, World, printed_words}
 use Rattle.ws_isa.specs.Image.{Image}
 use Rattle.image_walk.specs.Walk.{Inst, mem, walk}
-use Rattle.image_walk.specs.Operations.{ops, without_loads, effect_of, Effect}
+use Rattle.image_walk.specs.Operations.{ops, effect_of, Effect}
 use Rattle.core_law.specs.Effect.{effect_at}
 use Rattle.core_law.specs.Core.{State, Run, Rest, core_opening}
 use Rattle.core_law.specs.Fit.{Fit}
@@ -17,16 +17,7 @@ use Rattle.trace_check.specs.declared.replaying.Replayed.{Replayed}
 use Rattle.trace_check.specs.declared.replaying.ReplayFault.{ReplayFault}
 use Rattle.trace_check.specs.declared.replaying.ReplayFault.TheVariants.{Illegal, NoMemory}
 use Rattle.trace_check.specs.Replays.{PrintsAll, PrintsToFault, Replays, StopsAt, IsReplayFault, IsFault, events_of}
-
--- loads print nothing
-printed_alike : (acts : List Act) → printed_words (without_loads acts) ≡ printed_words acts
-printed_alike [] = refl
-printed_alike (loads a i ∷ acts) = printed_alike acts
-printed_alike (stores a i v ∷ acts) = printed_alike acts
-printed_alike (reads ∷ acts) = printed_alike acts
-printed_alike (prints v ∷ acts) = ap (λ (ws : List ℕ). v ∷ ws) (printed_alike acts)
-printed_alike (gives p ∷ acts) = printed_alike acts
-printed_alike (takes p v ∷ acts) = printed_alike acts
+use Rattle.core_run.proofs.Issuing.{printed_alike}
 
 module _ (image : Image) (world : World) (s : State) (r : Replayed)
     (printed : printed_words s.memory.acts ≡ r.printed) where

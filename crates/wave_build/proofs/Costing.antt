@@ -23,6 +23,7 @@ use Rattle.wave_build.specs.Passed.{Passed}
 use Rattle.wave_build.proofs.Weights.{number_few, saves_weigh, loads_weigh, clears_weigh}
 use Rattle.wave_build.proofs.Counting.{few_in, some_and, some_count, in_some}
 use Rattle.wave_build.proofs.Paying.{exit_charge, charge, pay, vars_few, joined_calls_few, joined_weighs}
+use Rattle.ws_words.proofs.Bools.{or_comes as either_true}
 
 count_most : (live : List (List ℕ)) (b n : ℕ) → live_count live b n ≤ n
 count_most live b zero = omega arith
@@ -44,10 +45,6 @@ count_low live b m (suc n) h = elim (cases_lt n m) [
     by_test high true e i = absurd (let lt : n < m = h n (omega arith) e in omega (arith, lt, high))
     by_test high false e i =
         let none : 0 + (if has live b n then 1 else 0) ≡ 0 + 0 = ap (λ (c : Bool). 0 + (if c then 1 else 0)) e in omega (arith, none, i)
-
-either_true : (a b : Bool) → (a || b) ≡ true → (a ≡ true) ⊎ (b ≡ true)
-either_true true b e = inl refl
-either_true false b e = inr e
 
 gone : (g : Graph) (c : ℕ) → length (spots g) ≤ c → (spot_at g c).vars ≡ 0
 unfolding no_spot

@@ -25,10 +25,7 @@ use Rattle.wave_build.specs.Small.{lowered_sizes, joined_sizes}
 use Rattle.wave_build.proofs.Sizing.{last_within}
 use Rattle.wave_build.proofs.Named.{names_formed}
 use Rattle.wave_build.proofs.Together.{room}
-
-map_count : {A B : Type 0} (f : A → B) (xs : List A) → length (map f xs) ≡ length xs
-map_count f [] = refl
-map_count f (x ∷ xs) = ap suc (map_count f xs)
+use Rattle.ws_words.proofs.Lists.{length_map as map_count}
 
 lengths_of : (n : ℕ) (arrays : List GraphArray) → AllByRecursion (λ a. a.length ≤ n) arrays → AllByRecursion (λ (a : Array). a.length ≤ n) (map array_of arrays)
 lengths_of n [] h = tt

@@ -14,12 +14,12 @@ use Rattle.cfg_core.proofs.Total.{each_at}
 use Rattle.cfg_core.proofs.Weighing.{walk_paid}
 use Rattle.phi_conv.specs.Joined.{joining}
 use Rattle.phi_conv.specs.Keeps.{JoinedAt}
-use Rattle.phi_conv.proofs.Numbered.{all_both}
 use Rattle.phi_conv.proofs.Standing.{numbers_at}
 use Rattle.wave_gen.specs.Cost.{term_quarters, op_quarters}
 use Rattle.wave_build.specs.Passed.{Passed}
 use Rattle.wave_cut.specs.Cut.{Cut}
 use Rattle.wave_build.proofs.Weights.{term_paid, terms_paid, ops_paid, no_acts, joining_weight}
+use Rattle.ws_words.proofs.Lists.{all_append as all_both}
 
 -- what is charged for an exit and the block that it ends, in procedures of so many variables
 abbrev pub exit_charge : ℕ → Exit → ℕ

@@ -12,11 +12,12 @@ use Rattle.cfg_build.specs.Keeps.{IsFirstExit}
 use Rattle.wave_cut.specs.Cut.{Cut}
 use Rattle.phi_conv.specs.Short.{Short, short}
 use Rattle.phi_conv.specs.Joined.{joined_if, joined_proc}
-use Rattle.phi_conv.proofs.Placing.{map_count, joined_spot, spots_are}
+use Rattle.phi_conv.proofs.Placing.{joined_spot, spots_are}
 use Rattle.call_gen.specs.Keeps.{SendsAtMost}
 use Rattle.call_gen.specs.Sizes.{call_count, cell_count, Sizes, LandingsAtMost, BlockWithin, ProcWithin, IsWithin, spelled_sizes}
 use Rattle.wave_build.specs.Passed.{Passed}
 use Rattle.wave_build.specs.Small.{lowered_sizes, joined_sizes}
+use Rattle.ws_words.proofs.Lists.{length_map as map_count}
 
 cells_are : (arrays : List GraphArray) → cell_count arrays ≡ sum_by (λ a. a.length) arrays
 cells_are [] = refl

@@ -1,14 +1,16 @@
 -- What operations weigh, by their nodes and acts, and what passes add.
-use Rattle.std.proofs.Common.{ℕ, zero, suc, ◌+◌, ◌*◌, ◌≡◌, ◌≤◌, Bool, true, false, if◌then◌else◌, List, [], ◌∷◌, ◌++◌, length, map, refl, ap, arith, length-append}
+use Rattle.std.proofs.Common.{ℕ, zero, suc, ◌+◌, ◌*◌, ◌≡◌, ◌≤◌, Bool, true, false, if◌then◌else◌, List, [], ◌∷◌, ◌++◌, length, map, refl, ap, arith}
 use Rattle.std.specs.List.{AllByRecursion, filter, sum_by}
 use Rattle.std.proofs.lemmas.List.Sums.{sum_by-cons, sum_by-append}
 use Rattle.cfg_core.specs.Graph.{Term, Number, Var, Cell, Flip, Not, Neg, Binary, Op, Assign, Store, Print, Read, Give, Take, Choose, Tick, TickBy}
 use Rattle.cfg_core.specs.Weights.{term_nodes, op_nodes, acts_of}
 use Rattle.live_vars.specs.Marks.{has}
 use Rattle.phi_conv.specs.Short.{Short, all_nodes, most_nodes}
-use Rattle.phi_conv.specs.Joined.{first_base, second_base, turns_of, is_among, added, renamed, arm, written, written_by, is_still, keep_test, test_if, test_of, choice, choices, joining}
+use Rattle.phi_conv.specs.Joined.{first_base, second_base, turns_of, added, renamed, arm, written, written_by, is_still, keep_test, test_if, test_of, choice, choices, joining}
 use Rattle.call_gen.specs.Charged.{IsSave, IsLoad, IsClear}
 use Rattle.wave_gen.specs.Cost.{term_quarters, op_quarters}
+use Rattle.ws_words.proofs.Lists.{filter_few as filter_count}
+use Rattle.phi_conv.proofs.Sizing.{written_count}
 
 pub number_few : (n : ℕ) → term_quarters (Number n) ≤ 5
 number_few zero = omega arith
@@ -148,9 +150,6 @@ clears_weigh ops all = each_weighs IsClear 6 clear_weighs ops all
 
 -- What stands for a short branch.
 
-some_node : (t : Term) → 1 ≤ term_nodes t
-some_node t = let h = term_paid t in omega (arith, h)
-
 renamed_weight : (base : ℕ) (done : List ℕ) (t : Term) → term_quarters (renamed base done t) ≡ term_quarters t
 renamed_weight base done (Number n) = refl
 renamed_weight base done (Var x) = refl
@@ -173,33 +172,6 @@ arm_weight base done (Take p t ∷ ops) = let b = arm_weight base done ops in om
 arm_weight base done (Choose x t a b ∷ ops) = let c = arm_weight base done ops in omega (arith, c)
 arm_weight base done (Tick n ∷ ops) = let b = arm_weight base done ops in omega (arith, b)
 arm_weight base done (TickBy t n m ∷ ops) = let b = arm_weight base done ops in omega (arith, b)
-
-added_count : (done : List ℕ) (x : ℕ) → length (added done x) ≤ suc (length done)
-added_count done x = by_test (is_among done x)
-  where
-    by_test : (b : Bool) → length (if b then done else done ++ x ∷ []) ≤ suc (length done)
-    by_test true = omega arith
-    by_test false = omega (arith, length-append done (x ∷ []))
-
-written_count : (done : List ℕ) (ops : List Op) → length (written done ops) ≤ length done + all_nodes ops
-written_count done [] = omega arith
-written_count done (Assign x t ∷ ops) = let a = some_node t in let c = added_count done x in let b = written_count (added done x) ops in omega (arith, a, b, c)
-written_count done (Store a t u ∷ ops) = let b = written_count done ops in omega (arith, b)
-written_count done (Print t ∷ ops) = let b = written_count done ops in omega (arith, b)
-written_count done (Read x ∷ ops) = let b = written_count done ops in omega (arith, b)
-written_count done (Give p x ∷ ops) = let b = written_count done ops in omega (arith, b)
-written_count done (Take p t ∷ ops) = let b = written_count done ops in omega (arith, b)
-written_count done (Choose x t a b ∷ ops) = let c = written_count done ops in omega (arith, c)
-written_count done (Tick n ∷ ops) = let b = written_count done ops in omega (arith, b)
-written_count done (TickBy t n m ∷ ops) = let b = written_count done ops in omega (arith, b)
-
-filter_count : (p : ℕ → Bool) (xs : List ℕ) → length (filter p xs) ≤ length xs
-filter_count p [] = omega arith
-filter_count p (x ∷ xs) = by_test (p x) (filter_count p xs)
-  where
-    by_test : (b : Bool) → length (filter p xs) ≤ length xs → length (if b then x ∷ filter p xs else filter p xs) ≤ suc (length xs)
-    by_test true le = omega (arith, le)
-    by_test false le = omega (arith, le)
 
 -- where the test stands for itself it weighs at most 5, else its variable weighs nothing
 held_weight : (c : Bool) (v : ℕ) (either : List ℕ) (t : Term) → is_still either t ≡ c → term_quarters (test_if c v t) ≤ (if c then 5 else 0)

@@ -1,12 +1,8 @@
 -- The value of digits, byte by byte.
-use Rattle.std.proofs.Common.{◌≡◌, ℕ, ◌+◌, ◌-◌, ◌*◌, ◌<◌, ◌≤◌, List, [], ◌∷◌, ◌++◌, length, take, drop, get_or, refl, ap, arith}
+use Rattle.std.proofs.Common.{◌≡◌, ℕ, ◌+◌, ◌-◌, ◌*◌, ◌<◌, ◌≤◌, List, [], ◌∷◌, ◌++◌, length, take, drop, get_or, ap, arith}
 use Rattle.std.proofs.lemmas.List.{take_more, take-append-drop}
 use Rattle.ws_words.specs.Digits.{value_from, value_of}
-
--- more digits after
-value_from-append : (n : ℕ) (xs ys : List ℕ) → value_from n (xs ++ ys) ≡ value_from (value_from n xs) ys
-value_from-append n [] ys = refl
-value_from-append n (x ∷ xs) ys = value_from-append (10 * n + (x - 48)) xs ys
+use Rattle.ws_words.proofs.Lists.{value_from-append}
 
 -- more digits never make less
 value_from-ge : (n : ℕ) (ds : List ℕ) → n ≤ value_from n ds

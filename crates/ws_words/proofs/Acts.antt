@@ -16,7 +16,7 @@ printed_append (prints w ∷ xs) ys = ap (λ (ws : List ℕ). w ∷ ws) (printed
 printed_append (gives p ∷ xs) ys = printed_append xs ys
 printed_append (takes p w ∷ xs) ys = printed_append xs ys
 
-if_append : (b : Bool) (w : ℕ) (xs ys zs : List ℕ) → zs ≡ xs ++ ys → (if b then w ∷ zs else zs) ≡ (if b then w ∷ xs else xs) ++ ys
+pub if_append : (b : Bool) (w : ℕ) (xs ys zs : List ℕ) → zs ≡ xs ++ ys → (if b then w ∷ zs else zs) ≡ (if b then w ∷ xs else xs) ++ ys
 if_append true w xs ys zs e = ap (λ (ws : List ℕ). w ∷ ws) e
 if_append false w xs ys zs e = e
 
@@ -74,19 +74,19 @@ took_same xs ys h = from_same 7 1 (xs ++ ys) xs (λ p le. took_append p xs ys �
 pub printed_same : (xs ys : List Act) → printed_words ys ≡ [] → printed_words (xs ++ ys) ≡ printed_words xs
 printed_same xs ys h = printed_append xs ys ∙ ap (λ (ws : List ℕ). printed_words xs ++ ws) h ∙ append-nil (printed_words xs)
 
-other_port : (p q v : ℕ) (xs : List Act) → (p == q) ≡ false → took_words q (xs ++ takes p v ∷ []) ≡ took_words q xs
+pub other_port : (p q v : ℕ) (xs : List Act) → (p == q) ≡ false → took_words q (xs ++ takes p v ∷ []) ≡ took_words q xs
 other_port p q v xs e = took_append q xs (takes p v ∷ []) ∙ ap (λ (b : Bool). took_words q xs ++ (if b then v ∷ [] else [])) e ∙ append-nil (took_words q xs)
 
-this_port : (p q v : ℕ) (xs : List Act) → (p == q) ≡ true → took_words q (xs ++ takes p v ∷ []) ≡ took_words q xs ++ v ∷ []
+pub this_port : (p q v : ℕ) (xs : List Act) → (p == q) ≡ true → took_words q (xs ++ takes p v ∷ []) ≡ took_words q xs ++ v ∷ []
 this_port p q v xs e = took_append q xs (takes p v ∷ []) ∙ ap (λ (b : Bool). took_words q xs ++ (if b then v ∷ [] else [])) e
 
-differ : (p q : ℕ) → p < q → (p == q) ≡ false
+pub differ : (p q : ℕ) → p < q → (p == q) ≡ false
 differ p q lt = grind (arith, nat_tests)
 
-differ_above : (p q : ℕ) → q < p → (p == q) ≡ false
+pub differ_above : (p q : ℕ) → q < p → (p == q) ≡ false
 differ_above p q lt = grind (arith, nat_tests)
 
-equal : (p q : ℕ) → p ≡ q → (p == q) ≡ true
+pub equal : (p q : ℕ) → p ≡ q → (p == q) ≡ true
 equal p q e = grind (arith, nat_tests)
 
 took_one : (n q k p v : ℕ) (xs : List Act) → p ≡ k + q → took_from q n (xs ++ takes p v ∷ []) ≡ with_row (took_from q n xs) k (row (took_from q n xs) k ++ v ∷ [])

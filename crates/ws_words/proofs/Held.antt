@@ -117,7 +117,7 @@ none_within cells k a i ek none lt =
     let none_there : length_of (lengths_of cells) a ≡ 0 = ap (λ n. slice_index (lengths_of cells) n) (sym ek) ∙ length_is cells k ∙ ap (λ (r : List ℕ). length r) (sym (got_none cells k none)) in
     absurd (omega (arith, lt, none_there))
 
-rows_next : (rows : List (List ℕ)) (i : ℕ) → i < length rows → drop i rows ≡ row rows i ∷ drop (suc i) rows
+pub rows_next : (rows : List (List ℕ)) (i : ℕ) → i < length rows → drop i rows ≡ row rows i ∷ drop (suc i) rows
 rows_next [] i lt = absurd (omega arith)
 rows_next (r ∷ rows) zero lt = refl
 rows_next (r ∷ rows) (suc i) lt = rows_next rows i (omega arith)

@@ -1,7 +1,7 @@
 use Rattle.std.proofs.Common.{suc, ◌+◌, ◌≡◌, ◌∷◌, drop, arith}
-use Rattle.cfg_core.proofs.Lists.{drop_next}
 use Rattle.cfg_core.proofs.Walking.{shown_more}
 use Rattle.cfg_core.proofs.run.shown.Goals as goal
+use Rattle.ws_words.proofs.Lists.{drop_next}
 
 pub loop-i-preserved : goal.loop-i-preserved
 loop-i-preserved c =

@@ -7,10 +7,10 @@ use Rattle.image_walk.specs.Sound.{Sound}
 use Rattle.core_run.specs.Places.{image_of}
 use Rattle.core_run.specs.Answer.{RunSo}
 use Rattle.core_run.specs.Told.{run_of}
-use Rattle.core_run.proofs.Placed.{length_map}
 use Rattle.core_run.proofs.Saying.{opened_none, answers}
 use Rattle.core_run.proofs.Fine.{ok_so}
 use Rattle.core_run.proofs.whole.run_checked.Goals as goal
+use Rattle.ws_words.proofs.Lists.{length_map}
 
 pub of-requires : goal.of-requires
 unfolding most_blocks

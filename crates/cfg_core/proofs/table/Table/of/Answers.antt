@@ -1,9 +1,9 @@
 use Rattle.std.proofs.Common.{ℕ, ap, suc, ◌≡◌, ◌+◌, ◌∷◌, length, drop, arith}
 use Rattle.cfg_core.specs.declared.blocks.GraphProc.{GraphProc}
 use Rattle.cfg_core.specs.declared.table.Room.{Room}
-use Rattle.cfg_core.proofs.Lists.{drop_next}
 use Rattle.cfg_core.proofs.Tables.{spots_more, rooms_more, count_more}
 use Rattle.cfg_core.proofs.table.Table.of.Goals as goal
+use Rattle.ws_words.proofs.Lists.{drop_next}
 
 abbrev room_at : GraphProc → ℕ → Room
 room_at p n = record { entry = n; params = p.params; vars = p.vars }

@@ -1,8 +1,8 @@
 use Rattle.std.proofs.Common.{sym, subst, arith}
 use Rattle.ws_isa.specs.View as view
 use Rattle.ws_isa.specs.Formed.{Formed, most_blocks}
-use Rattle.core_run.proofs.Placed.{length_map}
 use Rattle.core_run.proofs.engine.Core.begin.Goals as goal
+use Rattle.ws_words.proofs.Lists.{length_map}
 
 pub of-requires : goal.of-requires
 unfolding most_blocks

@@ -15,9 +15,10 @@ use Rattle.seq_run.proofs.TurnsLeft.{all_most, calls_most}
 use Rattle.seq_run.proofs.Cost.{all_cost, calls_cost}
 use Rattle.seq_run.proofs.Grows.{all_tells, calls_tell}
 use Rattle.seq_run.proofs.Effects.{value_holds, values_hold}
-use Rattle.seq_run.proofs.Follows.{stepped, stopped_at, weight_lt, is_ended, if_zero, if_other, if_stops, call_is, call_out, call_faulted, arguments_stop, test_stops, loop_zero, loop_next, loop_stopped, calls_past, call_ended, call_wants, call_stops, from_step, if_step, while_step, call_step, if_weight, while_weight, heft_of, call_weight, as_steps, as_flow, as_reply, zero_flag, other_flag}
+use Rattle.seq_run.proofs.Follows.{stepped, stopped_at, weight_lt, is_ended, if_zero, if_other, if_stops, call_is, call_out, call_faulted, arguments_stop, test_stops, loop_zero, loop_next, loop_stopped, calls_past, call_ended, call_wants, call_stops, from_step, if_step, while_step, call_step, if_weight, while_weight, heft_of, call_weight, as_steps, as_flow, as_reply}
 use Rattle.seq_run.proofs.runner.Runner.+run.Goals as goal
 use Rattle.seq_run.proofs.runner.Runner.+run.Goals.{run_if-then-word-eq0, run_if-else-word-eq0}
+use Rattle.cfg_core.proofs.Follows.{other_test as other_flag, zero_test as zero_flag}
 
 pub run_steps-returns-then-has_stopped-clause-follows : goal.run_steps-returns-then-has_stopped-clause-follows
 run_steps-returns-then-has_stopped-clause-follows t c = λ start s h.

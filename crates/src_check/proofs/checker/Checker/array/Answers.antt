@@ -5,8 +5,9 @@ use Rattle.src_check.specs.Names.{found, passes}
 use Rattle.src_ast.specs.Rules.{rule}
 use Rattle.src_check.specs.Rule.{first_broken}
 use Rattle.src_check.proofs.Broken.{before_broken, after_kept, leaves_in_memory, visible_where_found}
-use Rattle.src_check.proofs.Parts.{array_rules_as, after_array, not_true}
+use Rattle.src_check.proofs.Parts.{array_rules_as, after_array}
 use Rattle.src_check.proofs.checker.Checker.array.Goals as goal
+use Rattle.ws_words.proofs.Bools.{not_true}
 
 pub returns-in_err-require-clause-rules : goal.returns-in_err-require-clause-rules
 returns-in_err-require-clause-rules c = λ before b.

@@ -8,9 +8,10 @@ use Rattle.src_ast.specs.Rules.{declared_by, variables, parameter_rules, variabl
 use Rattle.src_check.specs.Names.{found, passes, or_else}
 use Rattle.src_check.specs.Rule.{first_broken}
 use Rattle.src_check.proofs.Broken.{before_broken, after_kept, leaves_in_memory, passes_on, stop_as, stop_before, stop_after, visible_where_found}
-use Rattle.src_check.proofs.Parts.{procedure_rules_as, after_procedure, not_true}
+use Rattle.src_check.proofs.Parts.{procedure_rules_as, after_procedure}
 use Rattle.src_check.proofs.Stands.{stands_same, stands_for_locals}
 use Rattle.src_check.proofs.checker.Checker.procedure.Goals as goal
+use Rattle.ws_words.proofs.Bools.{not_true}
 
 pub returns-in_err-require-clause-rules : goal.returns-in_err-require-clause-rules
 returns-in_err-require-clause-rules c = λ before b.
