@@ -3,11 +3,10 @@
 //! Steers and sends have to have it at a port, directly or by way of merges of the block.
 
 ghost use Rattle.std.specs.Prelude.{◌≡◌, ◌⊎◌, ◌+◌, ◌<◌, ◌≤◌, ℕ, List, suc, length, true, false, slice_index_or};
-ghost use Rattle.ws_isa.specs.Image.{instr_at, first_number, block_at, IsBlock, IsIn, Branch, Landings};
+ghost use Rattle.ws_isa.specs.Image.{instr_at, first_number, block_at, is_first, stops, target, IsBlock, IsIn, Landings};
 ghost use Rattle.ws_isa.specs.View as view;
-ghost use Rattle.image_walk.specs.Sound.{Carries};
+ghost use Rattle.image_walk.specs.Sound.{HasPad, Carries, ExitShape, HangShape, DestShape};
 ghost use Rattle.annot_check.specs.Spread.{Reached, SpreadState, Hangs, op_of};
-ghost use Rattle.annot_check.specs.Shape.{HangShape, InstrShape};
 ghost use Rattle.ws_isa.specs.declared.instr.Op.TheVariants.{Send, Halt, Merge};
 ghost use Rattle.annot_check.specs.Facts.{TableOf};
 ghost use Rattle.annot_check.specs.Open.{bit};
@@ -108,7 +107,7 @@ impl Spread {
         requires first { first ≡ first_number (view.image image.now) number }
         requires next { next ≡ first_number (view.image image.now) (suc number) }
         requires inside { IsIn (view.image image.now) number at }
-        requires lists { InstrShape (view.image image.now) number at }
+        requires lists { DestShape (view.image image.now) number }
         requires state { SpreadState
             (view.image image.now) number source port at self.now.marks.items self.now.hits.items }
         ensures size { length self.new.marks.items ≡ length self.old.marks.items }
@@ -144,8 +143,7 @@ impl Spread {
         requires first { first ≡ first_number (view.image image.now) number }
         requires next { next ≡ first_number (view.image image.now) (suc number) }
         requires source { IsIn (view.image image.now) number source }
-        requires lists { (k : ℕ) → IsIn (view.image image.now) number k →
-            InstrShape (view.image image.now) number k }
+        requires lists { DestShape (view.image image.now) number }
         requires marks { next ≤ length self.now.marks.items }
         requires hits { next ≤ length self.now.hits.items }
         requires no_mark { (m : ℕ) → first ≤ m → bit self.now.marks.items m ≡ false }
@@ -209,13 +207,16 @@ impl Spread {
         requires first { first ≡ first_number (view.image image.now) number }
         requires next { next ≡ first_number (view.image image.now) (suc number) }
         requires order { first ≤ next }
-        requires source { (s x y : ℕ) → (block_at (view.image image.now) number).exit ≡
-            Branch s x y → IsIn (view.image image.now) number s }
-        requires address { (s : ℕ) (ls : List ℕ) →
+        requires exit { ExitShape (view.image image.now) number }
+        requires lists { DestShape (view.image image.now) number }
+        requires pads { stops (view.image image.now) number ≡ false → (k p r : ℕ) →
+            IsIn (view.image image.now) number k →
+            (instr_at (view.image image.now) k).op ≡ Send p →
+            HasPad (block_at (view.image image.now)
+            (target (view.image image.now) number r)).pads p }
+        requires firsts { (s r : ℕ) (ls : List ℕ) →
             (block_at (view.image image.now) number).exit ≡ Landings s ls →
-            IsIn (view.image image.now) number s }
-        requires lists { (k : ℕ) → IsIn (view.image image.now) number k →
-            InstrShape (view.image image.now) number k }
+            is_first (view.image image.now) (target (view.image image.now) number r) ≡ true }
         requires marks { next ≤ length self.now.marks.items }
         requires hits { next ≤ length self.now.hits.items }
         requires no_mark { (m : ℕ) → first ≤ m → bit self.now.marks.items m ≡ false }

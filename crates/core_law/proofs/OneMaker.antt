@@ -15,6 +15,7 @@ use Rattle.core_law.proofs.Steps.{StepCase, stands, turns, ends, leaves, step_ca
 use Rattle.core_law.proofs.Flow.{turn_number, slots_at, path, at_end, Stays, leave_stays, turn_on, end_number, cross_number, same_wave_number, apart_edge, consumed_from}
 use Rattle.core_law.proofs.Sent.{sends_wave, now_number, now_slot, start_zero, start_slot, start_number, start_value, AtEnd, end_of, inst_in, agreed, goes_on, EdgeSlot, edge_slot}
 use Rattle.core_law.proofs.Made.{turn_wave}
+use Rattle.image_walk.proofs.Along.{path_end}
 
 -- lists of destinations that can be opened have no place twice
 fresh_tokens : (w v : ℕ) (ds : List Dest) (o : Slots) → Fresh ds o → Apart (tokens_to w v ds)
@@ -94,7 +95,7 @@ module _ (image : Image) (world : World) (there : PortsThere image) (shape : Sha
 
   still_step : (u w j q v : ℕ) → Still u w j q v → StepCase image world u → (Still (suc u) w j q v × ((z : Inst) → fires image world u ≡ Some z → z.instr ≡ j → ⊥)) ⊎ Gone u (suc u) w j
   still_step u w j q v s (stands a e f) = absurd (both_ways (P u).over s.over a)
-  still_step u w j q v s (ends a l st e f) = absurd (both_ways (slots_at image world u j q) (slots.stop (P u).block (P u).next (slots_at image world u) (path image world there shape slots u a) (at_end image world there shape slots u a l) st j q) s.slot)
+  still_step u w j q v s (ends a l st e f) = absurd (both_ways (slots_at image world u j q) ((slots.ends (P u).block _ (path_end (path image world there shape slots u a) (at_end image world there shape slots u a l))).stop st j q) s.slot)
   still_step u w j q v s (turns a l e f) = elim (cases_eq (P u).next j) [
     | inl k ↦ inr (record {
       time = u;
@@ -186,7 +187,7 @@ module _ (image : Image) (world : World) (there : PortsThere image) (shape : Sha
         };
         fresh = λ o. elim (closed_cases (P t).next (slots_at image world t) j q) [
           | inl c ↦ (x, fx, inst_instr image world shape t x fx ∙ c.0)
-          | inr c ↦ absurd (fresh_apart (now_dests image (P t).next) (closed (P t).next (slots_at image world t)) j q (slots.fresh (P t).block (P t).next (slots_at image world t) (path image world there shape slots t k.over) k.within) (c.1 ∙ o) h')
+          | inr c ↦ absurd (fresh_apart (now_dests image (P t).next) (closed (P t).next (slots_at image world t)) j q ((slots.turns (P t).block (P t).next (slots_at image world t) (path image world there shape slots t k.over) k.within).fresh) (c.1 ∙ o) h')
         ];
       }
 
@@ -274,7 +275,7 @@ module _ (image : Image) (world : World) (there : PortsThere image) (shape : Sha
       let i3 : IsIn image (P s).block y.instr = subst (λ (n : ℕ). IsIn image (P n).block y.instr) (sym e) i2 in
       let h3 : HasDest (edge_dests image (P s).block (choice image (P s)) y.instr) j q = subst (λ (n : ℕ). HasDest (edge_dests image (P n).block (choice image (P n)) y.instr) j q) (sym e) h2 in
       let st : stops image (P s).block ≡ false = goes_on image world there shape slots (P s).block x.instr j q (choice image (P s)) (place image world shape s o).block i h in
-      let fr : Fresh (opens_at image (P s).block (choice image (P s))) (slots_at image world s) = slots.edges (P s).block (P s).next (slots_at image world s) (path image world there shape slots s o) (at_end image world there shape slots s o l) st (choice image (P s)) in
+      let fr : Fresh (opens_at image (P s).block (choice image (P s))) (slots_at image world s) = (slots.ends (P s).block _ (path_end (path image world there shape slots s o) (at_end image world there shape slots s o l))).edges st (choice image (P s)) in
       let a0 : first_number image (P s).block ≤ x.instr = i.0 in
       let a1 : x.instr < first_number image (suc (P s).block) = i.1 in
       let b0 : first_number image (P s).block ≤ y.instr = i3.0 in
@@ -323,7 +324,7 @@ module _ (image : Image) (world : World) (there : PortsThere image) (shape : Sha
   now_part : (t : ℕ) (x : Inst) → fires image world t ≡ Some x → Apart (tokens_to (cond (is_advance image x.instr) (suc x.wave) x.wave) x.result (now_dests image x.instr))
   now_part t x fx =
       let k : Turn image world shape t x = turn_at image world shape t x fx in
-      let f : Fresh (now_dests image (P t).next) (closed (P t).next (slots_at image world t)) = slots.fresh (P t).block (P t).next (slots_at image world t) (path image world there shape slots t k.over) k.within in
+      let f : Fresh (now_dests image (P t).next) (closed (P t).next (slots_at image world t)) = (slots.turns (P t).block (P t).next (slots_at image world t) (path image world there shape slots t k.over) k.within).fresh in
       fresh_tokens (cond (is_advance image x.instr) (suc x.wave) x.wave) x.result (now_dests image x.instr) (closed (P t).next (slots_at image world t))
       (subst (λ (n : ℕ). Fresh (now_dests image n) (closed (P t).next (slots_at image world t))) (sym (inst_instr image world shape t x fx)) f)
 
@@ -337,7 +338,7 @@ module _ (image : Image) (world : World) (there : PortsThere image) (shape : Sha
     | inl e ↦ (none_open, rw e tt)
     | inr d ↦ (let h : HasDest (edge_dests image (P l.time).block (choice image (P l.time)) x.instr) d.0.instr d.0.port = subst (λ (ds : List Dest). HasDest ds d.0.instr d.0.port) l.same d.1 in
         let st : stops image (P l.time).block ≡ false = goes_on image world there shape slots (P l.time).block x.instr d.0.instr d.0.port (choice image (P l.time)) (place image world shape l.time l.over).block l.inside h in
-        let fr : Fresh (opens_at image (P l.time).block (choice image (P l.time))) (slots_at image world l.time) = slots.edges (P l.time).block (P l.time).next (slots_at image world l.time) (path image world there shape slots l.time l.over) (at_end image world there shape slots l.time l.over l.at_end) st (choice image (P l.time)) in
+        let fr : Fresh (opens_at image (P l.time).block (choice image (P l.time))) (slots_at image world l.time) = (slots.ends (P l.time).block _ (path_end (path image world there shape slots l.time l.over) (at_end image world there shape slots l.time l.over l.at_end))).edges st (choice image (P l.time)) in
         let a0 : first_number image (P l.time).block ≤ x.instr = l.inside.0 in
         let a1 : x.instr < first_number image (suc (P l.time).block) = l.inside.1 in
         let r = fresh_source image (P l.time).block (choice image (P l.time)) (first_number image (P l.time).block) (size_of image (P l.time).block) x.instr (slots_at image world l.time) fr a0 (omega arith) in

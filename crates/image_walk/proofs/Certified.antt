@@ -1,8 +1,8 @@
 -- A certificate gives the slot rules, said of all paths.
-use Rattle.std.proofs.Common.{ℕ, suc, ◌≡◌, ◌≤◌, Bool, true, false, List, [], ◌∷◌, refl, sym, ap, ◌∙◌, arith}
+use Rattle.std.proofs.Common.{ℕ, suc, ◌≡◌, ◌<◌, ◌≤◌, Bool, true, List, [], ◌∷◌, refl, sym, ap, ◌∙◌, subst, arith}
 use Rattle.ws_isa.specs.declared.instr.Dest.{Dest}
-use Rattle.ws_isa.specs.Image.{Image, first_number, stops, target, is_first, now_dests, start_dests}
-use Rattle.image_walk.specs.Sound.{Slots, none_open, opened, all_opened, Fresh, closed, opens_at, AdvancesOpen, Opens, begin, turn, edge, SlotRules}
+use Rattle.ws_isa.specs.Image.{Image, first_number, is_first, now_dests, start_dests}
+use Rattle.image_walk.specs.Sound.{Slots, none_open, opened, all_opened, Fresh, closed, opens_at, AdvancesOpen, Opens, begin, turn, edge, TurnSlots, EndSlots, EdgeInto, SlotRules}
 use Rattle.image_walk.proofs.SlotCert.{Alike, SlotCert}
 
 opened_alike : (d : Dest) (o p : Slots) → Alike o p → Alike (opened d o) (opened d p)
@@ -52,24 +52,42 @@ module _ (image : Image) (reached : ℕ → Bool) (open_at : ℕ → ℕ → Slo
         alike = λ j q. all_opened_alike (opens_at image c n) p (open_at c (first_number image (suc c))) (λ j q. r.alike j q ∙ ap (λ (m : ℕ). open_at c m j q) at) j q ∙ cert.edge_open c n r.arrives s j q;
       }
 
-  at_end : (b k : ℕ) (o : Slots) → Opens image b k o → k ≡ first_number image (suc b) → Alike o (open_at b (first_number image (suc b)))
-  at_end b k o path at j q = (covered b k o path).alike j q ∙ ap (λ (m : ℕ). open_at b m j q) at
+  at_end : (b : ℕ) (o : Slots) → Opens image b (first_number image (suc b)) o → Alike o (open_at b (first_number image (suc b)))
+  at_end b o path = (covered b (first_number image (suc b)) o path).alike
 
-  after_edge : (b k : ℕ) (o : Slots) → Opens image b k o → k ≡ first_number image (suc b) → stops image b ≡ false → (r : ℕ) → Alike (all_opened (opens_at image b r) o) (open_at (target image b r) (first_number image (target image b r)))
-  after_edge b k o path at s r j q = all_opened_alike (opens_at image b r) o (open_at b (first_number image (suc b))) (at_end b k o path at) j q ∙ cert.edge_open b r (covered b k o path).arrives s j q
+  arrives : (b k : ℕ) (o : Slots) → Opens image b k o → reached b ≡ true
+  arrives b k o path = (covered b k o path).arrives
+
+  after_edge : (c b : ℕ) (o : Slots) → EdgeInto image c b o → Alike o (open_at b (first_number image b))
+  after_edge c b o e j q = ap (λ (p : Slots). p j q) (sym e.opens)
+      ∙ all_opened_alike (opens_at image c e.choice) e.before (open_at c (first_number image (suc c))) (at_end c e.before e.path) j q
+      ∙ cert.edge_open c e.choice (arrives c (first_number image (suc c)) e.before e.path) e.goes_on j q
+      ∙ ap (λ (n : ℕ). open_at n (first_number image n) j q) e.to
+
+  entered : (c b : ℕ) (o : Slots) → EdgeInto image c b o → reached b ≡ true
+  entered c b o e = subst (λ n. reached n ≡ true) e.to (cert.edge_reached c e.choice (arrives c (first_number image (suc c)) e.before e.path) e.goes_on)
+
+  turn_slots : (b k : ℕ) (o : Slots) → Opens image b k o → k < first_number image (suc b) → TurnSlots image k o
+  turn_slots b k o path w = let c : Covered b k o = covered b k o path in
+      record {
+        has_all = λ q l. c.alike k q ∙ cert.has_all b k c.arrives (c.low, w) q l;
+        fresh = fresh_alike (now_dests image k) (closed k o) (closed k (open_at b k)) (closed_alike k o (open_at b k) c.alike) (cert.fresh b k c.arrives (c.low, w));
+      }
+
+  end_slots : (b : ℕ) (o : Slots) → Opens image b (first_number image (suc b)) o → EndSlots image b o
+  end_slots b o path = let r : reached b ≡ true = arrives b (first_number image (suc b)) o path in
+      record {
+        edges = λ s n. fresh_alike (opens_at image b n) o (open_at b (first_number image (suc b))) (at_end b o path) (cert.edges b n r s);
+        stop = λ s j q. at_end b o path j q ∙ cert.stop b r s j q;
+      }
 
   -- a certificate gives the rules on slots
   pub slot_rules : SlotRules image
   slot_rules = record {
     start = cert.start_fresh;
     begins = advances_alike image 1 (all_opened (start_dests image) none_open) (open_at 1 (first_number image 1)) cert.start_open (cert.first_open 1 cert.start (first_is image));
-    has_all = λ b k o path w q l. (let c : Covered b k o = covered b k o path in c.alike k q ∙ cert.has_all b k c.arrives (c.low, w) q l);
-    fresh = λ b k o path w. (let c : Covered b k o = covered b k o path in fresh_alike (now_dests image k) (closed k o) (closed k (open_at b k)) (closed_alike k o (open_at b k) c.alike) (cert.fresh b k c.arrives (c.low, w)));
-    edges = λ b k o path at s r. fresh_alike (opens_at image b r) o (open_at b (first_number image (suc b))) (at_end b k o path at) (cert.edges b r (covered b k o path).arrives s);
-    crossing = λ b k o path at s r f. (let c : Covered b k o = covered b k o path in
-        advances_alike image (target image b r) (all_opened (opens_at image b r) o) (open_at (target image b r) (first_number image (target image b r))) (after_edge b k o path at s r)
-        (cert.first_open (target image b r) (cert.edge_reached b r c.arrives s) f));
-    stop = λ b k o path at s j q. (let c : Covered b k o = covered b k o path in at_end b k o path at j q ∙ cert.stop b c.arrives s j q);
-    pending = λ b k c l r s o p pb pc ab ac sb sc same f j q.
-        after_edge b k o pb ab sb r j q ∙ ap (λ (n : ℕ). open_at n (first_number image n) j q) same ∙ sym (after_edge c l p pc ac sc s j q);
+    turns = turn_slots;
+    ends = end_slots;
+    crossing = λ c b o e f. advances_alike image b o (open_at b (first_number image b)) (after_edge c b o e) (cert.first_open b (entered c b o e) f);
+    pending = λ c d b o p e f i j q. after_edge c b o e j q ∙ sym (after_edge d b p f j q);
   }

@@ -157,7 +157,7 @@ module _ (image : Image) (world : World) where
     dead_step t o d (stands a e f) = absurd (both_ways (pos image world t).over o a)
     dead_step t o d (turns a l e f) =
         absurd (both_ways (slots_at image world t (pos image world t).next 0) (d.none (pos image world t).next 0)
-        (ok.slots.has_all (pos image world t).block (pos image world t).next (slots_at image world t) (path image world (ports_there image ok.suited.references) ok.shape ok.slots t a) l 0 (ports_some image (pos image world t).next)))
+        ((ok.slots.turns (pos image world t).block (pos image world t).next (slots_at image world t) (path image world (ports_there image ok.suited.references) ok.shape ok.slots t a) l).has_all 0 (ports_some image (pos image world t).next)))
     dead_step t o d (ends a l s e f) = (inl (ap (λ (p : Pos). p.over) e), walk_silent t f)
     dead_step t o d (leaves a l s e f) = (
       inr (

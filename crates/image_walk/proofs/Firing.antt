@@ -231,7 +231,7 @@ module _ (image : Image) (world : World) (ok : Walkable image) where
         omega arith
 
     open_here : (q : ℕ) → q < ports image k → slots_at image world t k q ≡ true
-    open_here q m = rw (sym at.next) (ok.slots.has_all (P t).block (P t).next (slots_at image world t) (path image world (ports_there image ok.suited.references) ok.shape ok.slots t at.running) within q (rw at.next m))
+    open_here q m = rw (sym at.next) ((ok.slots.turns (P t).block (P t).next (slots_at image world t) (path image world (ports_there image ok.suited.references) ok.shape ok.slots t at.running) within).has_all q (rw at.next m))
 
     operand_is : (q : ℕ) → q < ports image k → slice_index (operands_at image (P t)) q ≡ slice_index old.table.operands (4 * k + q)
     unfolding operands_at
@@ -316,7 +316,7 @@ module _ (image : Image) (world : World) (ok : Walkable image) where
         let g0 : HasDest (now_dests image (P t).next) j 0 = rw z at g in
         let still : closed (P t).next (slots_at image world t) j 0 ≡ true = elim (closed_cases (P t).next (slots_at image world t) j 0) [ inl c ↦ absurd (let x : (P t).next ≡ j = c.0 in omega arith) | inr c ↦ c.1 ∙ s ] in
         fresh_apart (now_dests image (P t).next) (closed (P t).next (slots_at image world t)) j 0
-        (ok.slots.fresh (P t).block (P t).next (slots_at image world t) (path image world (ports_there image ok.suited.references) ok.shape ok.slots t at.running) within) still g0
+        ((ok.slots.turns (P t).block (P t).next (slots_at image world t) (path image world (ports_there image ok.suited.references) ok.shape ok.slots t at.running) within).fresh) still g0
 
     number_stays : (j : ℕ) → ((P t).next ≡ j → ⊥) → turn_number image (P t) j ≡ turn_number image (P (suc t)) j
     number_stays j n =
@@ -339,7 +339,7 @@ module _ (image : Image) (world : World) (ok : Walkable image) where
     stayed : (j q : ℕ) → slots_at image world t j q ≡ true → closed (P t).next (slots_at image world t) j q ≡ true → ((P t).next ≡ j → ⊥) → slice_index new.table.operands (4 * j + q) ≡ or_else ((P (suc t)).sent (turn_number image (P (suc t)) j) j q) 0
     stayed j q s still n =
         let there = ports_there image ok.suited.references in
-        let fr : Fresh (now_dests image (P t).next) (closed (P t).next (slots_at image world t)) = ok.slots.fresh (P t).block (P t).next (slots_at image world t) (path image world there ok.shape ok.slots t at.running) within in
+        let fr : Fresh (now_dests image (P t).next) (closed (P t).next (slots_at image world t)) = (ok.slots.turns (P t).block (P t).next (slots_at image world t) (path image world there ok.shape ok.slots t at.running) within).fresh in
         let st : Stays image world there ok.shape ok.slots t j q = turn_stays image world there ok.shape ok.slots t j q at.running within tn.to s n in
         let m : q < ports image j = slot_port image world there ok.shape ok.slots t j q at.running s in
         let f : ports image j ≤ 3 = few_ports image j in

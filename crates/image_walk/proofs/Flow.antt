@@ -8,6 +8,7 @@ use Rattle.image_walk.specs.Sound.{Slots, none_open, all_opened, closed, opens_a
 use Rattle.image_walk.specs.Standing.{turn_number, slots_at}
 use Rattle.image_walk.proofs.Slots.{all_opened_keeps, all_opened_from, fresh_apart, with_tokens_other, edge_all_from, edge_other, closed_cases}
 use Rattle.image_walk.proofs.Steps.{StepCase, stands, turns, ends, leaves, step_case, Place, place, pos_start}
+use Rattle.image_walk.proofs.Along.{path_end, along}
 
 -- an advance that hasn't fired yet in this block
 pub record Ahead (image : Image) (p : Pos) (j : ℕ) : Type 0 where
@@ -125,9 +126,9 @@ module _ (image : Image) (world : World) where
         let b : (P (suc t)).block ≡ target image (P t).block (choice image (P t)) = ap (λ (p : Pos). p.block) e in
         let n : (P (suc t)).next ≡ first_number image (target image (P t).block (choice image (P t))) = ap (λ (p : Pos). p.next) e in
         let i : IsIn image (target image (P t).block (choice image (P t))) j = (rw n at h.low, rw b at h.high) in
-        let k : IsBlock image (target image (P t).block (choice image (P t))) = shape.edges (P t).block (choice image (P t)) (place image world shape t a).block s in
-        let fst : is_first image (target image (P t).block (choice image (P t))) ≡ true = shape.advances (target image (P t).block (choice image (P t))) j k i h.advance in
-        rw (slots_leave t a w) ((slots.crossing (P t).block (P t).next (slots_at image world t) (path t a) (at_end t a w) s (choice image (P t)) fst j 0).1 (i, h.advance, refl))
+        let k : IsBlock image (target image (P t).block (choice image (P t))) = (shape.blocks (P t).block (place image world shape t a).block).edges.there (choice image (P t)) s in
+        let fst : is_first image (target image (P t).block (choice image (P t))) ≡ true = (shape.blocks (target image (P t).block (choice image (P t))) k).front.advances j i h.advance in
+        rw (slots_leave t a w) ((slots.crossing (P t).block _ _ (along (path t a) (at_end t a w) s (choice image (P t))) fst j 0).1 (i, h.advance, refl))
 
     ahead_start : (j : ℕ) → Ahead image (P zero) j → slots_at image world zero j 0 ≡ true
     unfolding opening
@@ -152,13 +153,13 @@ module _ (image : Image) (world : World) where
         record {
           slot = ap (λ (s : Slots). s j q) (slots_turn t a w) ∙ all_opened_keeps (now_dests image (P t).next) (closed (P t).next (slots_at image world t)) j q still;
           value = λ b. ap (λ (p : Pos). p.sent b j q) e ∙ with_tokens_other (P t).wave _ (now_dests image (P t).next) (P t).sent b j q
-              (fresh_apart (now_dests image (P t).next) (closed (P t).next (slots_at image world t)) j q (slots.fresh (P t).block (P t).next (slots_at image world t) (path t a) w) still);
+              (fresh_apart (now_dests image (P t).next) (closed (P t).next (slots_at image world t)) j q ((slots.turns (P t).block (P t).next (slots_at image world t) (path t a) w).fresh) still);
         }
 
     -- what is open on an edge is none of what the edge opens
     pub apart_edge : (t j q : ℕ) → (P t).over ≡ false → first_number image (suc (P t).block) ≤ (P t).next → stops image (P t).block ≡ false → slots_at image world t j q ≡ true → HasDest (opens_at image (P t).block (choice image (P t))) j q → ⊥
     apart_edge t j q a w s h = fresh_apart (opens_at image (P t).block (choice image (P t))) (slots_at image world t) j q
-        (slots.edges (P t).block (P t).next (slots_at image world t) (path t a) (at_end t a w) s (choice image (P t))) h
+        ((slots.ends (P t).block _ (path_end (path t a) (at_end t a w))).edges s (choice image (P t))) h
 
     -- and while the block is left
     pub leave_stays : (t j q : ℕ) (a : (P t).over ≡ false) (w : first_number image (suc (P t).block) ≤ (P t).next) (s : stops image (P t).block ≡ false) →
@@ -194,7 +195,7 @@ module _ (image : Image) (world : World) where
         (P (suc t)).wave ≡ cond (is_first image (target image (P t).block (choice image (P t)))) (suc (P t).wave) (P t).wave →
         is_first image (target image (P t).block (choice image (P t))) ≡ true → slots_at image world (suc t) j q ≡ true → Ahead image (P (suc t)) j × (turn_number image (P (suc t)) j ≡ (P t).wave)
     cross_number t j q a w st bl nx wv fst s =
-        let c = (slots.crossing (P t).block (P t).next (slots_at image world t) (path t a) (at_end t a w) st (choice image (P t)) fst j q).0 (ap (λ (x : Slots). x j q) (sym (slots_leave t a w)) ∙ s) in
+        let c = (slots.crossing (P t).block _ _ (along (path t a) (at_end t a w) st (choice image (P t))) fst j q).0 (ap (λ (x : Slots). x j q) (sym (slots_leave t a w)) ∙ s) in
         let ah : Ahead image (P (suc t)) j = record { advance = c.1; low = rw nx c.0.0; high = rw bl c.0.1 } in
         let wv' : (P (suc t)).wave ≡ suc (P t).wave = wv ∙ cond-true (is_first image (target image (P t).block (choice image (P t)))) _ _ fst in
         (ah, number_ahead image (P (suc t)) j ah ∙ (let g : (P (suc t)).wave - 1 ≡ (P t).wave = omega arith in g))
@@ -206,6 +207,6 @@ module _ (image : Image) (world : World) where
         is_first image (target image (P t).block (choice image (P t))) ≡ false → turn_number image (P (suc t)) j ≡ (P t).wave
     same_wave_number t j a st bl nx wv fst =
         let wv' : (P (suc t)).wave ≡ (P t).wave = wv ∙ cond-false (is_first image (target image (P t).block (choice image (P t)))) _ _ fst in
-        let k : IsBlock image (target image (P t).block (choice image (P t))) = shape.edges (P t).block (choice image (P t)) (place image world shape t a).block st in
+        let k : IsBlock image (target image (P t).block (choice image (P t))) = (shape.blocks (P t).block (place image world shape t a).block).edges.there (choice image (P t)) st in
         number_else image (P (suc t)) j (λ y. both_ways (is_first image (target image (P t).block (choice image (P t)))) fst
-        (shape.advances (target image (P t).block (choice image (P t))) j k (rw nx at y.low, rw bl at y.high) y.advance)) ∙ wv'
+        ((shape.blocks (target image (P t).block (choice image (P t))) k).front.advances j (rw nx at y.low, rw bl at y.high) y.advance)) ∙ wv'

@@ -20,7 +20,7 @@ formed_there image f = ports_there image f.suited.references
 
 -- a formed and sound image can be walked
 pub sound_walks : (image : Image) → Formed image → Sound image → Walkable image
-sound_walks image f s = record { suited = f.suited; shape = s.shape; more_shape = s.more_shape; slots = s.slots }
+sound_walks image f s = record { suited = f.suited; shape = s.shape; slots = s.slots }
 
 drop_load : (acts : List Act) (a i : ℕ) → without_loads (acts ++ loads a i ∷ []) ≡ without_loads acts
 drop_load [] a i = refl

@@ -16,6 +16,7 @@ use Rattle.image_walk.proofs.Flow.{slots_leave, path, at_end, slot_port, Stays, 
 use Rattle.image_walk.proofs.There.{ports_there, edges_there}
 use Rattle.image_walk.proofs.Blocks.{block_is, instr_is, size_is}
 use Rattle.image_walk.proofs.Delivered.{Fits, InRow, few_ports, crossed_size, crossed_other, crossed_lands}
+use Rattle.image_walk.proofs.Along.{path_end}
 
 same_choice : (exit : Exit) (f g : ℕ → ℕ) → ((j : ℕ) → f j ≡ g j) → choice_of exit f ≡ choice_of exit g
 same_choice (Goto b) f g h = refl
@@ -132,7 +133,7 @@ module _ (image : Image) (world : World) (ok : Walkable image) where
         ∙ ap (λ (y : ℕ). crossed (block_at image (target image b y)).pads y (block_at image b).instrs (first_number image b) old.table.results old.table.operands) choice_is)
 
     fresh : Fresh (opens_at image (P t).block (choice image (P t))) (slots_at image world t)
-    fresh = ok.slots.edges (P t).block (P t).next (slots_at image world t) (path image world there ok.shape ok.slots t at.running) (at_end image world there ok.shape ok.slots t at.running over_end) stay (choice image (P t))
+    fresh = (ok.slots.ends (P t).block _ (path_end (path image world there ok.shape ok.slots t at.running) (at_end image world there ok.shape ok.slots t at.running over_end))).edges stay (choice image (P t))
 
     landed : (j q : ℕ) → slots_at image world (suc t) j q ≡ true → HasDest (opens_at image (P t).block (choice image (P t))) j q → slice_index new.table.operands (4 * j + q) ≡ or_else ((P (suc t)).sent (turn_number image (P (suc t)) j) j q) 0
     unfolding opens_at

@@ -1,6 +1,7 @@
 mod Rows
 pub mod Steps
 pub mod Slots
+pub mod Along
 pub mod Flow
 pub mod There
 pub mod Blocks

@@ -16,6 +16,7 @@ use Rattle.image_walk.proofs.Flow.{Ahead, number_ahead, slots_leave, slots_start
 use Rattle.image_walk.proofs.There.{ports_there, start_there}
 use Rattle.image_walk.proofs.Delivered.{Fits, few_ports, delivered_size, delivered_lands}
 use Rattle.image_walk.proofs.Ending.{Dead, dead_is_whole, at_leaves}
+use Rattle.image_walk.proofs.Along.{along}
 
 zeros_length : (n : ℕ) → length (zeros n) ≡ n
 zeros_length zero = refl
@@ -43,7 +44,7 @@ module _ (image : Image) (world : World) (ok : Walkable image) where
       let there = ports_there image ok.suited.references in
       let bl = ap (λ (p : Pos). p.block) e in
       let fst = ap (is_first image) (sym bl) ∙ f in
-      let open_ = ok.slots.crossing (P t).block (P t).next (slots_at image world t) (path image world there ok.shape ok.slots t a) (at_end image world there ok.shape ok.slots t a l) s (choice image (P t)) fst in
+      let open_ = ok.slots.crossing (P t).block _ _ (along (path image world there ok.shape ok.slots t a) (at_end image world there ok.shape ok.slots t a l) s (choice image (P t))) fst in
       rw (bl, slots_leave image world t a l) open_
 
   first_open : (t : ℕ) → (P t).over ≡ false → (P t).next ≡ first_number image (P t).block → is_first image (P t).block ≡ true → AdvancesOpen image (P t).block (slots_at image world t)

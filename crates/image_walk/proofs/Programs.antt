@@ -61,7 +61,7 @@ module _ (p : Program) (is : ProgramIs p) where
 
     module _ (results : List ℕ) (e : Edge) (at : EdgeIs exit results e) where
       to_block : IsBlock (image_of p) (target (image_of p) (suc n) e.choice)
-      to_block = ok.shape.edges (suc n) e.choice (is_block n l) (stops_is false at.goes)
+      to_block = (ok.shape.blocks (suc n) (is_block n l)).edges.there e.choice (stops_is false at.goes)
 
       -- the code's next block is the edge's target
       pub next_is : suc e.next ≡ target (image_of p) (suc n) e.choice
@@ -80,7 +80,7 @@ module _ (p : Program) (is : ProgramIs p) where
       pub next_ahead : is_first (image_of p) (suc e.next) ≡ false → n < e.next
       next_ahead f =
           let a : suc e.next ≡ target (image_of p) (suc n) e.choice = next_is in
-          let b : suc n < target (image_of p) (suc n) e.choice = (ok.shape.later (suc n) e.choice (is_block n l) (stops_is false at.goes) (ap (is_first (image_of p)) (sym a) ∙ f)).0 in
+          let b : suc n < target (image_of p) (suc n) e.choice = ((ok.shape.blocks (suc n) (is_block n l)).edges.later e.choice (stops_is false at.goes) (ap (is_first (image_of p)) (sym a) ∙ f)).0 in
           omega arith
 
       -- after an edge the code stands at the start of the next block

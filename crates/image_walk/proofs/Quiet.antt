@@ -46,8 +46,8 @@ there (y ∷ xs) (suc i) x e = let l : i < length xs = there xs i x e in omega a
 
 goto_quiet : (image : Image) → Walkable image → (n : ℕ) → n < length image.blocks → (c : ℕ) → (block_at image (suc n)).exit ≡ Goto c → Quiet (block_at image (suc n)).instrs
 goto_quiet image ok n l c goes i x e = (
-  λ st. (let s = ok.shape.steers (suc n) k block is_in (ap (λ (y : Instr). y.op) here ∙ st) in absurd (let f : (block_at image (suc n)).exit ≡ _ = s.3 in cc)),
-  λ p se. (let s = ok.shape.sends (suc n) k p block is_in (ap (λ (y : Instr). y.op) here ∙ se) in absurd (let f : (block_at image (suc n)).exit ≡ _ = s.2 in cc)),
+  λ st. (let s = (ok.shape.blocks (suc n) block).hang.steers k is_in (ap (λ (y : Instr). y.op) here ∙ st) in absurd (let f : (block_at image (suc n)).exit ≡ _ = s.3 in cc)),
+  λ p se. (let s = (ok.shape.blocks (suc n) block).hang.sends k p is_in (ap (λ (y : Instr). y.op) here ∙ se) in absurd (let f : (block_at image (suc n)).exit ≡ _ = s.2 in cc)),
 )
   where
     block : IsBlock image (suc n)

@@ -97,7 +97,7 @@ module _ (image : Image) (world : World) (shape : ShapeRules image) where
   place_leave : (p : Pos) (r : ℕ) → Place image p → stops image p.block ≡ false → (q : Pos) → q.block ≡ target image p.block r → q.next ≡ first_number image (target image p.block r) →
       q.wave ≡ cond (is_first image (target image p.block r)) (suc p.wave) p.wave → Place image q
   place_leave p r a s q b n w = record {
-    block = rw b (shape.edges p.block r a.block s);
+    block = rw b ((shape.blocks p.block a.block).edges.there r s);
     low = rw (b, n) (omega arith);
     high = rw (b, n) (first_up image (target image p.block r));
     wave = rw w (up (is_first image (target image p.block r)));
@@ -147,7 +147,7 @@ module _ (image : Image) (world : World) (shape : ShapeRules image) where
             let m : (pos image world (suc t)).wave ≡ (pos image world t).wave = rw h at n in sym m),
         (let n : (pos image world (suc t)).next ≡ first_number image (target image (pos image world t).block (choice image (pos image world t))) = ap (λ (p : Pos). p.next) e in
             let pl : Place image (pos image world t) = place t a in
-            let l : (pos image world t).block < target image (pos image world t).block (choice image (pos image world t)) = (shape.later (pos image world t).block (choice image (pos image world t)) pl.block s h).0 in
+            let l : (pos image world t).block < target image (pos image world t).block (choice image (pos image world t)) = ((shape.blocks (pos image world t).block pl.block).edges.later (choice image (pos image world t)) s h).0 in
             let g : first_number image (suc (pos image world t).block) ≤ first_number image (target image (pos image world t).block (choice image (pos image world t))) = first_le image (suc (pos image world t).block) (target image (pos image world t).block (choice image (pos image world t))) l in
             let hi : (pos image world t).next ≤ first_number image (suc (pos image world t).block) = pl.high in
             omega arith),

@@ -3,14 +3,13 @@ use Rattle.std.specs.Prelude.{ℕ, ◌≡◌, ◌⊎◌, true, false, Some}
 use Rattle.ws_isa.specs.declared.instr.Op.TheVariants.{Steer}
 use Rattle.ws_isa.specs.Image.{Branch, Image, nth, instr_at, block_at, is_giving, is_first, edges_of, IsIn, IsBlock}
 use Rattle.ws_isa.specs.Formed.{Suited, NoNotes}
-use Rattle.image_walk.specs.Sound.{ShapeRules, MoreShape, SlotRules}
+use Rattle.image_walk.specs.Sound.{ShapeRules, SlotRules}
 
 -- references exist, lists suit, and the rules on shape and slots are kept: each formed and sound
 -- image has this too
 pub record Walkable (image : Image) : Type 0 where
   pub suited : Suited image
   pub shape : ShapeRules image
-  pub more_shape : MoreShape image
   pub slots : SlotRules image
 
 -- edge number `place` of block b, counted from 0, leads to block c, and no other edge does

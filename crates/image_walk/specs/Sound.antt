@@ -65,29 +65,39 @@ abbrev pub AdvancesOpen : Image → ℕ → Slots → Type 0
 AdvancesOpen image b o = (j q : ℕ) →
     (o j q ≡ true) ↔ (IsIn image b j × (is_advance image j ≡ true) × (q ≡ 0))
 
+-- at its turn an instruction has all its slots open, and closes them; then none of its destinations
+-- is open
+pub record TurnSlots (image : Image) (k : ℕ) (o : Slots) : Type 0 where
+  pub has_all : (q : ℕ) → q < ports image k → o k q ≡ true
+  pub fresh : Fresh (now_dests image k) (closed k o)
+
+-- at the end of a block: on an edge none of what steers and sends open is open, and at a stop nothing
+-- is
+pub record EndSlots (image : Image) (b : ℕ) (o : Slots) : Type 0 where
+  pub edges : stops image b ≡ false → (r : ℕ) → Fresh (opens_at image b r) o
+  pub stop : stops image b ≡ true → (j q : ℕ) → o j q ≡ false
+
+-- a path leads along an edge into block b with these slots
+pub record EdgeInto (image : Image) (from b : ℕ) (o : Slots) : Type 0 where
+  pub before : Slots
+  pub path : Opens image from (first_number image (suc from)) before
+  pub goes_on : stops image from ≡ false
+  pub choice : ℕ
+  pub to : target image from choice ≡ b
+  pub opens : all_opened (opens_at image from choice) before ≡ o
+
 pub record SlotRules (image : Image) : Type 0 where
   pub start : Fresh (start_dests image) none_open
   pub begins : AdvancesOpen image 1 (all_opened (start_dests image) none_open)
-  -- at its turn an instruction has all its slots open, and then none of its destinations is open
-  pub has_all : (b k : ℕ) (o : Slots) → Opens image b k o → k < first_number image (suc b) →
-      (q : ℕ) → q < ports image k → o k q ≡ true
-  pub fresh : (b k : ℕ) (o : Slots) → Opens image b k o → k < first_number image (suc b) →
-      Fresh (now_dests image k) (closed k o)
-  -- on an edge none of what steers and sends open is open
-  pub edges : (b k : ℕ) (o : Slots) → Opens image b k o → k ≡ first_number image (suc b) →
-      stops image b ≡ false → (r : ℕ) → Fresh (opens_at image b r) o
-  -- into the first block of a wave exactly its advances are open, and at a stop nothing is
-  pub crossing : (b k : ℕ) (o : Slots) → Opens image b k o → k ≡ first_number image (suc b) →
-      stops image b ≡ false → (r : ℕ) → is_first image (target image b r) ≡ true →
-      AdvancesOpen image (target image b r) (all_opened (opens_at image b r) o)
-  pub stop : (b k : ℕ) (o : Slots) → Opens image b k o → k ≡ first_number image (suc b) →
-      stops image b ≡ true → (j q : ℕ) → o j q ≡ false
+  pub turns : (b k : ℕ) (o : Slots) → Opens image b k o → k < first_number image (suc b) →
+      TurnSlots image k o
+  pub ends : (b : ℕ) (o : Slots) → Opens image b (first_number image (suc b)) o → EndSlots image b o
+  -- into the first block of a wave exactly its advances are open
+  pub crossing : (c b : ℕ) (o : Slots) → EdgeInto image c b o → is_first image b ≡ true →
+      AdvancesOpen image b o
   -- the edges into any other block leave equal open slots
-  pub pending : (b k c l r s : ℕ) (o p : Slots) → Opens image b k o → Opens image c l p →
-      k ≡ first_number image (suc b) → l ≡ first_number image (suc c) →
-      stops image b ≡ false → stops image c ≡ false → target image b r ≡ target image c s →
-      is_first image (target image b r) ≡ false →
-      (j q : ℕ) → all_opened (opens_at image b r) o j q ≡ all_opened (opens_at image c s) p j q
+  pub pending : (c d b : ℕ) (o p : Slots) → EdgeInto image c b o → EdgeInto image d b p →
+      is_first image b ≡ false → (j q : ℕ) → o j q ≡ p j q
 
 -- Shape.
 
@@ -109,58 +119,76 @@ abbrev pub IsAhead : Image → ℕ → ℕ → ℕ → Type 0
 IsAhead image b k j = (is_advance image j ≡ true)
     ⊎ ((k < j) × ((block_at image (block_of image j)).wave ≡ (block_at image b).wave))
 
+-- the edge at r goes to a later block of the same wave or to the first block of a wave
+abbrev pub IsLater : Image → ℕ → ℕ → Type 0
+IsLater image b r = is_first image (target image b r) ≡ false → (b < target image b r) ×
+    ((block_at image (target image b r)).wave ≡ (block_at image b).wave)
+
+-- 2. every edge goes to a later block of the same wave or to the first block of a wave
+pub record EdgeShape (image : Image) (b : ℕ) : Type 0 where
+  pub there : (r : ℕ) → stops image b ≡ false → IsBlock image (target image b r)
+  pub later : (r : ℕ) → stops image b ≡ false → IsLater image b r
+
+-- 3. advances stand in first blocks, before all other instructions, and pads at first blocks
+pub record FrontShape (image : Image) (b : ℕ) : Type 0 where
+  pub advances : (k : ℕ) → IsIn image b k → is_advance image k ≡ true → is_first image b ≡ true
+  pub front : (j k : ℕ) → IsIn image b k → is_advance image k ≡ true → first_number image b ≤ j →
+      j ≤ k → is_advance image j ≡ true
+  pub pads : is_first image b ≡ false → (block_at image b).pads ≡ []
+
+-- 4. the exit's instruction stands in the block, has a result and is neither a steer nor a send
+pub record ExitShape (image : Image) (b : ℕ) : Type 0 where
+  pub source : (s x y : ℕ) → (block_at image b).exit ≡ Branch s x y → IsIn image b s
+  pub address : (s : ℕ) (ls : List ℕ) → (block_at image b).exit ≡ Landings s ls → IsIn image b s
+  pub source_gives : (s x y : ℕ) → (block_at image b).exit ≡ Branch s x y → is_giving image s ≡ true
+  pub address_gives : (s : ℕ) (ls : List ℕ) → (block_at image b).exit ≡ Landings s ls →
+      is_giving image s ≡ true
+
+-- 5. steers and sends hang on the exit's instruction; landings are first blocks, and have the pad of
+-- each send
+pub record HangShape (image : Image) (b : ℕ) : Type 0 where
+  pub steers : (k : ℕ) → IsIn image b k → (instr_at image k).op ≡ Steer → (s x y : ℕ) ×
+      ((block_at image b).exit ≡ Branch s x y) × Carries image b s k 1
+  pub sends : (k p : ℕ) → IsIn image b k → (instr_at image k).op ≡ Send p → (s : ℕ) ×
+      (ls : List ℕ) × ((block_at image b).exit ≡ Landings s ls) × Carries image b s k 0
+  pub landing_pad : (k p r : ℕ) → IsIn image b k → (instr_at image k).op ≡ Send p →
+      HasPad (block_at image (target image b r)).pads p
+  pub landing_first : (s r : ℕ) (ls : List ℕ) → (block_at image b).exit ≡ Landings s ls →
+      is_first image (target image b r) ≡ true
+
+-- 6. a halt stands exactly where the exit is a stop, once, after all other memory instructions
+pub record HaltShape (image : Image) (b : ℕ) : Type 0 where
+  pub halt_stops : (k : ℕ) → IsIn image b k → (instr_at image k).op ≡ Halt → stops image b ≡ true
+  pub stop_halts : stops image b ≡ true → (k : ℕ) × IsIn image b k × ((instr_at image k).op ≡ Halt)
+  pub halt_last : (j k : ℕ) → IsIn image b k → (instr_at image k).op ≡ Halt → IsIn image b j →
+      is_memory image j ≡ true → j ≤ k
+
+-- 7. a destination is a later instruction of the same wave, or an advance; those of pads are advances
+-- of the block
+pub record DestShape (image : Image) (b : ℕ) : Type 0 where
+  pub dests : (k j q : ℕ) → IsIn image b k → HasDest (instr_at image k).dests j q →
+      IsAhead image b k j
+  pub others : (k j q : ℕ) → IsIn image b k → HasDest (instr_at image k).others j q →
+      IsAhead image b k j
+  pub pads : (p : Pad) (j q : ℕ) → In p (block_at image b).pads → HasDest p.dests j q →
+      IsIn image b j × (is_advance image j ≡ true)
+
+-- block b keeps the rules on shape
+pub record BlockShape (image : Image) (b : ℕ) : Type 0 where
+  pub opening : b ≡ 1 → HasPad (block_at image b).pads 0
+  pub edges : EdgeShape image b
+  pub front : FrontShape image b
+  pub exit : ExitShape image b
+  pub hang : HangShape image b
+  pub halt : HaltShape image b
+  pub dests : DestShape image b
+
+-- 1. the blocks of a wave stand together, block 1 is the first, and has pad 0; each block keeps the
+-- others
 pub record ShapeRules (image : Image) : Type 0 where
   pub has_block : IsBlock image 1
-  -- every edge goes to a later block of the same wave or to the first block of a wave
-  pub edges : (b r : ℕ) → IsBlock image b → stops image b ≡ false → IsBlock image (target image b r)
-  pub later : (b r : ℕ) → IsBlock image b → stops image b ≡ false →
-      is_first image (target image b r) ≡ false →
-      (b < target image b r) × ((block_at image (target image b r)).wave ≡ (block_at image b).wave)
-  -- advances stand in first blocks, before all others
-  pub advances : (b k : ℕ) → IsBlock image b → IsIn image b k → is_advance image k ≡ true →
-      is_first image b ≡ true
-  pub front : (b j k : ℕ) → IsBlock image b → IsIn image b k → is_advance image k ≡ true →
-      first_number image b ≤ j → j ≤ k → is_advance image j ≡ true
-  -- the exit's instruction stands in the block, and steers and sends hang on it
-  pub source : (b s x y : ℕ) → IsBlock image b → (block_at image b).exit ≡ Branch s x y →
-      IsIn image b s
-  pub address : (b s : ℕ) (ls : List ℕ) → IsBlock image b →
-      (block_at image b).exit ≡ Landings s ls → IsIn image b s
-  pub steers : (b k : ℕ) → IsBlock image b → IsIn image b k → (instr_at image k).op ≡ Steer →
-      (s x y : ℕ) × ((block_at image b).exit ≡ Branch s x y) × Carries image b s k 1
-  pub sends : (b k p : ℕ) → IsBlock image b → IsIn image b k → (instr_at image k).op ≡ Send p →
-      (s : ℕ) × (ls : List ℕ) × ((block_at image b).exit ≡ Landings s ls) × Carries image b s k 0
-
--- the rules on shape on which no proof about a walk rests
-pub record MoreShape (image : Image) : Type 0 where
   pub waves : WavesInOrder image.blocks
-  pub pad_zero : HasPad (block_at image 1).pads 0
-  pub pads_first : (b : ℕ) → IsBlock image b → is_first image b ≡ false →
-      (block_at image b).pads ≡ []
-  -- the exit's instruction has a result and is neither a steer nor a send
-  pub source_gives : (b s x y : ℕ) → IsBlock image b → (block_at image b).exit ≡ Branch s x y →
-      is_giving image s ≡ true
-  pub address_gives : (b s : ℕ) (ls : List ℕ) → IsBlock image b →
-      (block_at image b).exit ≡ Landings s ls → is_giving image s ≡ true
-  pub landing_first : (b s r : ℕ) (ls : List ℕ) → IsBlock image b →
-      (block_at image b).exit ≡ Landings s ls → is_first image (target image b r) ≡ true
-  pub landing_pad : (b k p r : ℕ) → IsBlock image b → IsIn image b k →
-      (instr_at image k).op ≡ Send p → HasPad (block_at image (target image b r)).pads p
-  -- a halt stands exactly where the exit is a stop, once, after all other memory instructions
-  pub halt_stops : (b k : ℕ) → IsBlock image b → IsIn image b k → (instr_at image k).op ≡ Halt →
-      stops image b ≡ true
-  pub stop_halts : (b : ℕ) → IsBlock image b → stops image b ≡ true →
-      (k : ℕ) × IsIn image b k × ((instr_at image k).op ≡ Halt)
-  pub halt_last : (b j k : ℕ) → IsBlock image b → IsIn image b k → (instr_at image k).op ≡ Halt →
-      IsIn image b j → is_memory image j ≡ true → j ≤ k
-  -- destinations
-  pub dests_ahead : (b k j q : ℕ) → IsBlock image b → IsIn image b k →
-      HasDest (instr_at image k).dests j q → IsAhead image b k j
-  pub others_ahead : (b k j q : ℕ) → IsBlock image b → IsIn image b k →
-      HasDest (instr_at image k).others j q → IsAhead image b k j
-  pub pads_to_advances : (b : ℕ) (p : Pad) (j q : ℕ) → IsBlock image b →
-      In p (block_at image b).pads → HasDest p.dests j q →
-      IsIn image b j × (is_advance image j ≡ true)
+  pub blocks : (b : ℕ) → IsBlock image b → BlockShape image b
 
 -- Links.
 
@@ -248,7 +276,6 @@ pub record RippleRules (image : Image) : Type 0 where
 
 pub record Sound (image : Image) : Type 0 where
   pub shape : ShapeRules image
-  pub more_shape : MoreShape image
   pub slots : SlotRules image
   pub links : LinkRules image
   pub ripples : RippleRules image

@@ -5,8 +5,8 @@ use Rattle.std.proofs.lemmas.Nat.{mul-le}
 use Rattle.std.proofs.Math.Nat.{mul-add}
 use Rattle.ws_words.specs.Outside.{Outside}
 use Rattle.ws_isa.specs.Image.{Image, is_first, stops, target, IsBlock}
-use Rattle.image_walk.specs.Sound.{ShapeRules}
 use Rattle.wave_gen.specs.Waits.{Names, Code, count, names_at, chosen, Place, pass, places}
+use Rattle.wave_gen.proofs.WalkShape.{WalkShape}
 
 -- n blocks, m of them passed, f instructions fired before block b
 inner_grows : (n m f g b c : ℕ) → m + suc n ≤ n * f + b → f ≤ g → b < c → suc m + suc n ≤ n * (g + 0) + c
@@ -18,7 +18,7 @@ cross_grows n m f g b c h l k d =
     let e : n * (g + 1) ≡ n * g + n * 1 = mul-add n g 1 in
     omega (arith, h, i, k, d, e)
 
-module _ (image : Image) (c : Code) (shape : ShapeRules image) (busy : (b : ℕ) → IsBlock image b → is_first image b ≡ true → 1 ≤ count (c.steps b)) where
+module _ (image : Image) (c : Code) (shape : WalkShape image) (busy : (b : ℕ) → IsBlock image b → is_first image b ≡ true → 1 ≤ count (c.steps b)) where
   abbrev N : ℕ
   N = length image.blocks
 
@@ -39,12 +39,12 @@ module _ (image : Image) (c : Code) (shape : ShapeRules image) (busy : (b : ℕ)
   passes m p g o = elim (cases_Bool (stops image p.block)) [
     | inl h ↦ absurd (both_ways (pass image c p).over o (ap (λ (q : Place). q.over) (cond-true (stops image p.block) stopped gone h)))
     | inr h ↦ subst (Grown (suc m)) (sym (cond-false (stops image p.block) stopped gone h)) (record {
-      there = shape.edges p.block r g.there h;
+      there = (shape.edges p.block g.there).there r h;
       long = elim (cases_Bool (is_first image (target image p.block r))) [
         | inl f ↦ subst (λ (v : Bool). suc m + suc N ≤ N * (p.fired + count (c.steps p.block) + cond v 1 0) + target image p.block r) (sym f)
-            (cross_grows N m (begun p) (p.fired + count (c.steps p.block)) p.block (target image p.block r) g.long enough g.there.1 (shape.edges p.block r g.there h).0)
+            (cross_grows N m (begun p) (p.fired + count (c.steps p.block)) p.block (target image p.block r) g.long enough g.there.1 ((shape.edges p.block g.there).there r h).0)
         | inr f ↦ subst (λ (v : Bool). suc m + suc N ≤ N * (p.fired + count (c.steps p.block) + cond v 1 0) + target image p.block r) (sym f)
-            (inner_grows N m (begun p) (p.fired + count (c.steps p.block)) p.block (target image p.block r) g.long enough (shape.later p.block r g.there h f).0)
+            (inner_grows N m (begun p) (p.fired + count (c.steps p.block)) p.block (target image p.block r) g.long enough ((shape.edges p.block g.there).later r h f).0)
       ];
     })
   ]

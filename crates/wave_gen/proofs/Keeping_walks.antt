@@ -4,7 +4,7 @@ use Rattle.std.proofs.lemmas.Bool.{cond-true}
 use Rattle.std.specs.List.{AllByRecursion}
 use Rattle.ws_words.specs.Outside.{Act, Outside, State, World}
 use Rattle.ws_isa.specs.Image.{Image, Array, In, first_number, is_first, IsBlock}
-use Rattle.image_walk.specs.Sound.{SlotRules, ShapeRules}
+use Rattle.image_walk.specs.Sound.{SlotRules}
 use Rattle.image_walk.specs.Walk.{opening_memory, mem, has_ended, CostAtMost}
 use Rattle.image_walk.specs.Walk.{walk as instances}
 use Rattle.image_walk.proofs.Ending.{over_is_whole}
@@ -31,6 +31,7 @@ use Rattle.wave_gen.proofs.Paced.{ops_most, Leaves, exit_leaves, last_block}
 use Rattle.wave_gen.proofs.OutOfTurns.{append_assoc, outside, front_run, exit_longer}
 use Rattle.wave_gen.proofs.Passes.{forth, Same}
 use Rattle.wave_gen.proofs.Waiting.{waits}
+use Rattle.wave_gen.proofs.WalkShape.{WalkShape}
 use Rattle.wave_gen.proofs.Shape.{shape}
 use Rattle.wave_gen.proofs.Tied.{AtBlock, Tied, at_block, at_end, out_of_turns, next, block_step, next_place, begins_so, follows}
 
@@ -96,7 +97,7 @@ module _ (g : Graph) (arrays : List Array) (width : ℕ) (ps : List Plan) (live 
   abbrev C : Code
   C = code_of width ps
 
-  pub draft_shape : ShapeRules I
+  pub draft_shape : WalkShape I
   draft_shape = shape arrays width ps (λ b x. live b x ≡ true) d.plans
 
   pub draft_lists : ListsFit I

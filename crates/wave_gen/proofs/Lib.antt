@@ -7,6 +7,7 @@ mod More
 mod DrawnPlans
 mod IsDrawn
 mod Slots
+mod WalkShape
 mod Steps
 mod Turns
 mod Tokens

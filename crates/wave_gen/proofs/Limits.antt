@@ -253,9 +253,9 @@ module _ (g : Graph) (live : ℕ → ℕ → Bool) (cut : Cut) (fit : Fits g liv
   unfolding stops
   sends_at o n h b k p hb i e =
       let w = o.walkable in
-      let x = w.shape.sends b k p hb i e in
+      let x = (w.shape.blocks b hb).hang.sends k p i e in
       let runs : stops I b ≡ false = ap is_stop x.2 in
-      has_below n p (image.block_at I (target I b 0)).pads (pads_at n h (target I b 0) (w.shape.edges b 0 hb runs)) (w.more_shape.landing_pad b k p 0 hb i e)
+      has_below n p (image.block_at I (target I b 0)).pads (pads_at n h (target I b 0) ((w.shape.blocks b hb).edges.there 0 runs)) ((w.shape.blocks b hb).hang.landing_pad k p 0 i e)
 
   limits : OpenToNotes I → KeepsLimits g live I
   limits o = record {

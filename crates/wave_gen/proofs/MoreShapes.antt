@@ -16,7 +16,7 @@ use Rattle.wave_gen.proofs.Starts.{first_is, waits_first, starts_has}
 use Rattle.wave_gen.proofs.Blocks.{starts_outer, begins_next}
 use Rattle.wave_gen.proofs.Edges.{exit_is, target_is}
 use Rattle.wave_gen.proofs.Waiting.{stops_is, waits, chooses_by, lands_by}
-use Rattle.wave_gen.proofs.Shape.{send_only, shape, source_op}
+use Rattle.wave_gen.proofs.Shape.{send_only, shape, shape_sends, source_op}
 use Rattle.wave_gen.proofs.Valid.{now_slot, edge_slot, slot_ahead}
 use Rattle.wave_gen.proofs.Number.{nth_lt, number_is, block_at_is, is_block, block_is, instr_is, nth_append_left, nth_append_right}
 use Rattle.wave_gen.proofs.Lines.{Items, Lines, line_at}
@@ -156,7 +156,7 @@ module _ (arrays : List Array) (width : ℕ) (ps : List Plan) (Live : ℕ → �
   pub more_landing_pad : (b k p r : ℕ) → IsBlock I b → IsIn I b k → (instr_at I k).op ≡ Send p → HasPad (block_at I (target I b r)).pads p
   more_landing_pad b k p r hb i e =
       let h : Is b = is_block arrays width ps b hb in
-      let x = (shape arrays width ps Live plans).sends b k p hb i e in
+      let x = shape_sends arrays width ps Live plans b k p hb i e in
       let o = lands_at b x.0 r x.1 h x.2 in
       let t = is_tail arrays width ps Live plans.each b h k i (ap is_tail_op e) in
       let f : (instr_at I k).op ≡ Send (0 + t.place) = ap (λ (n : Instr). n.op) t.is ∙ send_only arrays width ps Live plans 0 o.0 t.place t.tail (subst (λ (ts : List Tail). nth ts t.place ≡ Some t.tail) o.1 t.at) in

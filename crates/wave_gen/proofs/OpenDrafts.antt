@@ -7,7 +7,7 @@ use Rattle.ws_isa.specs.declared.instr.Op.TheVariants.{Merge, Advance, Steer, Se
 use Rattle.ws_isa.specs.declared.instr.Dest.{Dest}
 use Rattle.ws_isa.specs.Image.{Image, Instr, Block, Pad, Array, In, flat, instr_at, block_at, first_number, ports, is_giving_op, is_stop, stops, now_of, now_dests, edge_of, edge_dests, IsIn, IsBlock, IsInstr}
 use Rattle.ws_isa.specs.Formed.{DestsIn, OpIn, ExitIn, References, DestsSuit, OthersSuit, SomeLanding, Suited}
-use Rattle.image_walk.specs.Sound.{HasDest, MoreShape}
+use Rattle.image_walk.specs.Sound.{HasDest, HasPad, BlockShape, ShapeRules}
 use Rattle.image_walk.specs.Open.{OpenToNotes}
 use Rattle.image_walk.proofs.Blocks.{number_one, number_last}
 use Rattle.wave_gen.specs.Waits.{Code}
@@ -25,7 +25,7 @@ use Rattle.wave_gen.proofs.Starts.{first_is, starts_has}
 use Rattle.wave_gen.proofs.Blocks.{starts_outer}
 use Rattle.wave_gen.proofs.Edges.{exit_is}
 use Rattle.wave_gen.proofs.Waiting.{target_there, waits}
-use Rattle.wave_gen.proofs.Shape.{shape}
+use Rattle.wave_gen.proofs.Shape.{shape, shape_front, shape_source, shape_address, shape_steers, shape_sends}
 use Rattle.wave_gen.proofs.Valid.{Slot, now_slot, edge_slot, starts_slot, slot_ahead}
 use Rattle.wave_gen.proofs.MoreShapes.{more_waves, more_pad_zero, more_pads_first, pad_front, more_pads, more_source, more_address, more_landing_first, more_landing_pad, more_halt_stops, more_stop_halts, more_halt_last}
 use Rattle.wave_gen.proofs.OpenArms.{draft_bare, draft_arms, draft_givers}
@@ -96,7 +96,7 @@ module _ (arrays : List Array) (width : ℕ) (ps : List Plan) (Live : ℕ → �
 
   steer_runs : (b k : ℕ) → IsBlock I b → IsIn I b k → (instr_at I k).op ≡ Steer → stops I b ≡ false
   unfolding stops
-  steer_runs b k hb i e = let r = (shape arrays width ps Live plans).steers b k hb i e in ap is_stop r.3
+  steer_runs b k hb i e = let r = shape_steers arrays width ps Live plans b k hb i e in ap is_stop r.3
 
   -- where an instruction's lists lead
   dest_slot : (b k j q : ℕ) → IsBlock I b → IsIn I b k → HasDest (instr_at I k).dests j q → SlotAt b (suc k) j q
@@ -117,23 +117,41 @@ module _ (arrays : List Array) (width : ℕ) (ps : List Plan) (Live : ℕ → �
   slot_there : (b k j q : ℕ) → SlotAt b k j q → IsInstr I j × (q < ports I j)
   slot_there b k j q s = (in_image I s.block j s.there s.inside, s.port)
 
-  -- the rules on destinations
-  more_shape : MoreShape I
-  more_shape = record {
-    waves = more_waves arrays width ps Live plans gives;
-    pad_zero = more_pad_zero arrays width ps Live plans gives;
-    pads_first = more_pads_first arrays width ps Live plans gives;
-    source_gives = more_source arrays width ps Live plans gives;
-    address_gives = more_address arrays width ps Live plans gives;
-    landing_first = more_landing_first arrays width ps Live plans gives;
-    landing_pad = more_landing_pad arrays width ps Live plans gives;
-    halt_stops = more_halt_stops arrays width ps Live plans gives;
-    stop_halts = more_stop_halts arrays width ps Live plans gives;
-    halt_last = more_halt_last arrays width ps Live plans gives;
-    dests_ahead = λ b k j q hb i d. slot_ahead I C (shape arrays width ps Live plans) (waits arrays width ps Live plans) b k j q (dest_slot b k j q hb i d);
-    others_ahead = λ b k j q hb i d. slot_ahead I C (shape arrays width ps Live plans) (waits arrays width ps Live plans) b k j q (other_slot b k j q hb i d);
-    pads_to_advances = more_pads arrays width ps Live plans gives;
+  block_shape : (b : ℕ) → IsBlock I b → BlockShape I b
+  block_shape b hb = record {
+    opening = λ e. subst (λ (n : ℕ). HasPad (block_at I n).pads 0) (sym e) (more_pad_zero arrays width ps Live plans gives);
+    edges = (shape arrays width ps Live plans).edges b hb;
+    front = record {
+      advances = λ k i a. (shape arrays width ps Live plans).advances b k hb i a;
+      front = λ j k i a l u. shape_front arrays width ps Live plans b j k hb i a l u;
+      pads = more_pads_first arrays width ps Live plans gives b hb;
+    };
+    exit = record {
+      source = λ s x y e. shape_source arrays width ps Live plans b s x y hb e;
+      address = λ s ls e. shape_address arrays width ps Live plans b s ls hb e;
+      source_gives = λ s x y e. more_source arrays width ps Live plans gives b s x y hb e;
+      address_gives = λ s ls e. more_address arrays width ps Live plans gives b s ls hb e;
+    };
+    hang = record {
+      steers = λ k i e. shape_steers arrays width ps Live plans b k hb i e;
+      sends = λ k p i e. shape_sends arrays width ps Live plans b k p hb i e;
+      landing_pad = λ k p r i e. more_landing_pad arrays width ps Live plans gives b k p r hb i e;
+      landing_first = λ s r ls e. more_landing_first arrays width ps Live plans gives b s r ls hb e;
+    };
+    halt = record {
+      halt_stops = λ k i e. more_halt_stops arrays width ps Live plans gives b k hb i e;
+      stop_halts = more_stop_halts arrays width ps Live plans gives b hb;
+      halt_last = λ j k i e l m. more_halt_last arrays width ps Live plans gives b j k hb i e l m;
+    };
+    dests = record {
+      dests = λ k j q i d. slot_ahead I C (shape arrays width ps Live plans) (waits arrays width ps Live plans) b k j q (dest_slot b k j q hb i d);
+      others = λ k j q i d. slot_ahead I C (shape arrays width ps Live plans) (waits arrays width ps Live plans) b k j q (other_slot b k j q hb i d);
+      pads = λ p j q i d. more_pads arrays width ps Live plans gives b p j q hb i d;
+    };
   }
+
+  shape_rules : ShapeRules I
+  shape_rules = record { has_block = (shape arrays width ps Live plans).has_block; waves = more_waves arrays width ps Live plans gives; blocks = block_shape }
 
   -- pads
   pad_there : (b : ℕ) (p : Pad) (j q : ℕ) → IsBlock I b → In p (block_at I b).pads → HasDest p.dests j q → IsInstr I j × (q < ports I j)
@@ -167,12 +185,12 @@ module _ (arrays : List Array) (width : ℕ) (ps : List Plan) (Live : ℕ → �
       go : (e : Leaves) → (plan_at ps b).exit ≡ e → EdgesAre ps b e → ExitIn I (block_at I b).exit
       go (Onto c) q g = subst (ExitIn I) (sym (is (Onto c) q)) (block_is arrays width ps c (target_there arrays width ps Live plans b c h g))
       go (Either op from c d) q g = subst (ExitIn I) (sym (is (Either op from c d) q)) (
-        in_image I b (source_of width ps b) hb ((shape arrays width ps Live plans).source b (source_of width ps b) c d hb (is (Either op from c d) q)),
+        in_image I b (source_of width ps b) hb (shape_source arrays width ps Live plans b (source_of width ps b) c d hb (is (Either op from c d) q)),
         block_is arrays width ps c (target_there arrays width ps Live plans b c h (inl g.0)),
         block_is arrays width ps d (target_there arrays width ps Live plans b d h (inl g.1)),
       )
       go (Lands op from values ls) q g = subst (ExitIn I) (sym (is (Lands op from values ls) q)) (
-        in_image I b (source_of width ps b) hb ((shape arrays width ps Live plans).address b (source_of width ps b) ls hb (is (Lands op from values ls) q)),
+        in_image I b (source_of width ps b) hb (shape_address arrays width ps Live plans b (source_of width ps b) ls hb (is (Lands op from values ls) q)),
         landings_in values ls g.1,
       )
       go Halts q g = subst (ExitIn I) (sym (is Halts q)) tt
@@ -236,8 +254,7 @@ module _ (arrays : List Array) (width : ℕ) (ps : List Plan) (Live : ℕ → �
       bare = draft_bare arrays width ps;
       walkable = record {
         suited = suited;
-        shape = shape arrays width ps Live plans;
-        more_shape = more_shape;
+        shape = shape_rules;
         slots = waits_slots I C (shape arrays width ps Live plans) (waits arrays width ps Live plans);
       };
       arms = draft_arms arrays width ps Live plans opens;

@@ -5,7 +5,7 @@ use Rattle.ws_isa.specs.declared.instr.Op.{Op}
 use Rattle.ws_isa.specs.declared.instr.Op.TheVariants.{Steer, Send}
 use Rattle.ws_isa.specs.Image as image
 use Rattle.ws_isa.specs.Image.{Image, Instr, Array, In, nth, instr_at, block_at, first_number, is_first, is_advance, target, stops, IsIn, IsBlock}
-use Rattle.image_walk.specs.Sound.{Carries, ShapeRules}
+use Rattle.image_walk.specs.Sound.{Carries}
 use Rattle.wave_gen.specs.Waits.{Owner, Step, Fires, Rests, Skips, Copies, count, Stands}
 use Rattle.wave_gen.specs.Wire.{Line, Wants, Made, with_rooms, make}
 use Rattle.wave_gen.specs.Plans.{Leaves, Onto, Either, Lands, Halts, Plan, Tail, TailAt, steers, sends, steered, hang, plan_at, made_at, starts_at, begins, owner_of, tails_of, end_wants, behind_source, exit_made, block_of, draft_of, code_of, exit_of, source_of, operands_needed, chooses, KeptOf, instr_of}
@@ -20,6 +20,7 @@ use Rattle.wave_gen.proofs.Starts.{first_is}
 use Rattle.wave_gen.proofs.Edges.{exit_is, target_is}
 use Rattle.wave_gen.proofs.Waiting.{waits, target_there, chooses_by, lands_by, kept_inside, one_is}
 use Rattle.wave_gen.proofs.Number.{number_is, block_at_is, is_block, block_is}
+use Rattle.wave_gen.proofs.WalkShape.{WalkShape}
 
 hang_steps : (b n z : ℕ) (ts : List Tail) (w : Wants) → count (hang b n z ts w).steps ≡ length ts
 hang_steps b n z [] w = refl
@@ -207,7 +208,7 @@ module _ (arrays : List Array) (width : ℕ) (ps : List Plan) (Live : ℕ → �
       go (inl i) = (i.later, wave_is (target I b r) (target_there arrays width ps Live plans b (target I b r) (there b h) (inl i)) ∙ i.wave ∙ sym (wave_is b (there b h)))
       go (inr o) = absurd (both_ways (is_first I (target I b r)) f (first_is arrays width ps Live plans (target I b r) (o.some, o.there) ∙ o.first))
 
-  shape_front : (b j k : ℕ) → IsBlock I b → IsIn I b k → is_advance I k ≡ true → first_number I b ≤ j → j ≤ k → is_advance I j ≡ true
+  pub shape_front : (b j k : ℕ) → IsBlock I b → IsIn I b k → is_advance I k ≡ true → first_number I b ≤ j → j ≤ k → is_advance I j ≡ true
   shape_front b j k h i a l u =
       let r = advance_front arrays width ps Live plans.each b (there b h) k i a in
       front_advance arrays width ps Live plans.each b (there b h) r.0 j (l, omega (arith, i.1)) (omega (arith, r.1))
@@ -233,7 +234,7 @@ module _ (arrays : List Array) (width : ℕ) (ps : List Plan) (Live : ℕ → �
       go (Lands op from values ls) q = record { chose = ap chooses q; carried = tail_carried b h op from (ap operands_needed q) (ap chooses q) (ap (exit_made width S b (plan_at ps b)) q) m i t }
 
   -- a steer stands where two edges are, a send where landings are
-  shape_steers : (b k : ℕ) → IsBlock I b → IsIn I b k → (instr_at I k).op ≡ Steer → (s x y : ℕ) × ((block_at I b).exit ≡ image.Branch s x y) × Carries I b s k 1
+  pub shape_steers : (b k : ℕ) → IsBlock I b → IsIn I b k → (instr_at I k).op ≡ Steer → (s x y : ℕ) × ((block_at I b).exit ≡ image.Branch s x y) × Carries I b s k 1
   shape_steers b k hb i e = go (plan_at ps b).exit refl
     where
       h : Is b
@@ -259,7 +260,7 @@ module _ (arrays : List Array) (width : ℕ) (ps : List Plan) (Live : ℕ → �
       go (Lands op from values ls) q = absurd (no_send values (ap (tails_of width S) q))
       go (Either op from x y) q = (source_of width ps b, x, y, exit_is arrays width ps Live plans b h ∙ ap (exit_of (source_of width ps b)) q, c)
 
-  shape_sends : (b k p : ℕ) → IsBlock I b → IsIn I b k → (instr_at I k).op ≡ Send p → (s : ℕ) × (ls : List ℕ) × ((block_at I b).exit ≡ image.Landings s ls) × Carries I b s k 0
+  pub shape_sends : (b k p : ℕ) → IsBlock I b → IsIn I b k → (instr_at I k).op ≡ Send p → (s : ℕ) × (ls : List ℕ) × ((block_at I b).exit ≡ image.Landings s ls) × Carries I b s k 0
   shape_sends b k p hb i e = go (plan_at ps b).exit refl
     where
       h : Is b
@@ -288,15 +289,16 @@ module _ (arrays : List Array) (width : ℕ) (ps : List Plan) (Live : ℕ → �
   source_block : (b s : ℕ) → Is b → (s ≡ source_of width ps b) × (chooses (plan_at ps b).exit ≡ true) → IsIn I b s
   source_block b s h k = kept_inside arrays width ps Live plans b s (plan_at ps b).test h (inl (k.1, k.0, refl))
 
-  pub shape : ShapeRules I
+  pub shape_source : (b s x y : ℕ) → IsBlock I b → (block_at I b).exit ≡ image.Branch s x y → IsIn I b s
+  shape_source b s x y h e = source_block b s (there b h) (chooses_by arrays width ps Live plans b (there b h) s x y e)
+
+  pub shape_address : (b s : ℕ) (ls : List ℕ) → IsBlock I b → (block_at I b).exit ≡ image.Landings s ls → IsIn I b s
+  shape_address b s ls h e = source_block b s (there b h) (lands_by arrays width ps Live plans b (there b h) s ls e)
+
+  -- what its walk needs
+  pub shape : WalkShape I
   shape = record {
     has_block = block_is arrays width ps 1 (one_is arrays width ps Live plans);
-    edges = shape_edges;
-    later = shape_later;
+    edges = λ b h. record { there = λ r s. shape_edges b r h s; later = λ r s f. shape_later b r h s f };
     advances = λ b k h i a. first_is arrays width ps Live plans b (there b h) ∙ (advance_front arrays width ps Live plans.each b (there b h) k i a).0;
-    front = shape_front;
-    source = λ b s x y h e. source_block b s (there b h) (chooses_by arrays width ps Live plans b (there b h) s x y e);
-    address = λ b s ls h e. source_block b s (there b h) (lands_by arrays width ps Live plans b (there b h) s ls e);
-    steers = shape_steers;
-    sends = shape_sends;
   }

@@ -3,12 +3,13 @@ use Rattle.std.proofs.Common.{ℕ, zero, suc, ◌+◌, ◌-◌, ◌≡◌, ◌<�
 use Rattle.std.proofs.lemmas.Bool.{cases_Bool, cases_eq, cases_lt, both_ways, cond-true, cond-false, lt-ltb, le-ltb}
 use Rattle.ws_isa.specs.declared.instr.Op.{Op}
 use Rattle.ws_isa.specs.Image.{Image, nth, ports, ports_of, is_advance, is_first, first_number, size_of, stops, target, now_dests, edge_dests, start_dests, IsIn, IsBlock}
-use Rattle.image_walk.specs.Sound.{Slots, HasDest, none_open, all_opened, Fresh, closed, opens_at, AdvancesOpen, ShapeRules, SlotRules}
+use Rattle.image_walk.specs.Sound.{Slots, HasDest, none_open, all_opened, Fresh, closed, opens_at, AdvancesOpen, SlotRules}
 use Rattle.image_walk.proofs.SlotCert.{Alike, SlotCert}
 use Rattle.wave_gen.specs.Waits.{Distinct, Owner, Step, Fires, Rests, Skips, Copies, is_name, without, with_ports, renamed, own, count, FiresAt, RestsAt, Stands, Code, starts, went_past, was_sent, Waits}
 use Rattle.wave_gen.proofs.Slots.{all_opened_from, all_opened_has, all_opened_keeps, closed_cases, has_or_not, distinct_fresh, edge_all_from, edge_all_has}
 use Rattle.image_walk.proofs.Certified.{slot_rules}
 use Rattle.wave_gen.proofs.Steps.{first_up}
+use Rattle.wave_gen.proofs.WalkShape.{WalkShape}
 
 abbrev pub is_some : {A : Type 0} → Option A → Bool
 is_some None = false
@@ -210,7 +211,7 @@ same_bool true y f g = sym (f refl)
 same_bool false true f g = g refl
 same_bool false false f g = refl
 
-module _ (image : Image) (c : Code) (shape : ShapeRules image) (waits : Waits image c) where
+module _ (image : Image) (c : Code) (shape : WalkShape image) (waits : Waits image c) where
   is_block : ℕ → Bool
   is_block b = cond (ltb 0 b) (ltb b (suc (length image.blocks))) false
 
@@ -335,7 +336,7 @@ module _ (image : Image) (c : Code) (shape : ShapeRules image) (waits : Waits im
     start = block_to 1 shape.has_block;
     start_open = start_open;
     turn_open = λ b k h i. turn_open b k (block_from b h) i;
-    edge_reached = λ b r h s. block_to (target image b r) (shape.edges b r (block_from b h) s);
+    edge_reached = λ b r h s. block_to (target image b r) ((shape.edges b (block_from b h)).there r s);
     edge_open = λ b r h s. edge_open b r (block_from b h) s;
     start_fresh = distinct_fresh (start_dests image) none_open waits.start_once (λ j q h. refl);
     has_all = λ b k h i. has_all b k (block_from b h) i;

@@ -31,7 +31,7 @@ use Rattle.wave_link.proofs.GrownTriggers.{same_renamed, pads_kept, now_giver, n
 use Rattle.wave_link.proofs.GrownForm.{renamed as by_number}
 use Rattle.wave_link.proofs.GrownOf.{ports_kept, nop_ports, op_kept}
 use Rattle.wave_link.proofs.ShapeOf.{ImageCase, old, no_op, image_case, block_on, block_back, new_inside, nop_inside, renamed_back, the_steer, first_edge, second_edge, not_stop, dests_grown, others_grown}
-use Rattle.wave_link.proofs.ShapeOf.{more_shape}
+use Rattle.wave_link.proofs.ShapeOf.{shape_rules}
 use Rattle.wave_link.proofs.FormedNotes.{UpTo, PlaceUpTo, most_ops, place_up, seq_up, writer_up}
 
 -- What holds at each number holds of all.
@@ -341,9 +341,9 @@ module _ (draft : Image) (ok : OpenToNotes draft) where
     where
       go : (steer_in draft b ≡ k) ⊎ (steer_in draft b ≡ k → ⊥) → (giver draft b ≡ k) ⊎ (giver draft b ≡ k → ⊥) → IsNop (get_or (tables_in draft.blocks).now k 0)
       go (inl s) g =
-          let e = shape.steers b k h i (the_steer draft ok b k h i s) in
+          let e = (shape.blocks b h).hang.steers k i (the_steer draft ok b k h i s) in
           subst IsNop (sym (now_steer draft b k e.0 e.1 e.2 h i e.3 s))
-          (steered_nop e.1 (subst (IsBlock draft) (sym (first_edge draft ok b e.0 e.1 e.2 e.3)) (shape.edges b 1 h (not_stop draft ok b e.0 e.1 e.2 e.3))))
+          (steered_nop e.1 (subst (IsBlock draft) (sym (first_edge draft ok b e.0 e.1 e.2 e.3)) ((shape.blocks b h).edges.there 1 (not_stop draft ok b e.0 e.1 e.2 e.3))))
       go (inr s) (inl g) = subst IsNop (sym (now_giver draft b k h i g s)) (own_nop b h)
       go (inr s) (inr g) = inl (now_none draft b k h i g s)
 
@@ -352,9 +352,9 @@ module _ (draft : Image) (ok : OpenToNotes draft) where
     where
       go : (steer_in draft b ≡ k) ⊎ (steer_in draft b ≡ k → ⊥) → IsNop (get_or (tables_in draft.blocks).other k 0)
       go (inl s) =
-          let e = shape.steers b k h i (the_steer draft ok b k h i s) in
+          let e = (shape.blocks b h).hang.steers k i (the_steer draft ok b k h i s) in
           subst IsNop (sym (other_steer draft b k e.0 e.1 e.2 h i e.3 s))
-          (steered_nop e.2 (subst (IsBlock draft) (sym (second_edge draft ok b e.0 e.1 e.2 e.3)) (shape.edges b 0 h (not_stop draft ok b e.0 e.1 e.2 e.3))))
+          (steered_nop e.2 (subst (IsBlock draft) (sym (second_edge draft ok b e.0 e.1 e.2 e.3)) ((shape.blocks b h).edges.there 0 (not_stop draft ok b e.0 e.1 e.2 e.3))))
       go (inr s) = inl (other_none draft b k h i s)
 
   list_there : (ds : List Dest) (n : ℕ) → There draft ds → IsNop n → There (annotated draft) (by_number (new draft) ds ++ extra_dest n)
@@ -394,8 +394,8 @@ module _ (draft : Image) (ok : OpenToNotes draft) where
 
       exit_in : (b : ℕ) → IsBlock draft b → (x : Exit) → (block_at draft b).exit ≡ x → ExitIn draft x → ExitIn (annotated draft) (grown_exit (tables_in draft.blocks) x)
       exit_in b h (Goto c) e i = block_on draft c i
-      exit_in b h (Branch s c d) e i = (new_number s (in_image b (new draft s) h (new_inside draft b s h (shape.source b s c d h e))), block_on draft c i.1, block_on draft d i.2)
-      exit_in b h (Landings s ls) e i = (new_number s (in_image b (new draft s) h (new_inside draft b s h (shape.address b s ls h e))), all_each (IsBlock draft) (IsBlock (annotated draft)) ls (λ c j. block_on draft c j) i.1)
+      exit_in b h (Branch s c d) e i = (new_number s (in_image b (new draft s) h (new_inside draft b s h ((shape.blocks b h).exit.source s c d e))), block_on draft c i.1, block_on draft d i.2)
+      exit_in b h (Landings s ls) e i = (new_number s (in_image b (new draft s) h (new_inside draft b s h ((shape.blocks b h).exit.address s ls e))), all_each (IsBlock draft) (IsBlock (annotated draft)) ls (λ c j. block_on draft c j) i.1)
       exit_in b h Stop e i = tt
 
   lists : ListsSuit (annotated draft)
@@ -488,7 +488,7 @@ module _ (draft : Image) (ok : OpenToNotes draft) where
       instrs = by_case InstrWithin instr_old instr_nop;
       blocks = all_blocks BlockWithin (annotated draft) (λ b h. block_within b (block_back draft b h));
       suited = suited;
-      waves = (more_shape draft ok).waves;
+      waves = (shape_rules draft ok).waves;
       pads = all_blocks (λ b. PadsRise b.pads) (annotated draft) (λ b h. subst PadsRise (sym (pads_kept draft b)) (pads_rise (tables_in draft.blocks) (block_at draft b).pads (block_of_all (λ b. PadsRise b.pads) draft b room.rise (block_back draft b h))));
       notes = all_of (λ i. NoteSuits i.op i.note) (flat (annotated draft).blocks) (λ k x e. (all_good draft k x e).suits);
     }

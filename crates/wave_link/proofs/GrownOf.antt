@@ -7,7 +7,7 @@ use Rattle.ws_isa.specs.declared.instr.Op.TheVariants.{Steer, Nop, Halt}
 use Rattle.ws_isa.specs.declared.instr.Dest.{Dest}
 use Rattle.ws_isa.specs.Image.{Instr, Exit, Goto, Branch, Landings, Stop, Image, nth, instr_at, block_at, first_number, size_of, ports, ports_of, is_memory, is_memory_op, is_advance, is_advance_op, is_giving, stops, is_stop, target, is_first, edges_of, leave_to, now_of, now_dests, edge_of, edge_dests, IsIn, IsBlock, IsInstr}
 use Rattle.ws_isa.specs.Formed.{References}
-use Rattle.image_walk.specs.Sound.{Slots, HasDest, all_opened, Fresh, edge_all, opens_at, ShapeRules, MoreShape}
+use Rattle.image_walk.specs.Sound.{Slots, HasDest, all_opened, Fresh, edge_all, opens_at, ShapeRules}
 use Rattle.image_walk.specs.Open.{EnteredBySteer, OpenToNotes}
 use Rattle.image_walk.specs.Walk.{choice_of, opening_memory}
 use Rattle.image_walk.proofs.Steps.{first_le}
@@ -129,9 +129,6 @@ module _ (draft : Image) (ok : OpenToNotes draft) where
   shape : ShapeRules draft
   shape = ok.walkable.shape
 
-  more : MoreShape draft
-  more = ok.walkable.more_shape
-
   refs : References draft
   refs = ok.walkable.suited.references
 
@@ -159,7 +156,7 @@ module _ (draft : Image) (ok : OpenToNotes draft) where
   pub before_first : (b : ℕ) → IsBlock draft b → trigger draft b ≡ Before → is_first draft b ≡ false
   before_first b h t =
       let e : EnteredBySteer draft b = entered b h (case_before b t) in
-      let s = shape.steers e.before e.instr e.block e.inside e.steers in
+      let s = (shape.blocks e.before e.block).hang.steers e.instr e.inside e.steers in
       let a = ok.arms e.before s.0 s.1 s.2 e.block s.3 in
       elim (two_edges s.1 s.2 b e.place (ap (λ (x : Exit). nth (edges_of x) e.place) (sym s.3) ∙ e.edge.is)) [
         | inl p ↦ ap (is_first draft) (sym p.1) ∙ a.0.not_first
@@ -171,9 +168,9 @@ module _ (draft : Image) (ok : OpenToNotes draft) where
   unfolding target stops
   before_steered b r h s t =
       let c : ℕ = target draft b r in
-      let hc : IsBlock draft c = shape.edges b r h s in
+      let hc : IsBlock draft c = (shape.blocks b h).edges.there r s in
       let e : EnteredBySteer draft c = entered c hc (case_before c t) in
-      let p = edge_place (block_at draft b).exit r s (λ i ls q. clash (is_first draft c) (more.landing_first b i r ls h q) (before_first c hc t)) in
+      let p = edge_place (block_at draft b).exit r s (λ i ls q. clash (is_first draft c) ((shape.blocks b h).hang.landing_first i r ls q) (before_first c hc t)) in
       let o = e.edge.only b p.0 h p.1 in
       let i : IsIn draft b e.instr = subst (λ (n : ℕ). IsIn draft n e.instr) (sym o.0) e.inside in
       elim (steer_cases draft b h) [
@@ -187,10 +184,10 @@ module _ (draft : Image) (ok : OpenToNotes draft) where
   -- what the steers of a block open besides is what the block behind the edge waits for
   gathered : (b r : ℕ) → IsBlock draft b → stops draft b ≡ false → gather (extras_at draft r) (first_number draft b) (size_of draft b) ≡ before_slot (trigger draft (target draft b r)) (nop draft (target draft b r))
   gathered b r h s = elim (steer_cases draft b h) [
-    | inr x ↦ (let e = shape.steers b (steer_in draft b) h x.inside (steer_is (instr_at draft (steer_in draft b)).op x.is_one) in
+    | inr x ↦ (let e = (shape.blocks b h).hang.steers (steer_in draft b) x.inside (steer_is (instr_at draft (steer_in draft b)).op x.is_one) in
         gather_one (extras_at draft r) (before_slot (trigger draft (target draft b r)) (nop draft (target draft b r))) (steer_in draft b) (first_number draft b) (size_of draft b)
         x.inside.0 (omega (arith, x.inside.1, end_of draft b l))
-        (extras_steer draft b r (steer_in draft b) e.0 e.1 e.2 h x.inside (shape.edges b r h s) e.3 (steer_is (instr_at draft (steer_in draft b)).op x.is_one) refl)
+        (extras_steer draft b r (steer_in draft b) e.0 e.1 e.2 h x.inside ((shape.blocks b h).edges.there r s) e.3 (steer_is (instr_at draft (steer_in draft b)).op x.is_one) refl)
         (λ j p q n. extras_else draft b r j h (p, omega (arith, q, end_of draft b l)) (λ m. n (sym m))))
     | inl n ↦ gather_none (extras_at draft r) (first_number draft b) (size_of draft b)
         (λ j p q. extras_else draft b r j h (p, omega (arith, q, end_of draft b l)) (λ m. omega (arith, m, n.zero_is, instr_positive draft b j h (p, omega (arith, q, end_of draft b l)))))
@@ -252,7 +249,7 @@ module _ (draft : Image) (ok : OpenToNotes draft) where
     nop = nop draft;
     blocks = λ b h. (h.0, omega (arith, h.1, count_kept draft));
     first_block = shape.has_block;
-    edges = shape.edges;
+    edges = λ b r h s. (shape.blocks b h).edges.there r s;
     first = first_is draft;
     ends = ends_grown;
     nop_is = λ b h. nop_number b;
@@ -297,8 +294,8 @@ module _ (draft : Image) (ok : OpenToNotes draft) where
       go : (x : Exit) → (block_at draft b).exit ≡ x → choice_of (grown_exit (tables_in draft.blocks) x) new_results ≡ choice_of x old
       go (Goto c) e = refl
       go Stop e = refl
-      go (Branch s x y) e = like (new draft s) s (origin_new draft s (is_instr draft b s h (shape.source b s x y h e)))
-      go (Landings s ls) e = like (new draft s) s (origin_new draft s (is_instr draft b s h (shape.address b s ls h e)))
+      go (Branch s x y) e = like (new draft s) s (origin_new draft s (is_instr draft b s h ((shape.blocks b h).exit.source s x y e)))
+      go (Landings s ls) e = like (new draft s) s (origin_new draft s (is_instr draft b s h ((shape.blocks b h).exit.address s ls e)))
 
   not_stop : (b s x y : ℕ) → (block_at draft b).exit ≡ Branch s x y → stops draft b ≡ false
   unfolding stops
@@ -308,7 +305,7 @@ module _ (draft : Image) (ok : OpenToNotes draft) where
   stop_whole : (b : ℕ) → IsBlock draft b → stops draft b ≡ true → extra (trigger draft b) ≡ 0
   stop_whole b h s = elim (cases_Bool (adds draft b)) [
     | inr a ↦ not_added_if draft b a
-    | inl a ↦ (let x = more.stop_halts b h s in absurd (halt_not x.0 x.2 (no_memory draft b x.0 h a x.1)))
+    | inl a ↦ (let x = (shape.blocks b h).halt.stop_halts s in absurd (halt_not x.0 x.2 (no_memory draft b x.0 h a x.1)))
   ]
     where
       halt_not : (k : ℕ) → (instr_at draft k).op ≡ Halt → is_memory draft k ≡ false → ⊥
@@ -328,9 +325,9 @@ module _ (draft : Image) (ok : OpenToNotes draft) where
       go (inl f) = elim (steer_cases draft b h) [
         | inl n ↦ absurd (omega (arith, n.zero_is, f, instr_positive draft b k h i))
         | inr o ↦ (let op : (instr_at draft k).op ≡ Steer = ap (λ (n : ℕ). (instr_at draft n).op) (sym f) ∙ steer_is (instr_at draft (steer_in draft b)).op o.is_one in
-            let e = shape.steers b k h i op in
+            let e = (shape.blocks b h).hang.steers k i op in
             let s : stops draft b ≡ false = not_stop b e.0 e.1 e.2 e.3 in
-            let c : IsBlock draft (target draft b r) = shape.edges b r h s in
+            let c : IsBlock draft (target draft b r) = (shape.blocks b h).edges.there r s in
             none_here (trigger draft (target draft b r)) (target draft b r) c refl
             (subst (λ (ds : List Dest). HasDest ds j q) (extras_steer draft b r k e.0 e.1 e.2 h i c e.3 op f) x))
       ]

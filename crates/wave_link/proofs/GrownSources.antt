@@ -136,7 +136,7 @@ module _ (draft : Image) (ok : OpenToNotes draft) where
   arms_in : (b s x y : ℕ) → IsBlock draft b → (block_at draft b).exit ≡ Branch s x y → IsBlock draft x × IsBlock draft y
   arms_in b s x y h e =
       let n = not_stop draft ok b s x y e in
-      (subst (IsBlock draft) (sym (first_edge draft ok b s x y e)) (shape.edges b 1 h n), subst (IsBlock draft) (sym (second_edge draft ok b s x y e)) (shape.edges b 0 h n))
+      (subst (IsBlock draft) (sym (first_edge draft ok b s x y e)) ((shape.blocks b h).edges.there 1 n), subst (IsBlock draft) (sym (second_edge draft ok b s x y e)) ((shape.blocks b h).edges.there 0 n))
 
   near_old : (b c k q : ℕ) → IsBlock draft b → adds draft b ≡ true → IsBlock draft c → IsIn draft c k →
       HasDest (instr_at (annotated draft) (k + shift draft c)).dests (nop draft b) q ⊎ HasDest (instr_at (annotated draft) (k + shift draft c)).others (nop draft b) q → Near b (k + shift draft c)
@@ -149,7 +149,7 @@ module _ (draft : Image) (ok : OpenToNotes draft) where
       now_case : HasDest (extra_dest (get_or (tables_in draft.blocks).now k 0)) (nop draft b) q → (steer_in draft c ≡ k) ⊎ (steer_in draft c ≡ k → ⊥) → (giver draft c ≡ k) ⊎ (giver draft c ≡ k → ⊥) → (adds draft c ≡ true) ⊎ (adds draft c ≡ false) → Near b (k + shift draft c)
       now_case y (inl s) g d =
           let op : (instr_at draft k).op ≡ Steer = the_steer draft ok c k i n s in
-          let e = shape.steers c k i n op in
+          let e = (shape.blocks c i).hang.steers k n op in
           inr (from_steer b c k e.1 0 q h a i n op (arms_in c e.0 e.1 e.2 i e.3).0 (ap (λ (z : Exit). nth (edges_of z) 0) e.3)
           (subst (λ (l : ℕ). HasDest (extra_dest l) (nop draft b) q) (now_steer draft c k e.0 e.1 e.2 i n e.3 s) y))
       now_case y (inr s) (inl g) (inl d) =
@@ -166,7 +166,7 @@ module _ (draft : Image) (ok : OpenToNotes draft) where
       other_case : HasDest (extra_dest (get_or (tables_in draft.blocks).other k 0)) (nop draft b) q → (steer_in draft c ≡ k) ⊎ (steer_in draft c ≡ k → ⊥) → Near b (k + shift draft c)
       other_case y (inl s) =
           let op : (instr_at draft k).op ≡ Steer = the_steer draft ok c k i n s in
-          let e = shape.steers c k i n op in
+          let e = (shape.blocks c i).hang.steers k n op in
           inr (from_steer b c k e.2 1 q h a i n op (arms_in c e.0 e.1 e.2 i e.3).1 (ap (λ (z : Exit). nth (edges_of z) 1) e.3)
           (subst (λ (l : ℕ). HasDest (extra_dest l) (nop draft b) q) (other_steer draft c k e.0 e.1 e.2 i n e.3 s) y))
       other_case y (inr s) = absurd (no_extra (get_or (tables_in draft.blocks).other k 0) (nop draft b) q (other_none draft c k i n s) y)
@@ -197,7 +197,7 @@ module _ (draft : Image) (ok : OpenToNotes draft) where
     | inl n ↦ absurd (cc (n.none y.instr y.inside, ap is_steer_op y.steers))
     | inr o ↦ (let k : ℕ = steer_in draft y.before in
         let op : (instr_at draft k).op ≡ Steer = steer_is (instr_at draft k).op o.is_one in
-        let e = shape.steers y.before k y.block o.inside op in (
+        let e = (shape.blocks y.before y.block).hang.steers k o.inside op in (
           k + shift draft y.before,
           (
             0,

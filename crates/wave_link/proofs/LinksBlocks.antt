@@ -3,7 +3,7 @@ use Rattle.std.proofs.Common.{ℕ, zero, suc, ◌+◌, ◌-◌, ◌≡◌, ◌<�
 use Rattle.std.proofs.lemmas.Bool.{cases_eq}
 use Rattle.ws_isa.specs.Image.{Exit, Goto, Branch, Landings, Stop, Block, Image, nth, or_else, no_block, block_at, leave_to, is_stop, stops, target, is_first, edges_of, IsBlock}
 use Rattle.ws_isa.specs.Formed.{WavesFrom, WavesInOrder}
-use Rattle.image_walk.specs.Sound.{ShapeRules, MoreShape}
+use Rattle.image_walk.specs.Sound.{ShapeRules}
 use Rattle.image_walk.specs.Open.{IsArm}
 use Rattle.wave_link.specs.declared.outline.Way.{Way}
 use Rattle.wave_link.specs.declared.outline.Way.TheVariants.{Out, On, Fork}
@@ -142,12 +142,12 @@ in_wave draft b c m w hb hc e l k =
 
 -- Edges.
 
-module _ (draft : Image) (shape : ShapeRules draft) (more : MoreShape draft) (arms : (b s x y : ℕ) → IsBlock draft b → (block_at draft b).exit ≡ Branch s x y → IsArm draft b 0 x × IsArm draft b 1 y) where
+module _ (draft : Image) (shape : ShapeRules draft) (arms : (b s x y : ℕ) → IsBlock draft b → (block_at draft b).exit ≡ Branch s x y → IsArm draft b 0 x × IsArm draft b 1 y) where
   abbrev firsts : List Bool
   firsts = firsts_of draft.blocks
 
   told : (t : ℕ) → IsBlock draft t → get_or firsts t true ≡ is_first draft t
-  told t h = first_told draft t more.waves h
+  told t h = first_told draft t shape.waves h
 
   leads_by : (e : Exit) (r : ℕ) → is_stop e ≡ false → is_first draft (leave_to e r) ≡ false → IsBlock draft (leave_to e r) → ((s : ℕ) (ls : List ℕ) → e ≡ Landings s ls → is_first draft (leave_to e r) ≡ true) → Leads (way_of e firsts) (leave_to e r)
   leads_by (Goto t) r s f h m = rw (told t h ∙ f) refl
@@ -162,7 +162,7 @@ module _ (draft : Image) (shape : ShapeRules draft) (more : MoreShape draft) (ar
   pub edge_leads : (b r : ℕ) → IsBlock draft b → stops draft b ≡ false → is_first draft (target draft b r) ≡ false → Leads (outline_at draft b).way (target draft b r)
   unfolding target stops
   edge_leads b r h s f = subst (λ (w : Way). Leads w (target draft b r)) (sym (way_is draft b h))
-      (leads_by (block_at draft b).exit r s f (shape.edges b r h s) (λ i ls e. more.landing_first b i r ls h e))
+      (leads_by (block_at draft b).exit r s f ((shape.blocks b h).edges.there r s) (λ i ls e. (shape.blocks b h).hang.landing_first i r ls e))
 
   pub record Back (b c : ℕ) : Type 0 where
     pub goes : stops draft b ≡ false
@@ -181,7 +181,7 @@ module _ (draft : Image) (shape : ShapeRules draft) (more : MoreShape draft) (ar
       at r = ap (λ (x : Exit). leave_to x r) e
 
       block : IsBlock draft t
-      block = subst (IsBlock draft) (at 0) (shape.edges b 0 h s)
+      block = subst (IsBlock draft) (at 0) ((shape.blocks b h).edges.there 0 s)
 
       go : (v : Bool) → get_or firsts t true ≡ v → Leads (cond v Out (On t)) c → Back b c
       go true f k = absurd k
@@ -203,10 +203,10 @@ module _ (draft : Image) (shape : ShapeRules draft) (more : MoreShape draft) (ar
   pub on_in : (b c : ℕ) → IsBlock draft b → Leads (outline_at draft b).way c → On_in b c
   on_in b c h k =
       let q : Back b c = back b c h k in
-      let l : (b < target draft b q.r) × ((block_at draft (target draft b q.r)).wave ≡ (block_at draft b).wave) = shape.later b q.r h q.goes (ap (is_first draft) q.target_is ∙ q.inside) in
+      let l : (b < target draft b q.r) × ((block_at draft (target draft b q.r)).wave ≡ (block_at draft b).wave) = (shape.blocks b h).edges.later q.r q.goes (ap (is_first draft) q.target_is ∙ q.inside) in
       record {
         later = subst (λ (i : ℕ). b < i) q.target_is l.0;
-        most = (subst (IsBlock draft) q.target_is (shape.edges b q.r h q.goes)).1;
+        most = (subst (IsBlock draft) q.target_is ((shape.blocks b h).edges.there q.r q.goes)).1;
         wave = ap (λ (i : ℕ). (block_at draft i).wave) (sym q.target_is) ∙ l.1;
       }
 
@@ -215,7 +215,7 @@ module _ (draft : Image) (shape : ShapeRules draft) (more : MoreShape draft) (ar
   out_by b (Goto t) h e (inl s) = absurd (cc (sym s ∙ ap is_stop e))
   out_by b (Goto t) h e (inr s) =
       let at : target draft b s.1.0 ≡ t = ap (λ (x : Exit). leave_to x s.1.0) e in
-      let block : IsBlock draft t = subst (IsBlock draft) at (shape.edges b s.1.0 h s.0) in
+      let block : IsBlock draft t = subst (IsBlock draft) at ((shape.blocks b h).edges.there s.1.0 s.0) in
       ap (λ (v : Bool). cond v Out (On t)) (told t block ∙ (ap (is_first draft) (sym at) ∙ s.1.1))
   out_by b (Branch i p q) h e (inl s) = absurd (cc (sym s ∙ ap is_stop e))
   out_by b (Branch i p q) h e (inr s) = absurd (go (eqb s.1.0 0) (ap (λ (x : Exit). is_first draft (leave_to x s.1.0)) (sym e) ∙ s.1.1))
@@ -241,13 +241,13 @@ module _ (draft : Image) (shape : ShapeRules draft) (more : MoreShape draft) (ar
       s = ap is_stop e
 
       block : IsBlock draft t
-      block = subst (IsBlock draft) at (shape.edges b 0 h s)
+      block = subst (IsBlock draft) at ((shape.blocks b h).edges.there 0 s)
 
       go : (v : Bool) → get_or firsts t true ≡ v → cond v Out (On t) ≡ Out → (stops draft b ≡ true) ⊎ ((stops draft b ≡ false) × ((r : ℕ) × (is_first draft (target draft b r) ≡ true)))
       go true f w = inr (s, (0, ap (is_first draft) at ∙ (sym (told t block) ∙ f)))
       go false f w = absurd (cc)
   ends_by b (Branch i p q) h e w = absurd (cc)
-  ends_by b (Landings i ls) h e w = inr (ap is_stop e, (0, more.landing_first b i 0 ls h e))
+  ends_by b (Landings i ls) h e w = inr (ap is_stop e, (0, (shape.blocks b h).hang.landing_first i 0 ls e))
   ends_by b Stop h e w = inl (ap is_stop e)
 
   pub out_ends : (b : ℕ) → IsBlock draft b → (outline_at draft b).way ≡ Out → (stops draft b ≡ true) ⊎ ((stops draft b ≡ false) × ((r : ℕ) × (is_first draft (target draft b r) ≡ true)))

@@ -6,7 +6,7 @@ use Rattle.ws_isa.specs.declared.instr.Op.{Op}
 use Rattle.ws_isa.specs.declared.instr.Link.{Link}
 use Rattle.ws_isa.specs.declared.instr.Link.TheVariants.{Unknown}
 use Rattle.ws_isa.specs.Image.{Instr, Image, block_at, is_memory_op, is_writing_op, IsBlock}
-use Rattle.image_walk.specs.Sound.{ShapeRules, MoreShape}
+use Rattle.image_walk.specs.Sound.{ShapeRules}
 use Rattle.image_walk.specs.Open.{OpenToNotes}
 use Rattle.wave_link.specs.declared.outline.Outline.{Outline}
 use Rattle.wave_link.specs.declared.links.Behind.{Behind}
@@ -121,9 +121,6 @@ module _ (draft : Image) (open_to : OpenToNotes draft) where
   abbrev shape : ShapeRules draft
   shape = open_to.walkable.shape
 
-  abbrev more : MoreShape draft
-  more = open_to.walkable.more_shape
-
   step_states : (n : ℕ) → n < length draft.blocks → states_at draft (suc (suc n)) ≡ cond (reached (outline_at draft (suc n)) (suc n) (ways_at draft (suc count)))
       (spread_state (outline_at draft (suc n)).way (not (eqb (outline_at draft (suc n)).ops 0)) (state_in (outline_at draft (suc n)) (suc n) (ways_at draft (suc count)) (states_at draft (suc n))) (states_at draft (suc n)))
       (states_at draft (suc n))
@@ -181,16 +178,16 @@ module _ (draft : Image) (open_to : OpenToNotes draft) where
   by_suc P f zero l h = absurd (omega arith)
   by_suc P f (suc n) l h = f n h
 
-  edge_in : (b c : ℕ) → IsBlock draft b → Leads (outline_at draft b).way c → On_in draft shape more open_to.arms b c
-  edge_in b c h k = on_in draft shape more open_to.arms b c h k
+  edge_in : (b c : ℕ) → IsBlock draft b → Leads (outline_at draft b).way c → On_in draft shape open_to.arms b c
+  edge_in b c h k = on_in draft shape open_to.arms b c h k
 
   pub run : Run count (outline_at draft) (low_of draft) (heads_in draft) (ways_at draft) (states_at draft) (behind_at draft)
   run = record {
-    later = λ b c l h k. (let o : On_in draft shape more open_to.arms b c = edge_in b c (l, h) k in (o.later, o.most));
-    inner = λ b c m l h k q r. (let o : On_in draft shape more open_to.arms b c = edge_in b c (l, h) k in
-        in_wave draft b c m more.waves (l, h) (omega (arith, q, r), o.most) (sym o.wave) q r);
-    parts = λ b l h. parts draft shape more open_to.arms b (l, h);
-    alone = λ b p q a c l h f k m o g. alone draft shape more open_to.arms b p q a c (l, h) (m, o) f k g;
+    later = λ b c l h k. (let o : On_in draft shape open_to.arms b c = edge_in b c (l, h) k in (o.later, o.most));
+    inner = λ b c m l h k q r. (let o : On_in draft shape open_to.arms b c = edge_in b c (l, h) k in
+        in_wave draft b c m shape.waves (l, h) (omega (arith, q, r), o.most) (sym o.wave) q r);
+    parts = λ b l h. parts draft shape open_to.arms b (l, h);
+    alone = λ b p q a c l h f k m o g. alone draft shape open_to.arms b p q a c (l, h) (m, o) f k g;
     writer_in = λ b l h. writers b (l, h);
     low_next = λ b l h. lows b l h;
     head_is = by_suc (λ (b : ℕ). head_at (heads_in draft) b ≡ head_link (outline_at draft b) (low_of draft b) (heads_in draft)) heads;
@@ -224,4 +221,4 @@ module _ (draft : Image) (open_to : OpenToNotes draft) where
       heads : (n : ℕ) → n < length draft.blocks → head_at (heads_in draft) (suc n) ≡ head_link (outline_at draft (suc n)) (low_of draft (suc n)) (heads_in draft)
       heads n l = head_there (grown_of draft) (lows_of (grown_of draft)) 1 n (suc n) (replicate (length (grown_of draft) + 1) Unknown) (omega (arith, l, grown_length draft)) (omega arith)
           (omega (arith, length-replicate (length (grown_of draft) + 1) Unknown))
-          (λ i c q k. (let o : On_in draft shape more open_to.arms (suc i) c = edge_in (suc i) c (omega arith, omega (arith, q, grown_length draft)) k in omega (arith, o.later)))
+          (λ i c q k. (let o : On_in draft shape open_to.arms (suc i) c = edge_in (suc i) c (omega arith, omega (arith, q, grown_length draft)) k in omega (arith, o.later)))

@@ -287,17 +287,17 @@ module _ (draft : Image) where
     edge_on b r h s f =
         let t : target image b r ≡ target draft b r = target_kept draft b r in
         subst (λ (c : ℕ). Leads (outline_at draft b).way c) (sym t)
-        (edge_leads draft open_to.walkable.shape open_to.walkable.more_shape open_to.arms b r (in_draft b h) (sym (stops_kept draft b) ∙ s)
+        (edge_leads draft open_to.walkable.shape open_to.arms b r (in_draft b h) (sym (stops_kept draft b) ∙ s)
         (ap (is_first draft) (sym t) ∙ (sym (first_kept draft (target image b r)) ∙ f)))
 
     edge_from : (b c : ℕ) → IsBlock image b → Leads (outline_at draft b).way c → (stops image b ≡ false) × ((r : ℕ) × (target image b r ≡ c)) × (is_first image c ≡ false)
     edge_from b c h k =
-        let q : Back draft open_to.walkable.shape open_to.walkable.more_shape open_to.arms b c = back draft open_to.walkable.shape open_to.walkable.more_shape open_to.arms b c (in_draft b h) k in
+        let q : Back draft open_to.walkable.shape open_to.arms b c = back draft open_to.walkable.shape open_to.arms b c (in_draft b h) k in
         (stops_kept draft b ∙ q.goes, (q.r, target_kept draft b q.r ∙ q.target_is), first_kept draft c ∙ q.inside)
 
     ends_out : (b : ℕ) → IsBlock image b → (stops image b ≡ true) ⊎ ((stops image b ≡ false) × ((r : ℕ) × (is_first image (target image b r) ≡ true))) → (outline_at draft b).way ≡ Out
-    ends_out b h (inl s) = way_out draft open_to.walkable.shape open_to.walkable.more_shape open_to.arms b (in_draft b h) (inl (sym (stops_kept draft b) ∙ s))
-    ends_out b h (inr s) = way_out draft open_to.walkable.shape open_to.walkable.more_shape open_to.arms b (in_draft b h)
+    ends_out b h (inl s) = way_out draft open_to.walkable.shape open_to.arms b (in_draft b h) (inl (sym (stops_kept draft b) ∙ s))
+    ends_out b h (inr s) = way_out draft open_to.walkable.shape open_to.arms b (in_draft b h)
         (inr (sym (stops_kept draft b) ∙ s.0, (s.1.0, ap (is_first draft) (sym (target_kept draft b s.1.0)) ∙ (sym (first_kept draft (target image b s.1.0)) ∙ s.1.1))))
 
     pub marked : Marked image (length draft.blocks) (outline_at draft) (low_of draft) (heads_in draft) (behind_at draft) sq wr
@@ -312,12 +312,12 @@ module _ (draft : Image) where
       note = note_is;
       grows = λ b h. omega (arith, ends_at b h);
       has_writer = has_writer;
-      targets = λ b r h s. in_image (target image b r) (subst (IsBlock draft) (sym (target_kept draft b r)) (open_to.walkable.shape.edges b r (in_draft b h) (sym (stops_kept draft b) ∙ s)));
+      targets = λ b r h s. in_image (target image b r) (subst (IsBlock draft) (sym (target_kept draft b r)) ((open_to.walkable.shape.blocks b (in_draft b h)).edges.there r (sym (stops_kept draft b) ∙ s)));
       edge = edge_on;
       edge_back = edge_from;
       ends = ends_out;
-      first_is = λ b h. first_is draft b open_to.walkable.more_shape.waves (in_draft b h) ∙ sym (first_kept draft b);
-      one_wave = λ b c m h k w l o. in_wave draft b c m open_to.walkable.more_shape.waves (in_draft b h) (in_draft c k) (sym (wave_kept draft b) ∙ (w ∙ wave_kept draft c)) l o;
+      first_is = λ b h. first_is draft b open_to.walkable.shape.waves (in_draft b h) ∙ sym (first_kept draft b);
+      one_wave = λ b c m h k w l o. in_wave draft b c m open_to.walkable.shape.waves (in_draft b h) (in_draft c k) (sym (wave_kept draft b) ∙ (w ∙ wave_kept draft c)) l o;
     }
 
     pub links_kept : LinkRules image

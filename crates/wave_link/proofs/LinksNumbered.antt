@@ -67,7 +67,7 @@ module _ (draft : Image) (open_to : OpenToNotes draft) where
   before w k = operations_before image w k
 
   order : WavesInOrder draft.blocks
-  order = open_to.walkable.more_shape.waves
+  order = open_to.walkable.shape.waves
 
   waves_up : (b c : ℕ) → 1 ≤ b → b ≤ c → c ≤ length draft.blocks → wave b ≤ wave c
   waves_up b c l h k = let r : (block_at draft b).wave ≤ (block_at draft c).wave = waves_rise draft b c order l h k in omega (arith, wave_kept draft b, wave_kept draft c)

@@ -6,7 +6,7 @@ use Rattle.ws_isa.specs.declared.instr.Op.TheVariants.{Steer, Send, Nop, Halt}
 use Rattle.ws_isa.specs.declared.instr.Dest.{Dest}
 use Rattle.ws_isa.specs.Image.{Instr, Exit, Goto, Branch, Landings, Stop, Pad, Block, Image, In, nth, instr_at, block_at, block_of, first_number, is_memory, is_memory_op, is_advance, is_giving, is_giving_op, stops, target, is_first, now_dests, IsIn, IsBlock, IsInstr}
 use Rattle.ws_isa.specs.Formed.{References, WavesFrom, WavesInOrder}
-use Rattle.image_walk.specs.Sound.{HasDest, HasPad, IsAhead, Carries, direct, through, ShapeRules, MoreShape}
+use Rattle.image_walk.specs.Sound.{HasDest, HasPad, IsAhead, Carries, direct, through, EdgeShape, FrontShape, ExitShape, HangShape, HaltShape, DestShape, BlockShape, ShapeRules}
 use Rattle.image_walk.specs.Open.{OpenToNotes}
 use Rattle.image_walk.proofs.Steps.{first_le, block_of_is}
 use Rattle.image_walk.proofs.Slots.{has_append_cases}
@@ -184,9 +184,6 @@ module _ (draft : Image) (ok : OpenToNotes draft) where
   shape : ShapeRules draft
   shape = ok.walkable.shape
 
-  more : MoreShape draft
-  more = ok.walkable.more_shape
-
   refs : References draft
   refs = ok.walkable.suited.references
 
@@ -221,8 +218,8 @@ module _ (draft : Image) (ok : OpenToNotes draft) where
   -- that of a block behind an edge of a branch does
   behind_ahead : (b k c r : ℕ) → IsBlock draft b → IsIn draft b k → stops draft b ≡ false → c ≡ target draft b r → adds draft c ≡ true → is_first draft c ≡ false → IsAhead (annotated draft) b (k + shift draft b) (nop draft c)
   behind_ahead b k c r h i s e a f =
-      let hc : IsBlock draft c = subst (IsBlock draft) (sym e) (shape.edges b r h s) in
-      let l = shape.later b r h s (ap (is_first draft) (sym e) ∙ f) in
+      let hc : IsBlock draft c = subst (IsBlock draft) (sym e) ((shape.blocks b h).edges.there r s) in
+      let l = (shape.blocks b h).edges.later r s (ap (is_first draft) (sym e) ∙ f) in
       inr (
         before_later draft b c (k + shift draft b) (nop draft c) h hc (omega (arith, l.0, e)) (old_inside draft b k h i).1 (nop_low draft c hc),
         wave_of_block c (nop draft c) hc (nop_inside draft c hc a) ∙ (ap (λ (n : ℕ). (block_at draft n).wave) e ∙ (l.1 ∙ sym (wave_kept draft b))),
@@ -233,7 +230,7 @@ module _ (draft : Image) (ok : OpenToNotes draft) where
   steered_ahead b k c r j q h i s e x = go (trigger draft c) refl (subst (λ (ds : List Dest). HasDest ds j q) (steered_is draft c hc) x)
     where
       hc : IsBlock draft c
-      hc = subst (IsBlock draft) (sym e) (shape.edges b r h s)
+      hc = subst (IsBlock draft) (sym e) ((shape.blocks b h).edges.there r s)
 
       go : (t : Trigger) → trigger draft c ≡ t → HasDest (before_slot t (nop draft c)) j q → IsAhead (annotated draft) b (k + shift draft b) j
       go Whole f z = absurd z
@@ -269,7 +266,7 @@ module _ (draft : Image) (ok : OpenToNotes draft) where
 
       go : (steer_in draft b ≡ k) ⊎ (steer_in draft b ≡ k → ⊥) → (giver draft b ≡ k) ⊎ (giver draft b ≡ k → ⊥) → (adds draft b ≡ true) ⊎ (adds draft b ≡ false) → IsAhead (annotated draft) b (k + shift draft b) j
       go (inl s) g a =
-          let e = shape.steers b k h i (the_steer b k h i s) in
+          let e = (shape.blocks b h).hang.steers k i (the_steer b k h i s) in
           steered_ahead b k e.1 1 j q h i (not_stop b e.0 e.1 e.2 e.3) (first_edge b e.0 e.1 e.2 e.3)
           (subst (λ (n : ℕ). HasDest (extra_dest n) j q) (now_steer draft b k e.0 e.1 e.2 h i e.3 s) x)
       go (inr s) (inl g) a = own_case (now_giver draft b k h i g s) a
@@ -280,7 +277,7 @@ module _ (draft : Image) (ok : OpenToNotes draft) where
     where
       go : (steer_in draft b ≡ k) ⊎ (steer_in draft b ≡ k → ⊥) → IsAhead (annotated draft) b (k + shift draft b) j
       go (inl s) =
-          let e = shape.steers b k h i (the_steer b k h i s) in
+          let e = (shape.blocks b h).hang.steers k i (the_steer b k h i s) in
           steered_ahead b k e.2 0 j q h i (not_stop b e.0 e.1 e.2 e.3) (second_edge b e.0 e.1 e.2 e.3)
           (subst (λ (n : ℕ). HasDest (extra_dest n) j q) (other_steer draft b k e.0 e.1 e.2 h i e.3 s) x)
       go (inr s) = absurd (no_extra (get_or (tables_in draft.blocks).other k 0) j q (other_none draft b k h i s) x)
@@ -301,13 +298,13 @@ module _ (draft : Image) (ok : OpenToNotes draft) where
   dests_in_image : (b m j q : ℕ) → IsBlock draft b → ImageCase draft b m → HasDest (instr_at (annotated draft) m).dests j q → IsAhead (annotated draft) b m j
   dests_in_image b m j q h (no_op a n) x = absurd ((nop_lists b m j q h a n).0 x)
   dests_in_image b m j q h (old k i n) x = subst (λ (l : ℕ). IsAhead (annotated draft) b l j) (sym n)
-      (list_ahead b k j q (instr_at draft k).dests (extra_dest (get_or (tables_in draft.blocks).now k 0)) h i (dests_there draft refs k) (λ l p z. more.dests_ahead b k l p h i z) (λ l p z. now_ahead b k l p h i z)
+      (list_ahead b k j q (instr_at draft k).dests (extra_dest (get_or (tables_in draft.blocks).now k 0)) h i (dests_there draft refs k) (λ l p z. (shape.blocks b h).dests.dests k l p i z) (λ l p z. now_ahead b k l p h i z)
       (subst (λ (ds : List Dest). HasDest ds j q) (ap (λ (l : ℕ). (instr_at (annotated draft) l).dests) n ∙ dests_grown draft b k h i) x))
 
   others_in_image : (b m j q : ℕ) → IsBlock draft b → ImageCase draft b m → HasDest (instr_at (annotated draft) m).others j q → IsAhead (annotated draft) b m j
   others_in_image b m j q h (no_op a n) x = absurd ((nop_lists b m j q h a n).1 x)
   others_in_image b m j q h (old k i n) x = subst (λ (l : ℕ). IsAhead (annotated draft) b l j) (sym n)
-      (list_ahead b k j q (instr_at draft k).others (extra_dest (get_or (tables_in draft.blocks).other k 0)) h i (others_there draft refs k) (λ l p z. more.others_ahead b k l p h i z) (λ l p z. other_ahead b k l p h i z)
+      (list_ahead b k j q (instr_at draft k).others (extra_dest (get_or (tables_in draft.blocks).other k 0)) h i (others_there draft refs k) (λ l p z. (shape.blocks b h).dests.others k l p i z) (λ l p z. other_ahead b k l p h i z)
       (subst (λ (ds : List Dest). HasDest ds j q) (ap (λ (l : ℕ). (instr_at (annotated draft) l).others) n ∙ others_grown draft b k h i) x))
 
   advances_in : (b m : ℕ) → IsBlock draft b → ImageCase draft b m → is_advance (annotated draft) m ≡ true → (k : ℕ) × IsIn draft b k × (m ≡ k + shift draft b) × (is_advance draft k ≡ true)
@@ -319,49 +316,35 @@ module _ (draft : Image) (ok : OpenToNotes draft) where
   front_in b j m h (no_op a n) c e l = let x = advances_in b m h c e in absurd (omega (arith, n, l, x.2, x.1.1))
   front_in b j m h (old i p n) c e l =
       let x = advances_in b m h c e in
-      ap (is_advance (annotated draft)) n ∙ (advance_kept draft b i h p ∙ shape.front b i x.0 h x.1 x.3 p.0 (omega (arith, n, x.2, l)))
+      ap (is_advance (annotated draft)) n ∙ (advance_kept draft b i h p ∙ (shape.blocks b h).front.front i x.0 x.1 x.3 p.0 (omega (arith, n, x.2, l)))
 
   steers_in_image : (b m : ℕ) → IsBlock draft b → ImageCase draft b m → (instr_at (annotated draft) m).op ≡ Steer → (s x y : ℕ) × ((block_at (annotated draft) b).exit ≡ Branch s x y) × Carries (annotated draft) b s m 1
   steers_in_image b m h (no_op a n) e = let f : Nop ≡ Steer = nop_other draft b m Steer h a n e in absurd (cc)
   steers_in_image b m h (old k i n) e =
-      let r = shape.steers b k h i (old_op draft b k m Steer h i n e) in (
+      let r = (shape.blocks b h).hang.steers k i (old_op draft b k m Steer h i n e) in (
         new draft r.0,
         r.1,
         r.2,
         branch_on draft b r.0 r.1 r.2 r.3,
-        subst (λ (l : ℕ). Carries (annotated draft) b (new draft r.0) l 1) (new_is draft b k h i ∙ sym n) (carried draft b r.0 k 1 h (shape.source b r.0 r.1 r.2 h r.3) r.4),
+        subst (λ (l : ℕ). Carries (annotated draft) b (new draft r.0) l 1) (new_is draft b k h i ∙ sym n) (carried draft b r.0 k 1 h ((shape.blocks b h).exit.source r.0 r.1 r.2 r.3) r.4),
       )
 
   sends_in_image : (b m p : ℕ) → IsBlock draft b → ImageCase draft b m → (instr_at (annotated draft) m).op ≡ Send p → (s : ℕ) × (ls : List ℕ) × ((block_at (annotated draft) b).exit ≡ Landings s ls) × Carries (annotated draft) b s m 0
   sends_in_image b m p h (no_op a n) e = let f : Nop ≡ Send p = nop_other draft b m (Send p) h a n e in absurd (cc)
   sends_in_image b m p h (old k i n) e =
-      let r = shape.sends b k p h i (old_op draft b k m (Send p) h i n e) in (
+      let r = (shape.blocks b h).hang.sends k p i (old_op draft b k m (Send p) h i n e) in (
         new draft r.0,
         r.1,
         landings_on draft b r.0 r.1 r.2,
-        subst (λ (l : ℕ). Carries (annotated draft) b (new draft r.0) l 0) (new_is draft b k h i ∙ sym n) (carried draft b r.0 k 0 h (shape.address b r.0 r.1 h r.2) r.3),
+        subst (λ (l : ℕ). Carries (annotated draft) b (new draft r.0) l 0) (new_is draft b k h i ∙ sym n) (carried draft b r.0 k 0 h ((shape.blocks b h).exit.address r.0 r.1 r.2) r.3),
       )
-
-  pub shape_rules : ShapeRules (annotated draft)
-  shape_rules = record {
-    has_block = block_on draft 1 shape.has_block;
-    edges = λ b r h s. subst (IsBlock (annotated draft)) (sym (target_kept draft b r)) (block_on draft (target draft b r) (shape.edges b r (block_back draft b h) (sym (stops_kept draft b) ∙ s)));
-    later = λ b r h s f. (let l = shape.later b r (block_back draft b h) (sym (stops_kept draft b) ∙ s) (sym (first_kept draft (target draft b r)) ∙ (ap (is_first (annotated draft)) (sym (target_kept draft b r)) ∙ f)) in
-        (omega (arith, l.0, target_kept draft b r), ap (λ (n : ℕ). (block_at (annotated draft) n).wave) (target_kept draft b r) ∙ (wave_kept draft (target draft b r) ∙ (l.1 ∙ sym (wave_kept draft b)))));
-    advances = λ b m h i e. (let x = advances_in b m (block_back draft b h) (image_case draft b m (block_back draft b h) i) e in first_kept draft b ∙ shape.advances b x.0 (block_back draft b h) x.1 x.3);
-    front = λ b j m h i e l n. front_in b j m (block_back draft b h) (image_case draft b j (block_back draft b h) (l, omega (arith, n, i.1))) (image_case draft b m (block_back draft b h) i) e n;
-    source = λ b s x y h e. (let r = branch_of draft b s x y e in subst (IsIn (annotated draft) b) r.2 (new_inside draft b r.0 (block_back draft b h) (shape.source b r.0 x y (block_back draft b h) r.1)));
-    address = λ b s ls h e. (let r = landings_of draft b s ls e in subst (IsIn (annotated draft) b) r.2 (new_inside draft b r.0 (block_back draft b h) (shape.address b r.0 ls (block_back draft b h) r.1)));
-    steers = λ b m h i e. steers_in_image b m (block_back draft b h) (image_case draft b m (block_back draft b h) i) e;
-    sends = λ b m p h i e. sends_in_image b m p (block_back draft b h) (image_case draft b m (block_back draft b h) i) e;
-  }
 
   landing_in : (b m p r : ℕ) → IsBlock draft b → ImageCase draft b m → (instr_at (annotated draft) m).op ≡ Send p → HasPad (block_at (annotated draft) (target (annotated draft) b r)).pads p
   landing_in b m p r h (no_op a n) e = let f : Nop ≡ Send p = nop_other draft b m (Send p) h a n e in absurd (cc)
   landing_in b m p r h (old k i n) e =
       subst (λ (t : ℕ). HasPad (block_at (annotated draft) t).pads p) (sym (target_kept draft b r))
       (subst (λ (ps : List Pad). HasPad ps p) (sym (pads_kept draft (target draft b r)))
-      (has_pad_on (tables_in draft.blocks) (block_at draft (target draft b r)).pads p (more.landing_pad b k p r h i (old_op draft b k m (Send p) h i n e))))
+      (has_pad_on (tables_in draft.blocks) (block_at draft (target draft b r)).pads p ((shape.blocks b h).hang.landing_pad k p r i (old_op draft b k m (Send p) h i n e))))
 
   halt_in : (b m : ℕ) → IsBlock draft b → ImageCase draft b m → (instr_at (annotated draft) m).op ≡ Halt → (k : ℕ) × IsIn draft b k × (m ≡ k + shift draft b) × ((instr_at draft k).op ≡ Halt)
   halt_in b m h (no_op a n) e = let f : Nop ≡ Halt = nop_other draft b m Halt h a n e in absurd (cc)
@@ -373,32 +356,83 @@ module _ (draft : Image) (ok : OpenToNotes draft) where
       absurd (not_clash (is_memory draft x.0) (memory_at draft x.0 Halt x.3) (no_memory draft b x.0 h a x.1))
   last_in b j m h (old i p n) c e y =
       let x = halt_in b m h c e in
-      let l : i ≤ x.0 = more.halt_last b i x.0 h x.1 x.3 p (sym (memory_kept draft b i h p) ∙ (ap (is_memory (annotated draft)) (sym n) ∙ y)) in
+      let l : i ≤ x.0 = (shape.blocks b h).halt.halt_last i x.0 x.1 x.3 p (sym (memory_kept draft b i h p) ∙ (ap (is_memory (annotated draft)) (sym n) ∙ y)) in
       omega (arith, n, x.2, l)
 
   pads_in_image : (b j q : ℕ) (p : Pad) → IsBlock draft b → In p (block_at (annotated draft) b).pads → HasDest p.dests j q → IsIn (annotated draft) b j × (is_advance (annotated draft) j ≡ true)
   pads_in_image b j q p h i x =
       let r = pad_back (tables_in draft.blocks) (block_at draft b).pads p (subst (In p) (pads_kept draft b) i) in
       let y = renamed_back (new draft) r.0.dests j q (subst (λ (ds : List Dest). HasDest ds j q) (ap (λ (z : Pad). z.dests) r.2 ∙ same_renamed draft r.0.dests) x) in
-      let a = more.pads_to_advances b r.0 y.0 q h r.1 y.1 in (
+      let a = (shape.blocks b h).dests.pads r.0 y.0 q r.1 y.1 in (
         subst (IsIn (annotated draft) b) y.2 (new_inside draft b y.0 h a.0),
         ap (is_advance (annotated draft)) (sym y.2 ∙ new_is draft b y.0 h a.0) ∙ (advance_kept draft b y.0 h a.0 ∙ a.1),
       )
 
-  pub more_shape : MoreShape (annotated draft)
-  more_shape = record {
-    waves = waves_grown draft more.waves;
-    pad_zero = subst (λ (ps : List Pad). HasPad ps 0) (sym (pads_kept draft 1)) (has_pad_on (tables_in draft.blocks) (block_at draft 1).pads 0 more.pad_zero);
-    pads_first = λ b h f. pads_kept draft b ∙ pads_none (tables_in draft.blocks) (block_at draft b).pads (more.pads_first b (block_back draft b h) (sym (first_kept draft b) ∙ f));
-    source_gives = λ b s x y h e. (let r = branch_of draft b s x y e in ap (is_giving (annotated draft)) (sym r.2) ∙ (giving_kept draft b r.0 (block_back draft b h) (shape.source b r.0 x y (block_back draft b h) r.1) ∙ more.source_gives b r.0 x y (block_back draft b h) r.1));
-    address_gives = λ b s ls h e. (let r = landings_of draft b s ls e in ap (is_giving (annotated draft)) (sym r.2) ∙ (giving_kept draft b r.0 (block_back draft b h) (shape.address b r.0 ls (block_back draft b h) r.1) ∙ more.address_gives b r.0 ls (block_back draft b h) r.1));
-    landing_first = λ b s r ls h e. (let x = landings_of draft b s ls e in ap (is_first (annotated draft)) (target_kept draft b r) ∙ (first_kept draft (target draft b r) ∙ more.landing_first b x.0 r ls (block_back draft b h) x.1));
-    landing_pad = λ b m p r h i e. landing_in b m p r (block_back draft b h) (image_case draft b m (block_back draft b h) i) e;
-    halt_stops = λ b m h i e. (let x = halt_in b m (block_back draft b h) (image_case draft b m (block_back draft b h) i) e in stops_kept draft b ∙ more.halt_stops b x.0 (block_back draft b h) x.1 x.3);
-    stop_halts = λ b h s. (let x = more.stop_halts b (block_back draft b h) (sym (stops_kept draft b) ∙ s) in
-        (x.0 + shift draft b, old_inside draft b x.0 (block_back draft b h) x.1, op_kept draft b x.0 (block_back draft b h) x.1 ∙ x.2));
-    halt_last = λ b j m h i e k y. last_in b j m (block_back draft b h) (image_case draft b j (block_back draft b h) k) (image_case draft b m (block_back draft b h) i) e y;
-    dests_ahead = λ b m j q h i x. dests_in_image b m j q (block_back draft b h) (image_case draft b m (block_back draft b h) i) x;
-    others_ahead = λ b m j q h i x. others_in_image b m j q (block_back draft b h) (image_case draft b m (block_back draft b h) i) x;
-    pads_to_advances = λ b p j q h i x. pads_in_image b j q p (block_back draft b h) i x;
+  module _ (b : ℕ) (h : IsBlock draft b) where
+    its : BlockShape draft b
+    its = shape.blocks b h
+
+    edge_shape : EdgeShape (annotated draft) b
+    edge_shape = record {
+      there = λ r s. subst (IsBlock (annotated draft)) (sym (target_kept draft b r)) (block_on draft (target draft b r) (its.edges.there r (sym (stops_kept draft b) ∙ s)));
+      later = λ r s f. (let l = its.edges.later r (sym (stops_kept draft b) ∙ s) (sym (first_kept draft (target draft b r)) ∙ (ap (is_first (annotated draft)) (sym (target_kept draft b r)) ∙ f)) in
+          (omega (arith, l.0, target_kept draft b r), ap (λ (n : ℕ). (block_at (annotated draft) n).wave) (target_kept draft b r) ∙ (wave_kept draft (target draft b r) ∙ (l.1 ∙ sym (wave_kept draft b)))));
+    }
+
+    front_shape : FrontShape (annotated draft) b
+    front_shape = record {
+      advances = λ m i e. (let x = advances_in b m h (image_case draft b m h i) e in first_kept draft b ∙ its.front.advances x.0 x.1 x.3);
+      front = λ j m i e l n. front_in b j m h (image_case draft b j h (l, omega (arith, n, i.1))) (image_case draft b m h i) e n;
+      pads = λ f. pads_kept draft b ∙ pads_none (tables_in draft.blocks) (block_at draft b).pads (its.front.pads (sym (first_kept draft b) ∙ f));
+    }
+
+    exit_shape : ExitShape (annotated draft) b
+    exit_shape = record {
+      source = λ s x y e. (let r = branch_of draft b s x y e in subst (IsIn (annotated draft) b) r.2 (new_inside draft b r.0 h (its.exit.source r.0 x y r.1)));
+      address = λ s ls e. (let r = landings_of draft b s ls e in subst (IsIn (annotated draft) b) r.2 (new_inside draft b r.0 h (its.exit.address r.0 ls r.1)));
+      source_gives = λ s x y e. (let r = branch_of draft b s x y e in
+          ap (is_giving (annotated draft)) (sym r.2) ∙ (giving_kept draft b r.0 h (its.exit.source r.0 x y r.1) ∙ its.exit.source_gives r.0 x y r.1));
+      address_gives = λ s ls e. (let r = landings_of draft b s ls e in
+          ap (is_giving (annotated draft)) (sym r.2) ∙ (giving_kept draft b r.0 h (its.exit.address r.0 ls r.1) ∙ its.exit.address_gives r.0 ls r.1));
+    }
+
+    hang_shape : HangShape (annotated draft) b
+    hang_shape = record {
+      steers = λ m i e. steers_in_image b m h (image_case draft b m h i) e;
+      sends = λ m p i e. sends_in_image b m p h (image_case draft b m h i) e;
+      landing_pad = λ m p r i e. landing_in b m p r h (image_case draft b m h i) e;
+      landing_first = λ s r ls e. (let x = landings_of draft b s ls e in
+          ap (is_first (annotated draft)) (target_kept draft b r) ∙ (first_kept draft (target draft b r) ∙ its.hang.landing_first x.0 r ls x.1));
+    }
+
+    halt_shape : HaltShape (annotated draft) b
+    halt_shape = record {
+      halt_stops = λ m i e. (let x = halt_in b m h (image_case draft b m h i) e in stops_kept draft b ∙ its.halt.halt_stops x.0 x.1 x.3);
+      stop_halts = λ s. (let x = its.halt.stop_halts (sym (stops_kept draft b) ∙ s) in (x.0 + shift draft b, old_inside draft b x.0 h x.1, op_kept draft b x.0 h x.1 ∙ x.2));
+      halt_last = λ j m i e k y. last_in b j m h (image_case draft b j h k) (image_case draft b m h i) e y;
+    }
+
+    dest_shape : DestShape (annotated draft) b
+    dest_shape = record {
+      dests = λ m j q i x. dests_in_image b m j q h (image_case draft b m h i) x;
+      others = λ m j q i x. others_in_image b m j q h (image_case draft b m h i) x;
+      pads = λ p j q i x. pads_in_image b j q p h i x;
+    }
+
+    block_shape : BlockShape (annotated draft) b
+    block_shape = record {
+      opening = λ e. subst (λ (ps : List Pad). HasPad ps 0) (sym (pads_kept draft b)) (has_pad_on (tables_in draft.blocks) (block_at draft b).pads 0 (its.opening e));
+      edges = edge_shape;
+      front = front_shape;
+      exit = exit_shape;
+      hang = hang_shape;
+      halt = halt_shape;
+      dests = dest_shape;
+    }
+
+  pub shape_rules : ShapeRules (annotated draft)
+  shape_rules = record {
+    has_block = block_on draft 1 shape.has_block;
+    waves = waves_grown draft shape.waves;
+    blocks = λ b h. block_shape b (block_back draft b h);
   }

@@ -4,7 +4,7 @@ use Rattle.std.proofs.Math.Path.{fun_ext}
 use Rattle.std.proofs.lemmas.Bool.{cases_eq, cases_lt, lt-ltb, le-ltb}
 use Rattle.ws_isa.specs.declared.instr.Dest.{Dest}
 use Rattle.ws_isa.specs.Image.{Block, Image, first_of, first_number, ports, is_advance, stops, target, now_dests, is_first, start_dests, IsIn, IsBlock}
-use Rattle.image_walk.specs.Sound.{Slots, none_open, opened, all_opened, Fresh, closed, HasDest, opens_at, Opens, begin, turn, edge, AdvancesOpen, SlotRules}
+use Rattle.image_walk.specs.Sound.{Slots, none_open, opened, all_opened, Fresh, closed, HasDest, opens_at, Opens, begin, turn, edge, AdvancesOpen, EndSlots, EdgeInto, SlotRules}
 use Rattle.wave_link.proofs.GrownForm.{Trigger, Whole, Own, Before, renamed, nop_slot, own_slot, before_slot, extra, is_pending, lift, Grown}
 
 all_append : (xs bs : List Dest) (o : Slots) → all_opened (xs ++ bs) o ≡ all_opened bs (all_opened xs o)
@@ -443,7 +443,7 @@ module _ (draft image : Image) (g : Grown draft image) where
             let at : g.origin m ≡ Some x.next = ap g.origin (x.number ∙ sym (g.new_is b x.next x.here i)) ∙ g.origin_real b x.next x.here i in
             let n : ports image m ≡ ports draft x.next = ap (ports image) x.number ∙ g.ports_are b x.next x.here i in
             ap (λ (s : Slots). s m q) x.are ∙ (held_there (is_pending (g.trigger b) x.next) (g.nop b) (up x.slots) m q (λ e. not_nop b x.next x.here a (e ∙ x.number)) ∙ (up_at x.slots m q x.next at
-            ∙ rules.has_all b x.next x.slots x.path a q (omega (arith, n))))
+            ∙ (rules.turns b x.next x.slots x.path a).has_all q (omega (arith, n))))
         go (inr e) =
             let at : m ≡ g.nop b = x.number ∙ e.2 in
             let n : ports image m ≡ 1 = ap (ports image) at ∙ g.nop_ports b x.here e.1 in
@@ -457,60 +457,69 @@ module _ (draft image : Image) (g : Grown draft image) where
         go : (x.next < first_number draft (suc b)) ⊎ ((x.next ≡ first_number draft (suc b)) × (extra (g.trigger b) ≡ 1) × (x.next + g.shift b ≡ g.nop b)) → Fresh (now_dests image m) (closed m o)
         go (inl a) = subst (λ (n : ℕ). Fresh (now_dests image n) (closed n o)) (sym x.number)
             (subst (λ (s : Slots). Fresh (now_dests image (x.next + g.shift b)) (closed (x.next + g.shift b) s)) (sym x.are)
-            (real_fresh b x.next x.slots x.here (x.low, a) (rules.fresh b x.next x.slots x.path a)))
+            (real_fresh b x.next x.slots x.here (x.low, a) (rules.turns b x.next x.slots x.path a).fresh))
         go (inr e) = subst (λ (ds : List Dest). Fresh ds (closed m o)) (sym (ap (now_dests image) (x.number ∙ e.2) ∙ g.nop_now b x.here e.1)) tt
 
-    left : (b k : ℕ) (o : Slots) → Opens image b k o → k ≡ first_number image (suc b) → IsBlock draft b × ((p : Slots) × Opens draft b (first_number draft (suc b)) p × (o ≡ up p))
-    left b k o path e = at_end b k o (back b k o path) e
+    left : (b : ℕ) (o : Slots) → Opens image b (first_number image (suc b)) o → IsBlock draft b × ((p : Slots) × Opens draft b (first_number draft (suc b)) p × (o ≡ up p))
+    left b o path = at_end b (first_number image (suc b)) o (back b (first_number image (suc b)) o path) refl
 
-    quiet_edge : (b r : ℕ) (p : Slots) → IsBlock draft b → stops draft b ≡ false → is_first draft (target draft b r) ≡ true → all_opened (opens_at image b r) (up p) ≡ up (all_opened (opens_at draft b r) p)
-    quiet_edge b r p h s f = edge_turn b r p h s ∙ ap (λ (xs : List Dest). all_opened xs (up (all_opened (opens_at draft b r) p))) (first_quiet (target draft b r) (g.edges b r h s) f)
+    -- an edge of the image is an edge of the draft
+    record Entered (c b : ℕ) (o : Slots) : Type 0 where
+      pub here : IsBlock draft b
+      pub slots : Slots
+      pub into : EdgeInto draft c b slots
+      pub are : o ≡ all_opened (before_slot (g.trigger b) (g.nop b)) (up slots)
 
-    crosses : (b k : ℕ) (o : Slots) → Opens image b k o → k ≡ first_number image (suc b) → stops image b ≡ false → (r : ℕ) → is_first image (target image b r) ≡ true → AdvancesOpen image (target image b r) (all_opened (opens_at image b r) o)
-    crosses b k o path e s r f =
-        let h = left b k o path e in
-        let st : stops draft b ≡ false = sym (g.stops_are b) ∙ s in
-        let t : ℕ = target draft b r in
-        let f' : is_first draft t ≡ true = ap (is_first draft) (sym (g.targets_are b r)) ∙ (sym (g.firsts_are (target image b r)) ∙ f) in
-        subst (λ (n : ℕ). AdvancesOpen image n (all_opened (opens_at image b r) o)) (sym (g.targets_are b r))
-        (subst (AdvancesOpen image t) (sym (ap (all_opened (opens_at image b r)) h.1.2 ∙ quiet_edge b r h.1.0 h.0 st f'))
-        (up_advances t (all_opened (opens_at draft b r) h.1.0) (g.edges b r h.0 st) (rules.crossing b (first_number draft (suc b)) h.1.0 h.1.1 refl st r f')))
+    entered : (c b : ℕ) (o : Slots) → EdgeInto image c b o → Entered c b o
+    entered c b o e =
+        let h = left c e.before e.path in
+        let st : stops draft c ≡ false = sym (g.stops_are c) ∙ e.goes_on in
+        let to : target draft c e.choice ≡ b = sym (g.targets_are c e.choice) ∙ e.to in
+        let slots : Slots = all_opened (opens_at draft c e.choice) h.1.0 in
+        record {
+          here = subst (IsBlock draft) to (g.edges c e.choice h.0 st);
+          slots = slots;
+          into = record { before = h.1.0; path = h.1.1; goes_on = st; choice = e.choice; to = to; opens = refl };
+          are = sym e.opens ∙ (ap (all_opened (opens_at image c e.choice)) h.1.2 ∙ (edge_turn c e.choice h.1.0 h.0 st ∙ ap (λ (n : ℕ). all_opened (before_slot (g.trigger n) (g.nop n)) (up slots)) to));
+        }
 
-    joins : (b k c l r s : ℕ) (o p : Slots) → Opens image b k o → Opens image c l p → k ≡ first_number image (suc b) → l ≡ first_number image (suc c) →
-        stops image b ≡ false → stops image c ≡ false → target image b r ≡ target image c s → is_first image (target image b r) ≡ false →
-        all_opened (opens_at image b r) o ≡ all_opened (opens_at image c s) p
-    joins b k c l r s o p pb pc eb ec sb sc same f =
-        let h = left b k o pb eb in
-        let i = left c l p pc ec in
-        let tb : stops draft b ≡ false = sym (g.stops_are b) ∙ sb in
-        let tc : stops draft c ≡ false = sym (g.stops_are c) ∙ sc in
-        let t : target draft b r ≡ target draft c s = sym (g.targets_are b r) ∙ (same ∙ g.targets_are c s) in
-        let f' : is_first draft (target draft b r) ≡ false = ap (is_first draft) (sym (g.targets_are b r)) ∙ (sym (g.firsts_are (target image b r)) ∙ f) in
-        let eq : all_opened (opens_at draft b r) h.1.0 ≡ all_opened (opens_at draft c s) i.1.0 =
-        fun_ext (λ j. fun_ext (λ q. rules.pending b (first_number draft (suc b)) c (first_number draft (suc c)) r s h.1.0 i.1.0 h.1.1 i.1.1 refl refl tb tc t f' j q)) in
-        (ap (all_opened (opens_at image b r)) h.1.2 ∙ edge_turn b r h.1.0 h.0 tb)
-        ∙ (ap₂ (λ (n : ℕ) (x : Slots). all_opened (before_slot (g.trigger n) (g.nop n)) (up x)) t eq
-        ∙ sym (ap (all_opened (opens_at image c s)) i.1.2 ∙ edge_turn c s i.1.0 i.0 tc))
+    crosses : (c b : ℕ) (o : Slots) → EdgeInto image c b o → is_first image b ≡ true → AdvancesOpen image b o
+    crosses c b o e f =
+        let x : Entered c b o = entered c b o e in
+        let f' : is_first draft b ≡ true = sym (g.firsts_are b) ∙ f in
+        subst (AdvancesOpen image b) (sym (x.are ∙ ap (λ (xs : List Dest). all_opened xs (up x.slots)) (first_quiet b x.here f'))) (up_advances b x.slots x.here (rules.crossing c b x.slots x.into f'))
+
+    joins : (c d b : ℕ) (o p : Slots) → EdgeInto image c b o → EdgeInto image d b p → is_first image b ≡ false → o ≡ p
+    joins c d b o p e f i =
+        let x : Entered c b o = entered c b o e in
+        let y : Entered d b p = entered d b p f in
+        let same : x.slots ≡ y.slots = fun_ext (λ j. fun_ext (λ q. rules.pending c d b x.slots y.slots x.into y.into (sym (g.firsts_are b) ∙ i) j q)) in
+        x.are ∙ (ap (λ (s : Slots). all_opened (before_slot (g.trigger b) (g.nop b)) (up s)) same ∙ sym y.are)
+
+    shut : (p : Slots) → ((i q : ℕ) → p i q ≡ false) → (j q : ℕ) → up p j q ≡ false
+    shut p a j q = elim (origin_cases j) [
+      | inl x ↦ up_at p j q x.0 x.1 ∙ a x.0 q
+      | inr e ↦ up_none p j q e
+    ]
+
+    up_shut : up none_open ≡ none_open
+    up_shut = fun_ext (λ j. fun_ext (λ q. shut none_open (λ i q. refl) j q))
+
+    end_slots : (b : ℕ) (o : Slots) → Opens image b (first_number image (suc b)) o → EndSlots image b o
+    end_slots b o path =
+        let h = left b o path in
+        record {
+          edges = λ s r. (let st : stops draft b ≡ false = sym (g.stops_are b) ∙ s in
+              subst (Fresh (opens_at image b r)) (sym h.1.2) (edge_is_fresh b r h.1.0 h.0 st ((rules.ends b h.1.0 h.1.1).edges st r)));
+          stop = λ s j q. ap (λ (x : Slots). x j q) h.1.2 ∙ shut h.1.0 (λ i p. (rules.ends b h.1.0 h.1.1).stop (sym (g.stops_are b) ∙ s) i p) j q;
+        }
 
     pub slot_rules : SlotRules image
     slot_rules = record {
       start = subst (λ (xs : List Dest). Fresh xs none_open) (sym g.start) (subst (Fresh (renamed g.new (start_dests draft))) up_shut (up_fresh (start_dests draft) none_open (λ j q z. g.start_real j q z) rules.start));
       begins = subst (AdvancesOpen image 1) (sym start_turn) (up_advances 1 (all_opened (start_dests draft) none_open) g.first_block rules.begins);
-      has_all = λ b k o path w q l. turn_has_all b k o (back b k o path) w q l;
-      fresh = λ b k o path w. turn_fresh b k o (back b k o path) w;
-      edges = λ b k o path e s r. (let h = left b k o path e in let st : stops draft b ≡ false = sym (g.stops_are b) ∙ s in
-          subst (Fresh (opens_at image b r)) (sym h.1.2) (edge_is_fresh b r h.1.0 h.0 st (rules.edges b (first_number draft (suc b)) h.1.0 h.1.1 refl st r)));
-      crossing = λ b k o path e s r f. crosses b k o path e s r f;
-      stop = λ b k o path e s j q. (let h = left b k o path e in let st : stops draft b ≡ true = sym (g.stops_are b) ∙ s in
-          ap (λ (x : Slots). x j q) h.1.2 ∙ shut h.1.0 (λ i p. rules.stop b (first_number draft (suc b)) h.1.0 h.1.1 refl st i p) j q);
-      pending = λ b k c l r s o p pb pc eb ec sb sc same f j q. ap (λ (x : Slots). x j q) (joins b k c l r s o p pb pc eb ec sb sc same f);
+      turns = λ b k o path w. record { has_all = turn_has_all b k o (back b k o path) w; fresh = turn_fresh b k o (back b k o path) w };
+      ends = end_slots;
+      crossing = crosses;
+      pending = λ c d b o p e f i j q. ap (λ (x : Slots). x j q) (joins c d b o p e f i);
     }
-      where
-        shut : (p : Slots) → ((i q : ℕ) → p i q ≡ false) → (j q : ℕ) → up p j q ≡ false
-        shut p a j q = elim (origin_cases j) [
-          | inl x ↦ up_at p j q x.0 x.1 ∙ a x.0 q
-          | inr e ↦ up_none p j q e
-        ]
-
-        up_shut : up none_open ≡ none_open
-        up_shut = fun_ext (λ j. fun_ext (λ q. shut none_open (λ i q. refl) j q))

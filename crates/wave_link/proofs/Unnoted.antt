@@ -1,9 +1,10 @@
 -- The rules on shape and slots read no notes.
-use Rattle.std.proofs.Common.{ℕ, zero, suc, ◌-◌, ◌≡◌, ◌<◌, ◌≤◌, cond, inl, inr, true, false, not, eqb, List, ◌++◌, length, refl, sym, ap, ap₂, ◌∙◌, subst}
+use Rattle.std.proofs.Common.{ℕ, zero, suc, ◌-◌, ◌≡◌, ◌<◌, ◌≤◌, cond, inl, inr, not, eqb, List, ◌++◌, length, refl, sym, ap, ap₂, ◌∙◌, subst}
 use Rattle.ws_isa.specs.declared.instr.Dest.{Dest}
 use Rattle.ws_isa.specs.Image.{Exit, Pad, Image, In, nth, instr_at, block_at, block_of, first_number, size_of, ports, ports_of, is_memory, is_memory_op, is_advance, is_advance_op, is_giving, is_giving_op, stops, is_stop, target, leave_to, is_first, pad_of, now_of, now_dests, edge_of, edge_dests, start_dests, IsIn, IsBlock}
 use Rattle.ws_isa.specs.Formed.{WavesInOrder}
-use Rattle.image_walk.specs.Sound.{Slots, none_open, all_opened, Fresh, closed, HasDest, HasPad, edge_all, opens_at, Opens, begin, turn, edge, AdvancesOpen, SlotRules, IsAhead, Carries, direct, through, ShapeRules, MoreShape}
+use Rattle.image_walk.specs.Sound.{Slots, none_open, all_opened, Fresh, closed, HasDest, HasPad, edge_all, opens_at, Opens, begin, turn, edge, AdvancesOpen, TurnSlots, EndSlots, EdgeInto, SlotRules, IsAhead, Carries, direct, through, BlockShape, ShapeRules}
+use Rattle.image_walk.proofs.Along.{path_end}
 use Rattle.wave_link.proofs.GrownTriggers.{OpCase, steers, sends, plain, op_case}
 
 -- the same image but for notes
@@ -109,28 +110,43 @@ module _ (image new : Image) (same : SameShape image new) where
     (λ x. (a j q).1 (in_back b j x.0, sym (advance_same j) ∙ x.1, x.2)),
   )
 
+  path_back : (b : ℕ) (o : Slots) → Opens new b (first_number new (suc b)) o → Opens image b (first_number image (suc b)) o
+  path_back b o path = path_end (back b (first_number new (suc b)) o path) (same.numbers (suc b))
+
+  -- an edge of the one is an edge of the other
+  edge_back : (c b : ℕ) (o : Slots) → EdgeInto new c b o → EdgeInto image c b o
+  edge_back c b o e = record {
+    before = e.before;
+    path = path_back c e.before e.path;
+    goes_on = sym (stops_same c) ∙ e.goes_on;
+    choice = e.choice;
+    to = sym (target_same c e.choice) ∙ e.to;
+    opens = ap (λ (ds : List Dest). all_opened ds e.before) (sym (opens_same c e.choice)) ∙ e.opens;
+  }
+
   module _ (rules : SlotRules image) where
-    crosses : (b k : ℕ) (o : Slots) → Opens new b k o → k ≡ first_number new (suc b) → stops new b ≡ false → (r : ℕ) → is_first new (target new b r) ≡ true → AdvancesOpen new (target new b r) (all_opened (opens_at new b r) o)
-    crosses b k o path e s r f =
-        subst (λ (t : ℕ). AdvancesOpen new t (all_opened (opens_at new b r) o)) (sym (target_same b r))
-        (advances_on (target image b r) (all_opened (opens_at new b r) o)
-        (subst (λ (ds : List Dest). AdvancesOpen image (target image b r) (all_opened ds o)) (sym (opens_same b r))
-        (rules.crossing b k o (back b k o path) (e ∙ same.numbers (suc b)) (sym (stops_same b) ∙ s) r (sym (first_same (target image b r)) ∙ (ap (is_first new) (sym (target_same b r)) ∙ f)))))
+    turn_on : (b k : ℕ) (o : Slots) → Opens new b k o → k < first_number new (suc b) → TurnSlots new k o
+    turn_on b k o path w = let t : TurnSlots image k o = rules.turns b k o (back b k o path) (subst (λ (n : ℕ). k < n) (same.numbers (suc b)) w) in
+        record {
+          has_all = λ q l. t.has_all q (subst (λ (n : ℕ). q < n) (ports_same k) l);
+          fresh = subst (λ (ds : List Dest). Fresh ds (closed k o)) (sym (now_same k)) t.fresh;
+        }
+
+    end_on : (b : ℕ) (o : Slots) → Opens new b (first_number new (suc b)) o → EndSlots new b o
+    end_on b o path = let t : EndSlots image b o = rules.ends b o (path_back b o path) in
+        record {
+          edges = λ s r. subst (λ (ds : List Dest). Fresh ds o) (sym (opens_same b r)) (t.edges (sym (stops_same b) ∙ s) r);
+          stop = λ s j q. t.stop (sym (stops_same b) ∙ s) j q;
+        }
 
     pub slots_on : SlotRules new
     slots_on = record {
       start = subst (λ (ds : List Dest). Fresh ds none_open) (sym start_same) rules.start;
       begins = advances_on 1 (all_opened (start_dests new) none_open) (subst (λ (ds : List Dest). AdvancesOpen image 1 (all_opened ds none_open)) (sym start_same) rules.begins);
-      has_all = λ b k o path w q l. rules.has_all b k o (back b k o path) (subst (λ (n : ℕ). k < n) (same.numbers (suc b)) w) q (subst (λ (n : ℕ). q < n) (ports_same k) l);
-      fresh = λ b k o path w. subst (λ (ds : List Dest). Fresh ds (closed k o)) (sym (now_same k)) (rules.fresh b k o (back b k o path) (subst (λ (n : ℕ). k < n) (same.numbers (suc b)) w));
-      edges = λ b k o path e s r. subst (λ (ds : List Dest). Fresh ds o) (sym (opens_same b r)) (rules.edges b k o (back b k o path) (e ∙ same.numbers (suc b)) (sym (stops_same b) ∙ s) r);
-      crossing = λ b k o path e s r f. crosses b k o path e s r f;
-      stop = λ b k o path e s j q. rules.stop b k o (back b k o path) (e ∙ same.numbers (suc b)) (sym (stops_same b) ∙ s) j q;
-      pending = λ b k c l r s o p pb pc eb ec sb sc t f j q.
-          ap (λ (ds : List Dest). all_opened ds o j q) (opens_same b r)
-          ∙ (rules.pending b k c l r s o p (back b k o pb) (back c l p pc) (eb ∙ same.numbers (suc b)) (ec ∙ same.numbers (suc c)) (sym (stops_same b) ∙ sb) (sym (stops_same c) ∙ sc)
-          (sym (target_same b r) ∙ (t ∙ target_same c s)) (sym (first_same (target image b r)) ∙ (ap (is_first new) (sym (target_same b r)) ∙ f)) j q
-          ∙ sym (ap (λ (ds : List Dest). all_opened ds p j q) (opens_same c s)));
+      turns = turn_on;
+      ends = end_on;
+      crossing = λ c b o e f. advances_on b o (rules.crossing c b o (edge_back c b o e) (sym (first_same b) ∙ f));
+      pending = λ c d b o p e f i j q. rules.pending c d b o p (edge_back c b o e) (edge_back d b p f) (sym (first_same b) ∙ i) j q;
     }
 
   carried : (b s k q : ℕ) → Carries image b s k q → Carries new b s k q
@@ -138,41 +154,53 @@ module _ (image new : Image) (same : SameShape image new) where
   carried b s k q (through place d e f inside merge rest) =
       through place d (ap (λ (ds : List Dest). nth ds place) (now_same s) ∙ e) f (in_on b d.instr inside) (same.ops d.instr ∙ merge) (carried b d.instr k q rest)
 
-  module _ (shape : ShapeRules image) where
-    pub shape_on : ShapeRules new
-    shape_on = record {
-      has_block = block_on 1 shape.has_block;
-      edges = λ b r h s. subst (IsBlock new) (sym (target_same b r)) (block_on (target image b r) (shape.edges b r (block_back b h) (sym (stops_same b) ∙ s)));
-      later = λ b r h s f. (let l = shape.later b r (block_back b h) (sym (stops_same b) ∙ s) (sym (first_same (target image b r)) ∙ (ap (is_first new) (sym (target_same b r)) ∙ f)) in
-          (subst (λ (n : ℕ). b < n) (sym (target_same b r)) l.0, ap (λ (n : ℕ). (block_at new n).wave) (target_same b r) ∙ (same.waves (target image b r) ∙ (l.1 ∙ sym (same.waves b)))));
-      advances = λ b k h i e. first_same b ∙ shape.advances b k (block_back b h) (in_back b k i) (sym (advance_same k) ∙ e);
-      front = λ b j k h i e l m. advance_same j ∙ shape.front b j k (block_back b h) (in_back b k i) (sym (advance_same k) ∙ e) (subst (λ (n : ℕ). n ≤ j) (same.numbers b) l) m;
-      source = λ b s x y h e. in_on b s (shape.source b s x y (block_back b h) (sym (same.exits b) ∙ e));
-      address = λ b s ls h e. in_on b s (shape.address b s ls (block_back b h) (sym (same.exits b) ∙ e));
-      steers = λ b k h i e. (let x = shape.steers b k (block_back b h) (in_back b k i) (sym (same.ops k) ∙ e) in (x.0, x.1, x.2, same.exits b ∙ x.3, carried b x.0 k 1 x.4));
-      sends = λ b k p h i e. (let x = shape.sends b k p (block_back b h) (in_back b k i) (sym (same.ops k) ∙ e) in (x.0, x.1, same.exits b ∙ x.2, carried b x.0 k 0 x.3));
-    }
-
   ahead_on : (b k j : ℕ) → IsAhead image b k j → IsAhead new b k j
   ahead_on b k j a = elim a [
     | inl e ↦ inl (advance_same j ∙ e)
     | inr l ↦ inr (l.0, ap (λ (n : ℕ). (block_at new n).wave) (same.holders j) ∙ (same.waves (block_of image j) ∙ (l.1 ∙ sym (same.waves b))))
   ]
 
-  module _ (more : MoreShape image) where
-    pub more_on : MoreShape new
-    more_on = record {
-      waves = same.in_order more.waves;
-      pad_zero = subst (λ (ps : List Pad). HasPad ps 0) (sym (same.pads 1)) more.pad_zero;
-      pads_first = λ b h f. same.pads b ∙ more.pads_first b (block_back b h) (sym (first_same b) ∙ f);
-      source_gives = λ b s x y h e. giving_same s ∙ more.source_gives b s x y (block_back b h) (sym (same.exits b) ∙ e);
-      address_gives = λ b s ls h e. giving_same s ∙ more.address_gives b s ls (block_back b h) (sym (same.exits b) ∙ e);
-      landing_first = λ b s r ls h e. ap (is_first new) (target_same b r) ∙ (first_same (target image b r) ∙ more.landing_first b s r ls (block_back b h) (sym (same.exits b) ∙ e));
-      landing_pad = λ b k p r h i e. subst (λ (c : ℕ). HasPad (block_at new c).pads p) (sym (target_same b r)) (subst (λ (ps : List Pad). HasPad ps p) (sym (same.pads (target image b r))) (more.landing_pad b k p r (block_back b h) (in_back b k i) (sym (same.ops k) ∙ e)));
-      halt_stops = λ b k h i e. stops_same b ∙ more.halt_stops b k (block_back b h) (in_back b k i) (sym (same.ops k) ∙ e);
-      stop_halts = λ b h s. (let x = more.stop_halts b (block_back b h) (sym (stops_same b) ∙ s) in (x.0, in_on b x.0 x.1, same.ops x.0 ∙ x.2));
-      halt_last = λ b j k h i e l m. more.halt_last b j k (block_back b h) (in_back b k i) (sym (same.ops k) ∙ e) (in_back b j l) (sym (memory_same j) ∙ m);
-      dests_ahead = λ b k j q h i x. ahead_on b k j (more.dests_ahead b k j q (block_back b h) (in_back b k i) (subst (λ (ds : List Dest). HasDest ds j q) (same.dests k) x));
-      others_ahead = λ b k j q h i x. ahead_on b k j (more.others_ahead b k j q (block_back b h) (in_back b k i) (subst (λ (ds : List Dest). HasDest ds j q) (same.others k) x));
-      pads_to_advances = λ b p j q h i x. (let y = more.pads_to_advances b p j q (block_back b h) (subst (In p) (same.pads b) i) x in (in_on b j y.0, advance_same j ∙ y.1));
+  module _ (b : ℕ) (shape : BlockShape image b) where
+    block_shape : BlockShape new b
+    block_shape = record {
+      opening = λ e. subst (λ (ps : List Pad). HasPad ps 0) (sym (same.pads b)) (shape.opening e);
+      edges = record {
+        there = λ r s. subst (IsBlock new) (sym (target_same b r)) (block_on (target image b r) (shape.edges.there r (sym (stops_same b) ∙ s)));
+        later = λ r s f. (let l = shape.edges.later r (sym (stops_same b) ∙ s) (sym (first_same (target image b r)) ∙ (ap (is_first new) (sym (target_same b r)) ∙ f)) in
+            (subst (λ (n : ℕ). b < n) (sym (target_same b r)) l.0, ap (λ (n : ℕ). (block_at new n).wave) (target_same b r) ∙ (same.waves (target image b r) ∙ (l.1 ∙ sym (same.waves b)))));
+      };
+      front = record {
+        advances = λ k i e. first_same b ∙ shape.front.advances k (in_back b k i) (sym (advance_same k) ∙ e);
+        front = λ j k i e l m. advance_same j ∙ shape.front.front j k (in_back b k i) (sym (advance_same k) ∙ e) (subst (λ (n : ℕ). n ≤ j) (same.numbers b) l) m;
+        pads = λ f. same.pads b ∙ shape.front.pads (sym (first_same b) ∙ f);
+      };
+      exit = record {
+        source = λ s x y e. in_on b s (shape.exit.source s x y (sym (same.exits b) ∙ e));
+        address = λ s ls e. in_on b s (shape.exit.address s ls (sym (same.exits b) ∙ e));
+        source_gives = λ s x y e. giving_same s ∙ shape.exit.source_gives s x y (sym (same.exits b) ∙ e);
+        address_gives = λ s ls e. giving_same s ∙ shape.exit.address_gives s ls (sym (same.exits b) ∙ e);
+      };
+      hang = record {
+        steers = λ k i e. (let x = shape.hang.steers k (in_back b k i) (sym (same.ops k) ∙ e) in (x.0, x.1, x.2, same.exits b ∙ x.3, carried b x.0 k 1 x.4));
+        sends = λ k p i e. (let x = shape.hang.sends k p (in_back b k i) (sym (same.ops k) ∙ e) in (x.0, x.1, same.exits b ∙ x.2, carried b x.0 k 0 x.3));
+        landing_pad = λ k p r i e. subst (λ (c : ℕ). HasPad (block_at new c).pads p) (sym (target_same b r)) (subst (λ (ps : List Pad). HasPad ps p) (sym (same.pads (target image b r))) (shape.hang.landing_pad k p r (in_back b k i) (sym (same.ops k) ∙ e)));
+        landing_first = λ s r ls e. ap (is_first new) (target_same b r) ∙ (first_same (target image b r) ∙ shape.hang.landing_first s r ls (sym (same.exits b) ∙ e));
+      };
+      halt = record {
+        halt_stops = λ k i e. stops_same b ∙ shape.halt.halt_stops k (in_back b k i) (sym (same.ops k) ∙ e);
+        stop_halts = λ s. (let x = shape.halt.stop_halts (sym (stops_same b) ∙ s) in (x.0, in_on b x.0 x.1, same.ops x.0 ∙ x.2));
+        halt_last = λ j k i e l m. shape.halt.halt_last j k (in_back b k i) (sym (same.ops k) ∙ e) (in_back b j l) (sym (memory_same j) ∙ m);
+      };
+      dests = record {
+        dests = λ k j q i x. ahead_on b k j (shape.dests.dests k j q (in_back b k i) (subst (λ (ds : List Dest). HasDest ds j q) (same.dests k) x));
+        others = λ k j q i x. ahead_on b k j (shape.dests.others k j q (in_back b k i) (subst (λ (ds : List Dest). HasDest ds j q) (same.others k) x));
+        pads = λ p j q i x. (let y = shape.dests.pads p j q (subst (In p) (same.pads b) i) x in (in_on b j y.0, advance_same j ∙ y.1));
+      };
     }
+
+  pub shape_on : ShapeRules image → ShapeRules new
+  shape_on shape = record {
+    has_block = block_on 1 shape.has_block;
+    waves = same.in_order shape.waves;
+    blocks = λ b h. block_shape b (shape.blocks b (block_back b h));
+  }

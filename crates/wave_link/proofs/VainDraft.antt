@@ -49,11 +49,11 @@ module _ (draft : Image) (open_to : OpenToNotes draft) where
 
   wave_on : (b c : ℕ) → IsBlock image b → Leads (outline_at draft b).way c → (block_at image c).wave ≡ (block_at image b).wave
   wave_on b c h k =
-      let o : On_in draft open_to.walkable.shape open_to.walkable.more_shape open_to.arms b c = on_in draft open_to.walkable.shape open_to.walkable.more_shape open_to.arms b c (in_draft b h) k in
+      let o : On_in draft open_to.walkable.shape open_to.arms b c = on_in draft open_to.walkable.shape open_to.arms b c (in_draft b h) k in
       wave_kept draft c ∙ (o.wave ∙ sym (wave_kept draft b))
 
   ends_on : (b : ℕ) → IsBlock image b → (outline_at draft b).way ≡ Out → (stops image b ≡ true) ⊎ ((stops image b ≡ false) × ((r : ℕ) × (is_first image (target image b r) ≡ true)))
-  ends_on b h w = elim (out_ends draft open_to.walkable.shape open_to.walkable.more_shape open_to.arms b (in_draft b h) w) [
+  ends_on b h w = elim (out_ends draft open_to.walkable.shape open_to.arms b (in_draft b h) w) [
     | inl s ↦ inl (stops_kept draft b ∙ s)
     | inr s ↦ inr (stops_kept draft b ∙ s.0, (s.1.0, first_kept draft (target image b s.1.0) ∙ (ap (is_first draft) (target_kept draft b s.1.0) ∙ s.1.1)))
   ]

@@ -238,12 +238,12 @@ module _ (draft : Image) (open_to : OpenToNotes draft) (x : ℕ) where
   wave_at b = wave_kept (annotated draft) x b ∙ draft_wave draft b
 
   targets : (b r : ℕ) → IsBlock image b → stops image b ≡ false → IsBlock image (target image b r)
-  targets b r h s = in_image (target image b r) (subst (IsBlock draft) (sym (leads b r)) (open_to.walkable.shape.edges b r (in_draft b h) (sym (stop_at b) ∙ s)))
+  targets b r h s = in_image (target image b r) (subst (IsBlock draft) (sym (leads b r)) ((open_to.walkable.shape.blocks b (in_draft b h)).edges.there r (sym (stop_at b) ∙ s)))
 
   stays : (b r : ℕ) → IsBlock image b → stops image b ≡ false → is_first image (target image b r) ≡ false → (block_at image (target image b r)).wave ≡ (block_at image b).wave
   stays b r h s f =
       let g : is_first draft (target draft b r) ≡ false = ap (is_first draft) (sym (leads b r)) ∙ (sym (first_at (target image b r)) ∙ f) in
-      wave_at (target image b r) ∙ (ap (λ (c : ℕ). (block_at draft c).wave) (leads b r) ∙ ((open_to.walkable.shape.later b r (in_draft b h) (sym (stop_at b) ∙ s) g).1 ∙ sym (wave_at b)))
+      wave_at (target image b r) ∙ (ap (λ (c : ℕ). (block_at draft c).wave) (leads b r) ∙ (((open_to.walkable.shape.blocks b (in_draft b h)).edges.later r (sym (stop_at b) ∙ s) g).1 ∙ sym (wave_at b)))
 
   pub no_notes : (w : ℕ) (notes : ℕ → Option Note) → Unlinkable image w → LinkRules (renoted image notes) → ⊥
   no_notes w notes u rules = no_links image (renoted image notes) (same_paths image notes) targets stays rules w u

@@ -31,7 +31,7 @@ taken image shape b k done (turn {k = l} {done = before} p w) =
     go rest (inr m) i e = rest i (ap (λ (v : Bool). cond v (Some l) (last_op image before)) (sym m) ∙ e)
 taken image shape b k done (edge {b = c} {k = l} p e s r f) =
     let q = taken image shape c l done p in
-    (shape.edges c r q.0 s, λ i g. subst (λ (w : ℕ). Taken image w i) (sym (shape.later c r q.0 s f).1) (q.1 i g))
+    ((shape.blocks c q.0).edges.there r s, λ i g. subst (λ (w : ℕ). Taken image w i) (sym ((shape.blocks c q.0).edges.later r s f).1) (q.1 i g))
 
 pub unsound : (image : Image) (w : ℕ) → Unlinkable image w → Sound image → ⊥
 unsound image w (no_operation e) s = s.links.some_op e.ends

@@ -3,14 +3,13 @@ use Rattle.ws_isa.specs.Image.{Image}
 use Rattle.image_walk.specs.Sound.{Sound}
 use Rattle.image_walk.specs.Open.{OpenToNotes}
 use Rattle.wave_link.specs.Grown.{annotated}
-use Rattle.wave_link.proofs.ShapeOf.{shape_rules, more_shape}
+use Rattle.wave_link.proofs.ShapeOf.{shape_rules}
 use Rattle.wave_link.proofs.WalksOf.{keeps_slots}
 use Rattle.wave_link.proofs.LinksMarked.{links_kept, ripples_kept}
 
 pub is_sound : (draft : Image) → OpenToNotes draft → Sound (annotated draft)
 is_sound draft ok = record {
   shape = shape_rules draft ok;
-  more_shape = more_shape draft ok;
   slots = keeps_slots draft ok;
   links = links_kept draft ok;
   ripples = ripples_kept draft ok;
