@@ -9,7 +9,7 @@ use Rattle.core_law.specs.Core.{same_key}
 use Rattle.core_law.proofs.Ports.{with_key_same, with_key_cases}
 use Rattle.df_job.specs.Began.{Began}
 use Rattle.core_run.specs.declared.chain.Chain as code
-use Rattle.core_run.specs.Chains.{chain_of}
+use Rattle.core_run.specs.Chains.{chain_of, may_flag}
 use Rattle.core_run.specs.Stands.{HasEarly}
 use Rattle.store_buf.specs.declared.fault.BufFault.{BufFault}
 use Rattle.store_buf.specs.declared.fault.BufFault.TheVariants as fault
@@ -197,13 +197,13 @@ module _ {P : Type 0} where
           by_result (Err (fault.Stopped port)) s = absurd s
           by_result (Err (fault.Ended array)) s = absurd s
 
-    -- where it is of another wave and no port has found no memory, no rule is applicable
-    module _ (fed : old.starved ≡ false) (later : k.wave ≡ old.order.chain.wave → ⊥) (idle : Idle image (content_of old)) where
+    -- where the chain doesn't let it go and no port has found no memory, no rule is applicable
+    module _ (fed : old.starved ≡ false) (held : may_flag image (chain_of old.order.chain) k.wave k.instr k.first ≡ false) (idle : Idle image (content_of old)) where
       same_mid : record mid { starved = false } ≡ mid
       same_mid j = record { order = mid.order; bare = mid.bare; queues = mid.queues; outer = mid.outer; fault = mid.fault; failed = mid.failed; starved = sym (keeps.starved ∙ fed) j }
 
       put_rule : NoRule image (content_of (record mid { starved = false }))
-      put_rule = R.no_rule_later image (content_of old) (content_of (record mid { starved = false })) k b comes (idle working fed) later calm_now.1
+      put_rule = R.no_rule_held image (content_of old) (content_of (record mid { starved = false })) k b comes (idle working fed) held calm_now.1
 
       pub put_calm : Calm image world began mid
       put_calm = subst (Calm image world began) same_mid calm_now

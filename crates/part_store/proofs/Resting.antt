@@ -1,10 +1,10 @@
 -- Where none may go no rule is applicable, and where none is it stays so.
-use Rattle.std.proofs.Common.{ℕ, ◌≡◌, ◌<◌, ◌≤◌, ◌⊎◌, Bool, true, false, not, cond, ◌&&◌, ◌||◌, ltb, nat_eq, nat_le, List, [], length, Some, None, refl, sym, ap, ◌∙◌, subst, inl, inr, eq-eqb, lt-ltb}
+use Rattle.std.proofs.Common.{ℕ, ◌≡◌, ◌<◌, ◌≤◌, ◌⊎◌, Bool, true, false, not, cond, ◌&&◌, ◌||◌, ltb, nat_eq, nat_le, List, [], ◌∷◌, length, Some, None, refl, sym, ap, ◌∙◌, subst, inl, inr, eq-eqb, lt-ltb}
 use Rattle.std.specs.Prelude.{is_none}
 use Rattle.std.proofs.lemmas.Bool.{and_from, both_ways, le-leb}
-use Rattle.ws_isa.specs.Image.{Image, instr_at, is_load, is_load_op, is_past, note_of}
+use Rattle.ws_isa.specs.Image.{Image, instr_at, is_load, is_load_op, is_past, is_past_op, note_of}
 use Rattle.core_law.specs.Core.{Chain, IsNext, Issuable, position_after}
-use Rattle.core_run.specs.Chains.{chain_of, next_flag}
+use Rattle.core_run.specs.Chains.{chain_of, may_flag, next_flag}
 use Rattle.core_run.proofs.Nexts.{is_next_flag, or_left, or_right}
 use Rattle.store_buf.specs.declared.kept.Kept.{Kept}
 use Rattle.store_buf.specs.Requests.{entry_of, issued_in, answer_if}
@@ -135,14 +135,29 @@ module _ (image : Image) (c d : Content) (same : SameAs c d) (none : NoRule imag
     });
   }
 
--- a request or an address of another wave than the current one has come
-module _ (image : Image) (c d : Content) (k : Kept) (b : Bool) (come : Comes c k b d) (none : NoRule image c) (later : k.wave ≡ c.chain.wave → ⊥) where
+-- what the chain lets issue has its flag
+pub next_lets : (image : Image) (c : Chain) (w i first : ℕ) → w ≡ c.wave → IsNext c (note_of image i) → may_flag image c w i first ≡ true
+next_lets image c w i first current next = and_from _ _ (eq-eqb w c.wave current) (or_left _ _ (is_next_flag c (note_of image i) next))
+
+pub load_lets : (image : Image) (c : Chain) (w i first : ℕ) → w ≡ c.wave → is_load image i ≡ true → is_past_op image.arrays (instr_at image i).op (first ∷ []) ≡ false →
+    (note_of image i).ripple ≤ position_after c.last → may_flag image c w i first ≡ true
+load_lets image c w i first current load within ripple = and_from _ _ (eq-eqb w c.wave current) (or_right (next_flag c (note_of image i)) _
+    (and_from _ _ (and_from _ _ (load_is_op image i load) (false_not _ within)) (le-leb _ _ ripple)))
+
+-- a request or an address has come that the chain doesn't let go
+module _ (image : Image) (c d : Content) (k : Kept) (b : Bool) (come : Comes c k b d) (none : NoRule image c) (held : may_flag image c.chain k.wave k.instr k.first ≡ false) where
   abbrev k' : Kept
   k' = record { wave = k.wave; instr = k.instr; first = k.first; second = k.second; answer = None }
 
-  waits_old : (x : Kept) (v : Bool) → Waits d x v → x.wave ≡ d.chain.wave → Waits c x v
-  waits_old x v w current = elim (key_cases k.wave k.instr x.wave x.instr) [
-    | inl y ↦ absurd (later (y.1.wave ∙ current ∙ ap (λ (z : Chain). z.wave) come.chain))
+  waits_old : (x : Kept) (v : Bool) → Waits d x v → may_flag image c.chain x.wave x.instr x.first ≡ true → Waits c x v
+  waits_old x v w lets = elim (key_cases k.wave k.instr x.wave x.instr) [
+    | inl y ↦ absurd (
+        let q : Some k' ≡ Some x = sym (ap (λ (z : Bool). cond z (Some k') (entry_of c.kept x.wave x.instr)) y.0)
+        ∙ sym (entry_push c.kept k' come.fresh x.wave x.instr)
+        ∙ sym (ap (λ (ks : List Kept). entry_of ks x.wave x.instr) come.kept)
+        ∙ w.kept in
+        let e : k' ≡ x = cc in
+        both_ways (may_flag image c.chain x.wave x.instr x.first) (subst (λ (y : Kept). may_flag image c.chain y.wave y.instr y.first ≡ false) e held) lets)
     | inr y ↦ record {
       kept = sym (ap (λ (z : Bool). cond z (Some k') (entry_of c.kept x.wave x.instr)) y.0)
           ∙ sym (entry_push c.kept k' come.fresh x.wave x.instr)
@@ -164,17 +179,27 @@ module _ (image : Image) (c d : Content) (k : Kept) (b : Bool) (come : Comes c k
     turn = subst (λ (y : Chain). IsNext y (note_of image x.instr) ⊎ ((is_load image x.instr ≡ true) × (is_past image x.instr (operands_at image x) ≡ false) × ((note_of image x.instr).ripple ≤ position_after y.last))) come.chain may.turn;
   }
 
-  pub no_rule_later : Fronts d → NoRule image d
-  no_rule_later fronts = record {
+  lets_old : (x : Kept) → x.wave ≡ d.chain.wave → IsNext d.chain (note_of image x.instr) → may_flag image c.chain x.wave x.instr x.first ≡ true
+  lets_old x current n = next_lets image c.chain x.wave x.instr x.first (current ∙ ap (λ (y : Chain). y.wave) come.chain) (next_old x n)
+
+  goes_lets : (x : Kept) → Goes image d x → may_flag image c.chain x.wave x.instr x.first ≡ true
+  goes_lets x g = elim g.may.turn [
+    | inl n ↦ lets_old x g.may.current n
+    | inr l ↦ load_lets image c.chain x.wave x.instr x.first (g.may.current ∙ ap (λ (y : Chain). y.wave) come.chain) l.0 g.within
+        (subst (λ (y : Chain). (note_of image x.instr).ripple ≤ position_after y.last) come.chain l.2)
+  ]
+
+  pub no_rule_held : Fronts d → NoRule image d
+  no_rule_held fronts = record {
     opens = λ x o. none.opens x (record {
-      waits = waits_old x true o.waits o.current;
+      waits = waits_old x true o.waits (lets_old x o.current o.next);
       current = o.current ∙ ap (λ (y : Chain). y.wave) come.chain;
       next = next_old x o.next;
       within = o.within;
       going = sym come.fault ∙ o.going;
       room = subst (λ (es : List Entry). (holds_op es (instr_at image x.instr).op x.first ≡ true) ⊎ (open_queues es < 16)) come.queued o.room;
     });
-    goes = λ x g. let w = waits_old x false g.waits g.may.current in none.goes x (record {
+    goes = λ x g. let w = waits_old x false g.waits (goes_lets x g) in none.goes x (record {
       waits = w;
       may = may_old x w g.may;
       within = g.within;
@@ -182,7 +207,7 @@ module _ (image : Image) (c d : Content) (k : Kept) (b : Bool) (come : Comes c k
     });
     follows = λ e f. both_ways (is_bare d e.wave e.instr) f.whole (fronts e e.row e.index f.first);
     faults = λ x f. none.faults x (record {
-      waits = waits_old x false f.waits f.current;
+      waits = waits_old x false f.waits (lets_old x f.current f.next);
       current = f.current ∙ ap (λ (y : Chain). y.wave) come.chain;
       next = next_old x f.next;
       past = f.past;

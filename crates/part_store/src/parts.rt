@@ -6,11 +6,11 @@ ghost use Rattle.std.specs.Prelude.{IfSome, IfNone, IfErr, OnOk, OnErr, MatchOpt
 ghost use Rattle.smallvec.specs.SmallVec.{HasRoomFor};
 ghost use Rattle.ws_words.specs.Outside.{World, row, with_row};
 ghost use Rattle.ws_isa.specs.Formed.{Formed};
-ghost use Rattle.ws_isa.specs.Image.{Image, array_of_op, instr_at};
+ghost use Rattle.ws_isa.specs.Image.{array_of_op, instr_at, is_load_op};
 ghost use Rattle.core_law.specs.Core.{has, same_key};
 ghost use Rattle.std.specs.HashSet.{spare};
 ghost use Rattle.store_buf.specs.Contents.{stop_of};
-ghost use Rattle.core_run.specs.Chains.{PassedOn, chain_of};
+ghost use Rattle.core_run.specs.Chains.{PassedOn, chain_of, may_flag};
 ghost use Rattle.core_run.specs.Places.{ProgramIs, image_of};
 ghost use Rattle.df_job.specs.Began.{Began};
 ghost use Rattle.df_job.specs.Rights.{tokens_of};
@@ -96,26 +96,45 @@ impl<P: Port> Parts<P> {
         match self.order.find(kept.wave, kept.instr) {
             Some(_) => Err(BufFault::Old),
             None => {
-                if self.starved || kept.wave == self.order.chain.wave {
+                if self.starved || self.lets(program, kept) {
                     self.take_address(program, kept, told)
                 } else {
-                    self.put_by_address(kept)
+                    self.put_by_address(program, kept)
                 }
             }
         }
     }
 
-    // Keeps an address of another wave than the current one, so that no rule is applicable then.
-    fn put_by_address(&mut self, kept: Kept) -> Result<(), BufFault>
+    // Whether the chain lets the operation of a request or address issue: it is next, or a load before
+    // its turn.
+    fn lets(&self, program: &Program<'_>, kept: Kept) -> bool
+        requires { ProgramIs program.now }
+        ensures { result ≡ may_flag (image_of program.now) (chain_of self.now.order.chain)
+            kept.wave kept.instr kept.first }
+    {
+        let note = program.note(kept.instr);
+        let op = program.op(kept.instr);
+        let chain = self.order.chain;
+        kept.wave == chain.wave
+            && (chain.is_next(note)
+                || (is_load(op)
+                    && !program.is_past(op, kept.first)
+                    && note.ripple <= chain.position()))
+    }
+
+    // Keeps an address that the chain doesn't let go, so that no rule is applicable then.
+    fn put_by_address(&mut self, program: &Program<'_>, kept: Kept) -> Result<(), BufFault>
+        requires program { ProgramIs program.now }
         requires ok { PartsOk self.old }
         requires fresh { entry_of self.old.order.kept.items kept.wave kept.instr ≡ None }
         requires waits { kept.answer ≡ None }
         requires running { self.old.fault ≡ None }
         requires working { self.old.failed ≡ None }
         requires fed { self.old.starved ≡ false }
-        requires later { kept.wave ≡ self.old.order.chain.wave → ⊥ }
+        requires held { may_flag (image_of program.now) (chain_of self.old.order.chain)
+            kept.wave kept.instr kept.first ≡ false }
         ensures ok { PartsOk self.new }
-        ensures leads { (image : Image) → AddressLeads image self.old kept [] result self.new }
+        ensures leads { AddressLeads (image_of program.now) self.old kept [] result self.new }
     {
         match self.keep_bare(kept) {
             Ok(()) => Ok(()),
@@ -174,10 +193,10 @@ impl<P: Port> Parts<P> {
         }
         match self.order.find(kept.wave, kept.instr) {
             None => {
-                if self.starved || kept.wave == self.order.chain.wave {
+                if self.starved || self.lets(program, kept) {
                     self.take_request(program, kept, told)
                 } else {
-                    self.put_by(kept)
+                    self.put_by(program, kept)
                 }
             }
             Some(_) => {
@@ -190,17 +209,19 @@ impl<P: Port> Parts<P> {
         }
     }
 
-    // Keeps a request of another wave than the current one, so that no rule is applicable then.
-    fn put_by(&mut self, kept: Kept) -> Result<(), BufFault>
+    // Keeps a request that the chain doesn't let go, so that no rule is applicable then.
+    fn put_by(&mut self, program: &Program<'_>, kept: Kept) -> Result<(), BufFault>
+        requires program { ProgramIs program.now }
         requires ok { PartsOk self.old }
         requires fresh { entry_of self.old.order.kept.items kept.wave kept.instr ≡ None }
         requires waits { kept.answer ≡ None }
         requires running { self.old.fault ≡ None }
         requires working { self.old.failed ≡ None }
         requires fed { self.old.starved ≡ false }
-        requires later { kept.wave ≡ self.old.order.chain.wave → ⊥ }
+        requires held { may_flag (image_of program.now) (chain_of self.old.order.chain)
+            kept.wave kept.instr kept.first ≡ false }
         ensures ok { PartsOk self.new }
-        ensures leads { (image : Image) → SubmitLeads image self.old kept [] result self.new }
+        ensures leads { SubmitLeads (image_of program.now) self.old kept [] result self.new }
     {
         match self.keep(kept) {
             Ok(()) => Ok(()),
@@ -752,6 +773,15 @@ fn use_cell<P: Port>(outer: &mut Outer<P>, op: Op, entry: Entry, second: u64) ->
             0
         }
         _ => outer.cells.word(entry.row, entry.index as usize),
+    }
+}
+
+fn is_load(op: Op) -> bool
+    ensures { result ≡ is_load_op op }
+{
+    match op {
+        Op::Load(_) => true,
+        _ => false,
     }
 }
 

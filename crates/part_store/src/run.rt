@@ -20,7 +20,7 @@ use crate::part::PartBuffer;
 use crate::way::{offer, take, take_all};
 use df_job::{Code, Job, Request, Token, TokenList, start};
 use image_walk::Checked;
-use match_table::{Accept, Table};
+use match_table::{Accept, AcceptFault, Table};
 use port_set::{Port, Slots};
 use std::alloc::Global;
 use std::marker::Brand;
@@ -186,10 +186,10 @@ fn step<J: Job, P: Port>(
     let Some(token) = take(&mut run.way, &mut run.next) else {
         return Some(Ending::Whole);
     };
-    if run.table.holds(token.wave(), token.instr(), token.port()) {
-        return None;
-    }
     if run.table.fired_count() as u64 >= budget {
+        if run.table.holds(token.wave(), token.instr(), token.port()) {
+            return None;
+        }
         return Some(Ending::Spent);
     }
     match bring(alloc, code, run, token) {
@@ -198,7 +198,7 @@ fn step<J: Job, P: Port>(
     }
 }
 
-// Brings a token to the table, and what comes of it to the buffer.
+// Brings a token to the table, and what comes of it to the buffer. One that has come before is let go.
 fn bring<J: Job, P: Port>(
     alloc: Global,
     code: &Code<'_, J>,
@@ -223,7 +223,8 @@ fn bring<J: Job, P: Port>(
         },
         Ok(Accept::Fires(tokens)) => take_all(tokens, &mut run.next),
         Ok(Accept::Asks(request)) => ask(code, &mut run.buffer, &mut run.next, request),
-        Err(_) => Err(NoMemory),
+        Err(AcceptFault::Old(_)) => Ok(()),
+        Err(AcceptFault::NoMemory(_)) => Err(NoMemory),
     }
 }
 

@@ -1,11 +1,13 @@
-use Rattle.std.proofs.Common.{ℕ, ◌++◌, subst}
+use Rattle.std.proofs.Common.{ℕ, ◌++◌, subst, sym}
 use Rattle.match_table.specs.declared.table.Accept.TheVariants.{Waits, Fires, Asks}
-use Rattle.match_table.specs.Matching.{Accepted}
-use Rattle.match_table.specs.Tables.{part}
-use Rattle.part_store.specs.Runs.{IsWhole}
+use Rattle.match_table.specs.declared.table.AcceptFault.TheVariants.{Old}
+use Rattle.match_table.specs.Matching.{Accepted, Refused}
+use Rattle.match_table.specs.Tables.{held, part}
+use Rattle.part_store.specs.Runs.{IsWhole, Paid}
 use Rattle.part_store.proofs.Bringing.{both_ok}
 use Rattle.part_store.proofs.Coming.{map_ok}
-use Rattle.part_store.proofs.Paying.{not_fired, taken_waits, taken_fires, taken_asks}
+use Rattle.part_store.proofs.Keys.{has_some}
+use Rattle.part_store.proofs.Paying.{not_fired, pay_held, taken_waits, taken_fires, taken_asks}
 use Rattle.part_store.proofs.Reaching.{covers_beside, covers_wider}
 use Rattle.part_store.proofs.run.bring.Goals as goal
 
@@ -58,3 +60,14 @@ returns-in-Ok-Asks-clause-paid g c =
     both_ok c.ask.result (λ tell whole going. taken_asks image old x c.accept.new.self answer.0 fresh c.args.run.now.buffer (c.args.run.now.next ++ c.args.run.now.way) c.requires.paid
     c.ask.new.buffer (c.ask.new.next ++ c.args.run.now.way) full.0 full.1 full.2.0 (λ t paid. tell t c.args.run.now.way paid going)
     (subst (λ (k : ℕ × ℕ). IsWhole c.ask.new.buffer k.0 k.1) (λ j. (full.2.1 j, full.2.2 j)) (whole going))) c.ask.ensures.paid c.ask.ensures.asked
+
+pub returns-in-Err-Old-clause-paid : goal.returns-in-Err-Old-clause-paid
+returns-in-Err-Old-clause-paid g c = λ going.
+    let image = g.J.Job.image in
+    let old = c.args.run.now.table in
+    let x = c.args.token in
+    let way = c.args.run.now.next ++ c.args.run.now.way in
+    let refused : Refused {J = g.row.J.Denot} old x c.accept.new.self (Old c.in-Err-Old.field-0-0) =
+    subst (λ a. Refused {J = g.row.J.Denot} old x c.accept.new.self a) c.in-Err-Old.field-0-is c.in-Err-Old.ensures.answer in
+    subst (λ t. Paid image (part t) c.args.run.now.buffer way) (sym refused.1)
+    (pay_held image (part old) c.args.run.now.buffer way x (has_some (held old x.wave x.instr x.port) refused.2) c.requires.paid)
