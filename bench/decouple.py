@@ -5,8 +5,9 @@
 
 For each program the table has its firings, the millions of them that `decouple` makes in a second by the clock,
 and its time as a ratio of that of `exec`. Each time is the best of three runs, less a run that fires nothing.
-In the last programs a store's data comes late, from a chain of so many operations, while loads of other cells
-wait behind it in the program's order; their firings rise with that number, and the speed is to stay.
+In the last programs a store's data comes late, from a chain of so many operations, while others wait behind it in
+the program's order: loads of other cells, loads of its own cell, or all of these and stores; their firings rise with
+that number, and the speed is to stay.
 """
 
 import pathlib
@@ -19,23 +20,40 @@ PROGRAM = sys.argv[1] if len(sys.argv) > 1 else ROOT / "crates" / "wsc" / "out" 
 MOST = "4000000"
 
 
-def late(count):
-    """A store whose data takes long, before so many loads of other cells, over and over."""
+def late(count, behind):
+    """A store into cell 0 whose data takes long, before so many of what is behind it, over and over."""
     chain = "".join(f"    d = d * 3 + {k};\n" for k in range(count))
-    loads = "".join(f"    s = s + a[{1 + k % 60}];\n" for k in range(count))
+    others = "".join(behind(k) for k in range(count))
     return (
         "array a[64];\nproc main() {\n  var i, d, s;\n  while (i < 100000) {\n"
-        f"    d = i;\n{chain}    a[0] = d;\n{loads}    i = i + 1;\n  }}\n  print s;\n}}\n"
+        f"    d = i;\n{chain}    a[0] = d;\n{others}    i = i + 1;\n  }}\n  print s;\n}}\n"
     )
+
+
+def other(k):
+    """A load of another cell."""
+    return f"    s = s + a[{1 + k % 60}];\n"
+
+
+def own(k):
+    """A load of the cell."""
+    return "    s = s + a[0];\n"
+
+
+def mixed(k):
+    """A load of the cell, a store into another one, and a load of that."""
+    return f"{own(k)}    a[{1 + k % 15}] = {k};\n    s = s + a[{1 + k % 15}];\n"
 
 
 JOBS = {
     "loop": "proc main() {\n  var i, s;\n  while (i < 1000000) {\n    s = s + i;\n    i = i + 1;\n  }\n}\n",
     "stores and loads": "array a[64];\nproc main() {\n  var i, s;\n  while (i < 1000000) {\n"
     "    a[i % 64] = i;\n    s = s + a[(i * 7) % 64];\n    i = i + 1;\n  }\n}\n",
-    "10 loads behind a late store": late(10),
-    "100 loads behind a late store": late(100),
-    "1,000 loads behind a late store": late(1000),
+    "10 loads behind a late store": late(10, other),
+    "100 loads behind a late store": late(100, other),
+    "1,000 loads behind a late store": late(1000, other),
+    "1,000 loads of a late store's cell": late(1000, own),
+    "300 stores and 600 loads behind a late store": late(300, mixed),
 }
 
 

@@ -1,0 +1,57 @@
+//! Runs of images to each of their ends.
+
+use crate::images::{CELLS, PAST, PORTS, image_of};
+use crate::tapes::tapes;
+use part_store::{PartFinish, part_image};
+use std::alloc::Global;
+use std::test::Fail;
+use ws_words::{NoMemory, Words};
+
+// How a run ended: how many words were printed, the first of them, and the firings, or the array or the port.
+#[derive(Clone, Copy, Debug, PartialEq, Eq)]
+enum Ended {
+    Done(usize, u64, u64),
+    Budget(u64),
+    Fault(u32, u64),
+    Port(u8),
+    NoMemory,
+}
+
+fn end_of(finish: &PartFinish) -> Ended {
+    match finish {
+        PartFinish::Done { printed, fired, .. } => {
+            Ended::Done(printed.len(), printed.word(0), *fired)
+        }
+        PartFinish::Budget { fired, .. } => Ended::Budget(*fired),
+        PartFinish::Fault { array, arrays, .. } => Ended::Fault(*array, arrays.word(0, 0)),
+        PartFinish::Port { port, .. } => Ended::Port(*port),
+        PartFinish::NoMemory => Ended::NoMemory,
+    }
+}
+
+// How an image runs with a word of input and tapes, of which this call of the second fails.
+fn run(alloc: Global, text: &str, word: u64, fails: u64, budget: u64) -> Result<Ended, NoMemory> {
+    let image = image_of(alloc, text)?;
+    let input = Words::from_slice(alloc, &[word])?;
+    let slots = tapes(alloc, fails)?;
+    Ok(end_of(&part_image(alloc, &image, input, slots, budget).finish))
+}
+
+// Texts, words of input, calls that fail and budgets, and how runs end.
+const ROWS: &[(&str, u64, u64, u64, Ended)] = &[
+    (CELLS, 1, 0, 1_000, Ended::Done(2, 5, 14)),
+    (CELLS, 0, 0, 1_000, Ended::Done(2, 0, 12)),
+    (CELLS, 1, 0, 13, Ended::Budget(13)),
+    (PAST, 1, 0, 1_000, Ended::Fault(1, 5)),
+    (PORTS, 0, 1, 1_000, Ended::Port(2)),
+];
+
+#[test]
+fn images_run_to_their_ends(rt: HostRuntime) -> Result<(), Fail> {
+    let alloc = rt.alloc();
+    for (text, word, fails, budget, wanted) in ROWS {
+        let ended = run(alloc, text, *word, *fails, *budget)?;
+        assert_eq!(rt; ended, *wanted, "{text}");
+    }
+    Ok(())
+}

@@ -1,0 +1,363 @@
+//! Runs of a table and a buffer with queues, token by token.
+
+ghost use Rattle.std.specs.Prelude.{◌≡◌, true, MatchOption};
+ghost use Rattle.ws_isa.specs.Image.{instr_at};
+ghost use Rattle.port_set.specs.Slots.{AllOpen, contents};
+ghost use Rattle.store_buf.specs.Outdoors.{AllTell, began_of, world_with};
+ghost use Rattle.part_store.specs.Parted.{is_store_op};
+
+use df_job::{Code, Job, Request, Token, TokenList, start};
+use image_walk::Checked;
+use match_table::{Accept, Table};
+use part_store::PartBuffer;
+use port_set::{Port, Slots};
+use std::alloc::Global;
+use std::marker::Brand;
+use store_buf::{BufFault, BufferEnd, told_ports_begin};
+use ws_isa::Op;
+use ws_words::{NoMemory, Words};
+
+// The most tokens of a run.
+const TOKENS: u32 = 1_000;
+
+/// In which order tokens come: those to these ports of these instructions, and then the others as a seed
+/// has it. Where `late` is set, the data of a store comes when nothing else is on the way. Where `apart`
+/// is set, an address that comes before its data goes to the buffer alone. `watched` is an instruction of
+/// wave 1 whose answer is asked for after each call.
+#[derive(Clone, Copy)]
+pub struct Order {
+    pub script: &'static [(u32, u8)],
+    pub seed: Option<u64>,
+    pub late: bool,
+    pub apart: bool,
+    pub watched: u32,
+}
+
+/// What the buffer said to an address or a request of an instruction: the last token that it told, by
+/// instruction, port and value, or a fault; its fault when it was asked the same again; how many queues were
+/// open then, and the answer of the watched instruction.
+#[derive(Clone, Copy, Debug, PartialEq, Eq)]
+pub struct Said {
+    pub instr: u32,
+    pub token: Option<(u32, u8, u64)>,
+    pub fault: Option<BufFault>,
+    pub again: Option<BufFault>,
+    pub open: u32,
+    pub answer: Option<u64>,
+}
+
+/// What has come of a run: what the buffer said in turn; the answer of each instance that it keeps; and how
+/// it ended.
+#[derive(Drop)]
+pub struct Past<P: Port> {
+    pub said: Vec<Said>,
+    pub answers: Vec<(u64, u32, Option<u64>)>,
+    pub stop: Option<BufFault>,
+    pub is_whole: bool,
+    pub end: BufferEnd<P>,
+}
+
+#[derive(Drop)]
+struct Run<J: Job, P: Port> {
+    table: Table<J>,
+    buffer: PartBuffer<J, P>,
+    bag: Vec<Token<J>>,
+    said: Vec<Said>,
+}
+
+// Puts all tokens of a list behind others, and tells the last one.
+fn take_all<J: Job>(
+    tokens: TokenList<J>,
+    bag: &mut Vec<Token<J>>,
+) -> Result<Option<(u32, u8, u64)>, NoMemory> {
+    let mut tokens = tokens;
+    let mut last = None;
+    for _ in 0..1_000 {
+        let Some(token) = tokens.pop() else {
+            break;
+        };
+        last = Some((token.instr(), token.port(), token.value()));
+        bag.push(token)?;
+    }
+    Ok(last)
+}
+
+// Notes what the buffer answered to a call on an instruction, and to the same call once more.
+fn note<J: Job, P: Port>(
+    code: &Code<'_, J>,
+    run: &mut Run<J, P>,
+    order: &Order,
+    instr: u32,
+    answer: Result<TokenList<J>, BufFault>,
+    again: Option<BufFault>,
+) -> Result<(), NoMemory> {
+    let (token, fault) = match answer {
+        Ok(tokens) => (take_all(tokens, &mut run.bag)?, None),
+        Err(fault) => (None, Some(fault)),
+    };
+    let said = Said {
+        instr,
+        token,
+        fault,
+        again,
+        open: run.buffer.open_queues(),
+        answer: run.buffer.answer(code, 1, order.watched),
+    };
+    run.said.push(said)?;
+    Ok(())
+}
+
+// Brings an address to the buffer, twice.
+fn tell<J: Job, P: Port>(
+    code: &Code<'_, J>,
+    run: &mut Run<J, P>,
+    order: &Order,
+    token: Token<J>,
+) -> Result<(), NoMemory>
+    requires store { is_store_op (instr_at J.image token.instr).op ≡ true }
+    requires port { token.port ≡ 0 }
+{
+    let instr = token.instr();
+    let once_more = token.again();
+    let answer = run.buffer.address(code, token);
+    let again = run.buffer.address(code, once_more).err();
+    note(code, run, order, instr, answer, again)
+}
+
+// Brings a request to the buffer, twice.
+fn ask<J: Job, P: Port>(
+    code: &Code<'_, J>,
+    run: &mut Run<J, P>,
+    order: &Order,
+    request: Request<J>,
+) -> Result<(), NoMemory> {
+    let instr = request.instr();
+    let once_more = request.again();
+    let answer = run.buffer.submit(code, request);
+    let again = run.buffer.submit(code, once_more).err();
+    note(code, run, order, instr, answer, again)
+}
+
+// The same token once more, where it is the address of a store.
+fn address_of<J: Job>(code: &Code<'_, J>, token: &Token<J>) -> Option<Token<J>>
+    ensures { MatchOption result (Unit {0}) (λ address. (address ≡ token.now)
+        × (is_store_op (instr_at J.image token.now.instr).op ≡ true) × (token.now.port ≡ 0)) }
+{
+    match code.program().op(token.instr()) {
+        Op::Store(_) => {
+            if token.port() == 0 {
+                Some(token.again())
+            } else {
+                None
+            }
+        }
+        _ => None,
+    }
+}
+
+// Whether a token is the data of a store.
+fn is_data<J: Job>(code: &Code<'_, J>, token: &Token<J>) -> bool {
+    match code.program().op(token.instr()) {
+        Op::Store(_) => token.port() == 1,
+        _ => false,
+    }
+}
+
+// Brings a token to the table, and what comes of it to the buffer.
+fn bring<J: Job, P: Port>(
+    alloc: Global,
+    code: &Code<'_, J>,
+    run: &mut Run<J, P>,
+    order: &Order,
+    token: Token<J>,
+) -> Result<(), NoMemory> {
+    let address = address_of(code, &token);
+    match run.table.accept(alloc, code, token) {
+        Ok(Accept::Waits) => match address {
+            Some(address) if order.apart => tell(code, run, order, address),
+            _ => Ok(()),
+        },
+        Ok(Accept::Fires(tokens)) => {
+            let _ = take_all(tokens, &mut run.bag)?;
+            Ok(())
+        }
+        Ok(Accept::Asks(request)) => ask(code, run, order, request),
+        Err(_) => Err(NoMemory),
+    }
+}
+
+// The place of a token to this port of this instruction.
+fn place_of<J: Job>(bag: &[Token<J>], instr: u32, port: u8) -> Option<usize> {
+    bag.iter()
+        .position(|token| token.instr() == instr && token.port() == port)
+}
+
+// The place of a token from this one on, round and round, that isn't the data of a store.
+fn place_before<J: Job>(code: &Code<'_, J>, bag: &[Token<J>], from: usize) -> usize {
+    let mut at = from;
+    for _ in 0..bag.len() {
+        match bag.get(at) {
+            Some(token) => {
+                if !is_data(code, token) {
+                    return at;
+                }
+                at = at.wrapping_add(1);
+            }
+            None => at = 0,
+        }
+    }
+    from
+}
+
+// Brings the tokens of a script.
+fn bring_script<J: Job, P: Port>(
+    alloc: Global,
+    code: &Code<'_, J>,
+    run: &mut Run<J, P>,
+    order: &Order,
+) -> Result<(), NoMemory> {
+    for (instr, port) in order.script {
+        let Some(place) = place_of(&run.bag, *instr, *port) else {
+            return Err(NoMemory);
+        };
+        if place < run.bag.len() {
+            let token = run.bag.swap_remove(place);
+            bring(alloc, code, run, order, token)?;
+        }
+    }
+    Ok(())
+}
+
+// Brings tokens as a seed has it.
+fn bring_all<J: Job, P: Port>(
+    alloc: Global,
+    code: &Code<'_, J>,
+    run: &mut Run<J, P>,
+    order: &Order,
+    seed: u64,
+) -> Result<(), NoMemory> {
+    let mut number = seed;
+    for _ in 0..TOKENS {
+        if run.bag.len() == 0 {
+            return Ok(());
+        }
+        number = number
+            .wrapping_mul(6_364_136_223_846_793_005)
+            .wrapping_add(1_442_695_040_888_963_407);
+        let mut place = (number >> 33) as usize % run.bag.len();
+        if order.late {
+            place = place_before(code, &run.bag, place);
+        }
+        if place < run.bag.len() {
+            let token = run.bag.swap_remove(place);
+            bring(alloc, code, run, order, token)?;
+        }
+    }
+    Ok(())
+}
+
+// The answers of what is kept.
+fn answers<J: Job, P: Port>(
+    alloc: Global,
+    code: &Code<'_, J>,
+    buffer: &PartBuffer<J, P>,
+) -> Result<Vec<(u64, u32, Option<u64>)>, NoMemory> {
+    let mut answers = Vec::new(alloc);
+    for kept in buffer.kept() {
+        let answer = buffer.answer(code, kept.wave, kept.instr);
+        answers.push((kept.wave, kept.instr, answer))?;
+    }
+    Ok(answers)
+}
+
+// A run with no tokens.
+fn begun<J: Job, P: Port>(alloc: Global, buffer: PartBuffer<J, P>) -> Run<J, P> {
+    Run {
+        table: Table::new(alloc),
+        buffer,
+        bag: Vec::new(alloc),
+        said: Vec::new(alloc),
+    }
+}
+
+// Carries a run out, and tells the answers.
+fn carry_out<J: Job, P: Port>(
+    alloc: Global,
+    code: &Code<'_, J>,
+    run: &mut Run<J, P>,
+    order: &Order,
+) -> Result<Vec<(u64, u32, Option<u64>)>, NoMemory> {
+    let tokens = start(alloc, code)?;
+    let _ = take_all(tokens, &mut run.bag)?;
+    bring_script(alloc, code, run, order)?;
+    if let Some(seed) = order.seed {
+        bring_all(alloc, code, run, order, seed)?;
+    }
+    answers(alloc, code, &run.buffer)
+}
+
+// What has come of a run.
+fn what_came<J: Job, P: Port>(run: Run<J, P>, answers: Vec<(u64, u32, Option<u64>)>) -> Past<P> {
+    Past {
+        said: run.said,
+        answers,
+        stop: run.buffer.stop(),
+        is_whole: run.bag.len() == 0,
+        end: run.buffer.finish(),
+    }
+}
+
+// A whole run of a buffer.
+fn run_on<J: Job, P: Port>(
+    alloc: Global,
+    code: &Code<'_, J>,
+    buffer: PartBuffer<J, P>,
+    order: &Order,
+) -> Result<Past<P>, NoMemory> {
+    let mut run = begun(alloc, buffer);
+    match carry_out(alloc, code, &mut run, order) {
+        Ok(answers) => Ok(what_came(run, answers)),
+        Err(_) => Err(NoMemory),
+    }
+}
+
+// The same as `past_of`, as a job.
+fn run_as<J: Job, P: Port>(
+    alloc: Global,
+    image: &Checked,
+    input: Words,
+    ports: Slots<P>,
+    order: &Order,
+) -> Result<Past<P>, NoMemory>
+    requires image { image.now ≡ J.image }
+    requires world { J.world ≡ world_with input (contents P.tells ports) }
+    requires began { J.began ≡ began_of (contents P.tells ports) }
+    requires told { AllTell (contents P.tells ports) }
+    requires open { AllOpen (contents P.tells ports) }
+{
+    told_ports_begin();
+    let Ok(code) = Code::<'_, J>::of(alloc, image) else {
+        return Err(NoMemory);
+    };
+    match PartBuffer::begin(alloc, &code, input, ports) {
+        Ok(buffer) => run_on(alloc, &code, buffer, order),
+        Err(_) => Err(NoMemory),
+    }
+}
+
+/// Brings the tokens of an image to a table and a buffer, in some order.
+pub fn past_of<P: Port>(
+    alloc: Global,
+    image: &Checked,
+    input: Words,
+    ports: Slots<P>,
+    order: &Order,
+) -> Result<Past<P>, NoMemory>
+    requires told { AllTell (contents P.tells ports) }
+    requires open { AllOpen (contents P.tells ports) }
+{
+    run_as::<Brand, P>(alloc, image, input, ports, order)
+}
+
+/// Lets a run go. Whoever calls this needn't say how each of its parts is let go.
+pub fn let_go<P: Port>(_past: Past<P>) {}
