@@ -1,10 +1,8 @@
 -- Each generated job is a job.
-use Rattle.std.specs.Prelude.{◌≡◌, ℕ, zero, suc, ◌+◌, ◌*◌, ◌%◌, ◌^◌, ◌<◌, ◌==◌, Bool, true, false, not, ◌&&◌, IsTrue, List, [], ◌∷◌, ◌++◌, codes, decimal, flat_map, map, if◌then◌else◌, refl}
+use Rattle.std.specs.Prelude.{◌≡◌, ℕ, zero, suc, ◌+◌, ◌*◌, ◌%◌, ◌<◌, true, not, IsTrue, List, [], ◌∷◌, ◌++◌, codes, decimal, flat_map, map, refl}
 use Rattle.std.proofs.Common.{sym, ap, ◌∙◌, subst, arith, append_assoc}
 use Rattle.std.specs.Fmt.{digits}
-use Rattle.std.specs.List.{list_all, range_with_len, AllByRecursion}
-use Rattle.std.proofs.lemmas.Bool.{and_parts, and_from, not-true, true≢false}
-use Rattle.ws_words.specs.Digits.{is_digit, is_number}
+use Rattle.std.specs.List.{range_with_len, AllByRecursion}
 use Rattle.src_ast.specs.declared.lexeme.Place.{Place}
 use Rattle.src_ast.specs.Lexemes.{Lex, after, is_blank, starts_without}
 use Rattle.src_ast.specs.Syntax.{Part}
@@ -12,56 +10,14 @@ use Rattle.src_ast.specs.Printed.{printed_form}
 use Rattle.src_ast.specs.Rules.{IsAccepted}
 use Rattle.src_ast.specs.Written.{IsWritten, ReadsTheSame}
 use Rattle.src_ast.specs.Same.{Same}
-use Rattle.asm_text.proofs.Spelt.{decimal_digits, other}
 use Rattle.wave_gen.specs.Words.{IsWord}
 use Rattle.work_gen.specs.Program.{product}
 use Rattle.work_gen.specs.Job.{size, square, word, words_of, further_word, words_line, job_text}
 use Rattle.work_gen.specs.Jobs.{IsGenerated}
-use Rattle.wsc_top.specs.Sections.{ends_line, is_line, after_line, front_of, rest_of, program_of, input_of, input_place, IsItem, IsWordText, stop, next, InputWords}
+use Rattle.wsc_top.specs.Sections.{program_of, input_of, input_place, stop, next, InputWords}
 use Rattle.wsc_top.specs.Generated.{IsGeneratedJob}
 use Rattle.wsc_top.proofs.Bounds.{one_bound}
-
--- no byte of a text is `%`, and where it ends a line begins
-abbrev is_plain : Bool → List ℕ → Bool
-is_plain at_line [] = at_line
-is_plain at_line (b ∷ bytes) = not (b == 37) && is_plain (b == 10) bytes
-
--- the sections of a plain text and what begins with the marker
-
-abbrev input_marker : List ℕ
-input_marker = codes "%input"
-
-abbrev is_marker : List ℕ → Bool
-is_marker text = is_line input_marker text
-
-front_step : (at_line : Bool) (b : ℕ) (bytes : List ℕ) → (b == 37) ≡ false → front_of input_marker at_line (b ∷ bytes) ≡ b ∷ front_of input_marker (b == 10) bytes
-front_step true b bytes e = rw e refl
-front_step false b bytes e = refl
-
-rest_step : (at_line : Bool) (b : ℕ) (bytes : List ℕ) → (b == 37) ≡ false → rest_of input_marker at_line (b ∷ bytes) ≡ rest_of input_marker (b == 10) bytes
-rest_step true b bytes e = rw e refl
-rest_step false b bytes e = refl
-
-front_end : (text : List ℕ) → is_marker text ≡ true → front_of input_marker true text ≡ []
-front_end [] m = refl
-front_end (b ∷ bytes) m = ap (λ (t : Bool). if t then [] else b ∷ front_of input_marker (b == 10) bytes) m
-
-rest_end : (text : List ℕ) → is_marker text ≡ true → rest_of input_marker true text ≡ text
-rest_end [] m = refl
-rest_end (b ∷ bytes) m = ap (λ (t : Bool). if t then b ∷ bytes else rest_of input_marker (b == 10) bytes) m
-
-module _ (rest : List ℕ) (marker : is_marker rest ≡ true) where
-  front_plain : (at_line : Bool) (text : List ℕ) → is_plain at_line text ≡ true → front_of input_marker at_line (text ++ rest) ≡ text
-  front_plain at_line [] h = ap (λ t. front_of input_marker t rest) h ∙ front_end rest marker
-  front_plain at_line (b ∷ bytes) h =
-      let parts = and_parts (not (b == 37)) (is_plain (b == 10) bytes) h in
-      front_step at_line b (bytes ++ rest) (not-true (b == 37) parts.0) ∙ ap (λ t. b ∷ t) (front_plain (b == 10) bytes parts.1)
-
-  rest_plain : (at_line : Bool) (text : List ℕ) → is_plain at_line text ≡ true → rest_of input_marker at_line (text ++ rest) ≡ rest
-  rest_plain at_line [] h = ap (λ t. rest_of input_marker t rest) h ∙ rest_end rest marker
-  rest_plain at_line (b ∷ bytes) h =
-      let parts = and_parts (not (b == 37)) (is_plain (b == 10) bytes) h in
-      rest_step at_line b (bytes ++ rest) (not-true (b == 37) parts.0) ∙ rest_plain (b == 10) bytes parts.1
+use Rattle.wsc_top.proofs.Markers.{is_plain, program_is, input_is, word_item, word_text}
 
 -- the printed form of each size is plain
 
@@ -113,10 +69,6 @@ plain_size (suc (suc (suc (suc (suc (suc (suc zero))))))) h = plain_9
 plain_size (suc (suc (suc (suc (suc (suc (suc (suc zero)))))))) h = plain_10
 plain_size (suc (suc (suc (suc (suc (suc (suc (suc (suc r))))))))) h = absurd (omega arith)
 
-line_ends : (text : List ℕ) → ends_line (10 ∷ text) ≡ true
-line_ends [] = refl
-line_ends (b ∷ text) = refl
-
 -- the two sections of a generated job
 module _ (number : ℕ) where
   abbrev line : List ℕ
@@ -125,41 +77,18 @@ module _ (number : ℕ) where
   abbrev program : List ℕ
   program = printed_form (product (size number))
 
-  marks : is_marker (codes "%input\n" ++ line) ≡ true
-  marks = line_ends line
-
   plain : is_plain true program ≡ true
   plain = plain_size (number % 9) (omega arith)
 
-  program_is : program_of (job_text number) ≡ program
+  job_program : program_of (job_text number) ≡ program
   unfolding job_text
-  program_is = ap (front_of input_marker true) (append_assoc program (codes "%input\n") line) ∙ front_plain (codes "%input\n" ++ line) marks true program plain
+  job_program = program_is program plain line
 
-  input_is : input_of (job_text number) ≡ line
+  job_input : input_of (job_text number) ≡ line
   unfolding job_text
-  input_is = ap (λ t. after_line (rest_of input_marker true t)) (append_assoc program (codes "%input\n") line) ∙ ap after_line (rest_plain (codes "%input\n" ++ line) marks true program plain)
+  job_input = input_is program plain line
 
 -- words on a line are read
-
-digit_dense : (b : ℕ) → is_digit b ≡ true → not (is_blank b) ≡ true
-digit_dense b h = rw (other is_digit b 32 h refl, other is_digit b 9 h refl, other is_digit b 13 h refl, other is_digit b 10 h refl) refl
-
-all_dense : (bytes : List ℕ) → list_all is_digit bytes ≡ true → list_all (λ b. not (is_blank b)) bytes ≡ true
-all_dense [] h = refl
-all_dense (b ∷ bytes) h =
-    let parts = and_parts (is_digit b) (list_all is_digit bytes) h in
-    and_from (not (is_blank b)) (list_all (λ b. not (is_blank b)) bytes) (digit_dense b parts.0) (all_dense bytes parts.1)
-
-number_item : (bytes rest : List ℕ) → is_number bytes ≡ true → IsTrue (starts_without (λ b. not (is_blank b)) rest) → IsItem bytes rest
-number_item [] rest h s = absurd (true≢false (sym h))
-number_item (b ∷ bytes) rest h s = record { some = λ e. cc; dense = all_dense (b ∷ bytes) h; longest = s }
-
-module _ (w : ℕ) (is : w < 2 ^ 64) (rest : List ℕ) (blank : IsTrue (starts_without (λ b. not (is_blank b)) rest)) where
-  word_item : IsItem (decimal w) rest
-  word_item = number_item (decimal w) rest (decimal_digits w is).digits blank
-
-  word_text : IsWordText (decimal w) w
-  word_text = let d = decimal_digits w is in (d.digits, sym d.value, is)
 
 abbrev further : List ℕ → List ℕ
 further ws = flat_map further_word ws ++ codes "\n"
@@ -205,12 +134,12 @@ generated_job generated reads accepted number =
           reads = record {
             ls = read.ls;
             finish = read.finish;
-            lex = subst (λ text. Lex text read.ls read.finish) (sym (program_is number)) read.lex;
+            lex = subst (λ text. Lex text read.ls read.finish) (sym (job_program number)) read.lex;
             kept = read.kept;
             tree = read.tree;
             accepted = accepted (product (size number)) read.again read.finish read.finish read.same (known.accepted read.finish);
           };
-          words = subst (λ text. InputWords (input_place (job_text number)) text (words_of number)) (sym (input_is number))
+          words = subst (λ text. InputWords (input_place (job_text number)) text (words_of number)) (sym (job_input number))
               (line_words (input_place (job_text number)) (words_of number) (are_words number (range_with_len 0 (2 * square number))));
         };
         same = read.same;

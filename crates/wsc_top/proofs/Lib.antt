@@ -19,8 +19,10 @@ pub mod RunsAlike
 pub mod AssembliesOnce
 pub mod Ends
 pub mod Bounds
+pub mod Markers
 pub mod Generated
 pub mod Replays
+pub mod ReadAgain
 pub mod Grids
 pub mod Due
 pub mod Benches

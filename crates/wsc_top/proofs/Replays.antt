@@ -45,7 +45,7 @@ module _ (image : Image) (world : World) (budget : ℕ) (events : List Event) wh
   }
 
 -- a text has one trace at most
-one_trace : (text : List ℕ) (a b : List Lined) → HasTrace text a → HasTrace text b → a ≡ b
+pub one_trace : (text : List ℕ) (a b : List Lined) → HasTrace text a → HasTrace text b → a ≡ b
 one_trace text a b h k =
     let e : Ok a ≡ Ok b = sym h.events ∙ k.events in cc
 

@@ -21,6 +21,10 @@ use Rattle.wsc_top.specs.declared.assembly.AsmRefusal.TheVariants as refusal
 abbrev pub word_line : ℕ → List ℕ
 word_line w = decimal w ++ codes "\n"
 
+-- a text and behind it an input section: these words, a line each
+abbrev pub with_input : List ℕ → List ℕ → List ℕ
+with_input text words = text ++ codes "%input\n" ++ flat_map word_line words
+
 -- the words of a run that came to its end, a line each, and `halt`
 abbrev pub done_text : List ℕ → List ℕ
 done_text ws = flat_map word_line ws ++ codes "halt\n"

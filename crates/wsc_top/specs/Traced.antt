@@ -12,19 +12,18 @@ use Rattle.trace_check.specs.declared.recording.TraceEnd.TheVariants as end
 use Rattle.trace_check.specs.declared.replaying.Replayed.{Replayed}
 use Rattle.trace_check.specs.Recorded.{Traces}
 use Rattle.trace_check.specs.Replays.{Replays, StopsAt, events_of}
-use Rattle.trace_check.specs.Traces.{events_in, events_text}
+use Rattle.trace_check.specs.Traces.{AllFit, events_in, events_text}
 use Rattle.wsc_top.specs.declared.status.Status.{Status}
 use Rattle.wsc_top.specs.declared.status.Status.TheVariants.{Done, Refused, Budget, Fault}
 use Rattle.wsc_top.specs.declared.assembly.AsmRefusal.TheVariants.{Text}
 use Rattle.wsc_top.specs.Job.{world_of}
 use Rattle.wsc_top.specs.Sections.{trace_section, trace_of, trace_line, last_line}
-use Rattle.wsc_top.specs.Texts.{word_line, firings_line, asm_refusal_text}
+use Rattle.wsc_top.specs.Texts.{word_line, with_input, firings_line, asm_refusal_text}
 
 -- an image with its input words and events: a text that `replay` takes
 abbrev pub traced_text : Image → List ℕ → List Event → List ℕ
 traced_text image input events =
-    printed image ++ codes "%input\n" ++ flat_map word_line input ++ codes "%trace\n"
-    ++ events_text events
+    with_input (printed image) input ++ codes "%trace\n" ++ events_text events
 
 -- the status by how the events end
 abbrev pub trace_status : TraceEnd → Status
@@ -33,12 +32,13 @@ trace_status end.Budget = Budget
 trace_status end.Fault = Fault
 
 -- `trace` prints the image, the input words and some events, each of which is enabled after those
--- before it, to rest, to the stop at a fault, or to the budget
+-- before it, to rest, to the stop at a fault, or to the budget; their numbers are within their fields
 pub record IsTraced (budget : ℕ) (image : Image) (input : List ℕ) (status : Status) (out : List ℕ)
     : Type 0 where
   pub events : List Event
   pub how : TraceEnd
   pub traces : Traces image (world_of input) budget events how
+  pub fit : AllFit events
   pub status_is : status ≡ trace_status how
   pub text_is : out ≡ traced_text image input events
 

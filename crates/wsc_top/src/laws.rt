@@ -1,14 +1,21 @@
 //! What the definitions of jobs and answers come to.
 
-ghost use Rattle.std.specs.Prelude.{◌≡◌, ◌⊎◌, ℕ, List, Option, Some, Result, Ok};
+ghost use Rattle.std.specs.Prelude.{◌≡◌, ◌⊎◌, ℕ, List, [], Option, Some, Result, Ok, true};
+ghost use Rattle.std.specs.List.{AllByRecursion};
 ghost use Rattle.port_set.specs.Ports.{Told};
 ghost use Rattle.store_buf.specs.Outdoors.{world_with};
 ghost use Rattle.src_ast.specs.declared.lexeme.Place.{Place};
 ghost use Rattle.src_ast.specs.Syntax.{Part};
 ghost use Rattle.src_ast.specs.Once.{ExactlyOne};
 ghost use Rattle.ws_isa.specs.Image.{Image};
+ghost use Rattle.ws_isa.specs.Formed.{Formed};
 ghost use Rattle.image_walk.specs.Sound.{Sound};
+ghost use Rattle.wave_gen.specs.Words.{IsWord};
+ghost use Rattle.asm_text.specs.Printed.{printed};
 ghost use Rattle.asm_text.specs.Reading.{read};
+ghost use Rattle.trace_check.specs.declared.replaying.Replayed.{Replayed};
+ghost use Rattle.trace_check.specs.Replays.{Replays};
+ghost use Rattle.trace_check.specs.Traces.{numbered};
 ghost use Rattle.annot_check.specs.declared.fault.Bad.{Bad};
 ghost use Rattle.annot_check.specs.Breach.{BadBreach};
 ghost use Rattle.wsc_top.specs.declared.status.Status.{Status};
@@ -19,16 +26,18 @@ ghost use Rattle.wsc_top.specs.declared.task.RunOptions.{RunOptions};
 ghost use Rattle.wsc_top.specs.declared.task.AssemblyTask.{AssemblyTask};
 ghost use Rattle.wsc_top.specs.declared.task.GridOptions.{GridOptions};
 ghost use Rattle.wsc_top.specs.declared.assembly.AsmRefusal.{AsmRefusal};
-ghost use Rattle.wsc_top.specs.Sections.{program_of, IsInputAnswer};
-ghost use Rattle.wsc_top.specs.Job.{IsJob, IsTextAnswer};
+ghost use Rattle.wsc_top.specs.Sections.{program_of, before_trace, trace_line, IsInputAnswer};
+ghost use Rattle.wsc_top.specs.Job.{IsJob, IsTextAnswer, world_of};
 ghost use Rattle.wsc_top.specs.Assembly.{IsAssembly, RefusesAssembly, IsAssemblyAnswer, IsUnsound};
 ghost use Rattle.wsc_top.specs.Executions.{Executes, IsFailed};
 ghost use Rattle.wsc_top.specs.Generated.{IsGeneratedJob};
+ghost use Rattle.wsc_top.specs.Texts.{with_input};
+ghost use Rattle.wsc_top.specs.Traced.{IsTraced, HasTrace, CanReplay, replayed_text};
 ghost use Rattle.wsc_top.specs.Tasks.{IsLine};
-ghost use Rattle.wsc_top.specs.Answers.{TellWords, EndsSo, AssemblyEndsSo, BenchEndsSo, Answers, IsDue, IsFixed, IsAnswer, IsFree, IsSettled, IsAssemblyReply, IsToldJob, IsToldAssembly};
+ghost use Rattle.wsc_top.specs.Answers.{TellWords, EndsSo, AssemblyEndsSo, BenchEndsSo, Answers, IsDue, IsFixed, IsAnswer, IsFree, IsSettled, Yields, AssemblyAnswered, IsAssemblyReply, IsToldJob, IsToldAssembly};
 
 use annot_check::breaches_break;
-use asm_text::read_images_are_formed;
+use asm_text::{printed_reads_again, printed_texts_have_no_marker, read_images_are_formed};
 use grid_clock::clocks_are_one;
 use image_walk::{effects_are_one, walks_go_on};
 use seq_run::one_answer;
@@ -36,6 +45,7 @@ use src_ast::{printed_reads_the_same, read_is_written, same_programs_are_accepte
 use src_check::each_program_is_checked_once;
 use src_lex::each_text_is_lexed_once;
 use src_parse::lexemes_are_parsed_once;
+use trace_check::{made_traces_are_replayed, written_traces_read_again};
 use work_gen::generated_programs_are_accepted;
 use wsc_words::words_are_one_line;
 
@@ -175,4 +185,45 @@ pub fn each_generated_job_is_a_job()
     generated_programs_are_accepted();
     printed_reads_the_same();
     same_programs_are_accepted_alike();
+}
+
+/// What is printed is read again: the text of an image as that image, with the words of an input section
+/// behind it, and a trace as the image, the words and the events that were traced. The call takes a text of
+/// at most `assembly_limit` bytes: a longer one is refused as too long, whatever it says.
+pub fn printed_texts_are_read_again()
+    // the text of a sound image by itself
+    ensures image { (image : Image) → Formed image → Sound image → IsAssembly (printed image) image [] }
+    // the same with an input section behind it
+    ensures input { (image : Image) (words : List ℕ) → Formed image → Sound image
+        → AllByRecursion IsWord words → IsAssembly (with_input (printed image) words) image words }
+    // what `compile` prints, by itself and with an input section, is the image that it hands back
+    ensures compiled { (parts : List Part) (input : List ℕ) (handed back : List (Option Told))
+        (out : List ℕ) (image : Image)
+        → Yields JobTask.Compile parts input handed Status.Done out (Some image) back
+        → IsAssembly out image [] × ((words : List ℕ) → AllByRecursion IsWord words
+        → IsAssembly (with_input out words) image words) }
+    // what `trace` prints of an assembly has its image, its words and the very events that were made, each
+    // on a line of its own, and each enabled after those before it
+    ensures traced { (budget : ℕ) (text : List ℕ) (image : Image) (input : List ℕ) (status : Status)
+        (out : List ℕ) → IsAssembly text image input
+        → (told : IsTraced budget image input status out)
+        → IsAssembly (before_trace out) image input
+        × HasTrace out (numbered (trace_line out) told.events) × CanReplay out image input }
+    // so `replay` answers Done to it and hands the image back; it tells what making those events comes to,
+    // and `rest` where the trace came to rest
+    ensures replayed { (budget : ℕ) (text : List ℕ) (image : Image) (input : List ℕ) (status : Status)
+        (out : List ℕ) → IsAssembly text image input
+        → (told : IsTraced budget image input status out)
+        → (handed back : List (Option Told)) (replied : Status) (reply : List ℕ) (again : Option Image)
+        → AssemblyAnswered AssemblyTask.Replay out handed replied reply again back
+        → (replied ≡ Status.Done) × (again ≡ Some image) × ((r : Replayed)
+        × Replays image (world_of input) (numbered (trace_line out) told.events) r
+        × (reply ≡ replayed_text r) × (status ≡ Status.Done → r.rest ≡ true)) }
+{
+    printed_reads_again();
+    printed_texts_have_no_marker();
+    read_images_are_formed();
+    written_traces_read_again();
+    made_traces_are_replayed();
+    breaches_break();
 }

@@ -1,6 +1,7 @@
 //! What comes of `trace` and `replay`.
 
-ghost use Rattle.std.specs.Prelude.{◌≡◌, ◌+◌, ◌≤◌, length, IfOk};
+ghost use Rattle.std.specs.Prelude.{◌≡◌, ◌+◌, ◌≤◌, length, IfOk, OnOk};
+ghost use Rattle.trace_check.specs.Traces.{AllFit};
 ghost use Rattle.wsc_top.specs.Job.{world_of};
 ghost use Rattle.wsc_top.specs.Sections as sections;
 ghost use Rattle.wsc_top.specs.Assembly.{assembly_limit};
@@ -47,7 +48,8 @@ fn text_of(
     input: &Words,
     events: &[Event],
 ) -> Result<Bytes, NoMemory>
-    ensures { IfOk result (λ text. text ≡ traced_text image.now input.now events.now) }
+    ensures text { IfOk result (λ text. text ≡ traced_text image.now input.now events.now) }
+    ensures fit { OnOk result (AllFit events.now) }
 {
     let mut text = print_asm(alloc, image.image())?;
     text.extend(b"%input\n")?;
