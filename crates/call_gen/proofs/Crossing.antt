@@ -48,7 +48,7 @@ written_left (op ∷ xs) ys x (inl w) = inl w
 written_left (op ∷ xs) ys x (inr w) = inr (written_left xs ys x w)
 
 -- what is mentioned is a variable of the procedure
-low : (g : Graph) (v : ℕ) (t : Term) (x : ℕ) → TermIn g v t → Mentions t x → x < v
+pub low : (g : Graph) (v : ℕ) (t : Term) (x : ℕ) → TermIn g v t → Mentions t x → x < v
 low g v (Number n) x i m = absurd m
 low g v (Var y) x i m = omega (arith, i, m)
 low g v (Cell a t) x i m = low g v t x i.1 m
@@ -58,7 +58,7 @@ low g v (Neg t) x i m = low g v t x i m
 low g v (Binary op a b) x i (inl m) = low g v a x i.0 m
 low g v (Binary op a b) x i (inr m) = low g v b x i.1 m
 
-all_low : (g : Graph) (v : ℕ) (ts : List Term) (x : ℕ) → AllByRecursion (TermIn g v) ts → OneMentions ts x → x < v
+pub all_low : (g : Graph) (v : ℕ) (ts : List Term) (x : ℕ) → AllByRecursion (TermIn g v) ts → OneMentions ts x → x < v
 all_low g v [] x i m = absurd m
 all_low g v (t ∷ ts) x i (inl m) = low g v t x i.0 m
 all_low g v (t ∷ ts) x i (inr m) = all_low g v ts x i.1 m

@@ -16,8 +16,8 @@ use Rattle.cfg_core.specs.Graph.{Graph, Term, Call, Send, spot_at, proc_at, entr
 use Rattle.cfg_core.specs.View as view
 use Rattle.cfg_core.specs.declared.blocks.Leave.{Leave}
 use Rattle.cfg_core.specs.declared.table.Room.{Room}
-use Rattle.cfg_core.proofs.Lists.{drop_all}
 use Rattle.cfg_core.proofs.Follows.{value_is, values_is, loaded, all_loaded}
+use Rattle.ws_words.proofs.Lists.{drop_all}
 
 -- one zero more at the entry of a procedure
 pub entered_more : (vs ws : List ℕ) (n m : ℕ) → m ≡ suc n → ws ≡ vs ++ zeros n → ws ++ 0 ∷ [] ≡ vs ++ zeros m

@@ -30,3 +30,4 @@ pub mod Making
 pub mod Waves
 pub mod Owing
 pub mod Reached
+pub mod States

@@ -9,16 +9,16 @@ use Rattle.core_law.specs.Shown.{Tables, Buffer, OwesNothing, NoneIssuable, owed
 use Rattle.core_law.proofs.Ports.{put_all_held, put_all_from}
 use Rattle.core_law.proofs.ShownFit.{lists_true}
 
-waits_cases : (o : Option ℕ) (k n : Option (List ℕ)) (xs : List ℕ) → waits_if o k n ≡ Some xs → (waits_if o k None ≡ Some xs) ⊎ ((k ≡ None) × (n ≡ Some xs))
+pub waits_cases : (o : Option ℕ) (k n : Option (List ℕ)) (xs : List ℕ) → waits_if o k n ≡ Some xs → (waits_if o k None ≡ Some xs) ⊎ ((k ≡ None) × (n ≡ Some xs))
 waits_cases (Some a) k n xs e = absurd (let f : None ≡ Some xs = e in cc)
 waits_cases None (Some ys) n xs e = inl e
 waits_cases None None n xs e = inr (refl, e)
 
-some_only : (b : Bool) (ys xs : List ℕ) → cond b (Some ys) None ≡ Some xs → b ≡ true
+pub some_only : (b : Bool) (ys xs : List ℕ) → cond b (Some ys) None ≡ Some xs → b ≡ true
 some_only true ys xs e = refl
 some_only false ys xs e = absurd (let f : None ≡ Some xs = e in cc)
 
-nothing : {A : Type 0} (x : A) → None ≡ Some x → ⊥
+pub nothing : {A : Type 0} (x : A) → None ≡ Some x → ⊥
 nothing x e = cc
 
 pub rests : (image : Image) (t : Tables) (b : Buffer) → OwesNothing image t b → NoneIssuable image b → Rest image (shown image t b)

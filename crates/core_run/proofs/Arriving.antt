@@ -15,7 +15,7 @@ use Rattle.core_run.specs.Stands.{Request, AllOnce, HasRequest, cleared, Stands}
 use Rattle.core_law.proofs.Facts.{WalkFacts}
 use Rattle.core_law.proofs.FromSound.{facts_of}
 use Rattle.core_law.proofs.PortsThere.{ports_there}
-use Rattle.core_law.proofs.Ports.{with_at_cases, with_at_same, nth_below}
+use Rattle.core_law.proofs.Ports.{with_at_cases, with_at_same}
 use Rattle.core_run.proofs.StandsMatch.{way_unfired, cleared_cases}
 use Rattle.core_run.proofs.Moving.{Alike, stands_asked, stands_reordered, behind_first, waits, calls, fires_on}
 use Rattle.core_run.specs.declared.token.Token.{Token}
@@ -28,7 +28,7 @@ use Rattle.core_run.specs.Places.{destinations}
 use Rattle.core_run.specs.Ways.{token_of, way_of, SentTo}
 use Rattle.core_run.specs.Chains.{chain_of}
 use Rattle.core_run.specs.Flows.{request_of, all_of, Holds}
-use Rattle.ws_isa.proofs.Images.{tokens_append}
+use Rattle.ws_isa.proofs.Images.{tokens_append, nth_below}
 
 -- the operands beyond an operation's ports don't matter
 pub same_result : (op : Op) (o : Operands) → is_memory_op op ≡ false → result_of_op op (listed (ports_of op) o) ≡ result_of_op op (all_of o)

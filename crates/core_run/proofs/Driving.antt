@@ -28,9 +28,10 @@ use Rattle.core_run.specs.Outdoors.{OutIs, SameOut}
 use Rattle.core_run.specs.Finishes.{IsSpent, FinishIs, Ended, is_budget, stopped_at}
 use Rattle.core_run.specs.declared.drive.Finish.{Finish}
 use Rattle.core_run.specs.declared.drive.Finish.TheVariants as finish
-use Rattle.core_run.proofs.Nexts.{is_next_flag, or_left, or_right}
+use Rattle.core_run.proofs.Nexts.{is_next_flag}
 use Rattle.core_run.proofs.Issuing.{same_past}
 use Rattle.core_run.proofs.Arriving.{ports_is_op}
+use Rattle.ws_words.proofs.Bools.{or_left, or_right}
 
 reaches_on : (image : Image) (s t u : State) → Reaches image s t → Reaches image t u → Reaches image s u
 reaches_on image s t u stays r = r
@@ -99,7 +100,7 @@ has_at image [] w i xs h = absurd h
 has_at image (a ∷ held) w i xs (inl h) = (0, omega arith, h.0, h.1, h.2)
 has_at image (a ∷ held) w i xs (inr h) = let r = has_at image held w i xs h in (suc r.0, (let l : r.0 < length held = r.1 in omega arith), r.2, r.3, r.4)
 
-false_not : (b : Bool) → b ≡ false → not b ≡ true
+pub false_not : (b : Bool) → b ≡ false → not b ≡ true
 false_not false e = refl
 false_not true e = absurd (both_ways true e refl)
 

@@ -35,9 +35,10 @@ use Rattle.core_run.specs.Ways.{way_of, SentTo}
 use Rattle.core_run.specs.Chains.{chain_of, next_flag, may_flag, PassedOn}
 use Rattle.core_run.specs.Outdoors.{OutIs, Answers}
 use Rattle.core_run.specs.Flows.{request_of, all_of, Holds}
-use Rattle.core_run.proofs.Nexts.{next_is, either}
+use Rattle.core_run.proofs.Nexts.{next_is}
 use Rattle.core_run.proofs.Arriving.{same_selector, sends_are, memory_is_op, ports_is_op, sent_beside}
 use Rattle.ws_words.proofs.Lists.{map_append}
+use Rattle.ws_words.proofs.Bools.{or_comes as either}
 
 -- the operands beyond an operation's ports don't matter
 pub same_answer : (op : Op) (o : Operands) (m : Outside) → answer_op op (listed (ports_of op) o) m ≡ answer_op op (all_of o) m

@@ -8,9 +8,10 @@ use Rattle.core_law.specs.Core.{Apart, State, HasFired, IsSent, with_at, with_ke
 use Rattle.core_law.specs.Fit.{RightToken, IsThere, HasTold, Fit, Grounded}
 use Rattle.core_run.specs.Stands.{Request, cleared, Stands}
 use Rattle.core_law.proofs.Facts.{WalkFacts}
-use Rattle.core_law.proofs.Ports.{SameKey, with_at_cases, with_key_cases, with_key_same, put_all_keeps, put_all_from, nth_below, full_all}
+use Rattle.core_law.proofs.Ports.{SameKey, with_at_cases, with_key_cases, with_key_same, put_all_keeps, put_all_from, full_all}
 use Rattle.core_law.proofs.Slots.{is_sent_append_left, is_sent_append_right, is_sent_append_cases}
 use Rattle.core_law.proofs.MatchKept.{right_operands, match_fit, match_grounded}
+use Rattle.ws_isa.proofs.Images.{nth_below}
 
 pub apart_append : (ts us : List Token) → Apart ts → Apart us → ((w i p a b : ℕ) → IsSent ts w i p a → IsSent us w i p b → ⊥) → Apart (ts ++ us)
 apart_append [] us a b f = b

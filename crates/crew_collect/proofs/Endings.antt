@@ -1,5 +1,5 @@
 -- Where a run ends.
-use Rattle.std.proofs.Common.{◌≡◌, ◌+◌, ◌<◌, ◌≤◌, ◌⊎◌, inl, inr, ℕ, Bool, true, false, cond, List, Option, Some, None, is_some, length, sym, refl, ap, ◌∙◌, subst, arith}
+use Rattle.std.proofs.Common.{◌≡◌, ◌+◌, ◌<◌, ◌≤◌, ◌⊎◌, inl, inr, ℕ, true, false, List, Option, Some, None, is_some, length, sym, refl, ap, ◌∙◌, subst, arith}
 use Rattle.std.proofs.lemmas.Bool.{both_ways, and_parts}
 use Rattle.ws_words.specs.Outside.{Outside, World}
 use Rattle.ws_isa.specs.Image.{Image, Token, ports, is_memory}
@@ -11,11 +11,10 @@ use Rattle.core_law.specs.Effect.{effect_at}
 use Rattle.core_law.specs.Core.{State, Issue, Enabled, HasFired, Once, has, operands_in}
 use Rattle.core_law.specs.Fit.{Fit, FiresAt, NoOp, RightToken}
 use Rattle.core_law.specs.Ends.{Whole, AtFault, Passed}
-use Rattle.core_law.specs.Shown.{Tables, Buffer, TablesOk, OwesNothing, NoneIssuable, owed, shown, lists, waits_if}
+use Rattle.core_law.specs.Shown.{Tables, Buffer, TablesOk, OwesNothing, NoneIssuable, owed, shown, lists}
 use Rattle.core_law.proofs.Facts.{WalkFacts}
 use Rattle.core_law.proofs.FromSound.{facts_of}
 use Rattle.core_law.proofs.PortsThere.{ports_there}
-use Rattle.core_law.proofs.Ports.{nth_below}
 use Rattle.core_law.proofs.Effects.{effect_is}
 use Rattle.core_law.proofs.Quiet.{no_op_no_write, mem_same}
 use Rattle.core_law.proofs.Ends.{one_fault}
@@ -30,18 +29,8 @@ use Rattle.store_buf.specs.Outdoors.{OutIs}
 use Rattle.store_buf.proofs.Outside.{out_of}
 use Rattle.crew_collect.specs.Owing.{AllKnown, HaveCome, IsMissing}
 use Rattle.crew_collect.specs.Ends.{AllRun, SomeRun, FaultRun}
-
-nothing : {A : Type 0} (x : A) → None ≡ Some x → ⊥
-nothing x e = cc
-
-waits_cases : (o : Option ℕ) (k n : Option (List ℕ)) (xs : List ℕ) → waits_if o k n ≡ Some xs → (waits_if o k None ≡ Some xs) ⊎ ((k ≡ None) × (n ≡ Some xs))
-waits_cases (Some a) k n xs e = absurd (nothing xs e)
-waits_cases None (Some ys) n xs e = inl e
-waits_cases None None n xs e = inr (refl, e)
-
-some_only : (b : Bool) (ys xs : List ℕ) → cond b (Some ys) None ≡ Some xs → b ≡ true
-some_only true ys xs e = refl
-some_only false ys xs e = absurd (nothing xs e)
+use Rattle.core_law.proofs.Owing.{nothing, some_only, waits_cases}
+use Rattle.ws_isa.proofs.Images.{nth_below}
 
 kept_of : (image : Image) (o : Option Kept) → is_some o ≡ true → (xs : List ℕ) × (operands_if image o ≡ Some xs)
 kept_of image None e = cc

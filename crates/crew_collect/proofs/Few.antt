@@ -11,11 +11,10 @@ use Rattle.core_law.specs.Fit.{RightToken}
 use Rattle.core_law.proofs.Facts.{WalkFacts}
 use Rattle.core_law.proofs.FromSound.{facts_of}
 use Rattle.core_law.proofs.PortsThere.{ports_there}
-use Rattle.core_law.proofs.Ports.{nth_below}
 use Rattle.core_law.proofs.Counting.{count_within, keys_of, walk_has}
 use Rattle.core_run.proofs.Arriving.{ports_is_op}
 use Rattle.crew_collect.specs.Coming.{Came}
-use Rattle.ws_isa.proofs.Images.{three_ports as few_ports}
+use Rattle.ws_isa.proofs.Images.{three_ports as few_ports, nth_below}
 
 abbrev key_of : Token → Key
 key_of t = record { wave = t.wave; instr = t.instr }

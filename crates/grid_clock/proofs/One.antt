@@ -7,14 +7,14 @@ use Rattle.ws_isa.specs.Formed.{Formed}
 use Rattle.image_walk.specs.Operations.{FaultsAt, past}
 use Rattle.image_walk.specs.Sound.{Sound, seq}
 use Rattle.image_walk.specs.Walk.{Inst, fires}
-use Rattle.core_law.specs.Core.{State, Same, Event, Match, Issue, Step, Enabled, with_at, core_opening}
+use Rattle.core_law.specs.Core.{State, Event, Match, Issue, Step, Enabled, with_at, core_opening}
 use Rattle.core_law.specs.Fit.{RightToken, Fit}
 use Rattle.core_law.proofs.Facts.{WalkFacts}
 use Rattle.core_law.proofs.FromSound.{facts_of}
 use Rattle.core_law.proofs.PortsThere.{ports_there}
 use Rattle.core_law.proofs.Law.{step_kept}
 use Rattle.core_law.proofs.Making.{alone}
-use Rattle.core_law.proofs.Ports.{with_at_cases, nth_below, full_all}
+use Rattle.core_law.proofs.Ports.{with_at_cases, full_all}
 use Rattle.core_law.proofs.Reached.{reached}
 use Rattle.core_run.specs.declared.engine.Event.{Event as Made}
 use Rattle.core_run.specs.declared.engine.Event.TheVariants as made
@@ -31,10 +31,8 @@ use Rattle.grid_clock.specs.declared.timed.Timed.{Timed}
 use Rattle.grid_clock.specs.Schedule.{Grid, Fires, FiresNothing, IsOld, NoIssue, NotAfter, NotBehind, Issues, no_issue, issue, Quiets, no_quiet, quiet, Turns, no_turn, idle, turn, Cycle, Stopping, Blocked, Cycles, blocked, stops, goes, Schedule, in_cycle}
 use Rattle.grid_clock.proofs.Firsts.{same_op}
 use Rattle.grid_clock.proofs.Listing.{same_refl}
-
--- states that answer alike are one
-same_is : (s t : State) → Same s t → s ≡ t
-same_is s t e = λ k. record { held = λ w i p. e.held w i p k; way = λ w i p. e.way w i p k; fired = e.fired k; waiting = λ w i. e.waiting w i k; issued = λ w i. e.issued w i k; chain = e.chain k; stopped = e.stopped k; memory = e.memory k }
+use Rattle.ws_isa.proofs.Images.{nth_below}
+use Rattle.core_law.proofs.States.{same_is}
 
 -- of numbers in order
 not_after_both : (w i a j : ℕ) → NotAfter w i a j → NotAfter a j w i → (w ≡ a) × (i ≡ j)

@@ -1,6 +1,7 @@
 -- Blocks and instructions by number, and by place in the code's lists.
 use Rattle.std.proofs.Common.{ℕ, zero, suc, ◌+◌, ◌-◌, ◌≡◌, ◌<◌, ◌≤◌, List, [], ◌∷◌, ◌++◌, length, Option, refl, ap, ◌∙◌, arith, length-append}
 use Rattle.ws_isa.specs.Image.{Instr, Block, Image, nth, or_else, no_instr, no_block, flat, instr_at, block_at, first_of, first_number, size_of}
+use Rattle.ws_isa.proofs.Counting.{first_one}
 
 pub nth_append_left : {A : Type 0} (xs ys : List A) (k : ℕ) → k < length xs → nth (xs ++ ys) k ≡ nth xs k
 nth_append_left [] ys k l = absurd (omega arith)
@@ -10,10 +11,6 @@ nth_append_left (x ∷ xs) ys (suc k) l = nth_append_left xs ys k (omega arith)
 pub nth_append_right : {A : Type 0} (xs ys : List A) (k : ℕ) → nth (xs ++ ys) (length xs + k) ≡ nth ys k
 nth_append_right [] ys k = let e : 0 + k ≡ k = omega arith in rw e refl
 nth_append_right (x ∷ xs) ys k = let e : suc (length xs) + k ≡ suc (length xs + k) = omega arith in rw e (nth_append_right xs ys k)
-
-first_one : (bs : List Block) → first_of bs zero ≡ 1
-first_one [] = refl
-first_one (b ∷ bs) = refl
 
 -- instruction i of the block at place n
 in_flat : (bs : List Block) (n i m : ℕ) → n < length bs → i < length (or_else (nth bs n) no_block).instrs → suc m ≡ first_of bs n + i → nth (flat bs) m ≡ nth (or_else (nth bs n) no_block).instrs i

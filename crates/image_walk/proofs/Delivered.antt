@@ -5,27 +5,11 @@ use Rattle.std.proofs.lemmas.List.{get_or-set_same, get_or-set_other, length-set
 use Rattle.ws_isa.specs.declared.instr.Op.{Op}
 use Rattle.ws_isa.specs.declared.instr.Op.TheVariants.{Const, Alu, Merge, Advance, Steer, Phi, Send, Load, Store, Input, Output, Give, Take, Nop, Halt}
 use Rattle.ws_isa.specs.declared.instr.Dest.{Dest}
-use Rattle.ws_isa.specs.Image.{Instr, Pad, Image, nth, instr_at, block_at, ports, ports_of, target, edge_of, edge_dests}
+use Rattle.ws_isa.specs.Image.{Instr, Pad, Image, nth, instr_at, block_at, ports, target, edge_of, edge_dests}
 use Rattle.image_walk.specs.Sound.{Slots, HasDest, all_opened, Fresh, edge_all}
 use Rattle.image_walk.specs.Shows.{delivered, edge_by, edge_list, crossed}
 use Rattle.image_walk.proofs.Slots.{has_append_left, has_append_right, fresh_apart, fresh_right, all_opened_has}
-
-few : (op : Op) → ports_of op ≤ 3
-few (Alu o) = omega arith
-few Steer = omega arith
-few Phi = omega arith
-few (Send k) = omega arith
-few (Store a) = omega arith
-few (Const n) = omega arith
-few Merge = omega arith
-few Advance = omega arith
-few (Load a) = omega arith
-few Input = omega arith
-few Output = omega arith
-few (Give p) = omega arith
-few (Take p) = omega arith
-few Nop = omega arith
-few Halt = omega arith
+use Rattle.ws_isa.proofs.Images.{three_ports as few}
 
 -- no instruction has more than three ports
 pub few_ports : (image : Image) (k : ℕ) → ports image k ≤ 3

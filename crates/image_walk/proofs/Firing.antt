@@ -137,7 +137,7 @@ past_by_index arrays (Give p) x xs = refl
 past_by_index arrays Nop x xs = refl
 past_by_index arrays Halt x xs = refl
 
-advance_port : (op : Op) → is_advance_op op ≡ true → ports_of op ≡ 1
+pub advance_port : (op : Op) → is_advance_op op ≡ true → ports_of op ≡ 1
 advance_port Advance e = refl
 advance_port (Const n) e = absurd (cc)
 advance_port (Alu f) e = absurd (cc)

@@ -31,7 +31,7 @@ drop_load (prints w ∷ acts) a i = ap (λ (x : List Act). prints w ∷ x) (drop
 drop_load (gives p ∷ acts) a i = ap (λ (x : List Act). gives p ∷ x) (drop_load acts a i)
 drop_load (takes p w ∷ acts) a i = ap (λ (x : List Act). takes p w ∷ x) (drop_load acts a i)
 
-keep_others : (acts more : List Act) → without_loads (acts ++ more) ≡ without_loads acts ++ without_loads more
+pub keep_others : (acts more : List Act) → without_loads (acts ++ more) ≡ without_loads acts ++ without_loads more
 keep_others [] more = refl
 keep_others (loads b j ∷ acts) more = keep_others acts more
 keep_others (stores b j w ∷ acts) more = ap (λ (x : List Act). stores b j w ∷ x) (keep_others acts more)

@@ -18,3 +18,4 @@ pub mod GoesOn
 pub mod OneEffect
 pub mod SlotCert
 pub mod Certified
+pub mod Opened

@@ -17,12 +17,9 @@ use Rattle.image_walk.proofs.There.{ports_there, start_there}
 use Rattle.image_walk.proofs.Delivered.{Fits, few_ports, delivered_size, delivered_lands}
 use Rattle.image_walk.proofs.Ending.{Dead, dead_is_whole, at_leaves}
 use Rattle.image_walk.proofs.Along.{along}
+use Rattle.ws_words.proofs.Numbers.{zeros_count as zeros_length}
 
-zeros_length : (n : ℕ) → length (zeros n) ≡ n
-zeros_length zero = refl
-zeros_length (suc n) = ap suc (zeros_length n)
-
-zeros_index : (n i : ℕ) → slice_index (zeros n) i ≡ 0
+pub zeros_index : (n i : ℕ) → slice_index (zeros n) i ≡ 0
 zeros_index zero i = refl
 zeros_index (suc n) zero = refl
 zeros_index (suc n) (suc i) = zeros_index n i

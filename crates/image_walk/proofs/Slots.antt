@@ -6,7 +6,7 @@ use Rattle.ws_isa.specs.Image.{Image, Token, tokens_to, nth, or_else, edge_dests
 use Rattle.image_walk.specs.Walk.{Ports, is_at, with_token, with_tokens, edge_tokens, gather}
 use Rattle.image_walk.specs.Sound.{Slots, HasDest, opened, all_opened, Fresh, closed, edge_all}
 
-opened_cases : (d : Dest) (o : Slots) (j q : ℕ) → ((d.instr ≡ j) × (d.port ≡ q) × (opened d o j q ≡ true)) ⊎ (((d.instr ≡ j) × (d.port ≡ q) → ⊥) × (opened d o j q ≡ o j q))
+pub opened_cases : (d : Dest) (o : Slots) (j q : ℕ) → ((d.instr ≡ j) × (d.port ≡ q) × (opened d o j q ≡ true)) ⊎ (((d.instr ≡ j) × (d.port ≡ q) → ⊥) × (opened d o j q ≡ o j q))
 opened_cases d o j q = go (cases_eq d.instr j) (cases_eq d.port q)
   where
     go : (d.instr ≡ j) ⊎ (d.instr ≡ j → ⊥) → (d.port ≡ q) ⊎ (d.port ≡ q → ⊥) → ((d.instr ≡ j) × (d.port ≡ q) × (opened d o j q ≡ true)) ⊎ (((d.instr ≡ j) × (d.port ≡ q) → ⊥) × (opened d o j q ≡ o j q))
@@ -14,7 +14,7 @@ opened_cases d o j q = go (cases_eq d.instr j) (cases_eq d.port q)
     go (inr n) f = inr ((λ h. n h.0), rw (ne_eqb d.instr j n) refl)
     go (inl e) (inr n) = inr ((λ h. n h.1), rw (eq-eqb d.instr j e, ne_eqb d.port q n) refl)
 
-opened_keeps : (d : Dest) (o : Slots) (j q : ℕ) → o j q ≡ true → opened d o j q ≡ true
+pub opened_keeps : (d : Dest) (o : Slots) (j q : ℕ) → o j q ≡ true → opened d o j q ≡ true
 opened_keeps d o j q e = elim (opened_cases d o j q) [ inl h ↦ h.2 | inr h ↦ h.1 ∙ e ]
 
 -- what is open stays open
@@ -100,7 +100,7 @@ pub with_tokens_append : (ts us : List Token) (sent : Ports) → with_tokens (ts
 with_tokens_append [] us sent = refl
 with_tokens_append (t ∷ ts) us sent = with_tokens_append ts us (with_token t sent)
 
-with_token_cases : (t : Token) (sent : Ports) (a j q : ℕ) → (SamePlace t.wave t.instr t.port a j q × (with_token t sent a j q ≡ Some t.value)) ⊎ ((SamePlace t.wave t.instr t.port a j q → ⊥) × (with_token t sent a j q ≡ sent a j q))
+pub with_token_cases : (t : Token) (sent : Ports) (a j q : ℕ) → (SamePlace t.wave t.instr t.port a j q × (with_token t sent a j q ≡ Some t.value)) ⊎ ((SamePlace t.wave t.instr t.port a j q → ⊥) × (with_token t sent a j q ≡ sent a j q))
 with_token_cases t sent a j q = elim (same_place_cases t a j q) [
   | inl h ↦ inl (h.1, rw h.0 refl)
   | inr h ↦ inr (h.1, rw h.0 refl)
@@ -112,7 +112,7 @@ with_tokens_other w v [] sent a j q n = refl
 with_tokens_other w v (d ∷ ds) sent a j q n = with_tokens_other w v ds (with_token (record { wave = w; instr = d.instr; port = d.port; value = v }) sent) a j q (λ h. n (inr h)) ∙
     (elim (with_token_cases (record { wave = w; instr = d.instr; port = d.port; value = v }) sent a j q) [ inl h ↦ absurd (n (inl (h.0.instr, h.0.port))) | inr h ↦ h.1 ])
 
-with_tokens_keeps : (w v : ℕ) (ds : List Dest) (sent : Ports) (a j q : ℕ) → sent a j q ≡ Some v → with_tokens (tokens_to w v ds) sent a j q ≡ Some v
+pub with_tokens_keeps : (w v : ℕ) (ds : List Dest) (sent : Ports) (a j q : ℕ) → sent a j q ≡ Some v → with_tokens (tokens_to w v ds) sent a j q ≡ Some v
 with_tokens_keeps w v [] sent a j q e = e
 with_tokens_keeps w v (d ∷ ds) sent a j q e = with_tokens_keeps w v ds (with_token (record { wave = w; instr = d.instr; port = d.port; value = v }) sent) a j q
     (elim (with_token_cases (record { wave = w; instr = d.instr; port = d.port; value = v }) sent a j q) [ inl h ↦ h.1 | inr h ↦ h.1 ∙ e ])

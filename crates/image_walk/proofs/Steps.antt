@@ -5,22 +5,18 @@ use Rattle.ws_words.specs.Outside.{World}
 use Rattle.ws_isa.specs.Image.{Image, Block, first_of, first_number, size_of, holder, block_of, stops, target, is_first, is_advance, IsBlock, IsIn}
 use Rattle.image_walk.specs.Walk.{Inst, Pos, pos, step, opening, enter, fire, fires, fires_from, is_within, inst_at, choice, wave_of, edge_tokens, with_tokens}
 use Rattle.image_walk.specs.Sound.{ShapeRules}
+use Rattle.ws_isa.proofs.Counting.{first_one as first_of_zero}
 
--- numbers of blocks
-first_of_zero : (xs : List Block) → first_of xs zero ≡ 1
-first_of_zero [] = refl
-first_of_zero (x ∷ xs) = refl
-
-first_of_up : (xs : List Block) (n : ℕ) → first_of xs n ≤ first_of xs (suc n)
+pub first_of_up : (xs : List Block) (n : ℕ) → first_of xs n ≤ first_of xs (suc n)
 first_of_up [] n = omega arith
 first_of_up (x ∷ xs) zero = let e : first_of xs zero ≡ 1 = first_of_zero xs in omega arith
 first_of_up (x ∷ xs) (suc n) = let e : first_of xs n ≤ first_of xs (suc n) = first_of_up xs n in omega arith
 
-first_of_pos : (xs : List Block) (n : ℕ) → 1 ≤ first_of xs n
+pub first_of_pos : (xs : List Block) (n : ℕ) → 1 ≤ first_of xs n
 first_of_pos xs zero = let e : first_of xs zero ≡ 1 = first_of_zero xs in omega arith
 first_of_pos xs (suc n) = let e : first_of xs n ≤ first_of xs (suc n) = first_of_up xs n in let f : 1 ≤ first_of xs n = first_of_pos xs n in omega arith
 
-first_of_le : (xs : List Block) (m n : ℕ) → m ≤ n → first_of xs m ≤ first_of xs n
+pub first_of_le : (xs : List Block) (m n : ℕ) → m ≤ n → first_of xs m ≤ first_of xs n
 first_of_le xs m zero l = let e : m ≡ zero = omega arith in rw e (omega arith)
 first_of_le xs m (suc n) l = elim (cases_eq m (suc n)) [
   | inl e ↦ rw e (omega arith)
@@ -38,7 +34,7 @@ first_le image (suc b) (suc c) l = first_of_le image.blocks b c (omega arith)
 pub first_up : (image : Image) (b : ℕ) → first_number image b ≤ first_number image (suc b)
 first_up image b = first_le image b (suc b) (omega arith)
 
-holder_is : (xs : List Block) (s n k : ℕ) → n < length xs → first_of xs n ≤ suc k → suc k < first_of xs (suc n) → holder xs s k ≡ s + n
+pub holder_is : (xs : List Block) (s n k : ℕ) → n < length xs → first_of xs n ≤ suc k → suc k < first_of xs (suc n) → holder xs s k ≡ s + n
 holder_is [] s n k l a b = absurd (omega arith)
 holder_is (x ∷ xs) s zero k l a b =
     let e : first_of xs zero ≡ 1 = first_of_zero xs in

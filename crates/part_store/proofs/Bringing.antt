@@ -24,9 +24,9 @@ use Rattle.part_store.specs.Runs.{AllReach, Covers, HaveAnswered, IsGoing, IsOff
 use Rattle.part_store.proofs.Fronts as F
 use Rattle.part_store.proofs.Keys.{key_cases}
 use Rattle.part_store.proofs.Ops as O
-use Rattle.part_store.proofs.Reaching.{nothing}
 use Rattle.part_store.proofs.Reaching as R
 use Rattle.part_store.proofs.Paying as P
+use Rattle.core_law.proofs.Owing.{nothing}
 
 pub both_ok : {A E : Type 0} {X Y Z : Type 0} (r : Result A E) → (X → Y → Z) → OnOk r X → OnOk r Y → OnOk r Z
 both_ok (Ok a) f x y = f x y

@@ -11,6 +11,7 @@ use Rattle.core_law.proofs.Facts.{WalkFacts}
 use Rattle.core_law.proofs.Quiet.{cases_fires}
 use Rattle.part_store.specs.Contents.{cell, is_on_row}
 use Rattle.part_store.specs.Parted.{is_store_op}
+use Rattle.ws_words.proofs.Held.{set_length}
 
 -- this place isn't that one
 abbrev pub Differ : ℕ → ℕ → ℕ → ℕ → Type 0
@@ -29,11 +30,6 @@ set_here [] (y ∷ ys) j v e = absurd (omega (arith, e))
 set_here (x ∷ xs) [] j v e = absurd (omega (arith, e))
 set_here (x ∷ xs) (y ∷ ys) zero v e = refl
 set_here (x ∷ xs) (y ∷ ys) (suc j) v e = set_here xs ys j v (omega (arith, e))
-
-set_length : (xs : List ℕ) (j v : ℕ) → length (slice_set xs j v) ≡ length xs
-set_length [] j v = refl
-set_length (x ∷ xs) zero v = refl
-set_length (x ∷ xs) (suc j) v = ap suc (set_length xs j v)
 
 row_here : (cs : List (List ℕ)) (r j v : ℕ) → row (with_row cs r (slice_set (row cs r) j v)) r ≡ slice_set (row cs r) j v
 row_here [] r j v = refl

@@ -10,7 +10,6 @@ use Rattle.core_law.specs.Core.{IsNext, Issuable, position_after, has, issued_wi
 use Rattle.core_law.specs.Fit.{Legal, RightRequest}
 use Rattle.core_law.proofs.Ports.{with_key_cases}
 use Rattle.core_run.specs.Chains.{chain_of, PassedOn}
-use Rattle.core_run.proofs.Nexts.{either}
 use Rattle.df_job.specs.Began.{Began}
 use Rattle.store_buf.specs.declared.kept.Kept.{Kept}
 use Rattle.store_buf.specs.Requests.{entry_of, issued_in, answer_if}
@@ -32,6 +31,7 @@ use Rattle.part_store.proofs.Times as T
 use Rattle.part_store.proofs.Standing as S
 use Rattle.part_store.proofs.Keeping as K
 use Rattle.part_store.proofs.Turning as U
+use Rattle.ws_words.proofs.Bools.{or_comes as either}
 
 none_listed : (es : List Entry) → nat_eq (length es) 0 ≡ true → es ≡ []
 none_listed [] e = refl

@@ -19,7 +19,7 @@ use Rattle.part_store.specs.Queues.{front, holds, is_queued, joined, open_queues
 use Rattle.part_store.specs.Contents.{Content, is_bare, cell, is_on_row}
 use Rattle.part_store.specs.Parted.{OnCell, Earlier, IsKept, Partly, Rising, is_store_op}
 use Rattle.part_store.specs.Rules.{Counted, entry_at}
-use Rattle.part_store.proofs.Keys.{IsOn, has_some}
+use Rattle.part_store.proofs.Keys.{IsOn}
 use Rattle.part_store.proofs.Keys as K
 use Rattle.part_store.proofs.Fronts as F
 use Rattle.part_store.proofs.Times as T

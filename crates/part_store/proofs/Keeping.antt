@@ -22,7 +22,7 @@ use Rattle.part_store.specs.Queues.{front, holds, joined, open_queues}
 use Rattle.part_store.specs.Contents.{Content, is_bare, asking, cell, is_on_row, holds_op}
 use Rattle.part_store.specs.Parted.{OnCell, Earlier, IsAddressed, Partly, Parting, Fronts, is_store_op}
 use Rattle.part_store.specs.Rules.{Opens, Goes, Follows, Faults, Waits, Counted, Followed, Moves, stays, opens, joins, issues, follows, stops, operands_at, entry_at, is_past_at}
-use Rattle.part_store.proofs.Keys.{IsOn, cell_cases, has_some}
+use Rattle.part_store.proofs.Keys.{IsOn, cell_cases}
 use Rattle.part_store.proofs.Fronts as F
 use Rattle.part_store.proofs.Times as T
 use Rattle.part_store.proofs.Ops as O
@@ -31,6 +31,7 @@ use Rattle.part_store.proofs.Standing as S
 use Rattle.part_store.proofs.Joining as J
 use Rattle.part_store.proofs.Following as W
 use Rattle.part_store.proofs.Issuing as I
+use Rattle.core_law.proofs.Ports.{has_some}
 
 module _ (image : Image) (world : World) (formed : Formed image) (sound : Sound image) (began : List (Option Began)) where
   abbrev facts : WalkFacts image world

@@ -1,6 +1,6 @@
 -- Cases of keys and cells.
-use Rattle.std.proofs.Common.{ℕ, ◌≡◌, ◌⊎◌, true, false, Option, Some, None, refl, ap, inl, inr, eq-eqb, ne_eqb}
-use Rattle.std.proofs.lemmas.Bool.{cases_eq, both_ways}
+use Rattle.std.proofs.Common.{ℕ, ◌≡◌, ◌⊎◌, true, false, Option, Some, refl, ap, inl, inr, eq-eqb, ne_eqb}
+use Rattle.std.proofs.lemmas.Bool.{cases_eq}
 use Rattle.core_law.specs.Core.{has, same_key}
 use Rattle.core_law.proofs.Ports.{SameKey}
 use Rattle.part_store.specs.declared.entry.Entry.{Entry}
@@ -32,10 +32,6 @@ same_key_is w i = rw (eq-eqb w w refl, eq-eqb i i refl) refl
 
 pub same_cell_is : (e : Entry) (r j : ℕ) → IsOn e r j → same_cell e r j ≡ true
 same_cell_is e r j o = rw (eq-eqb e.row r o.row, eq-eqb e.index j o.index) refl
-
-pub has_some : {A : Type 0} (o : Option A) → has o ≡ true → (x : A) × (o ≡ Some x)
-has_some None e = absurd (both_ways false refl e)
-has_some (Some x) e = (x, refl)
 
 pub some_has : {A : Type 0} (o : Option A) (x : A) → o ≡ Some x → has o ≡ true
 some_has o x e = ap has e

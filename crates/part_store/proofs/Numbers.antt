@@ -1,21 +1,14 @@
 -- Sequence numbers rise in a wave, as the walk goes on.
-use Rattle.std.proofs.Common.{ℕ, ◌≡◌, ◌<◌, ◌≤◌, true, Option, Some, None, sym, ◌∙◌, refl, arith}
+use Rattle.std.proofs.Common.{ℕ, ◌≡◌, ◌<◌, ◌≤◌, true, Option, Some, None, sym, ◌∙◌, arith}
 use Rattle.ws_words.specs.Outside.{World}
-use Rattle.ws_isa.specs.declared.instr.Link.{Link}
-use Rattle.ws_isa.specs.declared.instr.Link.TheVariants.{Unknown, Nothing, Is}
-use Rattle.ws_isa.specs.declared.instr.Note.{Note}
 use Rattle.ws_isa.specs.Image.{Image, note_of, is_memory}
 use Rattle.image_walk.specs.Walk.{Inst, pos, fires}
 use Rattle.image_walk.specs.Sound.{last_op, Follows, seq, ShapeRules, LinkRules}
-use Rattle.core_law.specs.Core.{Chain, pass, pass_by, position_after}
+use Rattle.core_law.specs.Core.{Chain, pass, position_after}
 use Rattle.core_law.specs.Fit.{chain_at}
 use Rattle.core_law.proofs.Ops as O
 use Rattle.core_law.proofs.Steps.{Turn, turn_at}
-
-pass_goes_op : (c : Chain) (n : Note) (l : Link) → (l ≡ Nothing → ⊥) → pass_by c n l ≡ record { wave = c.wave; last = Some n }
-pass_goes_op c n Nothing h = absurd (h refl)
-pass_goes_op c n Unknown h = refl
-pass_goes_op c n (Is k) h = refl
+use Rattle.core_law.proofs.Ops.{pass_goes_op}
 
 abbrev chain_of : Image → ℕ → Option ℕ → Chain
 chain_of image w None = record { wave = w; last = None }

@@ -1,7 +1,6 @@
 -- Operations on cells: their operands, what they leave outside the cells, and whether they count as issued.
 use Rattle.std.proofs.Common.{ℕ, ◌-◌, ◌≡◌, ◌⊎◌, true, false, List, [], ◌∷◌, ◌++◌, Option, Some, None, slice_index, refl, sym, ap, ◌∙◌, subst, inl, inr, eqb, eq-eqb, eqb-true}
 use Rattle.std.proofs.lemmas.Bool.{both_ways}
-use Rattle.std.proofs.lemmas.List.{append-nil}
 use Rattle.ws_words.specs.Outside.{Act, loads, stores, Outside, row, printed_words}
 use Rattle.ws_words.specs.Plain.{took_words}
 use Rattle.ws_isa.specs.declared.instr.Op.{Op}
@@ -14,7 +13,6 @@ use Rattle.core_law.proofs.Ports.{SameKey, with_key_cases}
 use Rattle.port_set.specs.Slots.{port_at}
 use Rattle.df_job.specs.Began.{Began}
 use Rattle.df_job.specs.Rights.{operands_of}
-use Rattle.core_run.proofs.Acts.{took_append, printed_same}
 use Rattle.core_run.proofs.Issuing.{printed_alike, took_alike}
 use Rattle.store_buf.specs.declared.kept.Kept.{Kept}
 use Rattle.store_buf.specs.Requests.{entry_of, answer_if}
@@ -24,6 +22,8 @@ use Rattle.part_store.specs.Queues.{holds}
 use Rattle.part_store.specs.Contents.{cell, is_on_row, holds_op}
 use Rattle.part_store.specs.Parted.{is_store_op}
 use Rattle.part_store.specs.Rules.{operands_at, is_past_at}
+use Rattle.ws_words.proofs.Acts.{printed_same}
+use Rattle.store_buf.proofs.Outside.{took_same as took_quiet}
 
 -- a load or store is on its array's row; another operation is on none
 pub record OnRow (es : List Entry) (op : Op) (j : ℕ) : Type 0 where
@@ -109,10 +109,6 @@ module _ (image : Image) where
   unfolding is_past
   past_is k xs e = past_op image.arrays (instr_at image k.instr).op xs (k.first ∷ []) e
 
--- a load or store leaves what is outside the cells
-took_quiet : (slot : ℕ) (xs ys : List Act) → took_words slot ys ≡ [] → took_words slot (xs ++ ys) ≡ took_words slot xs
-took_quiet slot xs ys e = took_append slot xs ys ∙ ap (λ (ws : List ℕ). took_words slot xs ++ ws) e ∙ append-nil (took_words slot xs)
-
 abbrev pub with_cells : Outside → List (List ℕ) → Outside
 with_cells o cs = record { cells = cs; input = o.input; left = o.left; acts = o.acts }
 
@@ -133,11 +129,6 @@ quiet_op began _ r xs o cs h e is = absurd (both_ways false refl e)
 pub quiet_out : (began : List (Option Began)) (image : Image) (i r : ℕ) (xs : List ℕ) (o : Outside) (cs : List (List ℕ)) (h : Holding) → is_on_row (instr_at image i).op r ≡ true → OutIs began (with_cells o cs) h → OutIs began (with_cells (effect_after image i xs o) cs) h
 unfolding effect_after after
 quiet_out began image i r xs o cs h e is = quiet_op began (instr_at image i).op r xs o cs h e is
-
--- what counts as issued alike
-none_has : (o : Option ℕ) → has o ≡ false → o ≡ None
-none_has None e = refl
-none_has (Some a) e = absurd (both_ways true e refl)
 
 pub no_more : {A B : Type 0} (o : Option A) (p : Option B) → has o ≡ has p → p ≡ None → o ≡ None
 no_more None p e f = refl

@@ -8,7 +8,7 @@ use Rattle.image_walk.specs.Sound.{Sound}
 use Rattle.core_law.specs.Core.{Key, HasFired, operands_in}
 use Rattle.core_law.specs.Shown.{Tables, TablesOk}
 use Rattle.core_law.proofs.Facts.{WalkFacts}
-use Rattle.core_law.proofs.Ports.{with_at_cases, nth_below}
+use Rattle.core_law.proofs.Ports.{with_at_cases}
 use Rattle.df_job.specs.Rights.{IsRight}
 use Rattle.match_table.specs.Tables as table
 use Rattle.match_table.specs.Tables.{held, part}
@@ -19,9 +19,10 @@ use Rattle.store_buf.specs.declared.kept.Kept.{Kept}
 use Rattle.store_buf.specs.Requests.{entry_of}
 use Rattle.part_store.specs.Contents.{Content}
 use Rattle.part_store.specs.Runs.{AllReach, Covers, IsWhole, Paid}
-use Rattle.part_store.proofs.Reaching.{nothing}
 use Rattle.part_store.proofs.Reaching as R
 use Rattle.part_store.proofs.Times as T
+use Rattle.core_law.proofs.Owing.{nothing}
+use Rattle.ws_isa.proofs.Images.{nth_below}
 
 -- an instance to which a token hasn't come hasn't fired
 pub not_fired : (image : Image) (world : World) (formed : Formed image) (sound : Sound image) (t : Tables) → TablesOk image world t → (x : Token) → IsRight image world x → t.held x.wave x.instr x.port ≡ None → HasFired t.fired x.wave x.instr → ⊥

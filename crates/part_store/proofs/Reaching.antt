@@ -12,9 +12,6 @@ use Rattle.store_buf.specs.declared.fault.BufFault.{BufFault}
 use Rattle.store_buf.specs.declared.fault.BufFault.TheVariants as fault
 use Rattle.part_store.specs.Runs.{AllReach, Covers, IsOffered, Reaches}
 
-pub nothing : {A : Type 0} (x : A) → None ≡ Some x → ⊥
-nothing x e = cc
-
 pub covers_self : (ts : List Token) → Covers ts ts
 covers_self ts w i p v h = h
 

@@ -1,19 +1,12 @@
 -- The code's tokens are the result tokens.
-use Rattle.std.proofs.Common.{ℕ, suc, ◌≡◌, true, false, cond, List, refl, sym, ap, ◌∙◌}
-use Rattle.std.proofs.lemmas.Bool.{both_ways}
-use Rattle.ws_isa.specs.declared.instr.Op.{Op}
-use Rattle.ws_isa.specs.declared.instr.Op.TheVariants.{Steer, Send}
+use Rattle.std.proofs.Common.{ℕ, suc, ◌≡◌, true, cond, sym, ap, ◌∙◌}
 use Rattle.ws_isa.specs.Image.{Image, instr_at, is_memory, is_memory_op, is_advance_op, selector_of, sends, tokens_to}
 use Rattle.core_run.specs.Places.{destinations}
 use Rattle.core_run.proofs.Issuing.{no_advance}
 use Rattle.core_run.proofs.Arriving.{memory_is_op, sends_are}
 use Rattle.store_buf.specs.declared.kept.Kept.{Kept}
 use Rattle.part_store.specs.Rules.{operands_at}
-
-no_selector : (op : Op) (xs : List ℕ) → is_memory_op op ≡ true → selector_of op xs ≡ 0
-no_selector Steer xs e = absurd (both_ways false refl e)
-no_selector (Send k) xs e = absurd (both_ways false refl e)
-no_selector _ xs e = refl
+use Rattle.store_buf.proofs.Stepping.{no_selector}
 
 pub sent : (image : Image) (k : Kept) (word : ℕ) → is_memory image k.instr ≡ true → tokens_to k.wave word (destinations image k.instr 0) ≡ sends image k.wave k.instr (operands_at image k) word
 sent image k word m =

@@ -1,6 +1,6 @@
 -- A request or address that may go: what the chain lets, and what comes when it counts as issued.
-use Rattle.std.proofs.Common.{ℕ, ◌≡◌, ◌<◌, ◌≤◌, ◌⊎◌, ◌==◌, Bool, true, false, not, ◌&&◌, ◌||◌, nat_le, List, [], ◌∷◌, length, Option, Some, None, slice_set, refl, sym, ap, ◌∙◌, subst, inl, inr, leb-true}
-use Rattle.std.proofs.lemmas.Bool.{and_parts, both_ways}
+use Rattle.std.proofs.Common.{ℕ, ◌≡◌, ◌<◌, ◌≤◌, ◌⊎◌, ◌==◌, true, false, not, ◌&&◌, ◌||◌, nat_le, List, [], ◌∷◌, length, Option, Some, None, slice_set, refl, sym, ap, ◌∙◌, subst, inl, inr, leb-true}
+use Rattle.std.proofs.lemmas.Bool.{and_parts}
 use Rattle.ws_words.specs.Outside.{Outside, World}
 use Rattle.ws_isa.specs.Image.{Image, In, instr_at, is_load, is_load_op, is_past, is_past_op, note_of}
 use Rattle.ws_isa.specs.Formed.{Formed}
@@ -13,7 +13,7 @@ use Rattle.core_law.proofs.Facts.{WalkFacts}
 use Rattle.core_law.proofs.Ports.{with_key_cases}
 use Rattle.core_run.specs.Chains.{chain_of, may_flag, next_flag, PassedOn}
 use Rattle.core_run.specs.Stands.{HasEarly}
-use Rattle.core_run.proofs.Nexts.{next_is, either}
+use Rattle.core_run.proofs.Nexts.{next_is}
 use Rattle.core_run.proofs.Issuing.{in_end, end_in}
 use Rattle.store_buf.specs.declared.kept.Kept.{Kept}
 use Rattle.store_buf.specs.declared.order.Order.{Order}
@@ -28,10 +28,7 @@ use Rattle.store_buf.proofs.Alike.{early_alike, once_of, entry_set}
 use Rattle.part_store.specs.Rules.{is_past_at}
 use Rattle.part_store.proofs.Times as T
 use Rattle.part_store.proofs.Ops as O
-
-not_false : (b : Bool) → not b ≡ true → b ≡ false
-not_false true e = absurd (both_ways false refl e)
-not_false false e = refl
+use Rattle.ws_words.proofs.Bools.{or_comes as either, not_true as not_false}
 
 module _ (image : Image) (o : Order) (ok : OrderOk o) (p : ℕ) (l : p < length o.kept.items) where
   abbrev k : Kept

@@ -13,7 +13,6 @@ use Rattle.core_law.specs.Shown.{Tables, TablesOk}
 use Rattle.core_law.proofs.Facts.{WalkFacts}
 use Rattle.core_law.proofs.MatchKept.{right_operands, same_inst}
 use Rattle.core_law.proofs.Past.{past_is, plain_within}
-use Rattle.core_law.proofs.Ports.{nth_within}
 use Rattle.core_law.proofs.Quiet.{chain_same, load_quiet, writing_memory}
 use Rattle.df_job.specs.Began.{Began}
 use Rattle.df_job.specs.Rights.{IsAsked, operands_of}
@@ -29,8 +28,9 @@ use Rattle.part_store.specs.Rules.{NoRule, is_past_at, operands_at}
 use Rattle.part_store.specs.Runs.{AllReach, Paid}
 use Rattle.part_store.proofs.Fronts as F
 use Rattle.part_store.proofs.Ops as O
-use Rattle.part_store.proofs.Reaching.{nothing}
 use Rattle.part_store.proofs.Times as T
+use Rattle.core_law.proofs.Owing.{nothing}
+use Rattle.ws_isa.proofs.Images.{nth_within}
 
 none_in : (es : List Entry) → ((e : Entry) → In e es → ⊥) → es ≡ []
 none_in [] f = refl

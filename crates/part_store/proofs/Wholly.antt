@@ -35,6 +35,7 @@ use Rattle.part_store.proofs.Fronts as F
 use Rattle.part_store.proofs.Ops as O
 use Rattle.part_store.proofs.Standing as S
 use Rattle.part_store.proofs.Times as T
+use Rattle.match_table.proofs.Held.{has_none as none_has}
 
 -- rows with equal cells are equal
 words_alike : (xs ys : List ℕ) → length xs ≡ length ys → ((j : ℕ) → slice_index xs j ≡ slice_index ys j) → xs ≡ ys
@@ -115,10 +116,6 @@ waits_so image (Some k) xs w = go k.answer refl w
     go : (a : Option ℕ) → k.answer ≡ a → waits_if k.answer (Some (operands_at image k)) None ≡ Some xs → (l : Kept) × (Some k ≡ Some l) × (l.answer ≡ None) × (operands_at image l ≡ xs)
     go (Some a) e v = absurd (let f : None ≡ Some xs = sym (ap (λ (b : Option ℕ). waits_if b (Some (operands_at image k)) None) e) ∙ v in cc)
     go None e v = (k, refl, e, (let f : Some (operands_at image k) ≡ Some xs = sym (ap (λ (b : Option ℕ). waits_if b (Some (operands_at image k)) None) e) ∙ v in cc))
-
-none_has : (o : Option ℕ) → has o ≡ false → o ≡ None
-none_has None e = refl
-none_has (Some x) e = absurd (both_ways true e refl)
 
 key_of : (ks : List Kept) (w i : ℕ) (k : Kept) → entry_of ks w i ≡ Some k → SameKey k.wave k.instr w i
 key_of ks w i k e = elim (entry_case ks w i) [

@@ -2,15 +2,16 @@
 use Rattle.std.proofs.Common.{◌≡◌, ℕ, zero, suc, ◌+◌, ◌-◌, ◌==◌, length, List, [], ◌∷◌, ◌++◌, Option, Some, None, if◌then◌else◌, slice_index, nat_eq, refl, sym, ap, ◌∙◌, subst}
 use lib.Pointwise.{pointwise}
 use Rattle.ws_words.specs.Operators.{applied}
-use Rattle.ws_words.specs.Outside.{Outside, State, write, with_acts, row, Act, loads, stored, printed, taken, has_read, given, zeros, World, opening_out}
+use Rattle.ws_words.specs.Outside.{Outside, State, write, with_acts, row, loads, stored, printed, taken, has_read, given, zeros, opening_out}
 use Rattle.src_ast.specs.declared.lexeme.Name.{Name}
 use Rattle.src_ast.specs.Syntax.{Expression, Number, Variable, Cell, Signed, Binary, Statement, Assign, Store, Print, Read, Give, Take, Call, If, While, Statements, Nothing, Then, Last, Procedure, Part, Array, Proc}
-use Rattle.src_ast.specs.Turns.{PartEnd, Ended, and_then, turn, CallEnd, Returned, Stopped, back_in, ending, loop}
-use Rattle.src_ast.specs.Meaning.{signed_value, place_of, Scope, var_number, proc_number, array_number, value, loads_of, values, all_loads, value_of, values_of, target, Calls, run_one, run_all, finish, scope_of, run_procedure, arrays_of, lengths_of, procs_of, names_of, nth_procedure, empty_cells, run_number, calls_below, run_at, run}
+use Rattle.src_ast.specs.Turns.{Ended, and_then, turn, CallEnd, Returned, Stopped, back_in, ending, loop}
+use Rattle.src_ast.specs.Meaning.{signed_value, place_of, Scope, value, loads_of, values, all_loads, value_of, values_of, target, Calls, run_one, run_all, finish, scope_of, run_procedure, arrays_of, lengths_of, procs_of, names_of, nth_procedure, empty_cells, run_number, calls_below, run_at, run}
 use Rattle.ws_words.specs.Past.{AreWithin, FirstPast, after_acts}
-use Rattle.src_ast.specs.Runs.{outside_of, Runs, Goes, Faults}
+use Rattle.src_ast.specs.Runs.{outside_of}
 use Rattle.src_ast.specs.Alike.{RunAlike}
-use Rattle.src_ast.specs.Same.{bare, bare_names, bare_target, bare_expression, bare_expressions, bare_statement, bare_statements, bare_ending, bare_part, bare_parts, Same}
+use Rattle.src_ast.specs.Same.{bare, bare_names, bare_target, bare_expression, bare_expressions, bare_statement, bare_statements, bare_ending, bare_parts, Same}
+use Rattle.src_ast.proofs.Ruled.{names_bare as length_bare}
 
 place_bare : (ns : List Name) (x : List ℕ) → place_of (bare_names ns) x ≡ place_of ns x
 place_bare [] x = refl
@@ -76,10 +77,6 @@ finish_at : (scope : Scope) (e : Option Last) (s : State) (k : ℕ) → finish (
 finish_at scope None s k = refl
 finish_at scope (Some e) s zero = refl
 finish_at scope (Some e) s (suc j) = ap (λ (v : ℕ × State). Returned v.0 v.1.out j) (λ i. value_of_bare scope e.value i s)
-
-length_bare : (xs : List Name) → length (bare_names xs) ≡ length xs
-length_bare [] = refl
-length_bare (x ∷ xs) = ap suc (length_bare xs)
 
 names_append : (xs ys : List Name) → bare_names xs ++ bare_names ys ≡ bare_names (xs ++ ys)
 names_append [] ys = refl

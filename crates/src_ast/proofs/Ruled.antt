@@ -89,7 +89,7 @@ variables_alike : (visible : List Declared) (k : ℕ) (xs : List Name) → Alike
 variables_alike visible k [] = none
 variables_alike visible k (x ∷ xs) = more (more (variables_alike (record { text = x.text; sort = variable } ∷ visible) (suc k) xs))
 
-names_bare : (xs : List Name) → length (bare_names xs) ≡ length xs
+pub names_bare : (xs : List Name) → length (bare_names xs) ≡ length xs
 names_bare [] = refl
 names_bare (x ∷ xs) = ap suc (names_bare xs)
 

@@ -16,3 +16,4 @@ pub mod Failing
 pub mod Coming
 pub mod Opening
 pub mod Once
+pub mod Idle

@@ -12,7 +12,7 @@ use Rattle.port_set.specs.declared.port.PortError.TheVariants as error
 use Rattle.port_set.specs.Ports.{Told, IfFailed}
 use Rattle.port_set.specs.Slots.{port_at, SlotGave, SlotTook}
 use Rattle.core_run.specs.Chains.{chain_of, may_flag, next_flag}
-use Rattle.core_run.proofs.Nexts.{next_is, either}
+use Rattle.core_run.proofs.Nexts.{next_is}
 use Rattle.store_buf.specs.declared.order.Order.{Order}
 use Rattle.store_buf.specs.Finding.{place_in}
 use Rattle.store_buf.specs.Ordering.{OrderOk, kept_at, ready_flag}
@@ -21,6 +21,7 @@ use Rattle.store_buf.specs.Contents.{PortWaits}
 use Rattle.store_buf.proofs.Found as F
 use Rattle.store_buf.proofs.Lists.{set_other}
 use Rattle.store_buf.proofs.Ordered.{ready_waits}
+use Rattle.ws_words.proofs.Bools.{or_comes as either}
 
 gave_counts : (old new : Option Told) (r : Result ℕ PortError) → SlotGave old r new → failures old ≤ failures new
 gave_counts None new r g = omega arith

@@ -26,7 +26,7 @@ use Rattle.core_run.specs.declared.token.Operands.{Operands}
 use Rattle.core_run.specs.Partial.{listed}
 use Rattle.core_run.specs.Places.{destinations}
 use Rattle.core_run.specs.Chains.{chain_of, may_flag, next_flag, PassedOn}
-use Rattle.core_run.proofs.Nexts.{next_is, either}
+use Rattle.core_run.proofs.Nexts.{next_is}
 use Rattle.core_run.proofs.Issuing.{same_answer, same_after, same_past, no_advance, in_end, end_in, printed_alike, took_alike}
 use Rattle.core_run.proofs.Arriving.{ports_is_op, memory_is_op, sends_are}
 use Rattle.store_buf.specs.declared.kept.Kept.{Kept}
@@ -42,13 +42,13 @@ use Rattle.store_buf.proofs.Found as F
 use Rattle.store_buf.proofs.Ordered.{ready_waits}
 use Rattle.store_buf.proofs.Going as G
 use Rattle.store_buf.proofs.Alike.{going_alike, early_alike, once_of, entry_set}
-use Rattle.ws_words.proofs.Bools.{not_true as not_false}
+use Rattle.ws_words.proofs.Bools.{not_true as not_false, or_comes as either}
 
 pub two_ports : (op : Op) (f s : ℕ) → is_memory_op op ≡ true → listed (ports_of op) (record { first = f; second = s; third = 0 }) ≡ operands_of (ports_of op) f s
 two_ports Phi f s e = absurd (both_ways false refl e)
 two_ports _ f s e = refl
 
-no_selector : (op : Op) (xs : List ℕ) → is_memory_op op ≡ true → selector_of op xs ≡ 0
+pub no_selector : (op : Op) (xs : List ℕ) → is_memory_op op ≡ true → selector_of op xs ≡ 0
 no_selector Steer xs e = absurd (both_ways false refl e)
 no_selector (Send k) xs e = absurd (both_ways false refl e)
 no_selector _ xs e = refl

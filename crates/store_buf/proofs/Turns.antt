@@ -4,7 +4,7 @@ use Rattle.std.proofs.lemmas.List.{append_assoc, append-nil}
 use Rattle.ws_words.specs.Outside.{World}
 use Rattle.ws_isa.specs.Image.{Image, Token}
 use Rattle.ws_io.specs.Streams.{Rose}
-use Rattle.core_law.specs.Core.{IsSent, has}
+use Rattle.core_law.specs.Core.{has}
 use Rattle.core_law.specs.Shown.{Buffer}
 use Rattle.core_run.specs.Chains.{chain_of}
 use Rattle.store_buf.specs.declared.fault.Silent.{Silent}
@@ -15,6 +15,7 @@ use Rattle.store_buf.specs.Outdoors.{FaultsGrow}
 use Rattle.store_buf.specs.Contents.{FaultIs, RightTokens}
 use Rattle.store_buf.specs.Holds.{Issued, Stopped, Issues, stays, goes, stops, part}
 use Rattle.store_buf.specs.Stores.{buffer_of, IssueLeads, StaysSo, AllLead, SilentSo}
+use Rattle.core_law.proofs.Slots.{is_sent_append_cases as sent_either}
 
 pub issues_on : (image : Image) (a b c : Buffer) (xs ys : List Token) → Issues image a xs b → Issues image b ys c → Issues image a (xs ++ ys) c
 issues_on image a b c xs ys stays more = more
@@ -25,11 +26,6 @@ issues_on image a b c xs ys (stops {c = d} w i e on) more = stops w i e (issues_
 one_issue : (image : Image) (b c : Buffer) (w i : ℕ) (ts : List Token) → Issued image b w i ts c ⊎ (Stopped image b w i c × (ts ≡ [])) → Issues image b ts c
 one_issue image b c w i ts (inl e) = subst (λ (us : List Token). Issues image b us c) (append-nil ts) (goes w i e stays)
 one_issue image b c w i ts (inr e) = subst (λ (us : List Token). Issues image b us c) (sym e.1) (stops w i e.0 stays)
-
-sent_either : (xs ys : List Token) (w i p v : ℕ) → IsSent (xs ++ ys) w i p v → IsSent xs w i p v ⊎ IsSent ys w i p v
-sent_either [] ys w i p v e = inr e
-sent_either (x ∷ xs) ys w i p v (inl e) = inl (inl e)
-sent_either (x ∷ xs) ys w i p v (inr e) = elim (sent_either xs ys w i p v e) [ inl h ↦ inl (inr h) | inr h ↦ inr h ]
 
 right_both : (image : Image) (world : World) (xs ys : List Token) → RightTokens image world xs → RightTokens image world ys → RightTokens image world (xs ++ ys)
 right_both image world xs ys a b w i p v e = elim (sent_either xs ys w i p v e) [ inl h ↦ a w i p v h | inr h ↦ b w i p v h ]

@@ -1,24 +1,12 @@
 -- Events lead from a state to one state.
-use Rattle.std.proofs.Common.{◌≡◌, ℕ, List, [], ◌∷◌, ◌++◌, map, refl, sym, ap, ◌∙◌, subst, inl, inr}
+use Rattle.std.proofs.Common.{◌≡◌, ℕ, List, [], ◌∷◌, ◌++◌, refl, sym, ap, ◌∙◌, subst, inl, inr}
 use Rattle.ws_words.specs.Outside.{World}
 use Rattle.ws_isa.specs.Image.{Image}
-use Rattle.core_law.specs.Core.{State, Event, Match, Issue, Same, Run, Step, Enabled, core_opening}
+use Rattle.core_law.specs.Core.{State, Event, Match, Issue, Same, Run, Step, Enabled}
 use Rattle.core_law.specs.Fit.{Fit}
 use Rattle.trace_check.specs.declared.events.Lined.{Lined}
 use Rattle.trace_check.specs.Replays.{StopsAt, events_of, event_in}
-
--- two states that answer alike are one
-one_state : (s t : State) → Same s t → s ≡ t
-one_state s t e = λ j. record {
-  held = λ w i p. e.held w i p j;
-  way = λ w i p. e.way w i p j;
-  fired = e.fired j;
-  waiting = λ w i. e.waiting w i j;
-  issued = λ w i. e.issued w i j;
-  chain = e.chain j;
-  stopped = e.stopped j;
-  memory = e.memory j;
-}
+use Rattle.core_law.proofs.States.{same_is as one_state}
 
 step_enabled : (image : Image) (s t : State) (e : Event) → Step image s e t → Enabled image s e
 step_enabled image s t (Match w i p) st = (st.value, st.on_way)

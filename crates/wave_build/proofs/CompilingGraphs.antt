@@ -8,6 +8,7 @@ use Rattle.cfg_core.specs.Walk.{value_of, Outcome, Done, Out, and_then, spend, r
 use Rattle.cfg_core.proofs.Cost.{walk_over, fewer}
 use Rattle.cfg_core.proofs.Paired.{walk_add}
 use Rattle.wave_build.specs.Compiled.{Begins}
+use Rattle.wave_gen.proofs.OutOfTurns.{append_three}
 
 -- acts go on
 abbrev Longer : Outside → Outside → Type 0
@@ -130,9 +131,6 @@ spend_longer (suc m) o s (suc k) l = spend_longer m o s k l
 either_longer : (o : Outside) (v : Bool) (x y : Outcome) → Longer o (out_of x) → Longer o (out_of y) → Longer o (out_of (if v then x else y))
 either_longer o true x y a b = a
 either_longer o false x y a b = b
-
-append_three : (xs ys zs us : List Act) → ((xs ++ ys) ++ zs) ++ us ≡ xs ++ (ys ++ (zs ++ us))
-append_three xs ys zs us = append_assoc (xs ++ ys) zs us ∙ append_assoc xs ys (zs ++ us)
 
 op_longer : (op : Op) (s : State) (k : ℕ) → Longer s.out (out_of (run_op op s k))
 op_longer (Assign x t) s k = (_, refl)

@@ -3,9 +3,8 @@ use Rattle.std.proofs.Common.{◌≡◌, ℕ, suc, ◌<◌, ◌≤◌, List, [],
 use Rattle.std.specs.List.{AllByRecursion}
 use Rattle.cfg_core.specs.Graph.{Block, GraphProc, Graph, Spot, spots_in, spots_from}
 use Rattle.wave_gen.specs.Words.{OpOfWords, ExitOfWords, GraphOfWords}
-use Rattle.cfg_core.proofs.Lists.{drop_all}
 use Rattle.wave_build.specs.Wordy.{BlockOfWords, ProcOfWords}
-use Rattle.ws_words.proofs.Lists.{drop_next}
+use Rattle.ws_words.proofs.Lists.{drop_next, drop_all}
 
 abbrev SpotOfWords : Spot → Type 0
 SpotOfWords s = AllByRecursion OpOfWords s.block.ops × ExitOfWords s.block.exit

@@ -1,20 +1,13 @@
 -- What holds of each instruction and each block of a draft.
-use Rattle.std.proofs.Common.{ℕ, zero, suc, ◌+◌, ◌≡◌, ◌<◌, ◌≤◌, List, [], ◌∷◌, ◌++◌, length, map, Some, refl, sym, subst, inl, inr, arith}
+use Rattle.std.proofs.Common.{ℕ, zero, suc, ◌+◌, ◌≡◌, ◌<◌, ◌≤◌, List, [], ◌∷◌, ◌++◌, length, map, Some, refl, sym, subst, arith}
 use Rattle.std.specs.List.{AllByRecursion}
-use Rattle.ws_isa.specs.Image.{Image, Instr, Block, Array, In, nth, flat, instr_at, block_at, first_number, IsIn, IsBlock}
+use Rattle.ws_isa.specs.Image.{Image, Instr, Block, Array, nth, flat, instr_at, block_at, first_number, IsIn, IsBlock}
 use Rattle.wave_gen.specs.Wire.{Line}
 use Rattle.wave_gen.specs.Plans.{Plan, made_at, begins, instr_of, blocks_of, draft_of}
 use Rattle.wave_gen.proofs.Blocks.{begins_next}
-use Rattle.wave_gen.proofs.Number.{number_is, block_at_is, block_is, instr_is, nth_lt}
-
-all_append : {A : Type 0} (P : A → Type 0) (xs ys : List A) → AllByRecursion P xs → AllByRecursion P ys → AllByRecursion P (xs ++ ys)
-all_append P [] ys a b = b
-all_append P (x ∷ xs) ys a b = (a.0, all_append P xs ys a.1 b)
-
--- what holds of each item holds of all
-pub all_of_in : {A : Type 0} (P : A → Type 0) (xs : List A) → ((x : A) → In x xs → P x) → AllByRecursion P xs
-all_of_in P [] h = tt
-all_of_in P (x ∷ xs) h = (h x (inl refl), all_of_in P xs (λ y i. h y (inr i)))
+use Rattle.wave_gen.proofs.Number.{number_is, block_at_is, block_is, instr_is}
+use Rattle.ws_words.proofs.Lists.{all_append}
+use Rattle.ws_isa.proofs.Images.{nth_short as nth_lt}
 
 all_map : (P : Instr → Type 0) (f : Line → Instr) (ls : List Line) → ((i : ℕ) (l : Line) → nth ls i ≡ Some l → P (f l)) → AllByRecursion P (map f ls)
 all_map P f [] h = tt

@@ -9,8 +9,9 @@ use Rattle.wave_gen.specs.Plans.{merges, Tail, Leaves, Onto, Either, Lands, Halt
 use Rattle.wave_gen.proofs.Planned.{SourceIs, PlansAre}
 use Rattle.wave_gen.proofs.Weights.{total, charge, weights, ItemsBelow}
 use Rattle.wave_gen.proofs.Weighs.{set_out, set_total, emit_charge, rest_charge, gather_charge, make_charge, wire_charge}
-use Rattle.wave_gen.proofs.ItemWeights.{above, items_above, all_below, ports_few, items_below}
+use Rattle.wave_gen.proofs.ItemWeights.{above, items_above, all_below, items_below}
 use Rattle.wave_gen.proofs.Blocks.{made_is, starts_inner, starts_outer}
+use Rattle.ws_isa.proofs.Images.{few_ports as ports_few}
 
 -- tails
 operands_two : (op : Op) (x z : ℕ) → length (operands_of op x z) ≡ 2

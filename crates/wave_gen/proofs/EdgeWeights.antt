@@ -8,10 +8,10 @@ use Rattle.wave_gen.specs.Plans.{Leaves, Onto, Either, Lands, Halts, Plan, same_
 use Rattle.wave_gen.proofs.SteeredNames.{or_count, or_among}
 use Rattle.wave_gen.proofs.Planned.{PlansAre, EdgesAre, Inner}
 use Rattle.wave_gen.proofs.Weights.{total}
-use Rattle.wave_gen.proofs.Ends.{and_both}
 use Rattle.wave_gen.proofs.Blocks.{facts}
 use Rattle.wave_gen.proofs.Edges.{target_is}
 use Rattle.wave_gen.proofs.Waiting.{stops_is}
+use Rattle.ws_words.proofs.Bools.{and_parts as and_both}
 
 nil_or : (l : List Spot) → (l ≡ []) ⊎ (l ≡ [] → ⊥)
 nil_or [] = inl refl

@@ -12,14 +12,19 @@ use Rattle.wave_gen.specs.Wire.{Spot, Back, Front, dests_of, Line, Wants}
 use Rattle.wave_gen.specs.Plans.{Leaves, Onto, Either, Lands, Plan, same_spot, same_spots, differing, steered, is_among, past, Tail, TailAt, steer_of, steers, sends, fronts, plan_at, starts_at, begins, tails_of, end_wants, pads_of, draft_of, code_of, exit_of, source_of, filled, next_of, instr_of}
 use Rattle.wave_gen.proofs.SteeredNames.{or_apart, in_or}
 use Rattle.wave_gen.proofs.Planned.{Apart, AllIn, PadsFit, PlansAre, Outer}
-use Rattle.wave_gen.proofs.Slots.{has_append_cases, has_append_left, has_append_right}
-use Rattle.wave_gen.proofs.Ends.{Clean, owner_has, owner_from, or_cases, and_both, eqb_is}
+use Rattle.wave_gen.proofs.Slots.{has_append_left, has_append_right}
+use Rattle.wave_gen.proofs.Ends.{Clean, owner_has, owner_from}
 use Rattle.wave_gen.proofs.Fronts.{in_nth, nth_in, in_or_not, FrontIs, front_is}
 use Rattle.wave_gen.proofs.Blocks.{Facts, facts, Fine, end_clean, starts_outer}
 use Rattle.wave_gen.proofs.Flow.{Wanted}
 use Rattle.wave_gen.proofs.Starts.{starts_has, starts_all}
 use Rattle.wave_gen.proofs.TailLines.{is_tail_op, TailInstr, tail_instr, tail_at, IsTail, is_tail}
-use Rattle.wave_gen.proofs.Number.{block_at_is, nth_lt}
+use Rattle.wave_gen.proofs.Number.{block_at_is}
+use Rattle.ws_words.proofs.Numbers.{eqb_is}
+use Rattle.ws_words.proofs.Bools.{and_parts as and_both, or_comes as or_cases}
+use Rattle.image_walk.proofs.Slots.{has_append_cases}
+use Rattle.ws_isa.proofs.Images.{nth_short as nth_lt}
+use Rattle.image_walk.proofs.Steps.{first_up as next_first}
 
 edge_none : (image : Image) (b r : ℕ) (i : Instr) (op : Op) → is_tail_op op ≡ false → edge_of image b r i op ≡ []
 edge_none image b r i Steer e = absurd (both_ways true e refl)
@@ -201,7 +206,7 @@ module _ (arrays : List Array) (width : ℕ) (ps : List Plan) (Live : ℕ → �
 
     pub block_size : (m : ℕ) → first_number I b ≤ m → m < first_number I b + image.size_of I b → m < first_number I (suc b)
     unfolding image.size_of
-    block_size m l u = let a : first_number I b ≤ first_number I (suc b) = Rattle.wave_gen.proofs.Steps.first_up I b in omega arith
+    block_size m l u = let a : first_number I b ≤ first_number I (suc b) = next_first I b in omega arith
 
     -- a list of an edge has no repeats
     one_distinct : (r m : ℕ) → ((j q : ℕ) → HasDest (edge_dests I b r m) j q → Distinct (edge_dests I b r m)) → Distinct (edge_dests I b r m)

@@ -1,5 +1,5 @@
 -- The ends of blocks: what goes past an exit and what is sent along its edges.
-use Rattle.std.proofs.Common.{ℕ, zero, suc, ◌+◌, ◌-◌, ◌≡◌, ◌<◌, ◌≤◌, ◌⊎◌, ◌&&◌, ◌||◌, Bool, true, false, cond, eqb, List, [], ◌∷◌, length, Some, None, refl, sym, ap, ◌∙◌, subst, inl, inr, arith, eq-eqb, ne_eqb}
+use Rattle.std.proofs.Common.{ℕ, zero, suc, ◌+◌, ◌-◌, ◌≡◌, ◌<◌, ◌≤◌, ◌⊎◌, ◌&&◌, ◌||◌, Bool, true, false, cond, eqb, List, [], ◌∷◌, length, Some, None, refl, sym, ap, ◌∙◌, subst, inl, inr, arith, eq-eqb}
 use Rattle.std.proofs.lemmas.Bool.{cases_Bool, cases_eq, both_ways, cond-true, cond-false}
 use Rattle.ws_isa.specs.declared.instr.Op.TheVariants.{Merge, Halt}
 use Rattle.ws_isa.specs.declared.instr.Dest.{Dest}
@@ -12,6 +12,8 @@ use Rattle.wave_gen.proofs.Planned.{ItemsAre, SourceIs}
 use Rattle.wave_gen.proofs.Turns.{some_of, is_some}
 use Rattle.wave_gen.proofs.Wiring.{Ahead, Good, ItemsOk, rest_good, gather_good, make_good, wire_good}
 use Rattle.wave_gen.proofs.Flow.{Wanted}
+use Rattle.ws_words.proofs.Numbers.{eqb_is}
+use Rattle.ws_words.proofs.Bools.{and_parts as and_both, or_comes as or_cases, or_left, or_right}
 
 -- wants that can stand at a block's end: a slot is wanted once, by a name below the width, and lies ahead
 pub record Clean (first : ℕ → ℕ) (Fine : ℕ → ℕ → Type 0) (k width : ℕ) (w : Wants) : Type 0 where
@@ -20,30 +22,12 @@ pub record Clean (first : ℕ → ℕ) (Fine : ℕ → ℕ → Type 0) (k width 
   pub few : (x : ℕ) → Wanted w x → x < width
   pub ahead : (x : ℕ) (p : Spot) → In p (w x) → Ahead first Fine k p
 
-pub or_cases : (x y : Bool) → (x || y) ≡ true → (x ≡ true) ⊎ (y ≡ true)
-or_cases true y e = inl refl
-or_cases false y e = inr e
-
-pub and_both : (x y : Bool) → (x && y) ≡ true → (x ≡ true) × (y ≡ true)
-and_both true y e = (refl, e)
-and_both false y e = absurd (both_ways false refl e)
-
-pub eqb_is : (x y : ℕ) → eqb x y ≡ true → x ≡ y
-eqb_is x y e = elim (cases_eq x y) [ inl h ↦ h | inr n ↦ absurd (both_ways (eqb x y) (ne_eqb x y n) e) ]
-
 pub has_dest_is : (ds : List Dest) (j q : ℕ) → has_dest ds j q ≡ true → HasDest ds j q
 has_dest_is [] j q e = absurd (both_ways false refl e)
 has_dest_is (d ∷ ds) j q e = elim (or_cases (eqb d.instr j && eqb d.port q) (has_dest ds j q) e) [
   | inl h ↦ (let b = and_both (eqb d.instr j) (eqb d.port q) h in inl (eqb_is d.instr j b.0, eqb_is d.port q b.1))
   | inr h ↦ inr (has_dest_is ds j q h)
 ]
-
-or_left : (x y : Bool) → x ≡ true → (x || y) ≡ true
-or_left x y e = rw e refl
-
-or_right : (x y : Bool) → y ≡ true → (x || y) ≡ true
-or_right true y e = refl
-or_right false y e = e
 
 pub is_dest : (ds : List Dest) (j q : ℕ) → HasDest ds j q → has_dest ds j q ≡ true
 is_dest [] j q h = absurd h

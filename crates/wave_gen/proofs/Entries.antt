@@ -4,14 +4,15 @@ use Rattle.std.proofs.lemmas.Bool.{cases_eq, both_ways, cases_lt, lt-ltb, le-ltb
 use Rattle.std.specs.List.{AllByRecursion}
 use Rattle.ws_isa.specs.Image.{In}
 use Rattle.cfg_core.specs.Graph as graph
-use Rattle.cfg_core.specs.Graph.{Graph, Spot, Term, Number, Var, Cell, Flip, Not, Neg, Binary, spots, nth, or_else, no_spot}
+use Rattle.cfg_core.specs.Graph.{Graph, Spot, nth, or_else, no_spot}
 use Rattle.cfg_core.specs.Rules as rules
-use Rattle.cfg_core.specs.Rules.{TermIn, OpIn, ExitIn}
-use Rattle.live_vars.specs.Live.{Mentions, OneMentions, OpReads, ExitReads, ReadsFirst}
+use Rattle.cfg_core.specs.Rules.{OpIn, ExitIn}
+use Rattle.live_vars.specs.Live.{OpReads, ExitReads, ReadsFirst}
 use Rattle.wave_gen.specs.Plans.{is_among}
 use Rattle.wave_gen.proofs.Planned.{Apart}
 use Rattle.wave_gen.specs.Listing.{most_vars}
 use Rattle.wave_gen.specs.Words.{live_from}
+use Rattle.call_gen.proofs.Crossing.{low as term_below, all_low as terms_below}
 
 pub among_in : (x : ℕ) (ys : List ℕ) → is_among x ys ≡ true → In x ys
 among_in x [] e = absurd (both_ways false refl e)
@@ -96,22 +97,6 @@ most_is (s ∷ ss) b l = elim (cases_lt s.vars (most_vars ss)) [
     ho : (b : ℕ) → most_vars ss ≤ s.vars → b < suc (length ss) → ((c : ℕ) → c < length ss → (or_else (nth ss c) no_spot).vars ≤ most_vars ss) → (or_else (nth (s ∷ ss) b) no_spot).vars ≤ s.vars
     ho zero u m ih = omega arith
     ho (suc c) u m ih = let v : (or_else (nth ss c) no_spot).vars ≤ most_vars ss = ih c (omega (arith, m)) in omega (arith, u, v)
-
--- the variables of terms are the procedure's
-pub term_below : (g : Graph) (n : ℕ) (t : Term) (y : ℕ) → TermIn g n t → Mentions t y → y < n
-term_below g n (Number w) y h m = absurd m
-term_below g n (Var x) y h m = subst (λ z. z < n) (sym m) h
-term_below g n (Cell a t) y h m = term_below g n t y h.1 m
-term_below g n (Flip t) y h m = term_below g n t y h m
-term_below g n (Not t) y h m = term_below g n t y h m
-term_below g n (Neg t) y h m = term_below g n t y h m
-term_below g n (Binary op a b) y h (inl m) = term_below g n a y h.0 m
-term_below g n (Binary op a b) y h (inr m) = term_below g n b y h.1 m
-
-terms_below : (g : Graph) (n : ℕ) (ts : List Term) (y : ℕ) → AllByRecursion (TermIn g n) ts → OneMentions ts y → y < n
-terms_below g n [] y h m = absurd m
-terms_below g n (t ∷ ts) y h (inl m) = term_below g n t y h.0 m
-terms_below g n (t ∷ ts) y h (inr m) = terms_below g n ts y h.1 m
 
 op_below : (g : Graph) (n : ℕ) (op : graph.Op) (y : ℕ) → OpIn g n op → OpReads op y → y < n
 op_below g n (graph.Assign x t) y h m = term_below g n t y h.1 m

@@ -2,13 +2,14 @@
 use Rattle.std.proofs.Common.{ℕ, zero, suc, ◌+◌, ◌≡◌, ◌<◌, ◌≤◌, ◌⊎◌, ◌&&◌, not, Bool, true, false, cond, ltb, eqb, List, [], ◌∷◌, ◌++◌, length, refl, sym, ap, ◌∙◌, subst, inl, inr, arith, eq-eqb, ne_eqb}
 use Rattle.std.proofs.lemmas.Bool.{cases_eq, cases_lt, cases_order, lt-ltb, le-ltb}
 use Rattle.ws_isa.specs.declared.instr.Op.{Op}
-use Rattle.ws_isa.specs.declared.instr.Op.TheVariants.{Alu, Advance, Steer, Send, Phi, Store}
+use Rattle.ws_isa.specs.declared.instr.Op.TheVariants.{Advance, Send}
 use Rattle.ws_isa.specs.Image.{In, is_memory_op, ports_of}
 use Rattle.wave_gen.specs.Wire.{Spot, Back, Line, Wants, Made, with_wants, with_uses, moved, emit, rest, skip, copy, gather, with_room, with_rooms, Item, Make, Act, Same, is_nil, make, alias, wire, most}
 use Rattle.wave_gen.specs.Plans.{Tail, operands_of, hung, hang, chain, renew, advances, has_front}
 use Rattle.wave_gen.proofs.Planned.{ItemsAre, Apart, AllBelow}
 use Rattle.wave_gen.proofs.Flow.{helds}
 use Rattle.wave_gen.proofs.Fronts.{in_or_not}
+use Rattle.ws_isa.proofs.Images.{three_ports as ports_few}
 
 abbrev pub Short : List Line → Type 0
 Short [] = Unit {0}
@@ -113,14 +114,6 @@ room_few b n x s f = go (ltb most (length (s.wants x) + n))
 rooms_few : (b n : ℕ) (xs : List ℕ) (s : Made) → Few s → Few (with_rooms b n xs s)
 rooms_few b n [] s f = f
 rooms_few b n (x ∷ xs) s f = rooms_few b n xs (with_room b n x s) (room_few b n x s f)
-
-ports_few : (op : Op) → ports_of op ≤ 3
-ports_few (Alu o) = omega arith
-ports_few Steer = omega arith
-ports_few Phi = omega arith
-ports_few (Send k) = omega arith
-ports_few (Store a) = omega arith
-ports_few _ = omega arith
 
 pub make_few : (b x : ℕ) (op : Op) (from : List ℕ) (s : Made) → length from ≡ ports_of op → Few s → Few (make b x op from s)
 make_few b x op from s e f = let p : ports_of op ≤ 3 = ports_few op in

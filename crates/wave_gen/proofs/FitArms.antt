@@ -9,6 +9,7 @@ use Rattle.cfg_core.specs.Shape.{OnlyFrom}
 use Rattle.wave_cut.specs.Cut.{Cut, is_first, Returns, wave}
 use Rattle.wave_gen.specs.Fitting.{Fits}
 use Rattle.wave_gen.proofs.Tied.{spot_nth}
+use Rattle.wave_link.proofs.GrownEdges.{not_true}
 
 entry_low : (first : ℕ) (ps : List GraphProc) (f : ℕ) → f < length ps → first ≤ entry_from first ps f
 entry_low first [] f l = absurd (omega arith)
@@ -58,10 +59,6 @@ not_entry g a c f la lc h l lf e =
     let u : (spot_at g a).home < 0 + f = x.0 (omega (arith, l, e)) in
     let v : 0 + f ≤ (spot_at g c).home = y.1 (omega (arith, e)) in
     omega (arith, u, v, h)
-
-not_true : (v : Bool) → (v ≡ true → ⊥) → v ≡ false
-not_true true n = absurd (n refl)
-not_true false n = refl
 
 module _ (g : Graph) (live : ℕ → ℕ → Bool) (cut : Cut) (fit : Fits g live cut) where
   -- an arm of block a's branch that is entered from there alone

@@ -4,7 +4,7 @@ use Rattle.std.specs.List.{sum_by}
 use Rattle.std.proofs.lemmas.List.Sums.{sum_by-cons}
 use Rattle.ws_words.specs.declared.alu.Alu.TheVariants.{Sub, Eq}
 use Rattle.ws_isa.specs.declared.instr.Op.{Op}
-use Rattle.ws_isa.specs.declared.instr.Op.TheVariants.{Const, Alu, Steer, Phi, Send, Load, Store, Output, Take}
+use Rattle.ws_isa.specs.declared.instr.Op.TheVariants.{Const, Alu, Phi, Send, Load, Store, Output, Take}
 use Rattle.ws_isa.specs.Image.{ports_of}
 use Rattle.cfg_core.specs.Graph as graph
 use Rattle.cfg_core.specs.Graph.{Term, Number, Var, Cell, Flip, Not, Neg, Binary}
@@ -20,6 +20,7 @@ use Rattle.wave_gen.proofs.Sharing.{extra_of, heavies}
 use Rattle.wave_gen.proofs.Weights.{weight, ItemsBelow}
 use Rattle.wave_gen.proofs.ReadTerms.{next_after}
 use Rattle.wave_gen.proofs.Nexts.{op_next}
+use Rattle.ws_isa.proofs.Images.{few_ports as ports_few}
 
 pub heavies_append : (xs ys : List Item) → heavies (xs ++ ys) ≡ heavies xs + heavies ys
 heavies_append [] ys = omega arith
@@ -151,14 +152,6 @@ items_above (Same x y ∷ is) = suc x + (suc y + items_above is)
 pub all_below : (n : ℕ) (xs : List ℕ) → above xs ≤ n → AllBelow n xs
 all_below n [] h = tt
 all_below n (x ∷ xs) h = (omega (arith, h), all_below n xs (omega (arith, h)))
-
-pub ports_few : (op : Op) → ports_of op < 4
-ports_few (Alu o) = omega arith
-ports_few Steer = omega arith
-ports_few Phi = omega arith
-ports_few (Send k) = omega arith
-ports_few (Store a) = omega arith
-ports_few _ = omega arith
 
 pub items_below : (n : ℕ) (is : List Item) → ItemsAre is → items_above is ≤ n → ItemsBelow n is
 items_below n [] a h = tt

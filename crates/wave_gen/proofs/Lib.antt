@@ -68,7 +68,7 @@ mod NoNops
 mod Growth
 mod Paced
 mod WordsStay
-mod OutOfTurns
+pub mod OutOfTurns
 mod Endless
 mod Limits
 mod ItemWeights

@@ -10,20 +10,11 @@ use Rattle.cfg_core.specs.declared.table.Table.{Table}
 use Rattle.wave_gen.specs.Plans.{is_among}
 use Rattle.wave_gen.specs.Listing.{in_some, most_vars}
 use Rattle.wave_gen.specs.Placed.{flag}
+use Rattle.ws_words.proofs.Bools.{or_comm, or_false}
 
 pub or_assoc : (x y z : Bool) → ((x || y) || z) ≡ (x || (y || z))
 or_assoc true y z = refl
 or_assoc false y z = refl
-
-pub or_comm : (x y : Bool) → (x || y) ≡ (y || x)
-or_comm true true = refl
-or_comm true false = refl
-or_comm false true = refl
-or_comm false false = refl
-
-pub or_false : (x : Bool) → (x || false) ≡ x
-or_false true = refl
-or_false false = refl
 
 pub spots_there : (t : Table) → TableIs t → length t.spots.items ≡ length (spots (view.graph t.graph.now))
 spots_there t h =

@@ -18,10 +18,12 @@ use Rattle.wave_gen.proofs.Edges.{exit_is, target_is}
 use Rattle.wave_gen.proofs.Waiting.{stops_is, waits, chooses_by, lands_by}
 use Rattle.wave_gen.proofs.Shape.{send_only, shape, shape_sends, source_op}
 use Rattle.wave_gen.proofs.Valid.{now_slot, edge_slot, slot_ahead}
-use Rattle.wave_gen.proofs.Number.{nth_lt, number_is, block_at_is, is_block, block_is, instr_is, nth_append_left, nth_append_right}
+use Rattle.wave_gen.proofs.Number.{number_is, block_at_is, is_block, block_is, instr_is}
 use Rattle.wave_gen.proofs.Lines.{Items, Lines, line_at}
 use Rattle.wave_gen.proofs.Drafts.{Kind, LineOf, line_in, inner_line, outer_line, front_line}
 use Rattle.wave_gen.proofs.TailLines.{is_tail_op, is_tail, made_past}
+use Rattle.image_walk.proofs.Blocks.{nth_append_left, nth_append_right}
+use Rattle.ws_isa.proofs.Images.{nth_short as nth_lt}
 
 count_sends : (k : ℕ) (xs : List ℕ) → length (sends k xs) ≡ length xs
 count_sends k [] = refl
@@ -74,7 +76,7 @@ module _ (arrays : List Array) (width : ℕ) (ps : List Plan) (Live : ℕ → �
 
   pub more_pad_zero : HasPad (block_at I 1).pads 0
   more_pad_zero = subst (λ (k : Block). HasPad k.pads 0) (sym (block_at_is arrays width ps 1 (omega arith, plans.some)))
-      (pad_there 1 0 0 (plan_at ps 1).entries (plan_at ps 1).pads (Rattle.wave_gen.proofs.Number.nth_lt (plan_at ps 1).pads 0 pulse plans.first_pads))
+      (pad_there 1 0 0 (plan_at ps 1).entries (plan_at ps 1).pads (nth_lt (plan_at ps 1).pads 0 pulse plans.first_pads))
 
   no_pads : (b : ℕ) (entries xs : List ℕ) → xs ≡ [] → pads_of (begins width ps) b 0 entries xs ≡ []
   no_pads b entries xs e = rw e refl

@@ -3,30 +3,15 @@ use Rattle.std.proofs.Common.{ℕ, zero, suc, ◌+◌, ◌-◌, ◌≡◌, ◌<�
 use Rattle.ws_isa.specs.Image.{Image, Instr, Block, Array, nth, or_else, flat, first_of, first_number, instr_at, block_at, IsBlock}
 use Rattle.wave_gen.specs.Wire.{Line, Made}
 use Rattle.wave_gen.specs.Plans.{Plan, no_made, mades, made_at, blocks_from, numbers, begins, instr_of, block_of, blocks_of, draft_of}
-use Rattle.wave_gen.proofs.Steps.{first_of_pos}
-
-pub nth_append_left : {A : Type 0} (xs ys : List A) (i : ℕ) → i < length xs → nth (xs ++ ys) i ≡ nth xs i
-nth_append_left [] ys i l = absurd (omega arith)
-nth_append_left (x ∷ xs) ys zero l = refl
-nth_append_left (x ∷ xs) ys (suc i) l = nth_append_left xs ys i (omega arith)
-
-pub nth_append_right : {A : Type 0} (xs ys : List A) (i : ℕ) → nth (xs ++ ys) (length xs + i) ≡ nth ys i
-nth_append_right [] ys i = let e : 0 + i ≡ i = omega arith in rw e refl
-nth_append_right (x ∷ xs) ys i = let e : suc (length xs) + i ≡ suc (length xs + i) = omega arith in rw e (nth_append_right xs ys i)
+use Rattle.image_walk.proofs.Steps.{first_of_pos}
+use Rattle.ws_words.proofs.Lists.{length_map}
+use Rattle.image_walk.proofs.Blocks.{nth_append_left, nth_append_right}
+use Rattle.ws_isa.proofs.Images.{nth_short as nth_lt}
 
 pub nth_map : {A B : Type 0} (f : A → B) (xs : List A) (i : ℕ) (x : A) → nth xs i ≡ Some x → nth (map f xs) i ≡ Some (f x)
 nth_map f [] i x e = absurd (let a : None ≡ Some x = e in cc)
 nth_map f (y ∷ xs) zero x e = let g : y ≡ x = cc in rw g refl
 nth_map f (y ∷ xs) (suc i) x e = nth_map f xs i x e
-
-pub length_map : {A B : Type 0} (f : A → B) (xs : List A) → length (map f xs) ≡ length xs
-length_map f [] = refl
-length_map f (x ∷ xs) = ap suc (length_map f xs)
-
-pub nth_lt : {A : Type 0} (xs : List A) (i : ℕ) (x : A) → nth xs i ≡ Some x → i < length xs
-nth_lt [] i x e = absurd (let a : None ≡ Some x = e in cc)
-nth_lt (y ∷ xs) zero x e = omega arith
-nth_lt (y ∷ xs) (suc i) x e = let h : i < length xs = nth_lt xs i x e in omega arith
 
 pub nth_or : {A : Type 0} (xs : List A) (i : ℕ) (d : A) → i < length xs → nth xs i ≡ Some (or_else (nth xs i) d)
 nth_or [] i d l = absurd (omega arith)

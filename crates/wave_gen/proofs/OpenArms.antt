@@ -4,7 +4,7 @@ use Rattle.std.proofs.lemmas.Bool.{false≢true, cases_Bool, cond-true, cond-fal
 use Rattle.std.specs.List.{AllByRecursion}
 use Rattle.ws_isa.specs.declared.instr.Op.TheVariants.{Merge}
 use Rattle.ws_isa.specs.Image as image
-use Rattle.ws_isa.specs.Image.{Image, Instr, Block, Array, In, nth, flat, instr_at, block_at, first_number, is_first, is_giving, is_giving_op, edges_of, IsIn, IsBlock}
+use Rattle.ws_isa.specs.Image.{Image, Instr, Block, Array, In, nth, flat, block_at, first_number, is_giving, is_giving_op, edges_of, IsBlock}
 use Rattle.ws_isa.specs.Formed.{NoNotes}
 use Rattle.image_walk.specs.Open.{OnlyEdge, IsArm, HasGiver, EnteredBySteer}
 use Rattle.wave_gen.specs.Wire.{Line, Made, emit}
@@ -19,11 +19,8 @@ use Rattle.wave_gen.proofs.Edges.{exit_is}
 use Rattle.wave_gen.proofs.TailLines.{tail_instr}
 use Rattle.wave_gen.proofs.Drafts.{front_line, line_of}
 use Rattle.wave_gen.proofs.Number.{number_is, block_at_is, is_block, block_is}
-
--- no notes
-all_append : {A : Type 0} (P : A → Type 0) (xs ys : List A) → AllByRecursion P xs → AllByRecursion P ys → AllByRecursion P (xs ++ ys)
-all_append P [] ys a b = b
-all_append P (x ∷ xs) ys a b = (a.0, all_append P xs ys a.1 b)
+use Rattle.ws_words.proofs.Lists.{all_append}
+use Rattle.ws_isa.proofs.Images.{nth_short as nth_inside}
 
 no_notes_in : (first : ℕ → ℕ) (ls : List Line) → AllByRecursion (λ i. i.note ≡ None) (map (instr_of first) ls)
 no_notes_in first [] = tt
@@ -36,11 +33,6 @@ no_notes_from width ps b (suc n) = all_append (λ i. i.note ≡ None) (map (inst
 pub draft_bare : (arrays : List Array) (width : ℕ) (ps : List Plan) → NoNotes (draft_of arrays width ps)
 unfolding draft_of
 draft_bare arrays width ps = no_notes_from width ps 1 (length ps)
-
-nth_inside : {A : Type 0} (xs : List A) (i : ℕ) (x : A) → nth xs i ≡ Some x → i < length xs
-nth_inside [] i x e = absurd (let a : None ≡ Some x = e in cc)
-nth_inside (y ∷ xs) zero x e = omega arith
-nth_inside (y ∷ xs) (suc i) x e = let l : i < length xs = nth_inside xs i x e in omega arith
 
 record GiverIn (ls : List Line) : Type 0 where
   pub place : ℕ

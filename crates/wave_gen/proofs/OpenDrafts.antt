@@ -5,11 +5,10 @@ use Rattle.std.specs.List.{AllByRecursion}
 use Rattle.ws_isa.specs.declared.instr.Op.{Op}
 use Rattle.ws_isa.specs.declared.instr.Op.TheVariants.{Merge, Advance, Steer, Send}
 use Rattle.ws_isa.specs.declared.instr.Dest.{Dest}
-use Rattle.ws_isa.specs.Image.{Image, Instr, Block, Pad, Array, In, flat, instr_at, block_at, first_number, ports, is_giving_op, is_stop, stops, now_of, now_dests, edge_of, edge_dests, IsIn, IsBlock, IsInstr}
+use Rattle.ws_isa.specs.Image.{Image, Instr, Block, Pad, Array, In, instr_at, block_at, first_number, ports, is_giving_op, is_stop, stops, now_of, now_dests, edge_of, edge_dests, IsIn, IsBlock, IsInstr}
 use Rattle.ws_isa.specs.Formed.{DestsIn, OpIn, ExitIn, References, DestsSuit, OthersSuit, SomeLanding, Suited}
 use Rattle.image_walk.specs.Sound.{HasDest, HasPad, BlockShape, ShapeRules}
 use Rattle.image_walk.specs.Open.{OpenToNotes}
-use Rattle.image_walk.proofs.Blocks.{number_one, number_last}
 use Rattle.wave_gen.specs.Waits.{Code}
 use Rattle.wave_gen.specs.Wire.{Line, Wants, dests_of}
 use Rattle.wave_gen.specs.Plans.{Leaves, Onto, Either, Lands, Halts, Plan, fronts, plan_at, made_at, begins, instr_of, draft_of, code_of, exit_of, source_of}
@@ -17,7 +16,6 @@ use Rattle.wave_gen.proofs.Planned.{AllIn, PadsFit, PlansAre, EdgesAre, Outer}
 use Rattle.wave_gen.proofs.More.{PlansGive}
 use Rattle.wave_gen.proofs.Opening.{PlansOpen}
 use Rattle.wave_gen.proofs.Turns.{waits_slots}
-use Rattle.wave_gen.proofs.Steps.{first_le}
 use Rattle.wave_gen.proofs.Number.{is_block, block_is, block_at_is}
 use Rattle.wave_gen.proofs.Lines.{Items}
 use Rattle.wave_gen.proofs.Drafts.{Kind, LineOf, line_in, inner_line, outer_line, front_line}
@@ -30,7 +28,9 @@ use Rattle.wave_gen.proofs.Valid.{Slot, now_slot, edge_slot, starts_slot, slot_a
 use Rattle.wave_gen.proofs.MoreShapes.{more_waves, more_pad_zero, more_pads_first, pad_front, more_pads, more_source, more_address, more_landing_first, more_landing_pad, more_halt_stops, more_stop_halts, more_halt_last}
 use Rattle.wave_gen.proofs.OpenArms.{draft_bare, draft_arms, draft_givers}
 use Rattle.wave_gen.proofs.SuitLines.{is_steer_op, Suits, suits_at, lines_suit}
-use Rattle.wave_gen.proofs.AllInstrs.{all_of_in, all_instrs, all_blocks}
+use Rattle.wave_gen.proofs.AllInstrs.{all_instrs, all_blocks}
+use Rattle.wave_link.proofs.FormedOf.{all_members as all_of_in}
+use Rattle.wave_link.proofs.GrownOrigin.{is_instr as in_image}
 
 -- which lists an operation has
 sort : (op : Op) → (op ≡ Steer) ⊎ (((p : ℕ) × (op ≡ Send p)) ⊎ ((is_steer_op op ≡ false) × ((ds : List Dest) → now_of op ds ≡ ds)))
@@ -57,15 +57,6 @@ suit_others _ ds h = h refl
 all_dests : (image : Image) (ds : List Dest) → ((j q : ℕ) → HasDest ds j q → IsInstr image j × (q < ports image j)) → DestsIn image ds
 all_dests image [] h = tt
 all_dests image (d ∷ ds) h = (h d.instr d.port (inl (refl, refl)), all_dests image ds (λ j q i. h j q (inr i)))
-
--- an instruction of a block is one of the image
-in_image : (image : Image) (b j : ℕ) → IsBlock image b → IsIn image b j → IsInstr image j
-in_image image b j h i =
-    let a : first_number image 1 ≤ first_number image b = first_le image 1 b h.0 in
-    let c : first_number image (suc b) ≤ first_number image (suc (length image.blocks)) = first_le image (suc b) (suc (length image.blocks)) (let l : b ≤ length image.blocks = h.1 in omega arith) in
-    let d : first_number image 1 ≡ 1 = number_one image in
-    let e : first_number image (suc (length image.blocks)) ≡ suc (length (flat image.blocks)) = number_last image in
-    (omega (arith, a, d, i.0), omega (arith, c, e, i.1))
 
 module _ (arrays : List Array) (width : ℕ) (ps : List Plan) (Live : ℕ → ℕ → Type 0) (plans : PlansAre ps width Live) (gives : PlansGive ps) (opens : PlansOpen ps) where
   abbrev I : Image

@@ -2,7 +2,7 @@
 use Rattle.std.proofs.Common.{ℕ, zero, suc, ◌-◌, ◌≡◌, ◌<◌, ◌≤◌, ◌==◌, Bool, true, false, cond, eqb, List, [], ◌∷◌, ◌++◌, length, slice_index, slice_set, refl, sym, ap, ◌∙◌, subst, inl, inr, arith}
 use Rattle.std.proofs.lemmas.Bool.{cases_eq}
 use Rattle.ws_words.specs.Outside as outside
-use Rattle.ws_words.specs.Outside.{Outside, State, loads, row, with_act, with_acts, write, stored, printed, taken, has_read, given}
+use Rattle.ws_words.specs.Outside.{Outside, State, loads, row, write, stored, printed, taken, has_read, given}
 use Rattle.ws_isa.specs.declared.instr.Op.TheVariants.{Phi, Store, Output, Take}
 use Rattle.cfg_core.specs.Graph as graph
 use Rattle.cfg_core.specs.Graph.{Graph, Term, Number, Var, Cell, Flip, Not, Neg, Binary}
@@ -16,6 +16,7 @@ use Rattle.wave_gen.specs.Gen.{Got, gen_term, gen_op, gen_ops, Agrees, FlipsWord
 use Rattle.wave_gen.proofs.DrawnPlans.{OpsFine}
 use Rattle.std.specs.List.{AllByRecursion}
 use Rattle.wave_gen.proofs.Terms.{run_append, acted, acted_none, Gives, term_gives, agrees_on, set_here, set_other}
+use Rattle.ws_words.proofs.Held.{set_length}
 
 -- lists of variables
 pub get_set : (xs : List ℕ) (i v : ℕ) → i < length xs → slice_index (slice_set xs i v) i ≡ v
@@ -29,11 +30,6 @@ get_other (x ∷ xs) zero zero v n = absurd (n refl)
 get_other (x ∷ xs) zero (suc j) v n = refl
 get_other (x ∷ xs) (suc i) zero v n = refl
 get_other (x ∷ xs) (suc i) (suc j) v n = get_other xs i j v (λ e. n (ap suc e))
-
-pub set_length : (xs : List ℕ) (i v : ℕ) → length (slice_set xs i v) ≡ length xs
-set_length [] i v = refl
-set_length (x ∷ xs) zero v = refl
-set_length (x ∷ xs) (suc i) v = ap suc (set_length xs i v)
 
 agrees_set : (vars : List ℕ) (env : ℕ → ℕ) (x v : ℕ) → Agrees vars env → Agrees (slice_set vars x v) (set env (suc x) v)
 agrees_set vars env x v a = record {

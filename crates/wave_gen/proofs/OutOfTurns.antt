@@ -14,7 +14,7 @@ pub append_assoc : (xs ys zs : List Act) → (xs ++ ys) ++ zs ≡ xs ++ (ys ++ z
 append_assoc [] ys zs = refl
 append_assoc (x ∷ xs) ys zs = ap (λ (r : List Act). x ∷ r) (append_assoc xs ys zs)
 
-append_three : (xs ys zs us : List Act) → ((xs ++ ys) ++ zs) ++ us ≡ xs ++ (ys ++ (zs ++ us))
+pub append_three : (xs ys zs us : List Act) → ((xs ++ ys) ++ zs) ++ us ≡ xs ++ (ys ++ (zs ++ us))
 append_three xs ys zs us = append_assoc (xs ++ ys) zs us ∙ append_assoc xs ys (zs ++ us)
 
 -- acts go on

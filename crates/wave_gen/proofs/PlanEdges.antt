@@ -6,7 +6,7 @@ use Rattle.ws_isa.specs.Image.{In}
 use Rattle.cfg_core.specs.Graph as graph
 use Rattle.cfg_core.specs.Graph.{Graph, Spot, Term, spots, spot_at, block_at, no_spot}
 use Rattle.cfg_core.specs.Rules as rules
-use Rattle.cfg_core.specs.Rules.{BlockNumbers, StaysIn, ExitIn, Leads, calls}
+use Rattle.cfg_core.specs.Rules.{ExitIn, Leads}
 use Rattle.cfg_core.specs.Edges.{Edge}
 use Rattle.wave_cut.specs.Cut.{Cut, is_first}
 use Rattle.wave_gen.specs.Plans.{Plan, plan_at, pulse, is_among}
@@ -24,10 +24,7 @@ use Rattle.wave_gen.proofs.Turned.{waving, turned_same}
 use Rattle.wave_gen.proofs.Entries.{in_among, from_rules, to_rules}
 use Rattle.wave_gen.proofs.FitArms.{arm_inside}
 use Rattle.wave_gen.proofs.PlanFacts.{planned, at_place, place_there, numbers, live_of_entry}
-
-or_right : (a b : Bool) → b ≡ true → (a || b) ≡ true
-or_right true b e = refl
-or_right false b e = e
+use Rattle.ws_words.proofs.Bools.{or_right}
 
 some_in : (f : graph.Exit → List ℕ) (ss : List Spot) (b c : ℕ) → b < length ss → In c (f (graph.or_else (graph.nth ss b) no_spot).block.exit) → in_some f ss c ≡ true
 some_in f [] b c l h = absurd (omega (arith, l))

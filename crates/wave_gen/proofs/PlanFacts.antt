@@ -17,10 +17,10 @@ use Rattle.wave_gen.proofs.Tied.{all_at, same_home}
 use Rattle.wave_gen.proofs.ReadTerms.{Ground, reads_append}
 use Rattle.wave_gen.proofs.Sharing.{shared_read}
 use Rattle.wave_gen.proofs.ReadBlocks.{Kept, ops_reads, exit_first, ExitGives, exit_reads}
-use Rattle.wave_gen.proofs.Sorted.{nth_below}
 use Rattle.wave_gen.proofs.Chains.{listed_at, listed_once, listed_there}
 use Rattle.wave_gen.proofs.Turned.{waving}
 use Rattle.wave_gen.proofs.Entries.{among_in, in_among, live_in, live_has, reads_below}
+use Rattle.ws_isa.proofs.Images.{nth_below}
 
 nth_map : (f : ℕ → Plan) (xs : List ℕ) (i b : ℕ) → nth xs i ≡ Some b → nth (map f xs) i ≡ Some (f b)
 nth_map f [] i b e = absurd (let h : None ≡ Some b = e in cc)

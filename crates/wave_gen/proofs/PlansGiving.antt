@@ -14,10 +14,10 @@ use Rattle.wave_gen.specs.Listing.{gen_exit, landings_of, in_some, has_pads, lis
 use Rattle.wave_gen.specs.Words.{start_block}
 use Rattle.wave_gen.specs.Fitting.{Fits}
 use Rattle.wave_gen.proofs.ItemsGiving.{gives_append, ops_give_all, exit_gives_all, exit_source_gives}
-use Rattle.wave_gen.proofs.Sorted.{nth_some}
 use Rattle.wave_gen.proofs.Turned.{start_first}
 use Rattle.wave_gen.proofs.Entries.{among_in, to_rules}
 use Rattle.wave_gen.proofs.PlanFacts.{planned, plan_there, as_many, block_there}
+use Rattle.ws_isa.proofs.Images.{nth_within as nth_some}
 
 -- a block in the list of whose exit this one is
 pub some_of : (f : graph.Exit → List ℕ) (ss : List Spot) (c : ℕ) → in_some f ss c ≡ true → (b : ℕ) × In c (f (graph.or_else (graph.nth ss b) no_spot).block.exit)

@@ -23,13 +23,13 @@ use Rattle.wave_gen.specs.Listing.{gen_exit, entries_of, landings_of, in_some, t
 use Rattle.wave_gen.specs.Words.{live_from, start_block}
 use Rattle.wave_gen.specs.Fitting.{Fits}
 use Rattle.wave_gen.proofs.ItemKinds.{items_append, ops_items, exit_items, exit_source}
-use Rattle.wave_gen.proofs.Sorted.{nth_some}
 use Rattle.wave_gen.proofs.Chains.{Step, listed_step, listed_first}
 use Rattle.wave_gen.proofs.Turned.{waving, start_there, start_first, start_wave}
 use Rattle.wave_gen.proofs.Entries.{live_in, live_apart, live_none, most_is}
 use Rattle.wave_gen.proofs.Nexts.{ops_next, next_of_exit}
 use Rattle.wave_gen.proofs.PlanFacts.{planned, plan_there, as_many, at, at_place, place_there, place_is, block_there, to_entry, of_entry, live_of_entry, plan_reads, numbers}
 use Rattle.wave_gen.proofs.PlanEdges.{edges_are, values_apart, pads_are}
+use Rattle.ws_isa.proofs.Images.{nth_within as nth_some}
 
 vars_below : (g : Graph) (b : ℕ) → b < length (spots g) → (spot_at g b).vars < width_of g
 unfolding spot_at

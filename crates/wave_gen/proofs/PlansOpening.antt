@@ -21,7 +21,7 @@ use Rattle.wave_gen.proofs.Sorted.{some_same}
 use Rattle.wave_gen.proofs.PlansGiving.{some_of}
 use Rattle.wave_gen.proofs.PlanFacts.{planned, at, at_place, place_is, place_there, numbers}
 use Rattle.wave_gen.proofs.PlanFacts.{as_many, block_there}
-use Rattle.wave_gen.proofs.Sorted.{nth_some}
+use Rattle.ws_isa.proofs.Images.{nth_within as nth_some}
 
 abbrev first_arm : Leaves → ℕ
 first_arm (Either op from c d) = c

@@ -1,14 +1,15 @@
 -- The steps of a block run as the items of its plan.
 use Rattle.std.proofs.Common.{ℕ, zero, suc, ◌+◌, ◌≡◌, ◌≤◌, ◌&&◌, not, ltb, Bool, true, false, cond, List, [], ◌∷◌, length, map, refl, sym, ap, ◌∙◌, inl, inr, arith, eq-eqb, ne_eqb}
-use Rattle.std.proofs.lemmas.Bool.{cases_eq, both_ways, cond-false}
+use Rattle.std.proofs.lemmas.Bool.{cases_eq, cond-false}
 use Rattle.ws_words.specs.Outside.{Outside}
 use Rattle.ws_isa.specs.declared.instr.Op.{Op}
 use Rattle.ws_isa.specs.declared.instr.Op.TheVariants.{Merge}
 use Rattle.ws_isa.specs.Image.{is_memory_op, after_op, result_of_op}
 use Rattle.wave_gen.specs.Waits.{Names, set, effect, run_steps}
 use Rattle.wave_gen.specs.Wire.{Wants, Made, emit, skip, gather, with_room, with_rooms, Item, Make, Act, Same, is_nil, make, alias, wire, most}
-use Rattle.wave_gen.specs.Plans.{merges, Leaves, Onto, Either, Lands, Halts, Plan, pulse, Tail, steers, sends, operands_of, hung, hang, more, chain, selected, tails_of, end_wants, behind_source, exit_made, body_made, block_made, renew, advances, has_front}
+use Rattle.wave_gen.specs.Plans.{merges, Leaves, Onto, Either, Lands, Halts, Plan, pulse, Tail, steers, sends, operands_of, hang, more, chain, selected, tails_of, end_wants, behind_source, exit_made, body_made, block_made, renew, advances, has_front}
 use Rattle.wave_gen.proofs.Runs.{run_item, run_items, run_choice}
+use Rattle.ws_words.proofs.Bools.{and_right, not_true}
 
 set_same : (f : ℕ → ℕ) (x : ℕ) → ◌≡◌ {A = ℕ → ℕ} (set f x (f x)) f
 set_same f x = λ i j. at j i
@@ -45,14 +46,6 @@ alias_runs b x y s n = go (ltb most (length (s.wants x) + length (s.wants y)))
 
 skips_value : (x : ℕ) (op : Op) (from : List ℕ) (n : Names) → is_memory_op op ≡ false → record { env = set n.env x (result_of_op op (map n.env from)); out = n.out } ≡ run_item (Make x op from) n
 skips_value x op from n e = rw e refl
-
-and_right : (a c : Bool) → (a && c) ≡ true → c ≡ true
-and_right true c e = e
-and_right false c e = absurd (both_ways false refl e)
-
-not_true : (a : Bool) → not a ≡ true → a ≡ false
-not_true true e = absurd (both_ways false refl e)
-not_true false e = refl
 
 pub wire_runs : (b : ℕ) (is : List Item) (s : Made) (n : Names) → run_steps (wire b is s).steps n ≡ run_steps s.steps (run_items is n)
 wire_runs b [] s n = refl

@@ -12,7 +12,8 @@ use Rattle.wave_gen.proofs.Planned.{PlansAre}
 use Rattle.wave_gen.proofs.Fronts.{nth_in, in_or_not, fronts_none, fronts_at, FrontIs, front_is, is_front, advances_at, advances_count}
 use Rattle.wave_gen.proofs.Blocks.{Facts, facts, begins_next, made_is, starts_inner, starts_outer}
 use Rattle.wave_gen.proofs.Drafts.{advance_front, front_advance}
-use Rattle.wave_gen.proofs.Number.{number_is, block_at_is, is_block, nth_lt}
+use Rattle.wave_gen.proofs.Number.{number_is, block_at_is, is_block}
+use Rattle.ws_isa.proofs.Images.{nth_short as nth_lt}
 
 module _ (arrays : List Array) (width : ℕ) (ps : List Plan) (Live : ℕ → ℕ → Type 0) (plans : PlansAre ps width Live) where
   abbrev pub I : Image

@@ -12,7 +12,9 @@ use Rattle.wave_gen.proofs.Keeping.{hang_count}
 use Rattle.wave_gen.proofs.Lines.{line_at, Items, More, then_more, same_more, emit_more, rest_more, make_more, wire_more, renew_more, advances_more, selected_more, hang_nth}
 use Rattle.wave_gen.proofs.Blocks.{begins_next, made_is}
 use Rattle.wave_gen.proofs.Drafts.{LineOf, line_in}
-use Rattle.wave_gen.proofs.Number.{number_is, instr_is, nth_append_left, nth_append_right, nth_lt}
+use Rattle.wave_gen.proofs.Number.{number_is, instr_is}
+use Rattle.image_walk.proofs.Blocks.{nth_append_left, nth_append_right}
+use Rattle.ws_isa.proofs.Images.{nth_short as nth_lt}
 
 abbrev pub is_tail_op : Op → Bool
 is_tail_op Steer = true

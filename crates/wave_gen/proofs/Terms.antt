@@ -14,6 +14,8 @@ use Rattle.wave_gen.specs.Wire.{Item, Make}
 use Rattle.wave_gen.specs.Plans.{pulse}
 use Rattle.wave_gen.proofs.Runs.{run_item, run_items}
 use Rattle.wave_gen.specs.Gen.{Got, got, then_make, top_word, gen_term, Agrees, FlipsWords}
+use Rattle.ws_words.proofs.Lists.{append_on as append_assoc}
+use Rattle.wave_link.proofs.GrownEdges.{append_nil}
 
 pub set_here : (f : ℕ → ℕ) (k v : ℕ) → set f k v k ≡ v
 set_here f k v = rw (eq-eqb k k refl) refl
@@ -28,14 +30,6 @@ run_append (x ∷ xs) ys s = run_append xs ys (run_item x s)
 -- outside with more acts
 abbrev pub acted : Outside → List Act → Outside
 acted o acts = record { cells = o.cells; input = o.input; left = o.left; acts = o.acts ++ acts }
-
-pub append_nil : {A : Type 0} (xs : List A) → xs ++ [] ≡ xs
-append_nil [] = refl
-append_nil (x ∷ xs) = ap (λ (r : List _). x ∷ r) (append_nil xs)
-
-append_assoc : {A : Type 0} (xs ys zs : List A) → (xs ++ ys) ++ zs ≡ xs ++ (ys ++ zs)
-append_assoc [] ys zs = refl
-append_assoc (x ∷ xs) ys zs = ap (λ (r : List _). x ∷ r) (append_assoc xs ys zs)
 
 pub acted_none : (o : Outside) → acted o [] ≡ o
 acted_none o = ap (λ (acts : List Act). record { cells = o.cells; input = o.input; left = o.left; acts = acts }) (append_nil o.acts)

@@ -9,23 +9,26 @@ use Rattle.ws_isa.specs.Image.{Image, Array, nth}
 use Rattle.cfg_core.specs.Graph as graph
 use Rattle.cfg_core.specs.Graph.{Graph, Spot, spots, spot_at, no_spot}
 use Rattle.cfg_core.specs.Rules as rules
-use Rattle.cfg_core.specs.Rules.{IsGraph, BlockNumbers, TermIn, OpIn, StaysIn, ExitIn, ChoosesBare}
+use Rattle.cfg_core.specs.Rules.{IsGraph, BlockNumbers, TermIn, StaysIn, ExitIn, ChoosesBare}
 use Rattle.cfg_core.specs.Walk as walks
-use Rattle.cfg_core.specs.Walk.{Outcome, Done, Out, run_ops, Config, At, Over, Going, Frame, value, value_of, leave, passed, step, walk}
+use Rattle.cfg_core.specs.Walk.{Outcome, Done, Out, run_ops, Config, At, Over, Going, value, value_of, leave, passed, step, walk}
 use Rattle.wave_gen.specs.Waits.{Names, set, Code, Place, names_at, pass, places}
 use Rattle.wave_gen.specs.Wire.{Item, Make, Same}
 use Rattle.wave_gen.specs.Plans.{Leaves, Onto, Either, Lands, Halts, Plan, plan_at, pulse, draft_of, code_of, filled}
-use Rattle.wave_gen.proofs.Planned.{PlansAre, PlanIs, Inner, Outer, EdgesAre}
+use Rattle.wave_gen.proofs.Planned.{PlansAre, Inner, Outer, EdgesAre}
 use Rattle.wave_gen.proofs.Runs.{run_item, run_items, run_choice}
 use Rattle.wave_gen.specs.Gen.{gen_term, gen_ops, Agrees, FlipsWords}
 use Rattle.wave_gen.specs.Drawn.{Source, gen_source, gen_terms}
 use Rattle.wave_gen.proofs.DrawnPlans.{zero_items, Leads, here, zeroed_at, Keeps, LandsAt, LandsAll, ExitDrawn, BlockDrawn, Drawn, ExitFine, BlockFine, WalkFine}
-use Rattle.wave_gen.proofs.Terms.{run_append, acted, acted_none, agrees_on, set_here, set_other}
-use Rattle.wave_gen.proofs.Ops.{IsState, Left, ops_left, done_is, get_set, get_other, set_length}
+use Rattle.wave_gen.proofs.Terms.{run_append, acted, agrees_on, set_here, set_other}
+use Rattle.wave_gen.proofs.Ops.{IsState, Left, ops_left, get_set, get_other}
 use Rattle.wave_gen.proofs.Sources.{Last, source_last, GiveMany, terms_give}
 use Rattle.wave_gen.proofs.Running.{Chained}
 use Rattle.wave_gen.proofs.Waiting.{target_there}
 use Rattle.wave_gen.proofs.Following.{ending, left, stopped, To, onto, either, lands}
+use Rattle.ws_words.proofs.Numbers.{zeros_count as zeros_length}
+use Rattle.image_walk.proofs.Opening.{zeros_index as zeros_at}
+use Rattle.ws_words.proofs.Held.{set_length}
 
 pub all_at : {A : Type 0} (P : A → Type 0) (xs : List A) (d : A) (i : ℕ) → AllByRecursion P xs → i < length xs → P (graph.or_else (graph.nth xs i) d)
 all_at P [] d i h l = absurd (omega arith)
@@ -76,15 +79,6 @@ landed_other : (xs vs vars : List ℕ) (y : ℕ) → (rules.In y xs → ⊥) →
 landed_other [] vs vars y n = refl
 landed_other (x ∷ xs) [] vars y n = refl
 landed_other (x ∷ xs) (v ∷ vs) vars y n = landed_other xs vs (slice_set vars x v) y (λ h. n (inr h)) ∙ get_other vars x y v (λ e. n (inl e))
-
-zeros_length : (n : ℕ) → length (zeros n) ≡ n
-zeros_length zero = refl
-zeros_length (suc n) = ap suc (zeros_length n)
-
-zeros_at : (n y : ℕ) → slice_index (zeros n) y ≡ 0
-zeros_at zero y = refl
-zeros_at (suc n) zero = refl
-zeros_at (suc n) (suc y) = zeros_at n y
 
 -- as names: the pads' names have the values, all others 0
 fills : (xs names vs vars : List ℕ) (env : ℕ → ℕ) (y : ℕ) → rules.Apart xs → map env names ≡ vs → y < length vars → slice_index vars y ≡ 0 → length names ≡ length xs →

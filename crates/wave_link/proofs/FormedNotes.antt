@@ -4,7 +4,6 @@ use Rattle.std.proofs.lemmas.Bool.{cases_Bool, cases_eq}
 use Rattle.ws_isa.specs.declared.instr.Op.{Op}
 use Rattle.ws_isa.specs.declared.instr.Link.{Link}
 use Rattle.ws_isa.specs.declared.instr.Link.TheVariants.{Unknown, Nothing, Is}
-use Rattle.ws_isa.specs.declared.instr.Op.TheVariants.{Store, Input, Output, Give, Take, Halt}
 use Rattle.ws_isa.specs.Image.{Instr, Block, Image, flat, is_memory_op, is_writing_op, nth, or_else}
 use Rattle.wave_link.specs.declared.outline.Way.{Way}
 use Rattle.wave_link.specs.declared.outline.Way.TheVariants.{Out, On, Fork}
@@ -15,6 +14,7 @@ use Rattle.wave_link.specs.Notes.{both, low_at, lows_from, head_at, out_link, he
 use Rattle.wave_link.specs.Outlines.{one_more_op, ops_from, writer_from, outline_of, outlines_from, outlines_of, with_nop, with_nops_from, with_nops}
 use Rattle.wave_link.specs.Grown.{seq_next, no_place, added_in}
 use Rattle.wave_link.proofs.Numbers.{seq_in, writer_in, place_of}
+use Rattle.ws_isa.proofs.Images.{writing_memory_op as writes_memory}
 
 -- a link that is said names a number up to this
 abbrev pub UpTo : ℕ → Link → Type 0
@@ -193,15 +193,6 @@ one_op i n = cond_both (λ (m : ℕ). m ≤ n + 1) (is_memory_op i.op) (n + 1) n
 few_ops : (is : List Instr) (n : ℕ) → ops_from is n ≤ n + length is
 few_ops [] n = omega arith
 few_ops (i ∷ is) n = omega (arith, one_op i n, few_ops is (one_more_op i n))
-
-writes_memory : (op : Op) → is_writing_op op ≡ true → is_memory_op op ≡ true
-writes_memory (Store a) e = refl
-writes_memory Input e = refl
-writes_memory Output e = refl
-writes_memory (Give p) e = refl
-writes_memory (Take p) e = refl
-writes_memory Halt e = refl
-writes_memory _ e = absurd (cc)
 
 writer_fits : (is : List Instr) (n w : ℕ) → w ≤ n → writer_from is n w ≤ ops_from is n
 writer_fits [] n w l = l

@@ -33,17 +33,14 @@ use Rattle.wave_link.proofs.GrownOf.{ports_kept, nop_ports, op_kept}
 use Rattle.wave_link.proofs.ShapeOf.{ImageCase, old, no_op, image_case, block_on, block_back, new_inside, nop_inside, renamed_back, the_steer, first_edge, second_edge, not_stop, dests_grown, others_grown}
 use Rattle.wave_link.proofs.ShapeOf.{shape_rules}
 use Rattle.wave_link.proofs.FormedNotes.{UpTo, PlaceUpTo, most_ops, place_up, seq_up, writer_up}
+use Rattle.ws_isa.proofs.Images.{nth_short}
+use Rattle.ws_words.proofs.Lists.{all_have as all_each, all_mapped as all_map}
 
 -- What holds at each number holds of all.
 
 all_of : {A : Type 0} (P : A → Type 0) (xs : List A) → ((k : ℕ) (x : A) → nth xs k ≡ Some x → P x) → AllByRecursion P xs
 all_of P [] h = tt
 all_of P (x ∷ xs) h = (h 0 x refl, all_of P xs (λ k y e. h (suc k) y e))
-
-nth_short : {A : Type 0} (xs : List A) (k : ℕ) (x : A) → nth xs k ≡ Some x → k < length xs
-nth_short [] k x e = absurd (cc)
-nth_short (y ∷ xs) zero x e = omega arith
-nth_short (y ∷ xs) (suc k) x e = omega (arith, nth_short xs k x e)
 
 instr_read : (image : Image) (k : ℕ) (x : Instr) → nth (flat image.blocks) k ≡ Some x → instr_at image (suc k) ≡ x
 unfolding instr_at
@@ -233,15 +230,7 @@ pads_rise : (t : Tables) (ps : List Pad) → PadsRise ps → PadsRise (map (grow
 pads_rise t [] h = tt
 pads_rise t (p ∷ ps) h = rise_map t p.number ps h
 
-all_map : {A B : Type 0} (P : B → Type 0) (f : A → B) (xs : List A) → AllByRecursion (λ x. P (f x)) xs → AllByRecursion P (map f xs)
-all_map P f [] h = tt
-all_map P f (x ∷ xs) h = (h.0, all_map P f xs h.1)
-
-all_each : {A : Type 0} (P Q : A → Type 0) (xs : List A) → ((x : A) → P x → Q x) → AllByRecursion P xs → AllByRecursion Q xs
-all_each P Q [] f h = tt
-all_each P Q (x ∷ xs) f h = (f x h.0, all_each P Q xs f h.1)
-
-all_members : {A : Type 0} (P : A → Type 0) (xs : List A) → ((x : A) → In x xs → P x) → AllByRecursion P xs
+pub all_members : {A : Type 0} (P : A → Type 0) (xs : List A) → ((x : A) → In x xs → P x) → AllByRecursion P xs
 all_members P [] h = tt
 all_members P (x ∷ xs) h = (h x (inl refl), all_members P xs (λ y i. h y (inr i)))
 

@@ -7,20 +7,17 @@ use Rattle.ws_isa.specs.Image.{Image, edge_dests}
 use Rattle.image_walk.specs.Sound.{Slots, opened, all_opened, Fresh, edge_all}
 use Rattle.image_walk.proofs.Slots.{all_opened_keeps, all_opened_append, fresh_left, fresh_right}
 use Rattle.wave_link.proofs.GrownForm.{renamed}
-use Rattle.wave_link.proofs.SlotsKept.{swap, all_swap, fresh_append, opened_here}
+use Rattle.wave_link.proofs.SlotsKept.{swap, all_swap, fresh_append}
+use Rattle.image_walk.proofs.Opened.{opened_here}
+use Rattle.ws_words.proofs.Bools.{and_parts as and_both}
 
 lists_swap : (xs ys : List Dest) (o : Slots) → all_opened xs (all_opened ys o) ≡ all_opened ys (all_opened xs o)
 lists_swap xs [] o = refl
 lists_swap xs (y ∷ ys) o = lists_swap xs ys (opened y o) ∙ ap (all_opened ys) (all_swap xs y o)
 
-not_true : (v : Bool) → (v ≡ true → ⊥) → v ≡ false
+pub not_true : (v : Bool) → (v ≡ true → ⊥) → v ≡ false
 not_true true h = absurd (h refl)
 not_true false h = refl
-
-and_both : (x y : Bool) → (x && y) ≡ true → (x ≡ true) × (y ≡ true)
-and_both true true e = (refl, refl)
-and_both true false e = absurd (cc)
-and_both false y e = absurd (cc)
 
 clash : (v : Bool) → v ≡ true → v ≡ false → ⊥
 clash v e f = cc
@@ -44,7 +41,7 @@ fresh_opened (b ∷ bs) d o f h = (
         let g : opened b o d.instr d.port ≡ true = opened_here b o d.instr d.port (sym (eqb-true d.instr b.instr s.0)) (sym (eqb-true d.port b.port s.1)) in
         clash (all_opened bs (opened b o) d.instr d.port) (all_opened_keeps bs (opened b o) d.instr d.port g) h
 
-append_nil : {A : Type 0} (xs : List A) → xs ++ [] ≡ xs
+pub append_nil : {A : Type 0} (xs : List A) → xs ++ [] ≡ xs
 append_nil [] = refl
 append_nil (x ∷ xs) = ap (λ (l : List _). x ∷ l) (append_nil xs)
 

@@ -10,6 +10,7 @@ use Rattle.wave_link.specs.declared.states.State.{State}
 use Rattle.wave_link.specs.States.{reached, is_vain, state_in, states_step, states_from}
 use Rattle.wave_link.specs.Outlines.{firsts_of, one_more_op, ops_from, outline_of, outlines_from, outlines_of}
 use Rattle.wave_link.specs.Adds.{adds}
+use Rattle.ws_isa.proofs.Counting.{first_one}
 
 -- instruction k of block b, by its place
 pub record InBlock (image : Image) (b k : ℕ) : Type 0 where
@@ -49,10 +50,6 @@ record Placed (bs : List Block) (k : ℕ) : Type 0 where
   pub within : place < length bs
   pub low : first_of bs place ≤ k
   pub high : k < first_of bs (suc place)
-
-first_one : (bs : List Block) → first_of bs zero ≡ 1
-first_one [] = refl
-first_one (b ∷ bs) = refl
 
 placed : (bs : List Block) (k : ℕ) → 1 ≤ k → k ≤ length (flat bs) → Placed bs k
 placed [] k l h = absurd (omega arith)

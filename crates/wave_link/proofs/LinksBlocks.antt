@@ -12,6 +12,7 @@ use Rattle.wave_link.specs.Outlines.{firsts_from, firsts_of, way_of, outline_of,
 use Rattle.wave_link.specs.Grown.{added_in}
 use Rattle.wave_link.specs.Adds.{adds}
 use Rattle.wave_link.proofs.LinksTables.{no_outline, outline_in, Leads, Parts}
+use Rattle.ws_words.proofs.Lists.{same_read as any_default}
 
 -- Outlines.
 
@@ -86,11 +87,6 @@ unfolding is_first block_at
 first_said draft zero w h = absurd (omega (arith, h.0))
 first_said draft (suc zero) w h = first_wave draft.blocks w
 first_said draft (suc (suc n)) w h = first_there draft.blocks 0 n (omega (arith, h.1))
-
-any_default : (xs : List Bool) (i : ℕ) (c d : Bool) → i < length xs → get_or xs i c ≡ get_or xs i d
-any_default [] i c d l = absurd (omega arith)
-any_default (x ∷ xs) zero c d l = refl
-any_default (x ∷ xs) (suc i) c d l = any_default xs i c d (omega arith)
 
 pub first_told : (draft : Image) (b : ℕ) → WavesInOrder draft.blocks → IsBlock draft b → get_or (firsts_of draft.blocks) b true ≡ is_first draft b
 first_told draft b w h = any_default (firsts_of draft.blocks) b true false (omega (arith, h.1, firsts_length draft.blocks 0)) ∙ first_said draft b w h

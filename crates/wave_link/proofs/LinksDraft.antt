@@ -23,6 +23,7 @@ use Rattle.wave_link.proofs.LinksTables.{outline_in, stepped, stepped_next, ways
 use Rattle.wave_link.proofs.LinksRun.{Run}
 use Rattle.wave_link.proofs.LinksPaths.{Marked}
 use Rattle.wave_link.proofs.LinksBlocks.{bare_of, grown_of, bare_length, grown_length, grown_is, outline_at, outline_is, in_wave, On_in, on_in, parts, alone}
+use Rattle.ws_isa.proofs.Images.{writing_memory_op}
 
 -- The tables before each block.
 
@@ -82,7 +83,7 @@ writer_below (i ∷ is) n w l = writer_below is (one_more_op i n) (cond (is_writ
     go true false e f = absurd (cc (sym f ∙ memory i.op e))
       where
         memory : (op : Op) → is_writing_op op ≡ true → is_memory_op op ≡ true
-        memory op e = Rattle.wave_link.proofs.LinksPaths.writing_op op e
+        memory op e = writing_memory_op op e
     go false true e f = omega arith
     go false false e f = l
 

@@ -1,12 +1,10 @@
 -- The paths of an image whose notes are made of its tables keep the rules on links and ripples.
 use Rattle.std.proofs.Common.{ℕ, zero, suc, ◌+◌, ◌-◌, ◌≡◌, ◌<◌, ◌≤◌, ◌⊎◌, true, false, cond, List, [], ◌∷◌, length, Option, Some, None, refl, sym, ap, ◌∙◌, inl, inr, subst, arith, eqb, eq-eqb, ne_eqb}
 use Rattle.std.proofs.lemmas.Bool.{cases_eq, cases_Bool, cases_lt}
-use Rattle.ws_isa.specs.declared.instr.Op.{Op}
-use Rattle.ws_isa.specs.declared.instr.Op.TheVariants.{Const, Alu, Merge, Advance, Steer, Phi, Send, Load, Store, Input, Output, Give, Take, Nop, Halt}
 use Rattle.ws_isa.specs.declared.instr.Link.{Link}
 use Rattle.ws_isa.specs.declared.instr.Link.TheVariants.{Unknown, Nothing, Is}
 use Rattle.ws_isa.specs.declared.instr.Note.{Note}
-use Rattle.ws_isa.specs.Image.{Image, or_else, instr_at, block_at, first_number, is_memory_op, is_writing_op, is_memory, is_writing, note_of, stops, target, is_first, IsIn, IsBlock}
+use Rattle.ws_isa.specs.Image.{Image, or_else, instr_at, block_at, first_number, is_memory, is_writing, note_of, stops, target, is_first, IsIn, IsBlock}
 use Rattle.image_walk.specs.Sound.{InWave, first, turn, edge, last_op, Follows, Ends, seq, IsAmong, LinkRules, RippleRules}
 use Rattle.wave_link.specs.declared.outline.Way.{Way}
 use Rattle.wave_link.specs.declared.outline.Way.TheVariants.{Out}
@@ -20,23 +18,7 @@ use Rattle.wave_link.specs.Grown.{seq_next}
 use Rattle.wave_link.specs.Ripples.{MayPrecede, ExactRipples}
 use Rattle.wave_link.proofs.LinksTables.{Leads, exact}
 use Rattle.wave_link.proofs.LinksRun.{Run, Before, starts, goes, last_of, last_number, Facts, facts, first_linked, first_alone, end_said, Wrote, wrote, further, Attained, attained, wrote_low, writer_on, writer_low, low_rise, head_full, here}
-
-pub writing_op : (op : Op) → is_writing_op op ≡ true → is_memory_op op ≡ true
-writing_op (Const x) e = absurd (cc)
-writing_op (Alu x) e = absurd (cc)
-writing_op Merge e = absurd (cc)
-writing_op Advance e = absurd (cc)
-writing_op Steer e = absurd (cc)
-writing_op Phi e = absurd (cc)
-writing_op (Send x) e = absurd (cc)
-writing_op (Load x) e = absurd (cc)
-writing_op (Store x) e = refl
-writing_op Input e = refl
-writing_op Output e = refl
-writing_op (Give x) e = refl
-writing_op (Take x) e = refl
-writing_op Nop e = absurd (cc)
-writing_op Halt e = refl
+use Rattle.ws_isa.proofs.Images.{writing_memory_op as writing_op}
 
 -- what the image has of the tables: sq and wr are the next sequence number and the last writing one before an instruction
 pub record Marked (image : Image) (n : ℕ) (x : ℕ → Outline) (low : ℕ → ℕ) (heads : List Link) (behind : ℕ → List (Option Behind)) (sq wr : ℕ → ℕ → ℕ) : Type 0 where

@@ -14,6 +14,7 @@ use Rattle.wave_link.specs.declared.states.State.TheVariants.{Shared, Sole, Many
 use Rattle.wave_link.specs.States.{more, has_way, is_several, reached, enter_way, ways_step, is_shared, is_many, state_in, is_vain, spread_state}
 use Rattle.wave_link.specs.Notes.{low_at, head_at, out_link, head_link, larger, joined, begin, behind_in, behind_out, hand_all}
 use Rattle.wave_link.proofs.LinksTables.{Leads, leads, Parts, handed, hit_ways, miss_ways, ways_length, hit_states, miss_states, states_length, hit_behind, miss_behind, behind_length, exact, both_says}
+use Rattle.ws_words.proofs.Bools.{or_none, plain_of as or_right}
 
 -- the tables before each of n blocks, and after the last one
 pub record Run (n : ℕ) (x : ℕ → Outline) (low : ℕ → ℕ) (heads : List Link) (ways : ℕ → List Ways) (states : ℕ → List State) (behind : ℕ → List (Option Behind)) : Type 0 where
@@ -68,13 +69,6 @@ pub on_or_fork : (w : Way) (c : ℕ) → Leads w c → (w ≡ On c) ⊎ ((p : �
 on_or_fork Out c h = absurd h
 on_or_fork (On b) c h = inl (ap On (sym h))
 on_or_fork (Fork p q) c h = inr (p, q, refl)
-
-or_right : (a b : Bool) → (a || b) ≡ true → a ≡ false → b ≡ true
-or_right a b e f = cc (ap (λ (v : Bool). v || b) f)
-
-or_none : (a b : Bool) → (a || b) ≡ false → (a ≡ false) × (b ≡ false)
-or_none true b e = absurd (cc)
-or_none false b e = (refl, e)
 
 module _ (n : ℕ) (x : ℕ → Outline) (low : ℕ → ℕ) (heads : List Link) (ways : ℕ → List Ways) (states : ℕ → List State) (behind : ℕ → List (Option Behind)) (run : Run n x low heads ways states behind) where
   abbrev pub seen : ℕ → ℕ → Ways

@@ -12,6 +12,8 @@ use Rattle.wave_link.specs.Grown.{number_in, note_for, seq_next, grown_instr, gr
 pub use Rattle.wave_link.specs.Adds.{adds}
 use Rattle.wave_link.proofs.Parts.{tables_in, places_in}
 use Rattle.wave_link.proofs.Edges.{count_kept}
+use Rattle.image_walk.proofs.Steps.{first_of_pos as first_positive}
+use Rattle.ws_isa.proofs.Counting.{first_one}
 
 -- 1 where a no-op is added
 abbrev pub one_if : Bool → ℕ
@@ -41,10 +43,6 @@ count_next added b (suc n) =
   where
     sum : (a b c : ℕ) → a + (b + c) ≡ (a + b) + c
     sum a b c = omega arith
-
-pub first_one : (bs : List Block) → first_of bs zero ≡ 1
-first_one [] = refl
-first_one (b ∷ bs) = refl
 
 -- The tables.
 
@@ -177,11 +175,6 @@ shift_next draft zero l = absurd (omega arith)
 shift_next draft (suc n) l =
     let e : 0 + n ≡ n = omega arith in
     count_next (added_in draft.blocks) 0 n ∙ ap (λ (m : ℕ). count_from (added_in draft.blocks) 0 n + one_if (get_or (added_in draft.blocks) m false)) e
-
-first_positive : (bs : List Block) (n : ℕ) → 1 ≤ first_of bs n
-first_positive bs zero = let z : first_of bs zero ≡ 1 = first_one bs in omega arith
-first_positive [] (suc n) = omega arith
-first_positive (b ∷ bs) (suc n) = let h : 1 ≤ first_of bs n = first_positive bs n in omega arith
 
 nops_at : (draft : Image) (n m : ℕ) → n < length draft.blocks → suc m ≡ 1 + (first_of draft.blocks (suc n) + count_from (added_in draft.blocks) 0 n) →
     get_or (tables_in draft.blocks).nops (suc n) 0 ≡ cond (get_or (added_in draft.blocks) n false) m 0

@@ -3,20 +3,16 @@ use Rattle.std.proofs.Common.{ℕ, zero, suc, ◌+◌, ◌-◌, ◌≡◌, ◌<�
 use Rattle.std.proofs.Math.Path.{fun_ext}
 use Rattle.std.proofs.lemmas.Bool.{cases_eq, cases_lt, lt-ltb, le-ltb}
 use Rattle.ws_isa.specs.declared.instr.Dest.{Dest}
-use Rattle.ws_isa.specs.Image.{Block, Image, first_of, first_number, ports, is_advance, stops, target, now_dests, is_first, start_dests, IsIn, IsBlock}
+use Rattle.ws_isa.specs.Image.{Image, first_number, ports, is_advance, stops, target, now_dests, is_first, start_dests, IsIn, IsBlock}
 use Rattle.image_walk.specs.Sound.{Slots, none_open, opened, all_opened, Fresh, closed, HasDest, opens_at, Opens, begin, turn, edge, AdvancesOpen, EndSlots, EdgeInto, SlotRules}
 use Rattle.wave_link.proofs.GrownForm.{Trigger, Whole, Own, Before, renamed, nop_slot, own_slot, before_slot, extra, is_pending, lift, Grown}
-
-all_append : (xs bs : List Dest) (o : Slots) → all_opened (xs ++ bs) o ≡ all_opened bs (all_opened xs o)
-all_append [] bs o = refl
-all_append (a ∷ xs) bs o = all_append xs bs (opened a o)
+use Rattle.image_walk.proofs.Steps.{first_of_pos as first_positive, first_of_up as step_first}
+use Rattle.image_walk.proofs.Opened.{opened_here}
+use Rattle.image_walk.proofs.Slots.{all_opened_append as all_append}
 
 pub fresh_append : (xs bs : List Dest) (o : Slots) → Fresh xs o → Fresh bs (all_opened xs o) → Fresh (xs ++ bs) o
 fresh_append [] bs o f g = g
 fresh_append (a ∷ xs) bs o f g = (f.0, fresh_append xs bs (opened a o) f.1 g)
-
-pub opened_here : (d : Dest) (o : Slots) (j q : ℕ) → d.instr ≡ j → d.port ≡ q → opened d o j q ≡ true
-opened_here d o j q e f = rw (eq-eqb d.instr j e, eq-eqb d.port q f) refl
 
 opened_there : (d : Dest) (o : Slots) (j q : ℕ) → (d.instr ≡ j → ⊥) → opened d o j q ≡ o j q
 opened_there d o j q n = rw (ne_eqb d.instr j n) refl
@@ -33,17 +29,6 @@ swap c d o = fun_ext (λ j. fun_ext (λ q. point j q (eqb c.instr j && eqb c.por
 pub all_swap : (ds : List Dest) (c : Dest) (o : Slots) → all_opened ds (opened c o) ≡ opened c (all_opened ds o)
 all_swap [] c o = refl
 all_swap (d ∷ ds) c o = ap (all_opened ds) (swap d c o) ∙ all_swap ds c (opened d o)
-
-step_first : (bs : List Block) (b : ℕ) → first_of bs b ≤ first_of bs (suc b)
-step_first [] b = omega arith
-step_first (x ∷ []) zero = omega arith
-step_first (x ∷ y ∷ xs) zero = omega arith
-step_first (x ∷ xs) (suc b) = omega (arith, step_first xs b)
-
-first_positive : (bs : List Block) (b : ℕ) → 1 ≤ first_of bs b
-first_positive [] b = omega arith
-first_positive (x ∷ xs) zero = omega arith
-first_positive (x ∷ xs) (suc b) = omega (arith, first_positive xs b)
 
 pub step_number : (image : Image) (b : ℕ) → first_number image b ≤ first_number image (suc b)
 unfolding first_number

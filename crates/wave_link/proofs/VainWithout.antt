@@ -5,6 +5,7 @@ use Rattle.ws_isa.specs.Image.{Instr, Exit, Goto, Branch, Landings, Stop, Block,
 use Rattle.image_walk.specs.Sound.{InWave, first, turn, edge, last_op}
 use Rattle.image_walk.proofs.Blocks.{number_next, number_within}
 use Rattle.wave_link.specs.Vain.{moved, instr_but, instrs_but, exit_but, blocks_but, without, FollowsIn, EndsIn}
+use Rattle.ws_isa.proofs.Counting.{first_one}
 
 -- Blocks and edges.
 
@@ -114,10 +115,6 @@ length_but x k (i ∷ is) = go (eqb k x) (length_but x (suc k) is)
     go : (v : Bool) → length (instrs_but x (suc k) is) + hit x (suc k) (length is) ≡ length is → length (cond v (instrs_but x (suc k) is) (instr_but x i ∷ instrs_but x (suc k) is)) + (cond v 1 0 + hit x (suc k) (length is)) ≡ suc (length is)
     go true e = omega arith
     go false e = omega arith
-
-first_one : (bs : List Block) → first_of bs zero ≡ 1
-first_one [] = refl
-first_one (b ∷ bs) = refl
 
 first_but : (x k : ℕ) (bs : List Block) (b m : ℕ) → suc m ≡ first_of bs b → first_of (blocks_but x k bs) b + hit x k m ≡ first_of bs b
 first_but x k bs zero m e =

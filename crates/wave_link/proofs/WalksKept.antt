@@ -12,6 +12,7 @@ use Rattle.image_walk.proofs.Slots.{with_tokens_append}
 use Rattle.wave_link.proofs.GrownForm.{Grown, renamed, extra, nop_slot, own_slot, Trigger, Whole, Own, Before}
 use Rattle.wave_link.proofs.SlotsKept.{step_number, extra_cases}
 use Rattle.wave_link.proofs.WalksForm.{SentLike, op_at, choice_at, WalksAlike, StandsFor, AtEnd}
+use Rattle.ws_isa.proofs.Images.{tokens_append}
 
 -- a value is sent to destinations under wave w
 abbrev pub with_dest : ℕ → ℕ → Dest → Ports → Ports
@@ -19,10 +20,6 @@ with_dest w v d sent = with_token (record { wave = w; instr = d.instr; port = d.
 
 abbrev pub with_dests : ℕ → ℕ → List Dest → Ports → Ports
 with_dests w v ds sent = with_tokens (tokens_to w v ds) sent
-
-tokens_append : (w v : ℕ) (xs ys : List Dest) → tokens_to w v (xs ++ ys) ≡ tokens_to w v xs ++ tokens_to w v ys
-tokens_append w v [] ys = refl
-tokens_append w v (x ∷ xs) ys = ap (λ (ts : List Token). record { wave = w; instr = x.instr; port = x.port; value = v } ∷ ts) (tokens_append w v xs ys)
 
 with_append : (w v : ℕ) (xs ys : List Dest) (s : Ports) → with_dests w v (xs ++ ys) s ≡ with_dests w v ys (with_dests w v xs s)
 with_append w v xs ys s = ap (λ (ts : List Token). with_tokens ts s) (tokens_append w v xs ys) ∙ with_tokens_append (tokens_to w v xs) (tokens_to w v ys) s

@@ -11,7 +11,7 @@ pub numbers_length : (n : ℕ) (bs : List Block) → length (numbers_from n bs) 
 numbers_length n [] = refl
 numbers_length n (b ∷ bs) = ap suc (numbers_length (n + length b.instrs) bs)
 
-first_one : (bs : List Block) → first_of bs zero ≡ 1
+pub first_one : (bs : List Block) → first_of bs zero ≡ 1
 first_one [] = refl
 first_one (b ∷ bs) = refl
 

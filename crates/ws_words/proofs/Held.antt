@@ -130,7 +130,7 @@ rows_more rows done next i j r ej lt er en h =
     ∙ ap (λ (rs : List (List ℕ)). done ++ rs) (sym (rows_next rows i lt ∙ ap (λ n. row rows i ∷ drop n rows) (sym ej) ∙ ap (λ (x : List ℕ). x ∷ drop j rows) (sym er)))
     ∙ h
 
-set_length : (xs : List ℕ) (i v : ℕ) → length (slice_set xs i v) ≡ length xs
+pub set_length : (xs : List ℕ) (i v : ℕ) → length (slice_set xs i v) ≡ length xs
 set_length [] i v = refl
 set_length (x ∷ xs) zero v = refl
 set_length (x ∷ xs) (suc i) v = ap suc (set_length xs i v)

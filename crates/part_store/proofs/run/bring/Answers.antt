@@ -6,10 +6,10 @@ use Rattle.match_table.specs.Tables.{held, part}
 use Rattle.part_store.specs.Runs.{IsWhole, Paid}
 use Rattle.part_store.proofs.Bringing.{both_ok}
 use Rattle.part_store.proofs.Coming.{map_ok}
-use Rattle.part_store.proofs.Keys.{has_some}
 use Rattle.part_store.proofs.Paying.{not_fired, pay_held, taken_waits, taken_fires, taken_asks}
 use Rattle.part_store.proofs.Reaching.{covers_beside, covers_wider}
 use Rattle.part_store.proofs.run.bring.Goals as goal
+use Rattle.core_law.proofs.Ports.{has_some}
 
 pub returns-in-Some-clause-paid : goal.returns-in-Some-clause-paid
 returns-in-Some-clause-paid g c =

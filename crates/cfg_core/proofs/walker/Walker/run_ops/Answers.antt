@@ -1,8 +1,7 @@
 use Rattle.std.proofs.Common.{◌+◌, ◌≡◌, [], ◌∷◌, drop, sym, ◌∙◌, arith}
-use Rattle.cfg_core.proofs.Lists.{drop_all}
 use Rattle.cfg_core.proofs.Follows.{one_more, stopped_at, no_more, is_done, is_out}
 use Rattle.cfg_core.proofs.walker.Walker.run_ops.Goals as goal
-use Rattle.ws_words.proofs.Lists.{drop_next}
+use Rattle.ws_words.proofs.Lists.{drop_next, drop_all}
 
 pub loop-op-preserved : goal.loop-op-preserved
 loop-op-preserved c = λ s frames k sh.

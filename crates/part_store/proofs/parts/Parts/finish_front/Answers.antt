@@ -3,10 +3,8 @@ use Rattle.std.proofs.lemmas.List.{append-nil}
 use Rattle.ws_words.specs.Outside.{row, with_row}
 use Rattle.ws_isa.specs.declared.instr.Dest.{Dest}
 use Rattle.ws_isa.specs.declared.instr.Op.{Op}
-use Rattle.ws_isa.specs.Image.{Image, Token, instr_at, tokens_to}
-use Rattle.ws_isa.specs.Formed.{Formed}
+use Rattle.ws_isa.specs.Image.{Token, instr_at, tokens_to}
 use Rattle.core_run.specs.Places.{destinations, image_of}
-use Rattle.core_run.proofs.Few.{few}
 use Rattle.df_job.specs.Rights.{tokens_of}
 use Rattle.store_buf.specs.Ordering.{no_request, kept_at}
 use Rattle.store_buf.proofs.Lists.{or_any}
@@ -17,6 +15,7 @@ use Rattle.part_store.specs.Parts.{Beside, Stands, content_of}
 use Rattle.part_store.proofs.Fronts as F
 use Rattle.part_store.proofs.Finishing as N
 use Rattle.part_store.proofs.parts.Parts.finish_front.Goals as goal
+use Rattle.core_run.proofs.Few.{few_sent}
 
 pub returns-in_default-clause-leads : goal.returns-in_default-clause-leads
 returns-in_default-clause-leads g c = (
@@ -27,9 +26,6 @@ returns-in_default-clause-leads g c = (
       let q = N.counts (image_of c.args.program.now) world began (content_of c.args.self.now) st.parting e (F.front_in c.args.self.now.queues.entries.items e.row e.index e fol.first).0 in
       absurd (c.in_default.ensures.none q.request q.answer q.is_kept q.answered),
 )
-
-few_sent : (image : Image) → Formed image → (ds : List Dest) (i : ℕ) → ds ≡ destinations image i 0 → length ds ≤ 8
-few_sent image formed ds i e = subst (λ (xs : List Dest). length xs ≤ 8) (sym e) (few image formed i 0)
 
 pub tell-requires : goal.tell-requires
 tell-requires g c = let f = few_sent (image_of c.args.program.now) c.requires.formed c.destinations.result.now c.args.entry.instr c.destinations.ensures in

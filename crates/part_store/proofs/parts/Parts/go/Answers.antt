@@ -1,13 +1,10 @@
 use Rattle.std.proofs.Common.{ℕ, ◌<◌, ◌≡◌, ◌≤◌, ◌∙◌, ◌⊎◌, Bool, List, Some, refl, Result, Ok, Err, OnErr, true, false, [], ◌∷◌, length, slice_index_or, ap, sym, subst, inl, inr, arith}
 use Rattle.std.proofs.lemmas.List.{append-nil}
 use Rattle.std.proofs.lemmas.Result.{err_from_is_err_and}
-use Rattle.ws_isa.specs.declared.instr.Dest.{Dest}
 use Rattle.ws_isa.specs.declared.instr.Op.{Op}
 use Rattle.ws_isa.specs.Image.{Image, Token, instr_at, is_past_op, sends, tokens_to, array_of_op, array_at}
-use Rattle.ws_isa.specs.Formed.{Formed}
 use Rattle.core_run.specs.Places.{destinations, image_of}
 use Rattle.core_run.specs.Chains.{chain_of}
-use Rattle.core_run.proofs.Few.{few}
 use Rattle.df_job.specs.Rights.{tokens_of}
 use Rattle.store_buf.specs.declared.fault.Silent.{Silent}
 use Rattle.store_buf.specs.declared.fault.Silent.TheVariants.{Failed, NoMemory}
@@ -29,6 +26,7 @@ use Rattle.part_store.proofs.Sending as N
 use Rattle.part_store.proofs.Turning as U
 use Rattle.part_store.proofs.parts.Parts.go.Goals as goal
 use Rattle.part_store.proofs.parts.Parts.go.Goals.{then-has-via-then-has, then-has-via-else-has+then-holds}
+use Rattle.core_run.proofs.Few.{few_sent}
 
 past_so : (image : Image) (op : Op) (k m : Kept) (b : Bool) → is_past_op image.arrays op (k.first ∷ []) ≡ b → op ≡ (instr_at image k.instr).op → k ≡ m → is_past_at image m ≡ b
 past_so image op k m b e f q = subst (λ (x : Kept). is_past_op image.arrays (instr_at image x.instr).op (x.first ∷ []) ≡ b) q (subst (λ (o : Op). is_past_op image.arrays o (k.first ∷ []) ≡ b) f e)
@@ -104,9 +102,6 @@ returns-in_err-word-clause-silent g c = let o = c.args.self.now.order in
     let new : Parts g.row.P.Denot = record { order = o; bare = c.args.self.now.bare; queues = c.args.self.now.queues; outer = c.run.new.self; fault = c.args.self.now.fault; failed = c.args.self.now.failed; starved = c.args.self.now.starved } in
     let e = err_from_is_err_and c.from_residual.result c.from_residual.ensures.1 in
     rw (e.1, e.2) (silent_so (image_of c.args.program.now) c.args.self.now new c.op-op.result c.request-kept.result _ c.requires.ok.order (slice_index_or o.near.items c.args.at (length o.kept.items)) c.requires.goes.may.place c.requires.goes.may.ready c.request-kept.ensures c.op-op.ensures refl c.in_err-word.ensures.silent)
-
-few_sent : (image : Image) → Formed image → (ds : List Dest) (i : ℕ) → ds ≡ destinations image i 0 → length ds ≤ 8
-few_sent image formed ds i e = subst (λ xs. length xs ≤ 8) (sym e) (few image formed i 0)
 
 pub tell-requires : goal.tell-requires
 tell-requires g c = let f = few_sent (image_of c.args.program.now) c.requires.formed c.destinations.result.now c.request-kept.result.instr c.destinations.ensures in

@@ -1,12 +1,9 @@
-use Rattle.std.proofs.Common.{ℕ, ◌<◌, List, Some, refl, cond, ◌≡◌, ◌+◌, vec_len, vec_capacity, Result, Ok, Err, OnErr, ◌≤◌, ◌∙◌, true, false, [], ◌∷◌, length, slice_index_or, ap, sym, subst, inl, inr, arith}
+use Rattle.std.proofs.Common.{ℕ, ◌<◌, Some, refl, cond, ◌≡◌, ◌+◌, vec_len, vec_capacity, Result, Ok, Err, OnErr, ◌≤◌, ◌∙◌, true, false, [], ◌∷◌, length, slice_index_or, ap, sym, subst, inl, inr, arith}
 use Rattle.std.proofs.lemmas.List.{append-nil}
 use Rattle.std.proofs.lemmas.Result.{err_from_is_err_and}
-use Rattle.ws_isa.specs.declared.instr.Dest.{Dest}
 use Rattle.ws_isa.specs.declared.instr.Op.{Op}
 use Rattle.ws_isa.specs.Image.{Image, instr_at, is_past_op, ports, sends, answer, tokens_to, array_of_op}
-use Rattle.ws_isa.specs.Formed.{Formed}
 use Rattle.core_run.specs.Places.{destinations}
-use Rattle.core_run.proofs.Few.{few}
 use Rattle.core_law.specs.Effect.{effect_after}
 use Rattle.df_job.specs.Rights.{operands_of, tokens_of}
 use Rattle.core_run.specs.Chains.{chain_of}
@@ -27,6 +24,7 @@ use Rattle.store_buf.proofs.Counted as C
 use Rattle.store_buf.proofs.Silence.{port_waits}
 use Rattle.store_buf.proofs.Stepping as S
 use Rattle.store_buf.proofs.store.Store.issue.Goals as goal
+use Rattle.core_run.proofs.Few.{few_sent}
 
 pub run-requires-clause-port : goal.run-requires-clause-port
 run-requires-clause-port g c = subst PortIn (sym c.op-op.ensures) (port_in (image_of c.args.program.now) c.request-kept.result.instr c.requires.formed)
@@ -117,9 +115,6 @@ returns-clause-leads g c = (
         stands = subst (λ f. Holds image world began c.issue.new.self f (holding c.run.new.self) (effect_after image (near_at o c.args.at).instr xs m)) e r.1;
       },
 )
-
-few_sent : (image : Image) → Formed image → (ds : List Dest) (i : ℕ) → ds ≡ destinations image i 0 → length ds ≤ 8
-few_sent image formed ds i e = subst (λ xs. length xs ≤ 8) (sym e) (few image formed i 0)
 
 pub tell-requires : goal.tell-requires
 tell-requires g c = let f = few_sent (image_of c.args.program.now) c.requires.formed c.destinations.result.now c.request-kept.result.instr c.destinations.ensures in

@@ -1,7 +1,6 @@
 use Rattle.std.proofs.Common.{ℕ, ◌≤◌, ◌∙◌, ap, map, length, drop, get_or, refl, arith}
 use Rattle.cfg_core.specs.Graph.{spots}
 use Rattle.cfg_core.specs.View as view
-use Rattle.cfg_core.proofs.Lists.{drop_all, slid}
 use Rattle.live_vars.specs.Marks.{has}
 use Rattle.wave_cut.specs.Cut.{is_first}
 use Rattle.wave_gen.specs.Plans.{Plan}
@@ -9,6 +8,7 @@ use Rattle.wave_gen.specs.Listing.{plan_of, plans_of, turned, place_of, width_of
 use Rattle.wave_gen.specs.View as shown
 use Rattle.wave_gen.proofs.Buckets.{in_at, listed_below}
 use Rattle.wave_gen.proofs.plans.Outline.plans.Goals as goal
+use Rattle.ws_words.proofs.Lists.{drop_all, slid}
 
 pub plan-requires-clause-there : goal.plan-requires-clause-there
 plan-requires-clause-there c =
