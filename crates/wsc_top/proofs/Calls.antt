@@ -1,6 +1,6 @@
 -- The words of a call, and the answer to them.
-use Rattle.std.specs.Prelude.{◌≡◌, ℕ, ◌+◌, ◌≤◌, List, [], length, Option, Some, None, IfNone, Result, Ok, Err, IfOk, refl}
-use Rattle.std.proofs.Common.{sym, ap, subst, arith, length-append, inl, inr}
+use Rattle.std.specs.Prelude.{◌≡◌, ℕ, ◌+◌, ◌≤◌, List, [], length, Option, Some, None, IfNone, Result, Ok, Err, IfErr, IsErrAnd, IfSome, refl}
+use Rattle.std.proofs.Common.{sym, ap, ◌∙◌, subst, arith, length-append, append-nil, inl, inr}
 use Rattle.ws_words.specs.Outside.{World}
 use Rattle.ws_io.specs.Streams.{Rose, Takes, TakesAll}
 use Rattle.src_ast.specs.Syntax.{Part}
@@ -10,10 +10,14 @@ use Rattle.store_buf.specs.Outdoors.{RoseAt, world_with}
 use Rattle.wsc_top.specs.declared.task.JobTask.{JobTask}
 use Rattle.wsc_top.specs.declared.task.Task.{Task}
 use Rattle.wsc_top.specs.declared.task.Task.TheVariants.{Job, Assembly, Generate, Bench, Multi}
+use Rattle.wsc_top.specs.declared.task.JobTask.TheVariants.{Compile}
 use Rattle.wsc_top.specs.declared.task.AssemblyTask.{AssemblyTask}
+use Rattle.wsc_top.specs.declared.task.AssemblyTask.TheVariants.{Replay}
+use Rattle.trace_check.specs.declared.events.Lined.{Lined}
 use Rattle.wsc_top.specs.declared.task.RunOptions.{RunOptions}
 use Rattle.wsc_top.specs.declared.task.BenchOptions.{BenchOptions}
 use Rattle.wsc_top.specs.declared.step.Step.{Step}
+use Rattle.wsc_top.specs.declared.step.Starved.{Starved}
 use Rattle.wsc_top.specs.declared.step.Step.TheVariants.{Ready, Run as Due, Threads as Many}
 use Rattle.wsc_top.specs.declared.assembly.AsmRefusal.{AsmRefusal}
 use Rattle.wsc_top.specs.declared.assembly.AssemblyFault.{AssemblyFault}
@@ -33,19 +37,18 @@ use Rattle.core_run.specs.declared.drive.Finish.{Finish}
 use Rattle.core_run.specs.declared.drive.Finish.TheVariants as finish
 use Rattle.wsc_top.specs.Clocked.{clocked_status}
 use Rattle.wsc_top.specs.Traced as traces
-use Rattle.wsc_top.specs.Traced.{IsReplayed, missing, faulty, illegal, made, trace_status}
+use Rattle.wsc_top.specs.Traced.{IsReplayed, HasTrace, missing, faulty, illegal, made, trace_status}
 use Rattle.wsc_top.specs.Answers as answers
-use Rattle.wsc_top.specs.Answers.{SomeRose, OrNoMemory, IsCompiled, Yields, ran, formatted, compiled, ended, faulted, going, Answered, refused, done, IsReader, limit_of, assembly_text, AssemblyYields, checked, listed, executed, traced, replayed, gridded, AssemblyAnswered, Answers, usage, generated, unread, long, read, assembled, WereRead, IsToldOther, IsToldNoAssembly, Benched, benched, IsDue}
+use Rattle.wsc_top.specs.Answers.{SomeRose, OrNoMemory, IsCompiled, Yields, ran, formatted, compiled, ended, faulted, going, Answered, refused, done, IsReader, limit_of, assembly_text, AssemblyYields, checked, listed, executed, traced, replayed, gridded, AssemblyAnswered, Answers, usage, generated, unread, long, read, assembled, RunsClosed, written, closed, RunsOut, unbegun, begun, WereRead, IsToldOther, IsToldNoAssembly, Benched, benched, IsDue}
 use Rattle.wsc_top.specs.Jobs.{RefusesJobs}
 use Rattle.wsc_top.specs.Threads.{Replies, alone, together, AreThreads}
 use Rattle.wsc_top.specs.Threads as threads
-use Rattle.wsc_top.specs.Steps.{AssemblyYieldStep, JobStep, JobsStep, AssemblyStep, StepSo}
+use Rattle.wsc_top.specs.Steps.{AssemblyYieldStep, IsBegun, JobStep, JobBegun, JobsStep, AssemblyStep, AssemblyBegun, StepSo}
 use Rattle.wsc_top.proofs.Tasks.{OneLine, same_task_by}
 
 -- a step that is known
-pub known_step : {E : Type 0} (P : Step → Type 0) (s : Step) (result : Result Step E) → P s → IfOk result (λ step. step ≡ s) → IfOk result P
-known_step P s (Ok step) p e = subst P (sym e) p
-known_step P s (Err x) p e = tt
+pub known_step : (words : List (List ℕ)) (left after : Option (List ℕ)) (m n : ℕ) (step s : Step) → step ≡ s → StepSo words left after m n s → StepSo words left after m n step
+known_step words left after m n step s e h = subst (StepSo words left after m n) (sym e) h
 
 module _ (words : List (List ℕ)) (left after : Option (List ℕ)) (m n : ℕ) where
   -- where reading failed
@@ -318,6 +321,11 @@ pub takes_none : (left : Option (List ℕ)) → Takes left [] left
 takes_none None = refl
 takes_none (Some bytes) = (bytes, refl, refl)
 
+-- a whole text is taken
+taken_all : (left : Option (List ℕ)) (text : List ℕ) (after : Option (List ℕ)) → TakesAll left text after → Takes left text after
+taken_all None text after t = t
+taken_all (Some bytes) text after t = ([], t.0 ∙ sym (append-nil text), t.1)
+
 -- nothing was read
 pub none_read : (words : List (List ℕ)) (left : Option (List ℕ))
     → (bytes : List ℕ) × WereRead words bytes × Takes left bytes left
@@ -328,6 +336,55 @@ pub some_read : (words : List (List ℕ)) (left after : Option (List ℕ)) (t : 
     → (bytes : List ℕ) × (length bytes ≤ limit_of t + 1) × Takes left bytes after
     → (bytes : List ℕ) × WereRead words bytes × Takes left bytes after
 some_read words left after t r is b = (b.0, inr (t, r, is, b.1), b.2)
+
+-- what is answered where memory ran out in a call: the same, or nothing that was begun
+pub err_same : {T : Type 0} (Q : Starved → Type 0) (r : Result T Starved) (s : Starved) → IsErrAnd r (λ t. t ≡ s) → Q s → IfErr r Q
+err_same Q (Ok x) s h q = tt
+err_same Q (Err t) s h q = subst Q (sym h) q
+
+pub err_none : {T : Type 0} (Q : Starved → Type 0) (r : Result T Starved) → IsErrAnd r (λ (t : Starved). t.image ≡ None) → ((t : Starved) → t.image ≡ None → Q t) → IfErr r Q
+err_none Q (Ok x) h q = tt
+err_none Q (Err t) h q = q t h
+
+-- An image that was begun when memory ran out, at each stage.
+
+pub compile_begun : (task : JobTask) (parts : List Part) (found : Option Image) → task ≡ Compile → IfSome found (IsCompiled parts) → IfSome found (IsBegun task parts)
+compile_begun task parts None e h = tt
+compile_begun task parts (Some image) e h = (e, h)
+
+pub job_begun : (task : JobTask) (text : List ℕ) (parts : List Part) (input : List ℕ) (found : Option Image) → IsJob text parts input → IfSome found (IsBegun task parts) → IfSome found (JobBegun task text)
+job_begun task text parts input None j h = tt
+job_begun task text parts input (Some image) j h = (parts, input, j, h)
+
+pub replay_begun : (task : AssemblyTask) (text : List ℕ) (image : Image) (found : Option Image) → task ≡ Replay → IfSome found (λ (i : Image). (i ≡ image) × (trace : List Lined) × HasTrace text trace)
+    → IfSome found (λ (i : Image). (i ≡ image) × RunsClosed task text)
+replay_begun task text image None e h = tt
+replay_begun task text image (Some found) e h = (h.0, subst (λ (t : AssemblyTask). RunsClosed t text) (sym e) (h.1, h.2))
+
+pub assembly_begun : (task : AssemblyTask) (text : List ℕ) (image : Image) (input : List ℕ) (found : Option Image) → IsAssembly (assembly_text task text) image input
+    → IfSome found (λ (i : Image). (i ≡ image) × RunsClosed task text) → IfSome found (AssemblyBegun task text)
+assembly_begun task text image input None a h = tt
+assembly_begun task text image input (Some found) a h = (input, subst (λ (i : Image). IsAssembly (assembly_text task text) i input) (sym h.0) a, h.1)
+
+-- What is handed back where memory ran out.
+module _ (words : List (List ℕ)) (left after : Option (List ℕ)) where
+  -- where no image was begun
+  pub none_out : (image : Option Image) → image ≡ None → (bytes : List ℕ) × WereRead words bytes × Takes left bytes after → RunsOut words left after image
+  none_out image e b = subst (λ (i : Option Image). RunsOut words left after i) (sym e) (unbegun b.0 b.1 b.2)
+
+  -- where the whole text of a job was read
+  pub job_out : (text same : List ℕ) (c : JobTask) (image : Option Image) → IsLine words (Job c) → length text ≤ job_limit → TakesAll left text after → same ≡ text
+      → IfSome image (JobBegun c same) → RunsOut words left after image
+  job_out text same c None r l t e b = unbegun text (inr (Job c, r, tt, omega (arith, l))) (taken_all left text after t)
+  job_out text same c (Some image) r l t e b =
+      begun (written text b.0 b.1 (subst (λ (d : JobTask). IsLine words (Job d)) b.3.0 r) l t (subst (λ x. IsJob x b.0 b.1) e b.2) b.3.1)
+
+  -- and where that of an assembly was
+  pub assembly_out : (text same : List ℕ) (c : AssemblyTask) (image : Option Image) → IsLine words (Assembly c) → length text ≤ assembly_limit → TakesAll left text after → same ≡ text
+      → IfSome image (AssemblyBegun c same) → RunsOut words left after image
+  assembly_out text same c None r l t e b = unbegun text (inr (Assembly c, r, tt, omega (arith, l))) (taken_all left text after t)
+  assembly_out text same c (Some image) r l t e b =
+      begun (closed c text b.0 r l t (subst (λ x. IsAssembly (assembly_text c x) image b.0) e b.1) (subst (RunsClosed c) e b.2))
 
 -- no port failed where no count of theirs rose
 pub unfailed : (handed back : List (Option Told)) (status wanted : Status) → ((port : ℕ) → status ≡ PortFault port → RoseAt port handed back) → (SomeRose handed back → ⊥)

@@ -5,6 +5,7 @@ pub mod TextAnswers
 pub mod Tasks
 pub mod Assemblies
 pub mod Calls
+pub mod CallEnds
 pub mod PlainTexts
 pub mod WalkActs
 pub mod ShownActs

@@ -105,14 +105,22 @@ module _ (text : List ℕ) (image : Image) (input : List ℕ) (handed : List (Op
   listed_yields task out e f =
       subst (λ t. AssemblyYields t text image input handed Done out None handed) (sym e) (subst (λ o. AssemblyYields Listing text image input handed Done o None handed) (sym f) listed)
 
-  pub traced_yields : (task : AssemblyTask) (budget : ℕ) (status : Status) (out : List ℕ) → task ≡ Trace budget → IsTraced budget image input status out
+  -- here and below it is told by a text with the same bytes
+  told_by : (task : AssemblyTask) (status : Status) (out made : List ℕ) (again : Option Image) → out ≡ made → AssemblyYields task text image input handed status made again handed
+      → AssemblyYields task text image input handed status out again handed
+  told_by task status out made again e y = subst (λ o. AssemblyYields task text image input handed status o again handed) (sym e) y
+
+  pub traced_yields : (task : AssemblyTask) (budget : ℕ) (status : Status) (out made : List ℕ) → task ≡ Trace budget → out ≡ made → IsTraced budget image input status made
       → EndsRun image (world_of input) budget status → AssemblyYields task text image input handed status out (Some image) handed
-  traced_yields task budget status out e h ends = subst (λ t. AssemblyYields t text image input handed status out (Some image) handed) (sym e) (traced h ends)
+  traced_yields task budget status out made e same h ends =
+      told_by task status out made (Some image) same (subst (λ t. AssemblyYields t text image input handed status made (Some image) handed) (sym e) (traced h ends))
 
-  pub replayed_yields : (task : AssemblyTask) (status : Status) (out : List ℕ) (again : Option Image) → task ≡ Replay → IsReplayed text image input status out again
+  pub replayed_yields : (task : AssemblyTask) (status : Status) (out made : List ℕ) (again : Option Image) → task ≡ Replay → out ≡ made → IsReplayed text image input status made again
       → EndsReplay text image input status → AssemblyYields task text image input handed status out again handed
-  replayed_yields task status out again e h ends = subst (λ t. AssemblyYields t text image input handed status out again handed) (sym e) (replayed h ends)
+  replayed_yields task status out made again e same h ends =
+      told_by task status out made again same (subst (λ t. AssemblyYields t text image input handed status made again handed) (sym e) (replayed h ends))
 
-  pub gridded_yields : (task : AssemblyTask) (options : GridOptions) (status : Status) (out : List ℕ) → task ≡ Grid options → IsClocked options image input status out
+  pub gridded_yields : (task : AssemblyTask) (options : GridOptions) (status : Status) (out made : List ℕ) → task ≡ Grid options → out ≡ made → IsClocked options image input status made
       → EndsRun image (world_of input) options.budget status → AssemblyYields task text image input handed status out (Some image) handed
-  gridded_yields task options status out e h ends = subst (λ t. AssemblyYields t text image input handed status out (Some image) handed) (sym e) (gridded h ends)
+  gridded_yields task options status out made e same h ends =
+      told_by task status out made (Some image) same (subst (λ t. AssemblyYields t text image input handed status made (Some image) handed) (sym e) (gridded h ends))

@@ -301,9 +301,15 @@ module _ (words : List (List ℕ)) (left after : Option (List ℕ)) (m n : ℕ) 
       together options due.text due.line due.short due.takes
       (threads.MultiAnswered.done xs due.jobs (threads_due options known whole 1 xs handed statuses out back due.jobs.each due.compiled told acts))
 
--- where no run had begun
-pub none_fall : (words : List (List ℕ)) (left after : Option (List ℕ)) (handed : List (Option Told)) (seen : List Image) → seen ≡ [] → Starves words left after handed None handed → Falls words left after handed None seen handed
-none_fall words left after handed seen e h = subst (λ (is : List Image). Falls words left after handed None is handed) (sym e) (threads.Falls.alone h)
+-- there are some threads
+pub some_inputs : (text : List ℕ) (xs : List Thread) (inputs : List (List ℕ)) → AreThreads text xs → inputs_of xs ≡ inputs → 1 ≤ length inputs
+some_inputs text [] inputs a e = absurd (no_pieces text _ a.split refl)
+some_inputs text (x ∷ xs) inputs a e = omega (arith, ap length e)
+
+-- where no run with ports had begun
+pub none_fall : (words : List (List ℕ)) (left after : Option (List ℕ)) (handed : List (Option Told)) (image : Option Image) (seen : List Image) → seen ≡ [] → Starves words left after handed image handed
+    → Falls words left after handed image seen handed
+none_fall words left after handed image seen e h = subst (λ (is : List Image). Falls words left after handed image is handed) (sym e) (threads.Falls.alone h)
 
 -- what is handed back of the run of threads that are due
 module _ {E : Type 0} (words : List (List ℕ)) (left after : Option (List ℕ)) (m n : ℕ) (handed back : List (Option Told)) (options : RunOptions) (images : List Image) (inputs : List (List ℕ))

@@ -43,7 +43,8 @@ use Rattle.wsc_top.specs.Job.{job_limit, IsJob, Refuses, world_of}
 use Rattle.wsc_top.specs.Texts.{ended_text, faulted_text, going_text, turns_line, names_of, array_name, usage_text, unread_text, long_text, refusal_text, sound_text, asm_refusal_text}
 use Rattle.wsc_top.specs.Executions.{Executes, PortsAre, HasBegun, EndsRun, IsFailed, OrFailed, end_report, fault_report, spent_report, failed_report, tells_firings}
 use Rattle.wsc_top.specs.Generated.{IsGeneratedJob}
-use Rattle.wsc_top.specs.Traced.{IsTraced, IsReplayed, EndsReplay}
+use Rattle.trace_check.specs.declared.events.Lined.{Lined}
+use Rattle.wsc_top.specs.Traced.{IsTraced, IsReplayed, HasTrace, EndsReplay}
 use Rattle.wsc_top.specs.Clocked.{IsClocked}
 
 -- an image of a program as the compiler gives it: a machine runs it, it does what the program does
@@ -379,12 +380,39 @@ abbrev pub WereRead : List (List ℕ) → List ℕ → Type 0
 WereRead words bytes = (bytes ≡ []) ⊎ ((task : Task)
     × IsLine words task × IsReader task × (length bytes ≤ limit_of task + 1))
 
--- What is handed back where memory ran out. Either no run had begun, and the ports are as they were
--- handed in; or the image is the one that is due, and the ports are as its run left them.
+-- a task that runs the image of this text without ports: `trace`, `grid`, and `replay` where the text
+-- has a trace
+abbrev pub RunsClosed : AssemblyTask → List ℕ → Type 0
+RunsClosed (Trace budget) text = Unit {0}
+RunsClosed Replay text = (trace : List Lined) × HasTrace text trace
+RunsClosed (Grid options) text = Unit {0}
+RunsClosed _ text = ⊥
+
+-- The words, and what was read, ask for this image to be written, or to be run without ports.
+pub data IsWanted (words : List (List ℕ)) (left after : Option (List ℕ)) : Image → Type 0 where
+  -- `compile` writes an image of the program of a job
+  written : {image : Image} (text : List ℕ) (parts : List Part) (input : List ℕ)
+      → IsLine words (Job Compile) → length text ≤ job_limit → TakesAll left text after
+      → IsJob text parts input → IsCompiled parts image → IsWanted words left after image
+  -- that of an assembly is run
+  closed : {image : Image} (task : AssemblyTask) (text input : List ℕ)
+      → IsLine words (Assembly task) → length text ≤ assembly_limit → TakesAll left text after
+      → IsAssembly (assembly_text task text) image input → RunsClosed task text
+      → IsWanted words left after image
+
+-- The image that is handed back where memory ran out and no run with ports had begun: none, or one that
+-- was begun to be written, or to be run without ports.
+pub data RunsOut (words : List (List ℕ)) (left after : Option (List ℕ)) : Option Image → Type 0 where
+  unbegun : (bytes : List ℕ) → WereRead words bytes → Takes left bytes after
+      → RunsOut words left after None
+  begun : {image : Image} → IsWanted words left after image → RunsOut words left after (Some image)
+
+-- What is handed back where memory ran out. Either no run with ports had begun, and the ports are as they
+-- were handed in; or the image is the one that is due, and the ports are as its run left them.
 pub data Starves (words : List (List ℕ)) (left after : Option (List ℕ)) (handed : List (Option Told))
     : Option Image → List (Option Told) → Type 0 where
-  before : (bytes : List ℕ) → WereRead words bytes → Takes left bytes after
-      → Starves words left after handed None handed
+  before : {image : Option Image} → RunsOut words left after image
+      → Starves words left after handed image handed
   within : {options : RunOptions} {image : Image} {input : List ℕ} {back : List (Option Told)}
       → IsDue words left after options image input
       → HasBegun image (world_with input handed) handed back

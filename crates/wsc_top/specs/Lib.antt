@@ -4,6 +4,7 @@ pub mod Sections
 pub mod Job
 pub mod Assembly
 pub mod Texts
+pub mod Phrases
 pub mod Executions
 pub mod Finished
 pub mod Generated
@@ -14,3 +15,4 @@ pub mod Running
 pub mod Traced
 pub mod Clocked
 pub mod Steps
+pub mod Calls

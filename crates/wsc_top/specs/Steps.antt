@@ -9,12 +9,12 @@ use Rattle.wsc_top.specs.declared.task.RunOptions.{RunOptions}
 use Rattle.wsc_top.specs.declared.step.Step.{Step}
 use Rattle.wsc_top.specs.declared.step.Step.TheVariants.{Ready, Run as Due, Threads as Many}
 use Rattle.wsc_top.specs.declared.task.JobTask.{JobTask}
-use Rattle.wsc_top.specs.declared.task.JobTask.TheVariants.{Run}
+use Rattle.wsc_top.specs.declared.task.JobTask.TheVariants.{Run, Compile}
 use Rattle.wsc_top.specs.declared.task.AssemblyTask.{AssemblyTask}
 use Rattle.wsc_top.specs.declared.task.AssemblyTask.TheVariants.{Exec}
 use Rattle.wsc_top.specs.Job.{IsJob}
 use Rattle.wsc_top.specs.Assembly.{IsAssembly}
-use Rattle.wsc_top.specs.Answers.{IsCompiled, Yields, Answered, AssemblyYields, AssemblyAnswered, IsDue}
+use Rattle.wsc_top.specs.Answers.{IsCompiled, Yields, Answered, AssemblyYields, AssemblyAnswered, IsDue, RunsClosed, assembly_text}
 use Rattle.wsc_top.specs.Jobs.{RefusesJobs, jobs_refusal_text}
 use Rattle.wsc_top.specs.Threads.{Replies, Thread, AreDue, images_of, inputs_of}
 use Rattle.wsc_top.specs.Running.{AreRead}
@@ -26,6 +26,20 @@ YieldStep task parts input (Ready status out image) =
 YieldStep task parts input (Due options image words) =
     (task ≡ Run options) × (words ≡ input) × IsCompiled parts image
 YieldStep task parts input (Many options jobs) = ⊥
+
+-- where memory ran out: a task to a program wants this image written
+abbrev pub IsBegun : JobTask → List Part → Image → Type 0
+IsBegun task parts image = (task ≡ Compile) × IsCompiled parts image
+
+-- a task to the text of a job does
+abbrev pub JobBegun : JobTask → List ℕ → Image → Type 0
+JobBegun task text image = (parts : List Part) × (input : List ℕ) × IsJob text parts input
+    × IsBegun task parts image
+
+-- a task to the text of an assembly wants this image run without ports
+abbrev pub AssemblyBegun : AssemblyTask → List ℕ → Image → Type 0
+AssemblyBegun task text image = (input : List ℕ) × IsAssembly (assembly_text task text) image input
+    × RunsClosed task text
 
 -- of a task to the text of a job
 abbrev pub JobStep : JobTask → List ℕ → Step → Type 0

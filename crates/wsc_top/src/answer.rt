@@ -1,16 +1,20 @@
 //! The answer, before it is written.
 
-ghost use Rattle.std.specs.Prelude.{◌≡◌, ◌≤◌, ◌+◌, ℕ, List, None, length, map, IfOk, OnErr, string_bytes};
+ghost use Rattle.std.specs.Prelude.{◌≡◌, ◌≤◌, ◌+◌, ℕ, List, None, Ok, length, map, IsOk, IfOk, IfErr, IfSome, OnErr, string_bytes};
 ghost use Rattle.ws_io.specs.Streams.{Takes};
 ghost use Rattle.port_set.specs.Slots.{AllOpen, contents};
+ghost use Rattle.wsc_words.specs.Lines.{HasCommand};
+ghost use Rattle.wsc_top.specs.declared.status.Status.TheVariants.{Usage};
 ghost use Rattle.wsc_top.specs.declared.task.Task.{Task};
 ghost use Rattle.wsc_top.specs.Tasks.{IsLine};
 ghost use Rattle.wsc_top.specs.Job.{job_limit};
 ghost use Rattle.wsc_top.specs.Assembly.{assembly_limit};
 ghost use Rattle.wsc_top.specs.Clocked.{TaskInRange};
 ghost use Rattle.wsc_top.specs.declared.step.Step.TheVariants.{Ready};
-ghost use Rattle.wsc_top.specs.Steps.{JobStep, JobsStep, AssemblyStep, StepSo};
-ghost use Rattle.wsc_top.specs.Answers.{TellWords, WereRead, assembly_text};
+ghost use Rattle.wsc_top.specs.Phrases.{phrase_text};
+ghost use Rattle.wsc_top.specs.Texts.{usage_text};
+ghost use Rattle.wsc_top.specs.Steps.{JobStep, JobBegun, JobsStep, AssemblyStep, AssemblyBegun, StepSo};
+ghost use Rattle.wsc_top.specs.Answers.{TellWords, RunsOut, assembly_text};
 ghost use Rattle.wsc_top.specs.Threads.{Replies, Falls};
 
 use crate::assembly::{self, AssemblyFault};
@@ -22,8 +26,9 @@ use crate::multi::all_executed;
 use crate::multi_laws::what_threads_do_is_answered;
 use crate::sections::split_trace;
 use crate::status::Status;
-use crate::step::Step;
+use crate::step::{Starved, Step};
 use crate::task::{AssemblyTask, JobTask, RunOptions, Task, read_task};
+use crate::text::{Phrase, Text};
 use crate::yields::{assembly_yielded, yielded};
 use crate::{job, texts};
 use fire_crew::Gate;
@@ -34,7 +39,7 @@ use std::sync::Wait;
 use std::thread::Threads;
 use work_gen::workload;
 use ws_io::{ReadEnd, Source, read_all};
-use ws_words::{Bytes, NoMemory};
+use ws_words::NoMemory;
 
 /// The most bytes of a job.
 const JOB_LIMIT: usize = 1_048_576;
@@ -42,42 +47,43 @@ const JOB_LIMIT: usize = 1_048_576;
 /// The most bytes of an assembly with its sections.
 const ASSEMBLY_LIMIT: usize = 134_217_728;
 
-// An answer of this text and no image.
-fn plain(alloc: Global, status: Status, text: &[u8]) -> Result<Step, NoMemory>
-    ensures { IfOk result (λ step. step ≡ Ready status text.now None) }
+// An answer of this text and no image, which takes no memory.
+fn plain(status: Status, phrase: Phrase) -> Step
+    ensures { result ≡ Ready status (phrase_text phrase) None }
 {
-    Ok(Step::Ready(status, Bytes::from_slice(alloc, text)?, None))
+    Step::Ready(status, Text::fixed(phrase), None)
 }
 
 // What is to be done for a task to the text of a job.
-fn to_text(alloc: Global, task: JobTask, text: &[u8]) -> Result<Step, NoMemory>
+fn to_text(alloc: Global, task: JobTask, text: &[u8]) -> Result<Step, Starved>
     requires { length text.now ≤ job_limit }
-    ensures { IfOk result (JobStep task text.now) }
+    ensures ok { IfOk result (JobStep task text.now) }
+    ensures begun { IfErr result (λ starved. IfSome starved.image (JobBegun task text.now)) }
 {
     read_is_written();
     match job::read(alloc, text) {
         Ok((accepted, input)) => Ok(yielded(alloc, task, &accepted, input)?),
         Err(TextFault::Refused(refusal)) => {
             let text = texts::refused(alloc, refusal)?;
-            Ok(Step::Ready(Status::Refused, text, None))
+            Ok(Step::Ready(Status::Refused, Text::built(text), None))
         }
-        Err(TextFault::NoMemory) => Err(NoMemory),
+        Err(TextFault::NoMemory) => Err(Starved { image: None }),
     }
 }
 
 // What is to be done for what the source gives, of which a job is to be read.
-fn of_job<S: Source>(alloc: Global, task: JobTask, source: &mut S) -> Result<Step, NoMemory>
+fn of_job<S: Source>(alloc: Global, task: JobTask, source: &mut S) -> Result<Step, Starved>
     ensures ok { IfOk result (λ step. (words : List (List ℕ)) → IsLine words (Task.Job task)
         → StepSo words (S.left source.old) (S.left source.new)
         (S.faults source.old) (S.faults source.new) step) }
-    ensures memory { OnErr result ((bytes : List ℕ) × (length bytes ≤ job_limit + 1)
-        × Takes (S.left source.old) bytes (S.left source.new)) }
+    ensures memory { IfErr result (λ starved. (words : List (List ℕ)) → IsLine words (Task.Job task)
+        → RunsOut words (S.left source.old) (S.left source.new) starved.image) }
 {
     match read_all(alloc, source, JOB_LIMIT) {
         Ok(text) => Ok(to_text(alloc, task, text.as_slice())?),
-        Err(ReadEnd::Failed) => plain(alloc, Status::ReadFault, texts::FAULT),
-        Err(ReadEnd::TooLong) => plain(alloc, Status::Refused, texts::LONG),
-        Err(ReadEnd::NoMemory) => Err(NoMemory),
+        Err(ReadEnd::Failed) => Ok(plain(Status::ReadFault, Phrase::Unread)),
+        Err(ReadEnd::TooLong) => Ok(plain(Status::Refused, Phrase::Long)),
+        Err(ReadEnd::NoMemory) => Err(Starved { image: None }),
     }
 }
 
@@ -96,18 +102,19 @@ fn assembly_text(task: AssemblyTask, text: &[u8]) -> &[u8]
 }
 
 // What is to be done for a task to the text of an assembly.
-fn to_assembly(alloc: Global, task: AssemblyTask, text: &[u8]) -> Result<Step, NoMemory>
+fn to_assembly(alloc: Global, task: AssemblyTask, text: &[u8]) -> Result<Step, Starved>
     requires text { length text.now ≤ assembly_limit }
     requires task { TaskInRange task }
-    ensures { IfOk result (AssemblyStep task text.now) }
+    ensures ok { IfOk result (AssemblyStep task text.now) }
+    ensures begun { IfErr result (λ starved. IfSome starved.image (AssemblyBegun task text.now)) }
 {
     match assembly::read(alloc, assembly_text(task, text)) {
         Ok((image, input)) => Ok(assembly_yielded(alloc, task, text, image, input)?),
         Err(AssemblyFault::Refused(why)) => {
             let text = texts::asm_refused(alloc, why)?;
-            Ok(Step::Ready(Status::Refused, text, None))
+            Ok(Step::Ready(Status::Refused, Text::built(text), None))
         }
-        Err(AssemblyFault::NoMemory) => Err(NoMemory),
+        Err(AssemblyFault::NoMemory) => Err(Starved { image: None }),
     }
 }
 
@@ -116,19 +123,20 @@ fn of_assembly<S: Source>(
     alloc: Global,
     task: AssemblyTask,
     source: &mut S,
-) -> Result<Step, NoMemory>
+) -> Result<Step, Starved>
     requires { TaskInRange task }
     ensures ok { IfOk result (λ step. (words : List (List ℕ)) → IsLine words (Task.Assembly task)
         → StepSo words (S.left source.old) (S.left source.new)
         (S.faults source.old) (S.faults source.new) step) }
-    ensures memory { OnErr result ((bytes : List ℕ) × (length bytes ≤ assembly_limit + 1)
-        × Takes (S.left source.old) bytes (S.left source.new)) }
+    ensures memory { IfErr result (λ starved. (words : List (List ℕ))
+        → IsLine words (Task.Assembly task)
+        → RunsOut words (S.left source.old) (S.left source.new) starved.image) }
 {
     match read_all(alloc, source, ASSEMBLY_LIMIT) {
         Ok(text) => Ok(to_assembly(alloc, task, text.as_slice())?),
-        Err(ReadEnd::Failed) => plain(alloc, Status::ReadFault, texts::FAULT),
-        Err(ReadEnd::TooLong) => plain(alloc, Status::Refused, texts::LONG),
-        Err(ReadEnd::NoMemory) => Err(NoMemory),
+        Err(ReadEnd::Failed) => Ok(plain(Status::ReadFault, Phrase::Unread)),
+        Err(ReadEnd::TooLong) => Ok(plain(Status::Refused, Phrase::Long)),
+        Err(ReadEnd::NoMemory) => Err(Starved { image: None }),
     }
 }
 
@@ -141,7 +149,7 @@ fn to_jobs(alloc: Global, options: RunOptions, text: &[u8]) -> Result<Step, NoMe
         Ok(read) => Ok(Step::Threads(options, read)),
         Err(JobsFault::Refused(refusal)) => {
             let text = texts::jobs_refused(alloc, refusal)?;
-            Ok(Step::Ready(Status::Refused, text, None))
+            Ok(Step::Ready(Status::Refused, Text::built(text), None))
         }
         Err(JobsFault::NoMemory) => Err(NoMemory),
     }
@@ -157,25 +165,28 @@ fn of_jobs<S: Source>(alloc: Global, options: RunOptions, source: &mut S) -> Res
 {
     match read_all(alloc, source, JOB_LIMIT) {
         Ok(text) => Ok(to_jobs(alloc, options, text.as_slice())?),
-        Err(ReadEnd::Failed) => plain(alloc, Status::ReadFault, texts::FAULT),
-        Err(ReadEnd::TooLong) => plain(alloc, Status::Refused, texts::LONG),
+        Err(ReadEnd::Failed) => Ok(plain(Status::ReadFault, Phrase::Unread)),
+        Err(ReadEnd::TooLong) => Ok(plain(Status::Refused, Phrase::Long)),
         Err(ReadEnd::NoMemory) => Err(NoMemory),
     }
 }
 
-// What is to be done for these words of the command line and what the source gives.
-fn step<S: Source>(alloc: Global, words: &[String], source: &mut S) -> Result<Step, NoMemory>
+/// What is to be done for these words of the command line and what the source gives: an answer that is
+/// ready, or images to be run. It has no ports and starts no thread. An answer that is ready needs none.
+pub fn prepare<S: Source>(alloc: Global, words: &[String], source: &mut S) -> Result<Step, Starved>
     ensures ok { IfOk result (StepSo (map string_bytes words.now) (S.left source.old)
         (S.left source.new) (S.faults source.old) (S.faults source.new)) }
-    ensures memory { OnErr result ((bytes : List ℕ)
-        × WereRead (map string_bytes words.now) bytes
-        × Takes (S.left source.old) bytes (S.left source.new)) }
+    ensures memory { IfErr result (λ starved. RunsOut (map string_bytes words.now)
+        (S.left source.old) (S.left source.new) starved.image) }
+    // Words whose first is no command are answered without any memory.
+    ensures unknown { ¬ HasCommand (map string_bytes words.now)
+        → result ≡ Ok (Ready Usage usage_text None) }
 {
     match read_task(alloc, words)? {
-        None => plain(alloc, Status::Usage, texts::USAGE),
+        None => Ok(plain(Status::Usage, Phrase::Usage)),
         Some(Task::Generate(number)) => {
             let text = workload(alloc, number)?;
-            Ok(Step::Ready(Status::Done, text, None))
+            Ok(Step::Ready(Status::Done, Text::built(text), None))
         }
         Some(Task::Bench(options)) => {
             let (image, input) = generated(alloc, options.number)?;
@@ -205,11 +216,12 @@ pub fn to_words<S: Source, P: Port + Send, G: Gate, R: Threads + Wait + Sync>(
     ensures memory { OnErr result.answer (Falls (map string_bytes words.now)
         (S.left source.old) (S.left source.new) (contents P.tells ports)
         result.image result.threads.items (contents P.tells result.ports)) }
+    ensures unknown { ¬ HasCommand (map string_bytes words.now) → IsOk result.answer }
     ensures open { AllOpen (contents P.tells result.ports) }
 {
     what_is_due_is_answered();
     what_threads_do_is_answered();
-    match step(alloc, words, source) {
+    match prepare(alloc, words, source) {
         Ok(Step::Ready(status, text, image)) => Reply {
             answer: Ok((status, text)),
             image,
@@ -220,9 +232,9 @@ pub fn to_words<S: Source, P: Port + Send, G: Gate, R: Threads + Wait + Sync>(
             executed(rt, alloc, options, image, input, ports, gate)
         }
         Ok(Step::Threads(options, jobs)) => all_executed(rt, alloc, options, jobs, ports, gate),
-        Err(NoMemory) => Reply {
+        Err(Starved { image }) => Reply {
             answer: Err(NoMemory),
-            image: None,
+            image,
             threads: Vec::new(alloc),
             ports,
         },

@@ -14,6 +14,7 @@ ghost use Rattle.wsc_top.specs.Answers.{TellWords};
 use crate::run_texts::answer;
 use crate::status::Status;
 use crate::task::RunOptions;
+use crate::text::Text;
 use crew_run::{CrewFinish, RunEnd, run_image};
 use fire_crew::Gate;
 use image_walk::Checked;
@@ -22,13 +23,13 @@ use port_set::{Port, Slots};
 use std::alloc::Global;
 use std::sync::Wait;
 use std::thread::Threads;
-use ws_words::{Bytes, NoMemory, Words};
+use ws_words::{NoMemory, Words};
 
 /// What is to be written, the image that was run or is printed, the images of the threads that were run,
 /// and the ports.
 #[derive(Drop)]
 pub struct Reply<P: Port> {
-    pub answer: Result<(Status, Bytes), NoMemory>,
+    pub answer: Result<(Status, Text), NoMemory>,
     pub image: Option<Checked>,
     pub threads: Vec<Checked>,
     pub ports: Slots<P>,

@@ -1,5 +1,11 @@
 //! The top call: from the words of the command line and the bytes of a job to the bytes of the
 //! answer.
+//!
+//! `wsc` ends as `CallEnds` says, whose fields are its clauses. `prepare` is the part of it before ports and
+//! threads: it answers with what is to be done (`StepSo`), an answer that is ready or images that are due; it
+//! is given no `Threads` and no `Wait`, so all that is answered without a run returns. Where memory runs out
+//! in it, an image that it hands back is one that the words and the text ask to be written, or to be run
+//! without ports (`RunsOut`).
 #![tactic(auto)]
 
 mod answer;
@@ -19,11 +25,14 @@ mod sections;
 mod status;
 mod step;
 mod task;
+mod text;
 mod texts;
 mod traces;
 mod world;
 mod yields;
 
+pub use answer::prepare;
+pub use batch::ReadJobs;
 pub use call::wsc;
 pub use laws::{
     assemblies_are_answered_alike, each_answer_has_its_status, each_assembly_is_read_or_refused,
@@ -36,3 +45,6 @@ pub use multi_laws::{
     threads_are_answered_alike, what_threads_do_is_answered,
 };
 pub use status::{Outcome, Status};
+pub use step::{Starved, Step};
+pub use task::{Report, RunOptions};
+pub use text::Text;

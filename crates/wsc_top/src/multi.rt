@@ -14,6 +14,7 @@ use crate::exec::Reply;
 use crate::run_texts::answer;
 use crate::status::Status;
 use crate::task::RunOptions;
+use crate::text::Text;
 use crew_run::CrewFinish;
 use fire_crew::Gate;
 use image_walk::Checked;
@@ -116,8 +117,8 @@ fn thread_told(
     number: u32,
     image: &Checked,
     finish: &CrewFinish,
-    further: (Status, Bytes),
-) -> Result<(Status, Bytes), NoMemory>
+    further: (Status, Text),
+) -> Result<(Status, Text), NoMemory>
     ensures { IfOk result (λ y. ThreadTold options number image.now finish.now further y) }
 {
     let arrays = image.image().arrays.as_slice();
@@ -127,7 +128,7 @@ fn thread_told(
     text.push(b'\n')?;
     text.extend(own.as_slice())?;
     text.extend(further.1.as_slice())?;
-    Ok((first_undone(status, further.0), text))
+    Ok((first_undone(status, further.0), Text::built(text)))
 }
 
 // What is told of a thread, where it isn't absent, and of those behind it.
@@ -137,8 +138,8 @@ fn before<P: Port>(
     number: u32,
     image: Option<&Checked>,
     end: &Option<ThreadEnd<P>>,
-    further: (Status, Bytes),
-) -> Result<(Status, Bytes), NoMemory>
+    further: (Status, Text),
+) -> Result<(Status, Text), NoMemory>
     ensures { IfOk result (BeforeSo options number (option_copied image.entry) end.now further) }
 {
     match (image, end) {
@@ -166,10 +167,10 @@ fn told<P: Port>(
     options: RunOptions,
     images: &[Checked],
     ends: &Four<Option<ThreadEnd<P>>>,
-) -> Result<(Status, Bytes), NoMemory>
+) -> Result<(Status, Text), NoMemory>
     ensures { IfOk result (AllTold options images.now ends.now) }
 {
-    let told = (Status::Done, Bytes::empty(alloc));
+    let told = (Status::Done, Text::built(Bytes::empty(alloc)));
     let told = before(alloc, options, 4, image_at(images, 3), &ends.fourth, told)?;
     let told = before(alloc, options, 3, image_at(images, 2), &ends.third, told)?;
     let told = before(alloc, options, 2, image_at(images, 1), &ends.second, told)?;

@@ -9,6 +9,7 @@ ghost use Rattle.wsc_top.specs.Finished.{ReportsSo};
 
 use crate::status::Status;
 use crate::task::Report;
+use crate::text::Text;
 use crate::texts::{BUDGET, done as ended, put_array_at, put_words, summary};
 use crew_run::CrewFinish;
 use std::alloc::Global;
@@ -189,7 +190,7 @@ pub fn answer(
     budget: u64,
     arrays: &[ArrayDecl],
     finish: &CrewFinish,
-) -> Result<(Status, Bytes), NoMemory>
+) -> Result<(Status, Text), NoMemory>
     ensures { IfOk result (λ y. ReportsSo report budget (map view.array arrays.now) finish.now y.0 y.1) }
 {
     match finish {
@@ -199,10 +200,11 @@ pub fn answer(
             fired,
         } => Ok((
             Status::Done,
-            rested(alloc, report, arrays, printed, rows, *fired)?,
+            Text::built(rested(alloc, report, arrays, printed, rows, *fired)?),
         )),
         CrewFinish::Budget { printed, fired: _ } => {
-            Ok((Status::Budget, spent(alloc, report, printed, budget)?))
+            let text = spent(alloc, report, printed, budget)?;
+            Ok((Status::Budget, Text::built(text)))
         }
         CrewFinish::Fault {
             array,
@@ -210,11 +212,11 @@ pub fn answer(
             arrays: rows,
         } => Ok((
             Status::Fault,
-            stopped(alloc, report, arrays, *array, printed, rows)?,
+            Text::built(stopped(alloc, report, arrays, *array, printed, rows)?),
         )),
         CrewFinish::Port { port, printed } => Ok((
             Status::PortFault(*port),
-            failed(alloc, report, printed, *port)?,
+            Text::built(failed(alloc, report, printed, *port)?),
         )),
         CrewFinish::NoMemory => Err(NoMemory),
     }

@@ -3,14 +3,32 @@
 use crate::batch::ReadJobs;
 use crate::status::Status;
 use crate::task::RunOptions;
+use crate::text::Text;
 use image_walk::Checked;
-use ws_words::{Bytes, Words};
+use ws_words::{NoMemory, Words};
 
-/// An answer that is ready: its status, its text, and the image that it prints; or an image that is to
-/// be run on these words; or those of the threads that are to be run.
+/// An answer that is ready: its status, its text, and the image that it ran without ports or prints; or an
+/// image that is to be run on these words; or those of the threads that are to be run.
 #[derive(Drop)]
 pub enum Step {
-    Ready(Status, Bytes, Option<Checked>),
+    Ready(Status, Text, Option<Checked>),
     Run(RunOptions, Checked, Words),
     Threads(RunOptions, ReadJobs),
+}
+
+/// Memory ran out, and no port has been called.
+#[derive(Drop)]
+pub struct Starved {
+    /// The image that was begun to be run or to be written, where the call had come so far.
+    pub image: Option<Checked>,
+}
+
+impl From<NoMemory> for Starved {
+    ghost use Rattle.std.specs.Prelude.{◌≡◌, None};
+
+    ghost from_gives = { λ _ starved. starved.image ≡ None };
+
+    fn from(_: NoMemory) -> Starved {
+        Starved { image: None }
+    }
 }

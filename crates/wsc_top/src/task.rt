@@ -1,6 +1,7 @@
 //! What a line of the command line asks for.
 
-ghost use Rattle.std.specs.Prelude.{◌≡◌, map, string_bytes, IfOk, IfSome, IfNone};
+ghost use Rattle.std.specs.Prelude.{◌≡◌, None, Ok, map, string_bytes, IfOk, IfSome, IfNone};
+ghost use Rattle.wsc_words.specs.Lines.{HasCommand};
 ghost use Rattle.wsc_top.specs.Tasks.{task_of, options_of, decoupled_options, grid_options, IsLine, IsNoLine};
 ghost use Rattle.wsc_top.specs.declared.task.Report.TheVariants.{Full};
 
@@ -196,6 +197,7 @@ pub fn read_task(alloc: Global, words: &[String]) -> Result<Option<Task>, NoMemo
     ensures some { IfOk result (λ found.
         IfSome found (λ task. IsLine (map string_bytes words.now) task)) }
     ensures none { IfOk result (λ found. IfNone found (IsNoLine (map string_bytes words.now))) }
+    ensures unknown { ¬ HasCommand (map string_bytes words.now) → result ≡ Ok None }
 {
     words_are_one_line();
     match read_words(alloc, words) {

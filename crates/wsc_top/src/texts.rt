@@ -18,17 +18,6 @@ use std::alloc::Global;
 use ws_io::put_decimal;
 use ws_words::{Bytes, Cells, NoMemory, Words};
 
-/// The line that says which command lines there are.
-pub const USAGE: &[u8] =
-    b"usage: wsc run|plain|format|compile|check|exec|list|trace|replay|gen|bench|multi|decouple|grid \
-    [--workers N] [--budget N] [--turns N] [--elements N] [--waves N] [--memory] [--stats] [NUMBER]\n";
-
-/// The answer where reading failed.
-pub const FAULT: &[u8] = b"fault read\n";
-
-/// The answer where a text has too many bytes.
-pub const LONG: &[u8] = b"refused long\n";
-
 /// Puts a line for each word after a text.
 pub fn put_words(text: &mut Bytes, words: &Words) -> Result<(), NoMemory>
     ensures { OnOk result (text.new ≡ text.old ++ flat_map word_line words.now) }
@@ -158,9 +147,6 @@ pub fn jobs_refused(alloc: Global, why: JobsRefusal) -> Result<Bytes, NoMemory>
         }
     }
 }
-
-/// The answer where an assembly is sound.
-pub const SOUND: &[u8] = b"sound\n";
 
 // What is printed for a faulty line of an assembly.
 fn asm_word(kind: AsmKind) -> &'static [u8]

@@ -6,12 +6,15 @@ ghost use Rattle.wsc_top.specs.Job.{world_of};
 ghost use Rattle.wsc_top.specs.Sections as sections;
 ghost use Rattle.wsc_top.specs.Assembly.{assembly_limit};
 ghost use Rattle.wsc_top.specs.Executions.{EndsRun};
-ghost use Rattle.wsc_top.specs.Traced.{IsTraced, IsMade, IsReplayed, EndsReplay, trace_status, traced_text, replayed_text, illegal_text};
+ghost use Rattle.wsc_top.specs.Traced.{IsTraced, IsMade, IsReplayed, HasTrace, EndsReplay, trace_status, traced_text, replayed_text, illegal_text};
+ghost use Rattle.std.specs.Prelude.{List, IfErr, IfSome};
+ghost use Rattle.trace_check.specs.declared.events.Lined.{Lined};
 
 use crate::assembly::AsmRefusal;
 use crate::run_texts::put_firings;
 use crate::sections::{after_line, split_trace};
 use crate::status::Status;
+use crate::step::Starved;
 use crate::texts::{asm_refused, put_words};
 use crate::world::world;
 use asm_text::{AsmFault, AsmKind, print_asm};
@@ -133,10 +136,12 @@ pub fn replayed(
     text: &[u8],
     image: Checked,
     input: Words,
-) -> Result<(Status, Bytes, Option<Checked>), NoMemory>
+) -> Result<(Status, Bytes, Option<Checked>), Starved>
     requires { length text.now ≤ assembly_limit }
     ensures told { IfOk result (λ y. IsReplayed text.now image input y.0 y.1 y.2) }
     ensures ends { IfOk result (λ y. EndsReplay text.now image input y.0) }
+    ensures begun { IfErr result (λ starved. IfSome starved.image
+        (λ begun. (begun ≡ image) × (trace : List Lined) × HasTrace text.now trace)) }
 {
     traces_are_replayed_once();
     let _ = image.image();
@@ -146,15 +151,15 @@ pub fn replayed(
         return Ok((Status::Refused, asm_refused(alloc, why)?, None));
     }
     match read_trace(alloc, after_line(section), last_line(front) + 1) {
-        Ok(trace) => {
-            let (status, text) = made(alloc, &image, input, &trace)?;
-            Ok((status, text, Some(image)))
-        }
+        Ok(trace) => match made(alloc, &image, input, &trace) {
+            Ok((status, text)) => Ok((status, text, Some(image))),
+            Err(NoMemory) => Err(Starved { image: Some(image) }),
+        },
         Err(AsmFault::Refused { kind, line }) => Ok((
             Status::Refused,
             asm_refused(alloc, AsmRefusal::Text(kind, line))?,
             None,
         )),
-        Err(AsmFault::NoMemory) => Err(NoMemory),
+        Err(AsmFault::NoMemory) => Err(Starved { image: None }),
     }
 }

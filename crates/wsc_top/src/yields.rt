@@ -1,6 +1,6 @@
 //! What comes of the commands, or what is to be run for them.
 
-ghost use Rattle.std.specs.Prelude.{◌≤◌, ℕ, List, Option, None, Some, length, IfOk};
+ghost use Rattle.std.specs.Prelude.{◌≡◌, ◌≤◌, ℕ, List, Option, None, Some, length, IfOk, IfErr, IfSome};
 ghost use Rattle.std.specs.List.{AllByRecursion};
 ghost use Rattle.src_ast.specs.View as view;
 ghost use Rattle.src_ast.specs.Written.{IsWritten};
@@ -8,15 +8,16 @@ ghost use Rattle.port_set.specs.Ports.{Told};
 ghost use Rattle.wave_gen.specs.Words.{IsWord};
 ghost use Rattle.wsc_top.specs.Assembly.{assembly_limit};
 ghost use Rattle.wsc_top.specs.Clocked.{TaskInRange};
-ghost use Rattle.wsc_top.specs.Answers.{IsCompiled, Yields, AssemblyYields};
-ghost use Rattle.wsc_top.specs.Steps.{YieldStep, AssemblyYieldStep};
+ghost use Rattle.wsc_top.specs.Answers.{IsCompiled, Yields, AssemblyYields, RunsClosed};
+ghost use Rattle.wsc_top.specs.Steps.{YieldStep, IsBegun, AssemblyYieldStep};
 ghost use Rattle.wsc_top.specs.declared.task.JobTask.{JobTask};
 ghost use Rattle.wsc_top.specs.declared.status.Status.{Status};
 
 use crate::clocked::clocked;
 use crate::status::Status;
-use crate::step::Step;
+use crate::step::{Starved, Step};
 use crate::task::{AssemblyTask, JobTask, PlainOptions};
+use crate::text::{Phrase, Text};
 use crate::texts;
 use crate::traces::{replayed, traced};
 use crate::world::world;
@@ -28,7 +29,7 @@ use src_ast::{print_program, printed_reads_the_same};
 use src_check::Accepted;
 use std::alloc::Global;
 use wave_build::compile;
-use ws_words::{Bytes, NoMemory, Plain, Words};
+use ws_words::{NoMemory, Plain, Words};
 
 /// The image of a program, which is formed and sound.
 pub fn image_of(alloc: Global, accepted: &Accepted) -> Result<Checked, NoMemory>
@@ -41,15 +42,19 @@ pub fn image_of(alloc: Global, accepted: &Accepted) -> Result<Checked, NoMemory>
 }
 
 // The image of a program and its text.
-fn compiled(alloc: Global, accepted: &Accepted) -> Result<(Checked, Bytes), NoMemory>
+fn compiled(alloc: Global, accepted: &Accepted) -> Result<(Checked, Text), Starved>
     requires { IsWritten (view.parts accepted.now.program.items.items) }
-    ensures { IfOk result (λ x. (input : List ℕ) (handed : List (Option Told))
+    ensures ok { IfOk result (λ x. (input : List ℕ) (handed : List (Option Told))
         → Yields JobTask.Compile (view.parts accepted.now.program.items.items) input handed
         Status.Done x.1 (Some x.0) handed) }
+    ensures begun { IfErr result (λ starved. IfSome starved.image
+        (IsCompiled (view.parts accepted.now.program.items.items))) }
 {
     let image = image_of(alloc, accepted)?;
-    let text = print_asm(alloc, image.image())?;
-    Ok((image, text))
+    match print_asm(alloc, image.image()) {
+        Ok(text) => Ok((image, Text::built(text))),
+        Err(NoMemory) => Err(Starved { image: Some(image) }),
+    }
 }
 
 // What comes of the sequential run of this program on these words.
@@ -58,7 +63,7 @@ fn plainly(
     options: PlainOptions,
     accepted: &Accepted,
     input: Words,
-) -> Result<(Status, Bytes), NoMemory>
+) -> Result<(Status, Text), NoMemory>
     ensures { IfOk result (λ y. (handed : List (Option Told)) → Yields (JobTask.Plain options)
         (view.parts accepted.now.program.items.items) input handed y.0 y.1 None handed) }
 {
@@ -84,7 +89,7 @@ fn plainly(
                 &arrays,
                 turns,
             )?;
-            Ok((Status::Done, text))
+            Ok((Status::Done, Text::built(text)))
         }
         Plain::Fault {
             array,
@@ -94,9 +99,12 @@ fn plainly(
             turns: _,
         } => {
             let text = texts::faulted(alloc, memory, &accepted.program, array, &printed, &arrays)?;
-            Ok((Status::Fault, text))
+            Ok((Status::Fault, Text::built(text)))
         }
-        Plain::Going { printed } => Ok((Status::Budget, texts::going(alloc, &printed)?)),
+        Plain::Going { printed } => {
+            let text = texts::going(alloc, &printed)?;
+            Ok((Status::Budget, Text::built(text)))
+        }
     }
 }
 
@@ -106,16 +114,19 @@ pub fn yielded(
     task: JobTask,
     accepted: &Accepted,
     input: Words,
-) -> Result<Step, NoMemory>
+) -> Result<Step, Starved>
     requires { IsWritten (view.parts accepted.now.program.items.items) }
-    ensures { IfOk result (YieldStep task (view.parts accepted.now.program.items.items) input) }
+    ensures ok { IfOk result
+        (YieldStep task (view.parts accepted.now.program.items.items) input) }
+    ensures begun { IfErr result (λ starved. IfSome starved.image
+        (IsBegun task (view.parts accepted.now.program.items.items))) }
 {
     printed_reads_the_same();
     match task {
         JobTask::Run(options) => Ok(Step::Run(options, image_of(alloc, accepted)?, input)),
         JobTask::Format => {
             let text = print_program(alloc, &accepted.program)?;
-            Ok(Step::Ready(Status::Done, text, None))
+            Ok(Step::Ready(Status::Done, Text::built(text), None))
         }
         JobTask::Compile => {
             let (image, text) = compiled(alloc, accepted)?;
@@ -135,32 +146,34 @@ pub fn assembly_yielded(
     text: &[u8],
     image: Checked,
     input: Words,
-) -> Result<Step, NoMemory>
+) -> Result<Step, Starved>
     requires text { length text.now ≤ assembly_limit }
     requires task { TaskInRange task }
-    ensures { IfOk result (AssemblyYieldStep task text.now image input) }
+    ensures ok { IfOk result (AssemblyYieldStep task text.now image input) }
+    ensures begun { IfErr result (λ starved. IfSome starved.image
+        (λ begun. (begun ≡ image) × RunsClosed task text.now)) }
 {
     match task {
         AssemblyTask::Check => {
-            let sound = Bytes::from_slice(alloc, texts::SOUND)?;
+            let sound = Text::fixed(Phrase::Sound);
             Ok(Step::Ready(Status::Done, sound, None))
         }
         AssemblyTask::List => {
             let listing = list_image(alloc, &image)?;
-            Ok(Step::Ready(Status::Done, listing, None))
+            Ok(Step::Ready(Status::Done, Text::built(listing), None))
         }
         AssemblyTask::Exec(options) => Ok(Step::Run(options, image, input)),
-        AssemblyTask::Trace(budget) => {
-            let (status, text) = traced(alloc, budget, &image, input)?;
-            Ok(Step::Ready(status, text, Some(image)))
-        }
+        AssemblyTask::Trace(budget) => match traced(alloc, budget, &image, input) {
+            Ok((status, text)) => Ok(Step::Ready(status, Text::built(text), Some(image))),
+            Err(NoMemory) => Err(Starved { image: Some(image) }),
+        },
         AssemblyTask::Replay => {
             let (status, text, again) = replayed(alloc, text, image, input)?;
-            Ok(Step::Ready(status, text, again))
+            Ok(Step::Ready(status, Text::built(text), again))
         }
-        AssemblyTask::Grid(options) => {
-            let (status, text) = clocked(alloc, options, &image, input)?;
-            Ok(Step::Ready(status, text, Some(image)))
-        }
+        AssemblyTask::Grid(options) => match clocked(alloc, options, &image, input) {
+            Ok((status, text)) => Ok(Step::Ready(status, Text::built(text), Some(image))),
+            Err(NoMemory) => Err(Starved { image: Some(image) }),
+        },
     }
 }

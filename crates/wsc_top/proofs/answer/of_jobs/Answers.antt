@@ -7,9 +7,9 @@ returns-in_ok-to_jobs-in-Ok-clause-ok g c words line =
     jobs_step words _ _ _ _ _ _ c.args.options _ line c.in-Ok.ensures.within c.in-Ok.ensures.ok c.as_slice.ensures c.in_ok-to_jobs-in-Ok.ensures
 
 pub returns-in-Err-Failed-clause-ok : goal.returns-in-Err-Failed-clause-ok
-returns-in-Err-Failed-clause-ok g c =
-    known_step _ _ _ (λ words line. unread_step words _ _ _ _ (Multi c.args.options) line tt (c.in-Err-Failed.ensures.failed (cc)) (c.in-Err-Failed.ensures.failed_taken (cc))) c.plain.ensures
+returns-in-Err-Failed-clause-ok g c words line =
+    known_step words _ _ _ _ _ _ c.plain.ensures (unread_step words _ _ _ _ (Multi c.args.options) line tt (c.in-Err-Failed.ensures.failed (cc)) (c.in-Err-Failed.ensures.failed_taken (cc)))
 
 pub returns-in-Err-TooLong-clause-ok : goal.returns-in-Err-TooLong-clause-ok
-returns-in-Err-TooLong-clause-ok g c =
-    known_step _ _ _ (λ words line. long_step words _ _ _ _ (Multi c.args.options) line tt (c.in-Err-TooLong.ensures.long (cc))) c.plain-in-Err-TooLong.ensures
+returns-in-Err-TooLong-clause-ok g c words line =
+    known_step words _ _ _ _ _ _ c.plain-in-Err-TooLong.ensures (long_step words _ _ _ _ (Multi c.args.options) line tt (c.in-Err-TooLong.ensures.long (cc)))

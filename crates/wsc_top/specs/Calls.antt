@@ -1,0 +1,137 @@
+-- What a call of the program comes to.
+use Rattle.std.specs.Prelude.{◌≡◌, ◌≢◌, ◌⊎◌, ℕ, ◌≤◌, List, [], ◌∷◌, length, take, Option, Some, None}
+use Rattle.ws_io.specs.Streams.{Rose, Adds, Flushes}
+use Rattle.src_ast.specs.Syntax.{Part}
+use Rattle.ws_isa.specs.Image.{Image}
+use Rattle.port_set.specs.Ports.{Told}
+use Rattle.store_buf.specs.Outdoors.{RoseAt}
+use Rattle.wsc_words.specs.Lines.{HasCommand}
+use Rattle.wsc_top.specs.declared.status.Status.{Status}
+use Rattle.wsc_top.specs.declared.status.Status.TheVariants.{Done, Usage, Refused, Budget, ReadFault, WriteFault, PortFault, NoMemory, Fault}
+use Rattle.wsc_top.specs.declared.task.Task.TheVariants.{Generate, Bench}
+use Rattle.wsc_top.specs.declared.task.BenchOptions.{BenchOptions}
+use Rattle.wsc_top.specs.declared.task.JobTask.{JobTask}
+use Rattle.wsc_top.specs.declared.task.RunOptions.{RunOptions}
+use Rattle.wsc_top.specs.declared.task.AssemblyTask.{AssemblyTask}
+use Rattle.wsc_top.specs.Codes.{code_of}
+use Rattle.wsc_top.specs.Tasks.{IsLine, IsNoLine}
+use Rattle.wsc_top.specs.Generated.{IsGeneratedJob}
+use Rattle.wsc_top.specs.Answers.{SomeRose, ComesToItsEnd, MeetsFault, WantsTurns, AssemblyEndsSo, BenchEndsSo, IsToldJob, IsToldOther, IsToldAssembly, IsToldNoAssembly, OrNoMemory}
+use Rattle.wsc_top.specs.Jobs.{Program}
+use Rattle.wsc_top.specs.Threads.{Replies, Falls, AreToldJobs, AreToldNoJobs, MultiEndsSo, ComeToTheirEnd}
+
+-- a source before and after a call: the bytes that it has left, where it tells them, and its faults
+pub record Reading : Type 0 where
+  pub left : Option (List ℕ)
+  pub after : Option (List ℕ)
+  pub faults : ℕ
+  pub counted : ℕ
+
+-- a sink before and after a call: what it holds, how much of that the last good flush covered, where it
+-- tells them, and its faults
+pub record Writing : Type 0 where
+  pub held : Option (List ℕ)
+  pub holds : Option (List ℕ)
+  pub flushed : Option ℕ
+  pub covered : Option ℕ
+  pub faults : ℕ
+  pub counted : ℕ
+
+-- what a source tells of itself before and after a call
+abbrev pub reading : {S : Type 0} → (S → Option (List ℕ)) → (S → ℕ) → S → S → Reading
+reading left faults old new = record {
+  left = left old;
+  after = left new;
+  faults = faults old;
+  counted = faults new;
+}
+
+-- what a sink does
+abbrev pub writing : {K : Type 0} → (K → Option (List ℕ)) → (K → Option ℕ) → (K → ℕ) → K → K
+    → Writing
+writing held flushed faults old new = record {
+  held = held old;
+  holds = held new;
+  flushed = flushed old;
+  covered = flushed new;
+  faults = faults old;
+  counted = faults new;
+}
+
+-- no fault of the source, or of the sink, came
+abbrev pub ReadsWell : Reading → Type 0
+ReadsWell reads = ¬ Rose reads.faults reads.counted
+
+abbrev pub WritesWell : Writing → Type 0
+WritesWell writes = ¬ Rose writes.faults writes.counted
+
+-- A call on these words, of which the source and the sink tell this, and to which these ports are handed
+-- in, ends with this status and hands back this image, the images of these threads, and the ports.
+pub record CallEnds (words : List (List ℕ)) (reads : Reading) (writes : Writing)
+    (handed : List (Option Told)) (status : Status) (image : Option Image) (threads : List Image)
+    (back : List (Option Told)) : Type 0 where
+  -- what went out is the whole answer, and it was flushed
+  pub answered : status ≢ WriteFault → status ≢ NoMemory
+      → (text : List ℕ)
+      × Replies words reads.left reads.after reads.faults reads.counted handed status text image
+      threads back
+      × Adds writes.held text writes.holds × Flushes writes.holds writes.flushed writes.covered
+  -- what went out is a front of the answer, and nothing was flushed
+  pub cut : status ≡ WriteFault
+      → (would : Status) × (text : List ℕ) × (n : ℕ) × (n ≤ length text)
+      × Replies words reads.left reads.after reads.faults reads.counted handed would text image
+      threads back
+      × Adds writes.held (take n text) writes.holds × (writes.covered ≡ writes.flushed)
+  -- nothing went out; the bytes that were read are gone, and the ports are as a run left them, where one
+  -- had begun
+  pub memory : status ≡ NoMemory
+      → Falls words reads.left reads.after handed image threads back
+      × (writes.holds ≡ writes.held) × (writes.covered ≡ writes.flushed)
+  -- faults come only where a count rose
+  pub read_fault : status ≡ ReadFault → Rose reads.faults reads.counted
+  pub write_fault : status ≡ WriteFault → Rose writes.faults writes.counted
+  pub port_fault : (port : ℕ) → status ≡ PortFault port → RoseAt port handed back
+  -- where no count rose, the words and the text alone decide, want of memory aside
+  pub usage : IsNoLine words → WritesWell writes → OrNoMemory status Usage
+  -- a word that is no command is told without any memory
+  pub unknown : ¬ HasCommand words → WritesWell writes → status ≡ Usage
+  pub generated : (number : ℕ) → IsLine words (Generate number) → WritesWell writes
+      → OrNoMemory status Done
+  pub benched : (options : BenchOptions) (parts : List Part) → IsLine words (Bench options)
+      → IsGeneratedJob options.number parts → WritesWell writes
+      → BenchEndsSo options parts handed status ⊎ (status ≡ NoMemory)
+  pub done : (task : JobTask) (parts : List Part) (input : List ℕ)
+      → IsToldJob words reads.left task parts input → ComesToItsEnd task parts input handed
+      → ReadsWell reads → WritesWell writes → ¬ SomeRose handed back → OrNoMemory status Done
+  pub fault : (task : JobTask) (parts : List Part) (input : List ℕ)
+      → IsToldJob words reads.left task parts input → MeetsFault task parts input handed
+      → ReadsWell reads → WritesWell writes → ¬ SomeRose handed back → OrNoMemory status Fault
+  pub budget : (task : JobTask) (parts : List Part) (input : List ℕ)
+      → IsToldJob words reads.left task parts input → WantsTurns task parts input handed
+      → ReadsWell reads → WritesWell writes → ¬ SomeRose handed back → OrNoMemory status Budget
+  pub refused : (task : JobTask) → IsToldOther words reads.left task
+      → ReadsWell reads → WritesWell writes → OrNoMemory status Refused
+  pub assembled : (task : AssemblyTask) (image : Image) (input : List ℕ)
+      → (told : IsToldAssembly words reads.left task image input)
+      → ReadsWell reads → WritesWell writes
+      → AssemblyEndsSo task told.text image input handed status ⊎ (status ≡ NoMemory)
+  pub unassembled : (task : AssemblyTask) → IsToldNoAssembly words reads.left task
+      → ReadsWell reads → WritesWell writes → OrNoMemory status Refused
+  pub multiplied : (options : RunOptions) (jobs : List Program)
+      → AreToldJobs words reads.left options jobs → ReadsWell reads → WritesWell writes
+      → MultiEndsSo options jobs handed status ⊎ (status ≡ NoMemory)
+  pub multiplied_done : (options : RunOptions) (jobs : List Program)
+      → AreToldJobs words reads.left options jobs → ComeToTheirEnd options jobs handed
+      → ReadsWell reads → WritesWell writes → ¬ SomeRose handed back → OrNoMemory status Done
+  pub unmultiplied : (options : RunOptions) → AreToldNoJobs words reads.left options
+      → ReadsWell reads → WritesWell writes → OrNoMemory status Refused
+
+-- slots of which the first alone has a port, which tells this
+abbrev pub in_first : Told → List (Option Told)
+in_first port = Some port ∷ None ∷ None ∷ None ∷ None ∷ None ∷ None ∷ []
+
+-- Such a call, with a port in the first slot alone, ends with a status of which this is the code.
+abbrev pub EndsWithCode : List (List ℕ) → Reading → Writing → Told → ℕ → Type 0
+EndsWithCode words reads writes port code =
+    (status : Status) × (image : Option Image) × (threads : List Image) × (back : List (Option Told))
+    × CallEnds words reads writes (in_first port) status image threads back × (code ≡ code_of status)
