@@ -2,73 +2,13 @@
 
 ghost use Rattle.std.specs.Prelude.{◌<◌};
 
-use crate::replies::{run_words, words_of};
+use crate::replies::{Asked, Ends, Reply, SOUND, call};
 use fire_crew::Free;
-use port_set::Slots;
 use std::alloc::Global;
 use std::sync::Wait;
 use std::test::Fail;
 use std::thread::Threads;
-use ws_io::{MemSink, MemSource};
-use ws_words::{Bytes, Words};
-use wsc_top::Status;
-
-// What a call answers, what went out, how much of that was flushed, and how much was left to read.
-#[derive(Drop)]
-struct Answer {
-    status: Status,
-    text: Vec<u8>,
-    flushed: usize,
-    left: usize,
-}
-
-impl Answer {
-    // Whether this went out, with this status code.
-    fn is(&self, text: &str, code: u8) -> bool {
-        self.text.as_slice() == text.as_bytes() && self.status.code() == code
-    }
-}
-
-// How many bytes a call of the source or the sink moves, and which of their calls fail.
-#[derive(Clone, Copy)]
-struct Ends {
-    piece: usize,
-    read_fault: u64,
-    write_fault: u64,
-}
-
-// Nothing fails, since calls are counted from 1.
-const SOUND: Ends = Ends {
-    piece: 100_000,
-    read_fault: 0,
-    write_fault: 0,
-};
-
-// A call with the words of this line, which spaces separate.
-fn called<R: Threads + Wait + Sync>(
-    rt: &R,
-    alloc: Global,
-    line: &str,
-    text: &[u8],
-    ends: Ends,
-) -> Result<Answer, Fail>
-    requires { 0 < ends.piece }
-{
-    let words = words_of(alloc, line)?;
-    let bytes = Bytes::from_slice(alloc, text)?;
-    let read_faults = Words::from_slice(alloc, &[ends.read_fault])?;
-    let write_faults = Words::from_slice(alloc, &[ends.write_fault])?;
-    let mut source = MemSource::new(bytes, ends.piece, read_faults);
-    let mut sink = MemSink::new(alloc, ends.piece, write_faults)?;
-    let ports = Slots::none();
-    let outcome = run_words(rt, alloc, &words, &mut source, &mut sink, ports, &Free);
-    Ok(Answer {
-        status: outcome.status,
-        text: Vec::from_slice(alloc, sink.held())?,
-        flushed: sink.flushed(),
-        left: source.left().len(),
-    })
-}
+use ws_words::NoMemory;
 
 // A line, a job, what is answered, and the status code.
 struct Row {
@@ -165,99 +105,155 @@ fn is_answered<R: Threads + Wait + Sync>(
     alloc: Global,
     row: &Row,
     piece: usize,
-) -> Result<bool, Fail>
+) -> Result<bool, NoMemory>
     requires { 0 < piece }
 {
-    let answer = called(rt, alloc, row.line, row.job, Ends { piece, ..SOUND })?;
-    Ok(answer.is(row.answer, row.code) && answer.flushed == row.answer.len() && answer.left == 0)
+    let asked = Asked {
+        line: row.line,
+        text: row.job,
+        wanted: row.answer,
+    };
+    let reply = call(rt, alloc, asked, Ends { piece, ..SOUND }, &Free)?;
+    Ok(reply.has(row.code) && reply.flushed == row.answer.len() && reply.left == 0)
+}
+
+// Whether it is so in pieces of one byte, of three, and in one.
+fn is_answered_in_pieces<R: Threads + Wait + Sync>(
+    rt: &R,
+    alloc: Global,
+    row: &Row,
+) -> Result<bool, NoMemory> {
+    let by_one = is_answered(rt, alloc, row, 1)?;
+    let by_three = is_answered(rt, alloc, row, 3)?;
+    Ok(by_one && by_three && is_answered(rt, alloc, row, 100_000)?)
 }
 
 #[test]
 fn jobs_are_answered(rt: HostRuntime) -> Result<(), Fail> {
     let alloc = rt.alloc();
     for row in ROWS {
-        assert!(rt; is_answered(&rt, alloc, row, 1)?, "{}", row.answer);
-        assert!(rt; is_answered(&rt, alloc, row, 3)?, "{}", row.answer);
-        assert!(rt; is_answered(&rt, alloc, row, 100_000)?, "{}", row.answer);
+        assert!(rt; is_answered_in_pieces(&rt, alloc, row)?, "{}", row.answer);
     }
     Ok(())
+}
+
+// Whether a text is refused so, and this much of it was left to read.
+fn is_refused<R: Threads + Wait + Sync>(
+    rt: &R,
+    alloc: Global,
+    text: &[u8],
+    wanted: &str,
+    left: usize,
+) -> Result<bool, NoMemory> {
+    let asked = Asked {
+        line: "run",
+        text,
+        wanted,
+    };
+    let reply = call(rt, alloc, asked, SOUND, &Free)?;
+    Ok(reply.has(2) && reply.left == left)
+}
+
+// Whether a mebibyte of spaces is read whole, and nine bytes more are one too many.
+fn has_at_most_a_mebibyte<R: Threads + Wait + Sync>(
+    rt: &R,
+    alloc: Global,
+) -> Result<bool, NoMemory> {
+    let mut text = vec![in alloc; b' '; 1_048_576]?;
+    let most = is_refused(rt, alloc, &text, "refused 1:1048577 main\n", 0)?;
+    text.extend_from_slice(b" and more")?;
+    Ok(most && is_refused(rt, alloc, &text, "refused long\n", 8)?)
 }
 
 #[test]
 fn a_job_has_at_most_a_mebibyte(rt: HostRuntime) -> Result<(), Fail> {
     let alloc = rt.alloc();
-    let mut text = vec![in alloc; b' '; 1_048_576]?;
-    let most = called(&rt, alloc, "run", &text, SOUND)?;
-    assert!(rt; most.is("refused 1:1048577 main\n", 2));
-    text.extend_from_slice(b" and more")?;
-    let more = called(&rt, alloc, "run", &text, SOUND)?;
-    assert!(rt; more.is("refused long\n", 2) && more.left == 8);
+    assert!(rt; has_at_most_a_mebibyte(&rt, alloc)?);
     Ok(())
 }
+
+// Whether a line is none, and nothing was read.
+fn is_no_line<R: Threads + Wait + Sync>(
+    rt: &R,
+    alloc: Global,
+    line: &str,
+) -> Result<bool, NoMemory> {
+    let asked = Asked {
+        line,
+        text: b"proc main() { }",
+        wanted: "",
+    };
+    let reply = call(rt, alloc, asked, SOUND, &Free)?;
+    Ok(reply.status.code() == 1 && reply.left == 15)
+}
+
+const NO_LINES: &[&str] = &[
+    "",
+    "Run",
+    "run run",
+    "--help",
+    "-h",
+    "run --workers",
+    "plan",
+];
 
 #[test]
 fn nothing_is_read_where_the_words_are_no_line(rt: HostRuntime) -> Result<(), Fail> {
     let alloc = rt.alloc();
-    for line in [
-        "",
-        "Run",
-        "run run",
-        "--help",
-        "-h",
-        "run --workers",
-        "plan",
-    ] {
-        let answer = called(&rt, alloc, line, b"proc main() { }", SOUND)?;
-        assert!(rt; answer.status.code() == 1 && answer.left == 15, "{line}");
+    for line in NO_LINES {
+        assert!(rt; is_no_line(&rt, alloc, line)?, "{line}");
     }
     Ok(())
 }
 
-#[test]
-fn a_fault_of_the_source_is_named(rt: HostRuntime) -> Result<(), Fail> {
-    let alloc = rt.alloc();
-    for call in 1..17 {
-        let ends = Ends {
-            piece: 1,
-            read_fault: call,
-            write_fault: 0,
-        };
-        let answer = called(&rt, alloc, "run", b"proc main() { }", ends)?;
-        assert!(rt; answer.is("fault read\n", 4), "{call}");
-    }
-    Ok(())
-}
-
-// Whether this front of the answer goes out, where this call of the sink fails.
-fn is_cut<R: Threads + Wait + Sync>(
+// The reply where calls move one byte, and these calls of the source and the sink fail.
+fn cut_at<R: Threads + Wait + Sync>(
     rt: &R,
     alloc: Global,
     text: &[u8],
     faults: (u64, u64),
-    front: &str,
-) -> Result<bool, Fail> {
+    wanted: &str,
+) -> Result<Reply, NoMemory> {
+    let asked = Asked {
+        line: "run",
+        text,
+        wanted,
+    };
     let ends = Ends {
         piece: 1,
         read_fault: faults.0,
         write_fault: faults.1,
     };
-    let answer = called(rt, alloc, "run", text, ends)?;
-    Ok(answer.is(front, 5) && answer.flushed == 0)
+    call(rt, alloc, asked, ends, &Free)
 }
+
+#[test]
+fn a_fault_of_the_source_is_named(rt: HostRuntime) -> Result<(), Fail> {
+    let alloc = rt.alloc();
+    for at in 1..17 {
+        let reply = cut_at(&rt, alloc, b"proc main() { }", (at, 0), "fault read\n")?;
+        assert!(rt; reply.has(4), "{at}");
+    }
+    Ok(())
+}
+
+// Which call of the sink fails, and the front of the answer that goes out.
+const CUTS: &[(u64, &str)] = &[
+    (1, ""),
+    (2, "7"),
+    (3, "7\n"),
+    (7, "7\nhalt"),
+    (8, "7\nhalt\n"),
+];
 
 #[test]
 fn a_fault_of_the_sink_cuts_the_answer(rt: HostRuntime) -> Result<(), Fail> {
     let alloc = rt.alloc();
-    for (call, front) in [
-        (1, ""),
-        (2, "7"),
-        (3, "7\n"),
-        (7, "7\nhalt"),
-        (8, "7\nhalt\n"),
-    ] {
-        let cut = is_cut(&rt, alloc, b"proc main() { print 7; }", (0, call), front)?;
-        assert!(rt; cut, "{call}");
+    for (at, front) in CUTS {
+        let reply = cut_at(&rt, alloc, b"proc main() { print 7; }", (0, *at), front)?;
+        assert!(rt; reply.has(5) && reply.flushed == 0, "{at}");
     }
-    assert!(rt; is_cut(&rt, alloc, b"", (1, 2), "f")?);
+    let reply = cut_at(&rt, alloc, b"", (1, 2), "f")?;
+    assert!(rt; reply.has(5) && reply.flushed == 0);
     Ok(())
 }

@@ -1,9 +1,7 @@
 //! Whole calls whose images a crew runs.
 
-use crate::replies::{Reply, call};
+use crate::replies::{Asked, Reply, SOUND, call, image_of};
 use fire_crew::{Free, Gate};
-use image_walk::Checked;
-use port_set::Slots;
 use std::alloc::Global;
 use std::sync::Wait;
 use std::sync::atomic::{AtomicBool, AtomicU64, Ordering};
@@ -14,15 +12,21 @@ use ws_isa::Image;
 use ws_words::NoMemory;
 use wsc_top::Status;
 
-// A call without ports.
+// A call without ports, where this is to go out.
 fn call_alone<G: Gate, R: Threads + Wait + Sync>(
     rt: &R,
     alloc: Global,
     line: &str,
     text: &str,
+    wanted: &str,
     gate: &G,
 ) -> Result<Reply, NoMemory> {
-    call(rt, alloc, line, text, Slots::none(), gate)
+    let asked = Asked {
+        line,
+        text: text.as_bytes(),
+        wanted,
+    };
+    call(rt, alloc, asked, SOUND, gate)
 }
 
 // Three tokens come in at once; 7 is printed.
@@ -93,8 +97,8 @@ impl Gate for Held {
 
 // Whether a gate let its token of that image go before the others had come; nothing where the image
 // wasn't run as it should be.
-fn lateness(reply: &Reply, gate: &Held) -> Option<bool> {
-    if reply.text() == "7\nhalt\nfirings 6\n" && gate.have_come() {
+fn lateness(reply: Reply, gate: &Held) -> Option<bool> {
+    if reply.said && gate.have_come() {
         Some(gate.was_late())
     } else {
         None
@@ -110,8 +114,8 @@ fn was_late<R: Threads + Wait + Sync>(
     turns: u32,
 ) -> Result<Option<bool>, NoMemory> {
     let gate = Held::new(instr, turns);
-    let reply = call_alone(rt, alloc, line, IMAGE, &gate)?;
-    Ok(lateness(&reply, &gate))
+    let reply = call_alone(rt, alloc, line, IMAGE, "7\nhalt\nfirings 6\n", &gate)?;
+    Ok(lateness(reply, &gate))
 }
 
 // A worker whose token is held leaves the other tokens of its seat to the other worker.
@@ -254,16 +258,16 @@ fn comes_once<R: Threads + Wait + Sync>(
     line: &str,
 ) -> Result<bool, NoMemory> {
     let gate = Counts::new(alloc)?;
-    let reply = call_alone(rt, alloc, line, STORES, &gate)?;
-    Ok(reply.text() == "5\n0\nhalt\n" && had_each_once(&gate))
+    let reply = call_alone(rt, alloc, line, STORES, "5\n0\nhalt\n", &gate)?;
+    Ok(reply.said && had_each_once(&gate))
 }
 
 #[test]
 fn each_token_comes_once_to_the_gate(rt: HostRuntime) -> Result<(), Fail> {
     let alloc = rt.alloc();
-    for line in ["exec --workers 1", "exec --workers 2", "exec --workers 8"] {
-        assert!(rt; comes_once(&rt, alloc, line)?, "{line}");
-    }
+    assert!(rt; comes_once(&rt, alloc, "exec --workers 1")?);
+    assert!(rt; comes_once(&rt, alloc, "exec --workers 2")?);
+    assert!(rt; comes_once(&rt, alloc, "exec --workers 8")?);
     Ok(())
 }
 
@@ -309,38 +313,46 @@ fn tokens_of(gate: &Counts, ports: &[u8]) -> Option<u64> {
     if gate.all() == all { Some(all) } else { None }
 }
 
-// The same where they are the ports of an image.
-fn tokens_at(
+// How many ports each instruction of the image of that job has, where this gate was called in its run.
+fn ports_of_run<R: Threads + Wait + Sync>(
+    rt: &R,
     alloc: Global,
     gate: &Counts,
-    image: &Option<Checked>,
-) -> Result<Option<u64>, NoMemory> {
-    let Some(image) = image else {
-        return Ok(None);
+) -> Result<Vec<u8>, NoMemory> {
+    let asked = Asked {
+        line: "run",
+        text: JOB.as_bytes(),
+        wanted: "",
     };
-    let ports = ports_of(alloc, image.image())?;
-    Ok(tokens_of(gate, &ports))
+    match image_of(rt, alloc, asked, gate)? {
+        Some(image) => ports_of(alloc, image.image()),
+        None => Ok(Vec::new(alloc)),
+    }
+}
+
+// How many tokens come in a run of that job, where each port of its image has one.
+fn tokens_of_run<R: Threads + Wait + Sync>(rt: &R, alloc: Global) -> Result<Option<u64>, NoMemory> {
+    let gate = Counts::new(alloc)?;
+    let ports = ports_of_run(rt, alloc, &gate)?;
+    Ok(tokens_of(&gate, &ports))
 }
 
 #[test]
 fn each_port_of_a_compiled_program_has_one_token(rt: HostRuntime) -> Result<(), Fail> {
     let alloc = rt.alloc();
-    let gate = Counts::new(alloc)?;
-    let reply = call_alone(&rt, alloc, "run", JOB, &gate)?;
-    let tokens = tokens_at(alloc, &gate, &reply.image)?;
-    assert!(rt; tokens.unwrap_or(0) > 0);
+    assert!(rt; tokens_of_run(&rt, alloc)?.unwrap_or(0) > 0);
     Ok(())
 }
 
 // Three lines that differ in their workers, a text, what is answered, and the status.
 struct Row {
-    lines: [&'static str; 3],
+    lines: &'static [&'static str],
     text: &'static str,
     answer: &'static str,
     status: Status,
 }
 
-const RUNS: [&str; 3] = ["run --workers 1", "run --workers 2", "run --workers 8"];
+const RUNS: &[&str] = &["run --workers 1", "run --workers 2", "run --workers 8"];
 
 const ROWS: &[Row] = &[
     Row {
@@ -356,7 +368,7 @@ const ROWS: &[Row] = &[
         status: Status::Done,
     },
     Row {
-        lines: [
+        lines: &[
             "run --budget 0 --workers 1",
             "run --budget 0 --workers 2",
             "run --budget 0 --workers 8",
@@ -366,7 +378,7 @@ const ROWS: &[Row] = &[
         status: Status::Budget,
     },
     Row {
-        lines: [
+        lines: &[
             "bench 0 --workers 1",
             "bench 0 --workers 2",
             "bench 0 --workers 8",
@@ -376,7 +388,7 @@ const ROWS: &[Row] = &[
         status: Status::Done,
     },
     Row {
-        lines: [
+        lines: &[
             "bench 2 --workers 1",
             "bench 2 --workers 2",
             "bench 2 --workers 8",
@@ -394,8 +406,8 @@ fn is_answered<R: Threads + Wait + Sync>(
     line: &str,
     row: &Row,
 ) -> Result<bool, NoMemory> {
-    let reply = call_alone(rt, alloc, line, row.text, &Free)?;
-    Ok(reply.text() == row.answer && reply.status == row.status && reply.image.is_some())
+    let reply = call_alone(rt, alloc, line, row.text, row.answer, &Free)?;
+    Ok(reply.is(row.status) && reply.image)
 }
 
 #[test]
@@ -439,7 +451,7 @@ fn gives_image<R: Threads + Wait + Sync>(
     line: &str,
     text: &str,
 ) -> Result<bool, NoMemory> {
-    Ok(call_alone(rt, alloc, line, text, &Free)?.image.is_some())
+    Ok(call_alone(rt, alloc, line, text, "", &Free)?.image)
 }
 
 #[test]

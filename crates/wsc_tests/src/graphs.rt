@@ -6,6 +6,7 @@ ghost use Rattle.src_ast.specs.Written.{IsWritten};
 ghost use Rattle.cfg_core.specs.View as view;
 ghost use Rattle.cfg_core.specs.Rules.{IsGraph};
 ghost use Rattle.cfg_build.specs.Keeps.{IsFirstForm};
+ghost use Rattle.call_gen.specs.Keeps.{HasNoSend};
 
 use call_gen::{reached, spell_calls};
 use cfg_build::lower;
@@ -182,44 +183,47 @@ pub const PROGRAMS: &[(&str, usize)] = &[
     ),
 ];
 
-pub fn accepted(alloc: Global, text: &str) -> Result<Accepted, Fail>
+pub fn accepted(alloc: Global, text: &str) -> Result<Accepted, NoMemory>
     ensures { IfOk result (λ accepted. IsWritten (ast.parts accepted.program.items.items)) }
 {
     read_is_written();
     if text.len() > 10_000 {
-        return Err(Fail::from(NoMemory));
+        return Err(NoMemory);
     }
     let Ok(lexemes) = lex(alloc, text.as_bytes()) else {
-        return Err(Fail::from(NoMemory));
+        return Err(NoMemory);
     };
     let Ok(tree) = parse(alloc, &lexemes) else {
-        return Err(Fail::from(NoMemory));
+        return Err(NoMemory);
     };
     let Ok(accepted) = check(alloc, tree) else {
-        return Err(Fail::from(NoMemory));
+        return Err(NoMemory);
     };
     Ok(accepted)
 }
 
 // The image of a program.
-pub fn compiled(alloc: Global, text: &str) -> Result<Checked, Fail> {
+pub fn compiled(alloc: Global, text: &str) -> Result<Checked, NoMemory> {
     let accepted = accepted(alloc, text)?;
-    Ok(compile(alloc, &accepted)?)
+    compile(alloc, &accepted)
 }
 
-// Ports 1, 2 and 3 have words left, the others none.
-pub fn world(alloc: Global, input: &[u64]) -> Result<World, NoMemory> {
+// What the ports have left, from port 1 on.
+const LEFT: &[&[u64]] = &[&[4], &[6, 0, 11], &[3, 1, 2], &[], &[], &[], &[]];
+
+fn ports_left(alloc: Global) -> Result<Cells, NoMemory> {
     let mut left = Cells::empty(alloc);
-    left.push(Words::from_slice(alloc, &[4])?)?;
-    left.push(Words::from_slice(alloc, &[6, 0, 11])?)?;
-    left.push(Words::from_slice(alloc, &[3, 1, 2])?)?;
-    for _ in 0..4u8 {
-        left.push(Words::empty(alloc))?;
+    for words in LEFT {
+        left.push(Words::from_slice(alloc, words)?)?;
     }
-    Ok(World {
-        input: Words::from_slice(alloc, input)?,
-        left,
-    })
+    Ok(left)
+}
+
+// The world with this input.
+pub fn world(alloc: Global, input: &[u64]) -> Result<World, NoMemory> {
+    let input = Words::from_slice(alloc, input)?;
+    let left = ports_left(alloc)?;
+    Ok(World { input, left })
 }
 
 fn blocks(graph: &Graph) -> usize {
@@ -230,20 +234,28 @@ fn blocks(graph: &Graph) -> usize {
     count
 }
 
-// The graph of a program with its short branches joined, and that graph with its calls spelled out.
+// A graph with its short branches joined, without what isn't reached.
 #[tactic(auto, using(crate::proofs::Sends::first_has_none, crate::proofs::Sends::kept_has_none))]
-fn passed(alloc: Global, lowered: &Graph) -> Result<(Graph, Graph), NoMemory>
+fn joined(alloc: Global, lowered: &Graph) -> Result<Graph, NoMemory>
     requires rules { IsGraph (view.graph lowered.now) }
     requires form { IsFirstForm (view.graph lowered.now) }
-    ensures joined { IfOk result (λ made. IsGraph (view.graph made.0)) }
-    ensures spelled { IfOk result (λ made. IsGraph (view.graph made.1)) }
+    ensures rules { IfOk result (λ made. IsGraph (view.graph made)) }
+    ensures no_send { IfOk result (λ made. HasNoSend (view.graph made)) }
 {
     let reached = reached(alloc, lowered)?;
     let needed = live(alloc, &reached)?;
     let joined = join_short(alloc, &reached, &needed)?;
-    let wanted = live(alloc, &joined)?;
-    let spelled = spell_calls(alloc, &joined, &wanted)?;
-    Ok((joined, spelled))
+    Ok(joined)
+}
+
+// A graph with its calls spelled out.
+fn spelled(alloc: Global, joined: &Graph) -> Result<Graph, NoMemory>
+    requires rules { IsGraph (view.graph joined.now) }
+    requires no_send { HasNoSend (view.graph joined.now) }
+    ensures { IfOk result (λ made. IsGraph (view.graph made)) }
+{
+    let wanted = live(alloc, joined)?;
+    spell_calls(alloc, joined, &wanted)
 }
 
 // Whether a graph walks as a program runs, on each number of turns.
@@ -277,17 +289,65 @@ fn walks_as(alloc: Global, accepted: &Accepted, graph: &Graph) -> Result<bool, N
     Ok(true)
 }
 
+// What is seen of the graphs of a program: how many blocks it has first, and which of the graphs walk as
+// the program runs.
+#[derive(Clone, Copy)]
+struct Seen {
+    blocks: usize,
+    lowered: bool,
+    joined: bool,
+    spelled: bool,
+}
+
+// Whether the graph with calls spelled out walks as the program runs.
+fn spelled_walks(alloc: Global, accepted: &Accepted, joined: &Graph) -> Result<bool, NoMemory>
+    requires rules { IsGraph (view.graph joined.now) }
+    requires no_send { HasNoSend (view.graph joined.now) }
+{
+    let spelled = spelled(alloc, joined)?;
+    walks_as(alloc, accepted, &spelled)
+}
+
+// Whether the graph with branches joined does, and whether the one with calls spelled out does.
+fn joined_walk(
+    alloc: Global,
+    accepted: &Accepted,
+    lowered: &Graph,
+) -> Result<(bool, bool), NoMemory>
+    requires rules { IsGraph (view.graph lowered.now) }
+    requires form { IsFirstForm (view.graph lowered.now) }
+{
+    let joined = joined(alloc, lowered)?;
+    let walks = walks_as(alloc, accepted, &joined)?;
+    Ok((walks, spelled_walks(alloc, accepted, &joined)?))
+}
+
+fn seen_of(alloc: Global, accepted: &Accepted) -> Result<Seen, NoMemory> {
+    let graph = lower(alloc, accepted)?;
+    let lowered = walks_as(alloc, accepted, &graph)?;
+    let (joined, spelled) = joined_walk(alloc, accepted, &graph)?;
+    Ok(Seen {
+        blocks: blocks(&graph),
+        lowered,
+        joined,
+        spelled,
+    })
+}
+
+fn seen_in(alloc: Global, text: &str) -> Result<Seen, NoMemory> {
+    let accepted = accepted(alloc, text)?;
+    seen_of(alloc, &accepted)
+}
+
 #[test]
 fn graphs_walk_as_programs_run(rt: HostRuntime) -> Result<(), Fail> {
     let alloc = rt.alloc();
-    for (text, count) in PROGRAMS {
-        let accepted = accepted(alloc, text)?;
-        let lowered = lower(alloc, &accepted)?;
-        let (joined, spelled) = passed(alloc, &lowered)?;
-        assert!(rt; blocks(&lowered) == *count, "{text}");
-        assert!(rt; walks_as(alloc, &accepted, &lowered)?, "{text}, lowered");
-        assert!(rt; walks_as(alloc, &accepted, &joined)?, "{text}, joined");
-        assert!(rt; walks_as(alloc, &accepted, &spelled)?, "{text}, spelled");
+    for (text, blocks) in PROGRAMS {
+        let seen = seen_in(alloc, text)?;
+        assert!(rt; seen.blocks == *blocks, "{text}");
+        assert!(rt; seen.lowered, "{text}, lowered");
+        assert!(rt; seen.joined, "{text}, joined");
+        assert!(rt; seen.spelled, "{text}, spelled");
     }
     Ok(())
 }
@@ -302,12 +362,17 @@ const WAVES: &[(&str, u32)] = &[
     ("proc f() { } proc main() { f(); print 1; f(); }", 4),
 ];
 
+fn waves(alloc: Global, text: &str) -> Result<u32, NoMemory> {
+    let accepted = accepted(alloc, text)?;
+    let graph = lower(alloc, &accepted)?;
+    Ok(cut(alloc, &graph)?.count())
+}
+
 #[test]
 fn graphs_are_cut_into_waves(rt: HostRuntime) -> Result<(), Fail> {
     let alloc = rt.alloc();
     for (text, count) in WAVES {
-        let graph = lower(alloc, &accepted(alloc, text)?)?;
-        assert_eq!(rt; cut(alloc, &graph)?.count(), *count, "{text}");
+        assert_eq!(rt; waves(alloc, text)?, *count, "{text}");
     }
     Ok(())
 }

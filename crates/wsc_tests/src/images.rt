@@ -1,12 +1,13 @@
 //! The images of programs walk as the programs run.
 
-use crate::graphs::{INPUTS, PROGRAMS, accepted, compiled, world};
+use crate::graphs::{INPUTS, PROGRAMS, accepted, world};
 use image_walk::{Checked, Walked, walk_image};
 use seq_run::run_plain;
 use src_check::Accepted;
 use std::alloc::Global;
 use std::test::Fail;
-use ws_words::{Cells, NoMemory, Plain, Words};
+use wave_build::compile;
+use ws_words::{Cells, NoMemory, Plain, Words, World};
 
 // The most turns and firings that a test takes.
 const TURNS: u64 = 150;
@@ -24,8 +25,8 @@ fn begin_with(rows: &Cells, first: &Cells) -> bool {
 }
 
 // Whether words are the first of others.
-fn are_first(words: &Words, all: &Words) -> bool {
-    for (place, word) in words.as_slice().iter().enumerate() {
+pub fn are_first(words: &[u64], all: &Words) -> bool {
+    for (place, word) in words.iter().enumerate() {
         if all.get(place) != Some(*word) {
             return false;
         }
@@ -54,31 +55,46 @@ fn is_walk_of(walked: &Walked, ran: &Plain) -> bool {
             arrays: _,
             took: _,
             turns: _,
-        } => walked.fault == Some(*array) && are_first(printed, &walked.printed),
-        Plain::Going { printed } => are_first(printed, &walked.printed),
+        } => walked.fault == Some(*array) && are_first(printed.as_slice(), &walked.printed),
+        Plain::Going { printed } => are_first(printed.as_slice(), &walked.printed),
     }
 }
 
-// Whether an image walks as a program runs, on each input.
+// Whether an image walks as a program runs.
+fn walks_on(
+    alloc: Global,
+    accepted: &Accepted,
+    image: &Checked,
+    world: &World,
+) -> Result<bool, NoMemory> {
+    let walked = walk_image(alloc, image, world, FIRINGS)?;
+    let ran = run_plain(alloc, accepted, world, TURNS)?;
+    Ok(is_walk_of(&walked, &ran))
+}
+
+// The same on each input.
 fn walks_as(alloc: Global, accepted: &Accepted, image: &Checked) -> Result<bool, NoMemory> {
     for input in INPUTS {
         let world = world(alloc, input)?;
-        let walked = walk_image(alloc, image, &world, FIRINGS)?;
-        let ran = run_plain(alloc, accepted, &world, TURNS)?;
-        if !is_walk_of(&walked, &ran) {
+        if !walks_on(alloc, accepted, image, &world)? {
             return Ok(false);
         }
     }
     Ok(true)
 }
 
+// Whether the image of a program walks as it runs.
+fn image_walks(alloc: Global, text: &str) -> Result<bool, NoMemory> {
+    let accepted = accepted(alloc, text)?;
+    let image = compile(alloc, &accepted)?;
+    walks_as(alloc, &accepted, &image)
+}
+
 #[test]
 fn images_walk_as_programs_run(rt: HostRuntime) -> Result<(), Fail> {
     let alloc = rt.alloc();
     for (text, _) in PROGRAMS {
-        let accepted = accepted(alloc, text)?;
-        let image = compiled(alloc, text)?;
-        assert!(rt; walks_as(alloc, &accepted, &image)?, "{text}");
+        assert!(rt; image_walks(alloc, text)?, "{text}");
     }
     Ok(())
 }

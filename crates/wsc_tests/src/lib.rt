@@ -6,16 +6,21 @@
 //! 24 numbers of turns each; they count the waves of three graphs; and they compile the 40 programs and
 //! compare the walks of the images with `run_plain`. They run ten compiled programs on the core 20 times each
 //! with events picked at random, and compare with `run`; and they make 23 events of one image in a given
-//! order, and are refused at each those that aren't enabled. They run images with a gate that holds a token
-//! until those of other workers have come, so that one must steal, which a worker fails that keeps the
-//! buffer's lock while it works, as was tried by hand; and with one that counts each token; programs with 1,
-//! 2 and 8 workers; and they say for each command whether an image is handed back. They give words from ports
-//! and take words to them, with 1 and 4 workers and each call of a port failing in turn, and compare the
-//! answer and what each port has left and took; and they run again with the ports that a run hands back, also
-//! one that failed, and also with one of them swapped. One calls `multi` with four jobs and a failing port of
-//! thread 1, with 1, 2 and 8 workers.
+//! order, and are refused at each those that aren't enabled. They run the ten on a prepared core, at once and
+//! with a stop before the last firing, and compare both with `run_checked`; and of two images they say what
+//! is printed before the last firing, once without the word that fires last. They run images with a gate that
+//! holds a token until those of other workers have come, so that one must steal, which a worker fails that
+//! keeps the buffer's lock while it works, as was tried by hand; and with one that counts each token;
+//! programs with 1, 2 and 8 workers; and they say for each command whether an image is handed back. They give
+//! words from ports and take words to them, with 1 and 4 workers and each call of a port failing in turn, and
+//! compare the answer and what each port has left and took; and they run again with the ports that a run
+//! hands back, also one that failed, and also with one of them swapped. They give words from boxed ports and
+//! take words to them, with 1 and 8 workers, also where one fails or finds no memory. One calls `multi` with
+//! four jobs and a failing port of thread 1, with 1, 2 and 8 workers.
 #![tactic(auto)]
 
+#[cfg(test)]
+mod boxed;
 #[cfg(test)]
 mod calls;
 #[cfg(test)]

@@ -1,6 +1,6 @@
-//! Calls over memory with tapes as ports, and what they give back.
+//! Calls over memory, and what is compared of what they answer.
 
-ghost use Rattle.std.specs.Prelude.{◌≡◌, IfOk};
+ghost use Rattle.std.specs.Prelude.{◌≡◌, ◌<◌, IfOk};
 ghost use Rattle.std.specs.List.{AllByRecursion};
 ghost use Rattle.port_set.specs.Slots.{AllOpen, IsOpen, contents, told};
 ghost use Rattle.port_set.specs.Tape.{tape_tells};
@@ -8,9 +8,9 @@ ghost use Rattle.store_buf.specs.Outdoors.{left_at};
 ghost use Rattle.wave_gen.specs.Words.{IsWord};
 ghost use Rattle.wsc_top.specs.Answers.{TellWords};
 
-use fire_crew::Gate;
+use fire_crew::{Free, Gate};
 use image_walk::Checked;
-use port_set::{Slots, TapePort};
+use port_set::{Port, Slots, TapePort};
 use std::alloc::Global;
 use std::sync::Wait;
 use std::thread::Threads;
@@ -57,69 +57,55 @@ fn stay_open(ports: &Slots<TapePort>)
     ensures { AllByRecursion IsOpen (contents tape_tells ports.now) }
 {}
 
-// What went out, and what a call gave back.
-#[derive(Drop)]
+// What is asked of the program: its words, which spaces separate, what it reads, and what is to go out.
+#[derive(Clone, Copy)]
+pub struct Asked<'a> {
+    pub line: &'a str,
+    pub text: &'a [u8],
+    pub wanted: &'a str,
+}
+
+// How many bytes a call of the source or the sink moves, and which of their calls fail.
+#[derive(Clone, Copy)]
+pub struct Ends {
+    pub piece: usize,
+    pub read_fault: u64,
+    pub write_fault: u64,
+}
+
+// Nothing fails, since calls are counted from 1.
+pub const SOUND: Ends = Ends {
+    piece: 100_000,
+    read_fault: 0,
+    write_fault: 0,
+};
+
+// What a call answers, as plain data: whether what is wanted went out, how it ended, how many bytes were
+// flushed and were left to read, whether an image came back, and how many of threads.
+#[derive(Clone, Copy)]
 pub struct Reply {
-    pub bytes: Vec<u8>,
+    pub said: bool,
     pub status: Status,
-    pub image: Option<Checked>,
-    pub threads: Vec<Checked>,
-    pub ports: Slots<TapePort>,
+    pub flushed: usize,
+    pub left: usize,
+    pub image: bool,
+    pub threads: usize,
 }
 
 impl Reply {
-    // What went out, as text.
-    pub fn text(&self) -> &str {
-        str::from_utf8(&self.bytes).unwrap_or("")
+    // Whether what is wanted went out, with this status.
+    pub fn is(&self, status: Status) -> bool {
+        self.said && self.status == status
     }
 
-    // The ports alone.
-    pub fn into_ports(self) -> Slots<TapePort>
-        ensures { result ≡ self.ports }
-    {
-        self.ports
+    // The same with this status code.
+    pub fn has(&self, code: u8) -> bool {
+        self.said && self.status.code() == code
     }
 }
 
-// The call of the program, of which no more is said than that no port is closed.
-fn brief<S: Source, K: Sink, G: Gate, R: Threads + Wait + Sync>(
-    rt: &R,
-    alloc: Global,
-    words: &[String],
-    source: &mut S,
-    sink: &mut K,
-    ports: Slots<TapePort>,
-    gate: &G,
-) -> Outcome<TapePort>
-    requires told { TellWords (contents tape_tells ports) }
-    requires open { AllOpen (contents tape_tells ports) }
-    ensures { AllOpen (contents tape_tells result.ports) }
-{
-    wsc(rt, alloc, words, source, sink, ports, gate)
-}
-
-// The same with tapes, whose words are known to be words.
-pub fn run_words<S: Source, K: Sink, G: Gate, R: Threads + Wait + Sync>(
-    rt: &R,
-    alloc: Global,
-    words: &[String],
-    source: &mut S,
-    sink: &mut K,
-    ports: Slots<TapePort>,
-    gate: &G,
-) -> Outcome<TapePort>
-    requires { AllByRecursion IsOpen (contents tape_tells ports) }
-    ensures { AllByRecursion IsOpen (contents tape_tells result.ports) }
-{
-    tell_words(&ports);
-    are_open(&ports);
-    let outcome = brief(rt, alloc, words, source, sink, ports, gate);
-    stay_open(&outcome.ports);
-    outcome
-}
-
-// The words of a line, which spaces separate.
-pub fn words_of(alloc: Global, line: &str) -> Result<Vec<String>, NoMemory> {
+// The words of a line.
+fn words_of(alloc: Global, line: &str) -> Result<Vec<String>, NoMemory> {
     let mut words = Vec::new(alloc);
     for word in line.split(' ') {
         words.push(String::from_str(alloc, word)?)?;
@@ -127,54 +113,174 @@ pub fn words_of(alloc: Global, line: &str) -> Result<Vec<String>, NoMemory> {
     Ok(words)
 }
 
-// The words of this line, a source of this text, and a sink, which don't fail.
-fn prepared(
-    alloc: Global,
-    line: &str,
-    text: &str,
-) -> Result<(Vec<String>, MemSource, MemSink), NoMemory> {
-    let words = words_of(alloc, line)?;
-    let bytes = Bytes::from_slice(alloc, text.as_bytes())?;
-    let source = MemSource::new(bytes, 100_000, Words::empty(alloc));
-    let sink = MemSink::new(alloc, 100_000, Words::empty(alloc))?;
-    Ok((words, source, sink))
+fn source_of(alloc: Global, text: &[u8], ends: Ends) -> Result<MemSource, NoMemory>
+    requires { 0 < ends.piece }
+{
+    let faults = Words::from_slice(alloc, &[ends.read_fault])?;
+    let bytes = Bytes::from_slice(alloc, text)?;
+    Ok(MemSource::new(bytes, ends.piece, faults))
 }
 
-// What went out, beside what a call gave back.
-fn replied(alloc: Global, sink: &MemSink, outcome: Outcome<TapePort>) -> Result<Reply, NoMemory>
-    requires { AllByRecursion IsOpen (contents tape_tells outcome.ports) }
-    ensures { IfOk result (λ reply. AllByRecursion IsOpen (contents tape_tells reply.ports)) }
+fn sink_of(alloc: Global, ends: Ends) -> Result<MemSink, NoMemory>
+    requires { 0 < ends.piece }
 {
-    let bytes = Vec::from_slice(alloc, sink.held())?;
-    let Outcome {
-        status,
-        image,
-        threads,
-        ports,
-    } = outcome;
-    Ok(Reply {
-        bytes,
-        status,
-        image,
-        threads,
-        ports,
+    let faults = Words::from_slice(alloc, &[ends.write_fault])?;
+    Ok(MemSink::new(alloc, ends.piece, faults)?)
+}
+
+// The words of a call, what it reads, and where it writes.
+#[derive(Drop)]
+struct Memory {
+    words: Vec<String>,
+    source: MemSource,
+    sink: MemSink,
+}
+
+fn prepared(alloc: Global, asked: Asked<'_>, ends: Ends) -> Result<Memory, NoMemory>
+    requires { 0 < ends.piece }
+{
+    let words = words_of(alloc, asked.line)?;
+    let source = source_of(alloc, asked.text, ends)?;
+    let sink = sink_of(alloc, ends)?;
+    Ok(Memory {
+        words,
+        source,
+        sink,
     })
 }
 
-// A call with the words of this line, where the source and the sink don't fail.
+// The call of the program, of which no more is said than that no port is closed.
+fn brief<S: Source, K: Sink, P: Port + Send, G: Gate, R: Threads + Wait + Sync>(
+    rt: &R,
+    alloc: Global,
+    words: &[String],
+    source: &mut S,
+    sink: &mut K,
+    ports: Slots<P>,
+    gate: &G,
+) -> Outcome<P>
+    requires told { TellWords (contents P.tells ports) }
+    requires open { AllOpen (contents P.tells ports) }
+    ensures { AllOpen (contents P.tells result.ports) }
+{
+    wsc(rt, alloc, words, source, sink, ports, gate)
+}
+
+// What a call gives back, and its reply.
+fn heard<P: Port + Send, G: Gate, R: Threads + Wait + Sync>(
+    rt: &R,
+    alloc: Global,
+    memory: &mut Memory,
+    wanted: &str,
+    ports: Slots<P>,
+    gate: &G,
+) -> (Reply, Outcome<P>)
+    requires told { TellWords (contents P.tells ports) }
+    requires open { AllOpen (contents P.tells ports) }
+    ensures { AllOpen (contents P.tells result.1.ports) }
+{
+    let Memory {
+        words,
+        source,
+        sink,
+    } = memory;
+    let outcome = brief(rt, alloc, words, source, sink, ports, gate);
+    let reply = Reply {
+        said: sink.held() == wanted.as_bytes(),
+        status: outcome.status,
+        flushed: sink.flushed(),
+        left: source.left().len(),
+        image: outcome.image.is_some(),
+        threads: outcome.threads.len(),
+    };
+    (reply, outcome)
+}
+
+// The same for what is asked.
+fn outcome_of<P: Port + Send, G: Gate, R: Threads + Wait + Sync>(
+    rt: &R,
+    alloc: Global,
+    asked: Asked<'_>,
+    ends: Ends,
+    ports: Slots<P>,
+    gate: &G,
+) -> Result<(Reply, Outcome<P>), NoMemory>
+    requires piece { 0 < ends.piece }
+    requires told { TellWords (contents P.tells ports) }
+    requires open { AllOpen (contents P.tells ports) }
+    ensures { IfOk result (λ answer. AllOpen (contents P.tells answer.1.ports)) }
+{
+    let mut memory = prepared(alloc, asked, ends)?;
+    Ok(heard(rt, alloc, &mut memory, asked.wanted, ports, gate))
+}
+
+// The answer of a call with these ports, and the ports that it hands back.
+pub fn call_with_any<P: Port + Send, G: Gate, R: Threads + Wait + Sync>(
+    rt: &R,
+    alloc: Global,
+    asked: Asked<'_>,
+    ends: Ends,
+    ports: Slots<P>,
+    gate: &G,
+) -> Result<(Reply, Slots<P>), NoMemory>
+    requires piece { 0 < ends.piece }
+    requires told { TellWords (contents P.tells ports) }
+    requires open { AllOpen (contents P.tells ports) }
+    ensures { IfOk result (λ answer. AllOpen (contents P.tells answer.1)) }
+{
+    let (reply, outcome) = outcome_of(rt, alloc, asked, ends, ports, gate)?;
+    Ok((reply, outcome.ports))
+}
+
+// The same with tapes, whose words are known to be words, where no call of the source or the sink fails.
+pub fn call_with<R: Threads + Wait + Sync>(
+    rt: &R,
+    alloc: Global,
+    asked: Asked<'_>,
+    ports: Slots<TapePort>,
+) -> Result<(Reply, Slots<TapePort>), NoMemory>
+    requires { AllByRecursion IsOpen (contents tape_tells ports) }
+    ensures { IfOk result (λ answer. AllByRecursion IsOpen (contents tape_tells answer.1)) }
+{
+    tell_words(&ports);
+    are_open(&ports);
+    let (reply, ports) = call_with_any(rt, alloc, asked, SOUND, ports, &Free)?;
+    stay_open(&ports);
+    Ok((reply, ports))
+}
+
+// No ports.
+fn no_ports() -> Slots<TapePort>
+    ensures told { TellWords (contents tape_tells result) }
+    ensures open { AllOpen (contents tape_tells result) }
+{
+    let ports = Slots::none();
+    tell_words(&ports);
+    are_open(&ports);
+    ports
+}
+
+// The answer of a call without ports.
 pub fn call<G: Gate, R: Threads + Wait + Sync>(
     rt: &R,
     alloc: Global,
-    line: &str,
-    text: &str,
-    ports: Slots<TapePort>,
+    asked: Asked<'_>,
+    ends: Ends,
     gate: &G,
 ) -> Result<Reply, NoMemory>
-    requires { AllByRecursion IsOpen (contents tape_tells ports) }
-    ensures { IfOk result (λ reply. AllByRecursion IsOpen (contents tape_tells reply.ports)) }
+    requires { 0 < ends.piece }
 {
-    let (words, source, sink) = prepared(alloc, line, text)?;
-    let (mut source, mut sink) = (source, sink);
-    let outcome = run_words(rt, alloc, &words, &mut source, &mut sink, ports, gate);
-    replied(alloc, &sink, outcome)
+    let (reply, _) = call_with_any(rt, alloc, asked, ends, no_ports(), gate)?;
+    Ok(reply)
+}
+
+// The image that a call without ports hands back.
+pub fn image_of<G: Gate, R: Threads + Wait + Sync>(
+    rt: &R,
+    alloc: Global,
+    asked: Asked<'_>,
+    gate: &G,
+) -> Result<Option<Checked>, NoMemory> {
+    let (_, outcome) = outcome_of(rt, alloc, asked, SOUND, no_ports(), gate)?;
+    Ok(outcome.image)
 }

@@ -5,8 +5,7 @@ ghost use Rattle.std.specs.List.{AllByRecursion};
 ghost use Rattle.port_set.specs.Slots.{IsOpen, contents};
 ghost use Rattle.port_set.specs.Tape.{tape_tells};
 
-use crate::replies::call;
-use fire_crew::Free;
+use crate::replies::{Asked, call_with};
 use port_set::{Slots, TapePort};
 use std::alloc::Global;
 use std::sync::Wait;
@@ -45,7 +44,7 @@ pub fn tapes(alloc: Global, fails: [u64; 3]) -> Result<Slots<TapePort>, NoMemory
 }
 
 // Of each of the first three ports the words that it has left, and those that it took.
-pub type Lists = [&'static [u64]; 6];
+type Lists = [&'static [u64]; 6];
 
 // Whether the tape in a slot has left and took these words.
 fn is_at(slot: &Option<TapePort>, left: &[u64], took: &[u64]) -> bool {
@@ -55,24 +54,30 @@ fn is_at(slot: &Option<TapePort>, left: &[u64], took: &[u64]) -> bool {
     }
 }
 
-pub fn are_at(ports: &Slots<TapePort>, lists: &Lists) -> bool {
+fn are_at(ports: &Slots<TapePort>, lists: &Lists) -> bool {
     is_at(&ports.first, lists[0], lists[1])
         && is_at(&ports.second, lists[2], lists[3])
         && is_at(&ports.third, lists[4], lists[5])
 }
 
-// How often tapes have failed, all together.
-pub fn faults(ports: &Slots<TapePort>) -> u64 {
-    let mut count = 0u64;
-    for slot in [&ports.first, &ports.second, &ports.third] {
-        if let Some(tape) = slot {
-            count = count.wrapping_add(tape.faults());
-        }
+// How often the tape in a slot has failed.
+fn faults_in(slot: &Option<TapePort>) -> u64 {
+    match slot {
+        Some(tape) => tape.faults(),
+        None => 0,
     }
-    count
 }
 
-const LINES: [&str; 2] = ["run --workers 1", "run --workers 4"];
+// How often tapes have failed, all together.
+fn faults(ports: &Slots<TapePort>) -> u64 {
+    faults_in(&ports.first)
+        .wrapping_add(faults_in(&ports.second))
+        .wrapping_add(faults_in(&ports.third))
+}
+
+const ONE: &str = "run --workers 1";
+
+const FOUR: &str = "run --workers 4";
 
 // Port 1 gives, gives and takes; port 2 takes three times; port 3 gives; slot 5 is empty.
 const JOB: &str = "proc main() { var x, y; give 1, x; print x; take 2, x + 1; give 1, y; \
@@ -80,7 +85,7 @@ const JOB: &str = "proc main() { var x, y; give 1, x; print x; take 2, x + 1; gi
     print 8; }";
 
 // Of each port the number of the call that fails; what goes out, the status, and where the ports are.
-type Row = ([u64; 3], &'static str, Status, Lists);
+pub type Row = ([u64; 3], &'static str, Status, Lists);
 
 const ROWS: &[Row] = &[
     (
@@ -139,33 +144,53 @@ const ROWS: &[Row] = &[
     ),
 ];
 
-// Whether a call ends as a row says.
+// Whether a call ends as a row says, and hands so many images of threads back, or where they are none, one
+// image.
 fn ends_so<R: Threads + Wait + Sync>(
     rt: &R,
     alloc: Global,
-    line: &str,
+    asked: Asked<'_>,
     row: &Row,
+    threads: usize,
 ) -> Result<bool, NoMemory> {
-    let (fails, text, status, lists) = row;
-    let reply = call(rt, alloc, line, JOB, tapes(alloc, *fails)?, &Free)?;
-    let failed = if *status == Status::Done { 0 } else { 1 };
-    Ok(
-        reply.text() == *text
-            && reply.status == *status
-            && are_at(&reply.ports, lists)
-            && faults(&reply.ports) == failed,
-    )
+    let (fails, _, status, lists) = row;
+    let failed = match status {
+        Status::PortFault(_) => 1,
+        _ => 0,
+    };
+    let (reply, ports) = call_with(rt, alloc, asked, tapes(alloc, *fails)?)?;
+    let images = reply.threads == threads && reply.image == (threads == 0);
+    Ok(reply.is(*status) && images && are_at(&ports, lists) && faults(&ports) == failed)
+}
+
+// What the first call should say that doesn't end as its row says.
+pub fn first_wrong<R: Threads + Wait + Sync>(
+    rt: &R,
+    alloc: Global,
+    line: &str,
+    text: &str,
+    rows: &[Row],
+    threads: usize,
+) -> Result<Option<&'static str>, NoMemory> {
+    for row in rows {
+        let asked = Asked {
+            line,
+            text: text.as_bytes(),
+            wanted: row.1,
+        };
+        if !ends_so(rt, alloc, asked, row, threads)? {
+            return Ok(Some(row.1));
+        }
+    }
+    Ok(None)
 }
 
 // A run ends at the first call of a port that fails, with what came before it.
 #[test]
 fn ports_give_and_take_until_one_fails(rt: HostRuntime) -> Result<(), Fail> {
     let alloc = rt.alloc();
-    for row in ROWS {
-        for line in LINES {
-            assert!(rt; ends_so(&rt, alloc, line, row)?, "{line}, {}", row.1);
-        }
-    }
+    assert_eq!(rt; first_wrong(&rt, alloc, ONE, JOB, ROWS, 0)?, None);
+    assert_eq!(rt; first_wrong(&rt, alloc, FOUR, JOB, ROWS, 0)?, None);
     Ok(())
 }
 
@@ -187,40 +212,41 @@ fn stepped<R: Threads + Wait + Sync>(
     alloc: Global,
     line: &str,
     ports: Slots<TapePort>,
-    text: &str,
+    wanted: &str,
 ) -> Result<(bool, Slots<TapePort>), NoMemory>
     requires { AllByRecursion IsOpen (contents tape_tells ports) }
     ensures { IfOk result (λ answer. AllByRecursion IsOpen (contents tape_tells answer.1)) }
 {
-    let reply = call(rt, alloc, line, STEP, ports, &Free)?;
-    let said = reply.text() == text;
-    Ok((said, reply.into_ports()))
+    let asked = Asked {
+        line,
+        text: STEP.as_bytes(),
+        wanted,
+    };
+    let (reply, ports) = call_with(rt, alloc, asked, ports)?;
+    Ok((reply.said, ports))
 }
 
-// Whether a second run goes on, with another tape in slot 2.
+// Whether a run goes on, with another tape in slot 2.
 fn goes_on_with<R: Threads + Wait + Sync>(
     rt: &R,
     alloc: Global,
     line: &str,
     ports: Slots<TapePort>,
-    other: TapePort,
 ) -> Result<bool, NoMemory>
-    requires ports { AllByRecursion IsOpen (contents tape_tells ports) }
-    requires other { other.closed ≡ false }
+    requires { AllByRecursion IsOpen (contents tape_tells ports) }
 {
     let mut ports = ports;
-    let old = swapped(&mut ports, other);
+    let other = TapePort::new(alloc, Words::empty(alloc), Words::empty(alloc));
+    let old = is_at(&swapped(&mut ports, other), &[40], &[5]);
     let (six, ports) = stepped(rt, alloc, line, ports, "6\nhalt\n")?;
-    Ok(six && is_at(&old, &[40], &[5]) && are_at(&ports, &[&[7], &[], &[], &[6], &[11], &[]]))
+    Ok(old && six && are_at(&ports, &[&[7], &[], &[], &[6], &[11], &[]]))
 }
 
 // Two runs over the same ports, but for one that is swapped.
 fn goes_on<R: Threads + Wait + Sync>(rt: &R, alloc: Global, line: &str) -> Result<bool, NoMemory> {
-    let other = tape(alloc, &[], 0)?;
     let ports = tapes(alloc, [0, 0, 0])?;
     let (five, ports) = stepped(rt, alloc, line, ports, "5\nhalt\n")?;
-    let rest = goes_on_with(rt, alloc, line, ports, other)?;
-    Ok(five && rest)
+    Ok(goes_on_with(rt, alloc, line, ports)? && five)
 }
 
 // Two runs over the same ports, where port 2 fails in the first.
@@ -238,9 +264,7 @@ fn goes_on_after_a_fault<R: Threads + Wait + Sync>(
 #[test]
 fn a_second_run_goes_on_where_the_first_left_the_ports(rt: HostRuntime) -> Result<(), Fail> {
     let alloc = rt.alloc();
-    for line in LINES {
-        assert!(rt; goes_on(&rt, alloc, line)?, "{line}");
-        assert!(rt; goes_on_after_a_fault(&rt, alloc, line)?, "{line}");
-    }
+    assert!(rt; goes_on(&rt, alloc, ONE)? && goes_on_after_a_fault(&rt, alloc, ONE)?);
+    assert!(rt; goes_on(&rt, alloc, FOUR)? && goes_on_after_a_fault(&rt, alloc, FOUR)?);
     Ok(())
 }
