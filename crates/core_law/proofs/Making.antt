@@ -13,7 +13,7 @@ use Rattle.core_law.specs.Core.{Chain, State, Event, Match, Issue, IsNext, NextA
 use Rattle.core_law.specs.Fit.{FiresAt, RightRequest, NoOp, IssuedOp, Ordered, Fit}
 use Rattle.core_law.proofs.Facts.{WalkFacts}
 use Rattle.core_law.proofs.Passing.{same_fired, ordered_next}
-use Rattle.core_law.proofs.Steps.{turn_at, inst_instr}
+use Rattle.image_walk.proofs.Steps.{turn_at, inst_instr}
 use Rattle.core_law.proofs.Ports.{with_key_same}
 use Rattle.core_law.proofs.BufferKept as B
 

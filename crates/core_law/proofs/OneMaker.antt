@@ -10,13 +10,15 @@ use Rattle.image_walk.specs.Walk.{Inst, Pos, pos, fires, choice, result_at, inst
 use Rattle.image_walk.specs.Sound.{Slots, none_open, opened, all_opened, Fresh, closed, edge_all, opens_at, HasDest, PortsThere, ShapeRules, SlotRules}
 use Rattle.core_law.specs.Core.{Apart, IsSent}
 use Rattle.core_law.specs.Fit.{FiresAt}
-use Rattle.core_law.proofs.Slots.{fresh_left, fresh_right, edge_all_has, sent_from, is_sent_append_cases}
-use Rattle.core_law.proofs.Steps.{StepCase, stands, turns, ends, leaves, step_case, place, Turn, turn_at, inst_instr, once}
-use Rattle.core_law.proofs.Flow.{turn_number, slots_at, path, at_end, Stays, leave_stays, turn_on, end_number, cross_number, same_wave_number, apart_edge, consumed_from}
+use Rattle.core_law.proofs.Slots.{sent_from, is_sent_append_cases}
+use Rattle.image_walk.proofs.Steps.{StepCase, stands, turns, ends, leaves, step_case, place, Turn, turn_at, inst_instr, once}
+use Rattle.core_law.proofs.Flow.{consumed_from}
+use Rattle.image_walk.proofs.Flow.{path, at_end, Stays, leave_stays, turn_on, end_number, cross_number, same_wave_number, apart_edge}
+use Rattle.image_walk.specs.Standing.{turn_number, slots_at}
 use Rattle.core_law.proofs.Sent.{sends_wave, now_number, now_slot, start_zero, start_slot, start_number, start_value, AtEnd, end_of, inst_in, agreed, goes_on, EdgeSlot, edge_slot}
 use Rattle.core_law.proofs.Made.{turn_wave}
 use Rattle.image_walk.proofs.Along.{path_end}
-use Rattle.image_walk.proofs.Slots.{all_opened_has, closed_cases, fresh_apart, opened_cases, with_tokens_lands}
+use Rattle.image_walk.proofs.Slots.{all_opened_has, closed_cases, fresh_apart, opened_cases, with_tokens_lands, fresh_left, fresh_right, edge_all_has}
 
 -- lists of destinations that can be opened have no place twice
 fresh_tokens : (w v : ℕ) (ds : List Dest) (o : Slots) → Fresh ds o → Apart (tokens_to w v ds)
