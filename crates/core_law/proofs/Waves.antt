@@ -7,7 +7,7 @@ use Rattle.image_walk.specs.Walk.{Inst, fires, start_tokens}
 use Rattle.core_law.specs.Core.{Key, State, HasFired, IsSent, Once}
 use Rattle.core_law.specs.Fit.{RightToken, Fit, Grounded}
 use Rattle.core_law.proofs.Facts.{WalkFacts, Maker}
-use Rattle.core_law.proofs.Counting.{once_length}
+use Rattle.core_law.proofs.Counting.{once_length, has_same}
 use Rattle.core_law.proofs.MatchKept.{same_inst}
 use Rattle.core_law.proofs.Passing.{same_fired}
 use Rattle.core_law.proofs.Slots.{sent_from, is_sent_append_cases}
@@ -35,9 +35,6 @@ record OfWaves (fired : List Key) (n : ℕ) : Type 0 where
   lower : (w i : ℕ) → HasFired keys w i → w < n
   among : (w i : ℕ) → HasFired keys w i → HasFired fired w i
 
-has_key : (fired : List Key) (a b c d : ℕ) → a ≡ c → b ≡ d → HasFired fired a b → HasFired fired c d
-has_key fired a b c d e f h = subst (λ (n : ℕ). HasFired fired c n) f (subst (λ (n : ℕ). HasFired fired n b) e h)
-
 of_waves : (fired : List Key) (n : ℕ) → ((w : ℕ) → w < n → (i : ℕ) × HasFired fired w i) → OfWaves fired n
 of_waves fired zero f = record { keys = []; count = refl; once = tt; lower = λ w i h. absurd h; among = λ w i h. absurd h }
 of_waves fired (suc n) f =
@@ -48,7 +45,7 @@ of_waves fired (suc n) f =
       count = ap suc r.count;
       once = ((λ h. let l : n < n = r.lower n here.0 h in omega arith), r.once);
       lower = λ w i h. elim h [ inl e ↦ (let g : n ≡ w = e.0 in omega arith) | inr g ↦ (let l : w < n = r.lower w i g in omega arith) ];
-      among = λ w i h. elim h [ inl e ↦ has_key fired n here.0 w i e.0 e.1 here.1 | inr g ↦ r.among w i g ];
+      among = λ w i h. elim h [ inl e ↦ has_same fired n here.0 w i e.0 e.1 here.1 | inr g ↦ r.among w i g ];
     }
 
 waves_few : (fired : List Key) (n : ℕ) → ((w : ℕ) → w < n → (i : ℕ) × HasFired fired w i) → n ≤ length fired
@@ -78,7 +75,7 @@ module _ (image : Image) (world : World) (facts : WalkFacts image world) (s : St
         | inr m ↦ (let f : HasFired s.fired m.inst.wave m.inst.instr = maker_fired x hv.0 hv.1 t m in
             let e : m.time < t = m.earlier in
             elim (cases_eq w m.inst.wave) [
-              | inl g ↦ (m.inst.instr, has_key s.fired m.inst.wave m.inst.instr w m.inst.instr (sym g) refl f)
+              | inl g ↦ (m.inst.instr, has_same s.fired m.inst.wave m.inst.instr w m.inst.instr (sym g) refl f)
               | inr g ↦ lower_fired n m.time m.inst (omega arith) m.fires f w (elim (sends_wave image m.inst.wave m.inst.instr m.inst.operands m.inst.result x.wave x.instr 0 hv.0 m.sent) [
                 | inl q ↦ omega arith
                 | inr q ↦ omega arith
@@ -92,12 +89,12 @@ module _ (image : Image) (world : World) (facts : WalkFacts image world) (s : St
       let hv = full.1 0 full.0 in
       let r : RightToken image world a b 0 hv.0 = fit.held_right a b 0 hv.0 hv.1 in
       let wa : r.inst.wave ≡ a = r.at.wave in
-      lower_fired (suc r.time) r.time r.inst (omega arith) r.at.fires (has_key s.fired a b r.inst.wave r.inst.instr (sym r.at.wave) (sym r.at.instr) h) w (omega arith)
+      lower_fired (suc r.time) r.time r.inst (omega arith) r.at.fires (has_same s.fired a b r.inst.wave r.inst.instr (sym r.at.wave) (sym r.at.instr) h) w (omega arith)
 
   pub fired_wave : (w i : ℕ) → HasFired s.fired w i → w < length s.fired
   fired_wave w i h =
       let l : suc w ≤ length s.fired = waves_few s.fired (suc w) (λ a k. elim (cases_eq a w) [
-        | inl e ↦ (i, has_key s.fired w i a i (sym e) refl h)
+        | inl e ↦ (i, has_same s.fired w i a i (sym e) refl h)
         | inr n ↦ lower_key w i h a (omega arith)
       ]) in
       omega arith
@@ -106,7 +103,7 @@ module _ (image : Image) (world : World) (facts : WalkFacts image world) (s : St
   way_wave w i p v e = elim (grounded.tokens w i p v (inr e)) [
     | inl st ↦ (let z : w ≡ 0 = start_wave image w i p v st in omega arith)
     | inr f ↦ waves_few s.fired w (λ a k. elim (cases_eq a f.inst.wave) [
-      | inl g ↦ (f.inst.instr, has_key s.fired f.inst.wave f.inst.instr a f.inst.instr (sym g) refl f.fired)
+      | inl g ↦ (f.inst.instr, has_same s.fired f.inst.wave f.inst.instr a f.inst.instr (sym g) refl f.fired)
       | inr n ↦ lower_key f.inst.wave f.inst.instr f.fired a (elim (sends_wave image f.inst.wave f.inst.instr f.inst.operands f.inst.result w i p v f.sent) [ inl q ↦ omega arith | inr q ↦ omega arith ])
     ])
   ]
