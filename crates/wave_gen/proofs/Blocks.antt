@@ -8,7 +8,7 @@ use Rattle.wave_gen.specs.Waits.{Owner}
 use Rattle.wave_gen.specs.Wire.{Spot, Back, Front, dests_of, Line, Wants, no_wants, Made, emit, wire}
 use Rattle.wave_gen.specs.Plans.{merges, Leaves, Onto, Either, Lands, Halts, Plan, pulse, same_spot, same_spots, differing, steered, is_among, past, Tail, steers, sends, selected, tails_of, end_wants, behind_source, exit_made, body_made, block_made, has_front, renew, advances, fronts, no_plan, no_made, plan_at, start_of, blocks_from, mades, made_at, starts_at, numbers, begins, owner_of}
 use Rattle.wave_gen.proofs.Planned.{Needs, Apart, Inner, Outer, EdgesAre, PlanIs}
-use Rattle.wave_gen.proofs.Steps.{first_le}
+use Rattle.image_walk.proofs.Steps.{first_le}
 use Rattle.wave_gen.proofs.SteeredNames.{or_in}
 use Rattle.wave_gen.proofs.Wiring.{Ahead, Inv, Good, emit_inv}
 use Rattle.wave_gen.proofs.Flow.{Wanted, wire_wanted, make_wanted, gather_wanted, with_uses_wanted, selected_wanted, reads_more, helds}

@@ -12,7 +12,6 @@ use Rattle.wave_gen.specs.Wire.{Spot, Back, Front, dests_of, Line, Wants}
 use Rattle.wave_gen.specs.Plans.{Leaves, Onto, Either, Lands, Plan, same_spot, same_spots, differing, steered, is_among, past, Tail, TailAt, steer_of, steers, sends, fronts, plan_at, starts_at, begins, tails_of, end_wants, pads_of, draft_of, code_of, exit_of, source_of, filled, next_of, instr_of}
 use Rattle.wave_gen.proofs.SteeredNames.{or_apart, in_or}
 use Rattle.wave_gen.proofs.Planned.{Apart, AllIn, PadsFit, PlansAre, Outer}
-use Rattle.wave_gen.proofs.Slots.{has_append_left, has_append_right}
 use Rattle.wave_gen.proofs.Ends.{Clean, owner_has, owner_from}
 use Rattle.wave_gen.proofs.Fronts.{in_nth, nth_in, in_or_not, FrontIs, front_is}
 use Rattle.wave_gen.proofs.Blocks.{Facts, facts, Fine, end_clean, starts_outer}
@@ -22,7 +21,7 @@ use Rattle.wave_gen.proofs.TailLines.{is_tail_op, TailInstr, tail_instr, tail_at
 use Rattle.wave_gen.proofs.Number.{block_at_is}
 use Rattle.ws_words.proofs.Numbers.{eqb_is}
 use Rattle.ws_words.proofs.Bools.{and_parts as and_both, or_comes as or_cases}
-use Rattle.image_walk.proofs.Slots.{has_append_cases}
+use Rattle.image_walk.proofs.Slots.{has_append_cases, has_append_left, has_append_right}
 use Rattle.ws_isa.proofs.Images.{nth_short as nth_lt}
 use Rattle.image_walk.proofs.Steps.{first_up as next_first}
 
@@ -51,7 +50,7 @@ edges_distinct image b r k (suc n) d s = distinct_append (edge_dests image b r k
     (λ j q g h. apart j q g h)
   where
     apart : (j q : ℕ) → HasDest (edge_dests image b r k) j q → HasDest (edge_all image b r (suc k) n) j q → ⊥
-    apart j q g h = let f = Rattle.wave_gen.proofs.Slots.edge_all_from image b r (suc k) n j q h in
+    apart j q g h = let f = Rattle.image_walk.proofs.Slots.edge_all_from image b r (suc k) n j q h in
         let lo : suc k ≤ f.source = f.low in let hi : f.source < suc k + n = f.high in
         let e : k ≡ f.source = s k f.source j q (omega arith) (omega arith) (omega arith) (omega arith) g f.has in omega arith
 

@@ -16,10 +16,6 @@ pub or_assoc : (x y z : Bool) → ((x || y) || z) ≡ (x || (y || z))
 or_assoc true y z = refl
 or_assoc false y z = refl
 
-pub spots_there : (t : Table) → TableIs t → length t.spots.items ≡ length (spots (view.graph t.graph.now))
-spots_there t h =
-    sym (length-map t.spots.items spot_in_code) ∙ ap (λ (xs : List (ℕ × Block)). length xs) h.spots ∙ length-map (spots (view.graph t.graph.now)) spot_in_graph
-
 pub spot_drop : (g : Graph) (i : ℕ) → i < length (spots g) → drop i (spots g) ≡ spot_at g i ∷ drop (suc i) (spots g)
 unfolding spot_at
 spot_drop g i l = at (spots g) i l

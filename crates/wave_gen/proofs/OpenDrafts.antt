@@ -27,7 +27,8 @@ use Rattle.wave_gen.proofs.Shape.{shape, shape_front, shape_source, shape_addres
 use Rattle.wave_gen.proofs.Valid.{Slot, now_slot, edge_slot, starts_slot, slot_ahead}
 use Rattle.wave_gen.proofs.MoreShapes.{more_waves, more_pad_zero, more_pads_first, pad_front, more_pads, more_source, more_address, more_landing_first, more_landing_pad, more_halt_stops, more_stop_halts, more_halt_last}
 use Rattle.wave_gen.proofs.OpenArms.{draft_bare, draft_arms, draft_givers}
-use Rattle.wave_gen.proofs.SuitLines.{is_steer_op, Suits, suits_at, lines_suit}
+use Rattle.wave_link.specs.Layout.{is_steer_op}
+use Rattle.wave_gen.proofs.SuitLines.{Suits, suits_at, lines_suit}
 use Rattle.wave_gen.proofs.AllInstrs.{all_instrs, all_blocks}
 use Rattle.wave_link.proofs.FormedOf.{all_members as all_of_in}
 use Rattle.wave_link.proofs.GrownOrigin.{is_instr as in_image}

@@ -15,7 +15,8 @@ use Rattle.wave_gen.proofs.Runs.{run_item, run_items}
 use Rattle.wave_gen.specs.Gen.{Got, gen_term, gen_op, gen_ops, Agrees, FlipsWords, OpFine}
 use Rattle.wave_gen.proofs.DrawnPlans.{OpsFine}
 use Rattle.std.specs.List.{AllByRecursion}
-use Rattle.wave_gen.proofs.Terms.{run_append, acted, acted_none, Gives, term_gives, agrees_on, set_here, set_other}
+use Rattle.wave_gen.proofs.Terms.{run_append, acted_none, Gives, term_gives, agrees_on, set_here, set_other}
+use Rattle.call_gen.proofs.Visible.{with_more as acted}
 use Rattle.ws_words.proofs.Held.{set_length}
 
 -- lists of variables

@@ -15,7 +15,8 @@ use Rattle.wave_gen.specs.Plans.{pulse}
 use Rattle.wave_gen.proofs.Runs.{run_item, run_items}
 use Rattle.wave_gen.specs.Gen.{Got, top_word, gen_term, Agrees, FlipsWords}
 use Rattle.wave_gen.specs.Drawn.{Source, gen_source, gen_terms}
-use Rattle.wave_gen.proofs.Terms.{Gives, term_gives, agrees_on, set_here, set_other, acted, acted_none, acted_more, run_append, joined_gives, subtracted}
+use Rattle.wave_gen.proofs.Terms.{Gives, term_gives, agrees_on, set_here, set_other, acted_none, acted_more, run_append, joined_gives, subtracted}
+use Rattle.call_gen.proofs.Visible.{with_more as acted}
 
 -- what the last instruction of a term does, behind the items before it
 pub record Last (k : ℕ) (s : Names) (q : Source) (v : ℕ) (ls : List outside.Act) : Type 0 where

@@ -9,10 +9,7 @@ use Rattle.wave_gen.specs.Plans.{merges, Tail, Leaves, Onto, Either, Lands, Halt
 use Rattle.wave_gen.proofs.Planned.{PlansAre}
 use Rattle.wave_gen.proofs.More.{ItemsGive, SourceGives, PlansGive}
 use Rattle.wave_gen.proofs.Blocks.{made_is}
-
-abbrev pub is_steer_op : Op → Bool
-is_steer_op Steer = true
-is_steer_op _ = false
+use Rattle.wave_link.specs.Layout.{is_steer_op}
 
 -- an operation without a result and a send have no list, and a steer alone has two
 pub record Suits (l : Line) : Type 0 where

@@ -16,6 +16,7 @@ use Rattle.wave_gen.proofs.Runs.{run_item, run_items}
 use Rattle.wave_gen.specs.Gen.{Got, got, then_make, top_word, gen_term, Agrees, FlipsWords}
 use Rattle.ws_words.proofs.Lists.{append_on as append_assoc}
 use Rattle.wave_link.proofs.GrownEdges.{append_nil}
+use Rattle.call_gen.proofs.Visible.{with_more as acted}
 
 pub set_here : (f : ℕ → ℕ) (k v : ℕ) → set f k v k ≡ v
 set_here f k v = rw (eq-eqb k k refl) refl
@@ -26,10 +27,6 @@ set_other f k v j n = rw (ne_eqb j k n) refl
 pub run_append : (xs ys : List Item) (s : Names) → run_items (xs ++ ys) s ≡ run_items ys (run_items xs s)
 run_append [] ys s = refl
 run_append (x ∷ xs) ys s = run_append xs ys (run_item x s)
-
--- outside with more acts
-abbrev pub acted : Outside → List Act → Outside
-acted o acts = record { cells = o.cells; input = o.input; left = o.left; acts = o.acts ++ acts }
 
 pub acted_none : (o : Outside) → acted o [] ≡ o
 acted_none o = ap (λ (acts : List Act). record { cells = o.cells; input = o.input; left = o.left; acts = acts }) (append_nil o.acts)

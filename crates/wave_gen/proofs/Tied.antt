@@ -20,7 +20,8 @@ use Rattle.wave_gen.proofs.Runs.{run_item, run_items, run_choice}
 use Rattle.wave_gen.specs.Gen.{gen_term, gen_ops, Agrees, FlipsWords}
 use Rattle.wave_gen.specs.Drawn.{Source, gen_source, gen_terms}
 use Rattle.wave_gen.proofs.DrawnPlans.{zero_items, Leads, here, zeroed_at, Keeps, LandsAt, LandsAll, ExitDrawn, BlockDrawn, Drawn, ExitFine, BlockFine, WalkFine}
-use Rattle.wave_gen.proofs.Terms.{run_append, acted, agrees_on, set_here, set_other}
+use Rattle.wave_gen.proofs.Terms.{run_append, agrees_on, set_here, set_other}
+use Rattle.call_gen.proofs.Visible.{with_more as acted}
 use Rattle.wave_gen.proofs.Ops.{IsState, Left, ops_left, get_set, get_other}
 use Rattle.wave_gen.proofs.Sources.{Last, source_last, GiveMany, terms_give}
 use Rattle.wave_gen.proofs.Running.{Chained}
@@ -29,6 +30,7 @@ use Rattle.wave_gen.proofs.Following.{ending, left, stopped, To, onto, either, l
 use Rattle.ws_words.proofs.Numbers.{zeros_count as zeros_length}
 use Rattle.image_walk.proofs.Opening.{zeros_index as zeros_at}
 use Rattle.ws_words.proofs.Held.{set_length}
+use Rattle.cfg_core.proofs.Spots.{landed_count as landed_length}
 
 pub all_at : {A : Type 0} (P : A → Type 0) (xs : List A) (d : A) (i : ℕ) → AllByRecursion P xs → i < length xs → P (graph.or_else (graph.nth xs i) d)
 all_at P [] d i h l = absurd (omega arith)
@@ -70,11 +72,6 @@ same_home g b c l m e =
     sym y.vars ∙ ap (λ (p : graph.GraphProc). p.vars) q ∙ x.vars
 
 -- what a Send leaves in a landing's variables
-landed_length : (xs vs vars : List ℕ) → length (walks.landed xs vs vars) ≡ length vars
-landed_length [] vs vars = refl
-landed_length (x ∷ xs) [] vars = refl
-landed_length (x ∷ xs) (v ∷ vs) vars = landed_length xs vs (slice_set vars x v) ∙ set_length vars x v
-
 landed_other : (xs vs vars : List ℕ) (y : ℕ) → (rules.In y xs → ⊥) → slice_index (walks.landed xs vs vars) y ≡ slice_index vars y
 landed_other [] vs vars y n = refl
 landed_other (x ∷ xs) [] vars y n = refl

@@ -9,7 +9,7 @@ use Rattle.wave_gen.specs.Waits.{Distinct, Code, starts, Stands, Arrives, Waits}
 use Rattle.wave_gen.specs.Wire.{Spot, dests_of, Wants}
 use Rattle.wave_gen.specs.Plans.{Leaves, Onto, Either, Lands, Halts, Plan, pulse, fronts, plan_at, starts_at, begins, end_wants, pads_of, draft_of, code_of, exit_of, source_of, KeptOf, operands_needed, chooses, exit_made}
 use Rattle.wave_gen.proofs.Planned.{PlansAre, EdgesAre, Inner, Outer}
-use Rattle.wave_gen.proofs.Slots.{edge_all_from}
+use Rattle.image_walk.proofs.Slots.{edge_all_from}
 use Rattle.wave_gen.proofs.Fronts.{front_is}
 use Rattle.wave_gen.proofs.Blocks.{starts_outer, facts}
 use Rattle.wave_gen.proofs.Drafts.{block_stands, source_in}

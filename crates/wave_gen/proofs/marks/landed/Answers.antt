@@ -2,7 +2,8 @@ use Rattle.std.proofs.Common.{◌<◌, ◌∙◌, length, arith}
 use Rattle.cfg_core.specs.View as view
 use Rattle.wave_gen.specs.Listing.{landings_of}
 use Rattle.wave_gen.specs.Placed.{flag}
-use Rattle.wave_gen.proofs.Marked.{spots_there, some_next}
+use Rattle.wave_gen.proofs.Marked.{some_next}
+use Rattle.cfg_core.proofs.Spots.{count_is as spots_there}
 use Rattle.wave_gen.proofs.marks.landed.Goals as goal
 
 pub loop-i-preserved : goal.loop-i-preserved

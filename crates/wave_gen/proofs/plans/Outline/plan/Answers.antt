@@ -2,7 +2,7 @@ use Rattle.std.proofs.Common.{◌∙◌, ap, List, ℕ, arith, cond, map, suc, �
 use Rattle.wave_gen.specs.Plans.{pulse}
 use Rattle.wave_gen.specs.Placed.{flag}
 use Rattle.wave_gen.specs.declared.plan.Plan.{Plan}
-use Rattle.wave_gen.proofs.Marked.{spots_there}
+use Rattle.cfg_core.proofs.Spots.{count_is as spots_there}
 use Rattle.wave_gen.proofs.Outlined.{spot_of, plan_made}
 use Rattle.wave_gen.proofs.plans.Outline.plan.Goals as goal
 
