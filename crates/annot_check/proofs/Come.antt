@@ -2,7 +2,7 @@
 use Rattle.std.proofs.Common.{ℕ, zero, suc, ◌+◌, ◌≡◌, ◌<◌, ◌⊎◌, Bool, true, false, List, [], ◌∷◌, ◌++◌, length, get_or, set, refl, sym, ap, ◌∙◌, inl, inr, arith, length-append, length-set}
 use Rattle.std.proofs.lemmas.Bool.{cases_eq}
 use Rattle.std.proofs.lemmas.List.{get_or-set_other, get_or-set_same}
-use Rattle.annot_check.specs.declared.trace.Waves.{Waves}
+use Rattle.annot_check.specs.declared.worklist.Waves.{Waves}
 use Rattle.annot_check.specs.Open.{bit}
 use Rattle.annot_check.specs.Table.{MoreCome, unmarked}
 use Rattle.annot_check.proofs.Entries.{has_left, has_last, has_either}

@@ -3,7 +3,7 @@ use Rattle.std.proofs.Common.{ℕ, ◌≡◌, ◌⊎◌, true, List, [], ◌∷�
 use Rattle.ws_isa.specs.Image.{Image}
 use Rattle.ws_isa.specs.Formed.{WavesInOrder}
 use Rattle.image_walk.specs.Sound.{ShapeRules, SlotRules}
-use Rattle.annot_check.specs.declared.trace.Waves.{Waves}
+use Rattle.annot_check.specs.declared.worklist.Waves.{Waves}
 use Rattle.annot_check.specs.Done.{Begun, CameTo, WaveDone}
 use Rattle.annot_check.specs.Open.{bit}
 use Rattle.annot_check.specs.Table.{HasNumber, MoreCome}

@@ -11,9 +11,9 @@ ghost use Rattle.ws_isa.specs.declared.instr.Op.TheVariants.{Send, Halt, Merge};
 ghost use Rattle.annot_check.specs.Facts.{TableOf};
 ghost use Rattle.annot_check.specs.Open.{bit};
 
+use crate::facts::Facts;
 use crate::read::block;
 use crate::runs::now_dests;
-use crate::shape::Facts;
 use ws_isa::{Dest, Exit, Image, Instr, Op};
 
 /// Instructions that hand the result of a block's exit on, and those that have it at a port.

@@ -21,10 +21,14 @@
 
 mod copy;
 mod counts;
+mod doors;
 mod find;
 mod make;
+mod numbering;
 mod part;
+mod part_numbers;
 mod plan;
+mod saves;
 mod spell;
 
 pub use make::{shaped_branches_stand_alone, spell_calls};

@@ -1,35 +1,20 @@
 //! The part of a graph that a walk may come to.
 
-ghost use Rattle.std.specs.Prelude.{◌≡◌, ◌+◌, ◌++◌, ◌∷◌, [], ◌<◌, ◌≤◌, ℕ, map, length, slice_index, if◌then◌else◌, IfOk, OnOk};
+ghost use Rattle.std.specs.Prelude.{◌≡◌, ◌+◌, ◌++◌, ◌∷◌, [], ◌<◌, ◌≤◌, map, length, if◌then◌else◌, IfOk, OnOk};
 ghost use Rattle.cfg_core.specs.Graph.{spots};
 ghost use Rattle.cfg_core.specs.Rules.{IsGraph};
 ghost use Rattle.cfg_core.specs.Shape.{IsShaped, ArmsAlone};
 ghost use Rattle.cfg_core.specs.Shown.{SameWalks, SameArrays};
 ghost use Rattle.cfg_core.specs.View as view;
-ghost use Rattle.cfg_core.specs.Shows.{TableIs};
 ghost use Rattle.call_gen.specs.Keeps.{HasNoSend};
 ghost use Rattle.call_gen.specs.Reached.{AllReached};
 ghost use Rattle.call_gen.specs.Sizes.{Sizes, IsWithin};
 ghost use Rattle.call_gen.specs.Charged.{ReachedInPlace};
-ghost use Rattle.call_gen.specs.Part.{
-  PartIs,
-  ExitThere,
-  BlocksThere,
-  AreReached,
-  flag_at,
-  before,
-  number,
-  name,
-  part_block,
-  part_blocks,
-  part_proc,
-  part_procs,
-  part,
-};
+ghost use Rattle.call_gen.specs.Part.{PartIs, ExitThere, BlocksThere, flag_at, before, number, name, part_block, part_blocks, part_proc, part_procs, part};
 
 use crate::copy::{arrays, numbers as copy_numbers, operations};
-use crate::counts::one_if;
 use crate::find::find;
+use crate::part_numbers::{flag, number_at, numbers, places};
 use cfg_core::{
     Graph, GraphBlock, GraphBlocks, GraphProc, GraphProcs, Leave, Table, copy_term, copy_terms,
 };
@@ -43,50 +28,6 @@ pub(crate) struct Part<'a> {
     pub(crate) flags: Vec<bool>,
     pub(crate) places: Vec<usize>,
     pub(crate) numbers: Vec<usize>,
-}
-
-fn flag(flags: &[bool], b: usize) -> bool
-    ensures { result ≡ flag_at flags.now b }
-{
-    flags.get(b).copied().unwrap_or(false)
-}
-
-// The number at a place, or 0 past the end.
-fn number_at(numbers: &[usize], place: usize) -> usize
-    ensures { result ≡ slice_index numbers.now place }
-{
-    numbers.get(place).copied().unwrap_or(0)
-}
-
-// How many flags are set before each.
-fn places(alloc: Global, flags: &[bool]) -> Result<Vec<usize>, NoMemory>
-    ensures { IfOk result (λ places. (b : ℕ) → b < length flags.now →
-        slice_index places.items b ≡ before (flag_at flags.now) b) }
-{
-    let mut places = Vec::new(alloc);
-    let mut count = 0;
-    for b in 0..flags.len() {
-        places.push(count)?;
-        count += one_if(flag(flags, b));
-    }
-    Ok(places)
-}
-
-// How many procedures are kept before each.
-fn numbers(alloc: Global, table: &Table<'_>, flags: &[bool]) -> Result<Vec<usize>, NoMemory>
-    requires { TableIs table.now }
-    ensures { IfOk result (λ numbers. (f : ℕ) →
-        f < length (view.graph table.now.graph.now).procs →
-        slice_index numbers.items f ≡
-        number (view.graph table.now.graph.now) (flag_at flags.now) f) }
-{
-    let mut numbers = Vec::new(alloc);
-    let mut count = 0;
-    for f in 0..table.rooms.len() {
-        numbers.push(count)?;
-        count += one_if(flag(flags, table.room(f).entry));
-    }
-    Ok(numbers)
 }
 
 impl<'a> Part<'a> {

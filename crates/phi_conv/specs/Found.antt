@@ -3,7 +3,7 @@ use Rattle.std.specs.Prelude.{◌≡◌, ℕ, true, List, [], Option, Some, None
 use Rattle.cfg_core.specs.Graph.{Op, Block}
 use Rattle.cfg_core.specs.View as view
 use Rattle.phi_conv.specs.declared.find.ShortBranch.{ShortBranch}
-use Rattle.phi_conv.specs.declared.arms.Join.{Join}
+use Rattle.phi_conv.specs.declared.join.Join.{Join}
 use Rattle.phi_conv.specs.Short.{Short, is_arm, is_lone_arm}
 use Rattle.phi_conv.specs.Joined.{written, written_by, is_still}
 

@@ -16,8 +16,10 @@
 mod arms;
 mod copy;
 mod find;
+mod join;
 mod laws;
 mod make;
+mod written;
 
 pub use laws::sample_is_joined;
 pub use make::join_short;

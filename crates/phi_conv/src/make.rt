@@ -11,9 +11,9 @@ ghost use Rattle.live_vars.specs.Marks.{AreLive};
 ghost use Rattle.phi_conv.specs.Joined as joined;
 ghost use Rattle.phi_conv.specs.Keeps.{ExitsKept, NoCopyLive, PassesNoMore, ShortJoined, SizesKept, TurnsPayMost};
 
-use crate::arms::Join;
 use crate::copy::{arrays, exit, numbers, operations};
 use crate::find::short;
+use crate::join::Join;
 use cfg_core::{Graph, GraphBlock, GraphProc, GraphProcs, Leave, Table};
 use live_vars::LiveSets;
 use std::alloc::Global;

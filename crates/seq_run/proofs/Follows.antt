@@ -31,10 +31,10 @@ use Rattle.seq_run.specs.declared.tree.Step.TheVariants as code
 use Rattle.seq_run.specs.declared.tree.Step.TheFolds.{the_lemmas}
 use Rattle.seq_run.specs.declared.tree.Step.{Step}
 use Rattle.seq_run.specs.declared.tree.Proc.{Proc as CodeProc}
-use Rattle.seq_run.specs.declared.runner.Flow.{Flow}
-use Rattle.seq_run.specs.declared.runner.Flow.TheVariants as flows
-use Rattle.seq_run.specs.declared.runner.Reply.{Reply}
-use Rattle.seq_run.specs.declared.runner.Reply.TheVariants as replies
+use Rattle.seq_run.specs.declared.flow.Flow.{Flow}
+use Rattle.seq_run.specs.declared.flow.Flow.TheVariants as flows
+use Rattle.seq_run.specs.declared.flow.Reply.{Reply}
+use Rattle.seq_run.specs.declared.flow.Reply.TheVariants as replies
 use Rattle.seq_run.proofs.TurnsLeft.{calls_most, CallsAtMost}
 use Rattle.seq_run.proofs.Cost.{Cost, one_cost, all_cost, calls_cost, CallsCost}
 use Rattle.seq_run.proofs.Grows.{OutcomeTells, CallTells, CallsTell, all_tells, finish_tells, loop_tells}

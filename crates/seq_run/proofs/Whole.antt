@@ -25,8 +25,8 @@ use Rattle.seq_run.specs.Answer.{SaysEnded, SaysFault, SaysGoing, HasEnded, HasF
 use Rattle.seq_run.specs.declared.tree.ArrayShape.{ArrayShape}
 use Rattle.seq_run.specs.declared.tree.Proc.{Proc as CodeProc}
 use Rattle.seq_run.specs.declared.tree.Resolved.{Resolved}
-use Rattle.seq_run.specs.declared.runner.Reply.{Reply}
-use Rattle.seq_run.specs.declared.runner.Reply.TheVariants as replies
+use Rattle.seq_run.specs.declared.flow.Reply.{Reply}
+use Rattle.seq_run.specs.declared.flow.Reply.TheVariants as replies
 use Rattle.seq_run.proofs.Places.{run_same, length_procs}
 use Rattle.seq_run.proofs.Cost.{exactly}
 use Rattle.seq_run.proofs.FirstPasts.{within_front}

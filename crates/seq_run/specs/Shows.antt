@@ -8,11 +8,11 @@ use Rattle.src_ast.specs.Turns.{PartEnd, Ended, Out, CallEnd, Returned, Stopped}
 use Rattle.seq_run.specs.Resolved.{Action, done}
 use Rattle.seq_run.specs.Laws.{Begins}
 use Rattle.seq_run.specs.Seen.{seen, call_seen}
-use Rattle.seq_run.specs.declared.runner.Run.{Run}
-use Rattle.seq_run.specs.declared.runner.Flow.{Flow}
-use Rattle.seq_run.specs.declared.runner.Flow.TheVariants as flows
-use Rattle.seq_run.specs.declared.runner.Reply.{Reply}
-use Rattle.seq_run.specs.declared.runner.Reply.TheVariants as replies
+use Rattle.seq_run.specs.declared.flow.Run.{Run}
+use Rattle.seq_run.specs.declared.flow.Flow.{Flow}
+use Rattle.seq_run.specs.declared.flow.Flow.TheVariants as flows
+use Rattle.seq_run.specs.declared.flow.Reply.{Reply}
+use Rattle.seq_run.specs.declared.flow.Reply.TheVariants as replies
 
 -- the code holds what is outside; from the start until then no act was past
 pub record Shows (start o : Outside) (memory : Memory) : Type 0 where

@@ -24,6 +24,8 @@ ghost use Rattle.seq_run.specs.Resolved.{calls_below, run_all, run};
 ghost use Rattle.seq_run.specs.Resolving as resolving;
 ghost use Rattle.seq_run.specs.TurnsLeft.{AtMost};
 
+mod act;
+mod flow;
 mod make;
 mod names;
 mod plain;

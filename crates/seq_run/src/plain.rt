@@ -11,8 +11,9 @@ ghost use Rattle.seq_run.specs.Answer.{HasEnded, HasFaulted, IsGoing, RunSays};
 ghost use Rattle.seq_run.specs.Resolved.{run as run_of};
 ghost use Rattle.seq_run.specs.View as view;
 
+use crate::flow::{Reply, Run};
 use crate::programs::resolve;
-use crate::runner::{Reply, Run, Runner};
+use crate::runner::Runner;
 use crate::tree::{ArrayShape, Resolved};
 use src_check::Accepted;
 use std::alloc::Global;

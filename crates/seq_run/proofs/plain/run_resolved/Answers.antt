@@ -5,7 +5,7 @@ use Rattle.src_ast.specs.Meaning.{empty_cells}
 use Rattle.seq_run.specs.Resolved.{run}
 use Rattle.seq_run.specs.View as view
 use Rattle.seq_run.specs.declared.tree.Proc.{Proc}
-use Rattle.seq_run.specs.declared.runner.Reply.TheVariants as replies
+use Rattle.seq_run.specs.declared.flow.Reply.TheVariants as replies
 use Rattle.seq_run.proofs.Whole.{reply_is, says_ended, says_fault, says_going}
 use Rattle.seq_run.proofs.plain.run_resolved.Goals as goal
 

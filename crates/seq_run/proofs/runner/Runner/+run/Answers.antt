@@ -6,8 +6,8 @@ use Rattle.seq_run.specs.Resolved.{calls_below, run_one, run_all}
 use Rattle.seq_run.specs.Shows.{CallOut}
 use Rattle.seq_run.specs.View as view
 use Rattle.seq_run.specs.Weight.{weight, heft, weight_below}
-use Rattle.seq_run.specs.declared.runner.Flow.TheVariants as flows
-use Rattle.seq_run.specs.declared.runner.Reply.TheVariants as replies
+use Rattle.seq_run.specs.declared.flow.Flow.TheVariants as flows
+use Rattle.seq_run.specs.declared.flow.Reply.TheVariants as replies
 use Rattle.seq_run.specs.declared.tree.Proc.{Proc}
 use Rattle.seq_run.specs.declared.tree.Step.{Step}
 use Rattle.seq_run.specs.declared.tree.Step.TheVariants as code

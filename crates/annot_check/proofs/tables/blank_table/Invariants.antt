@@ -1,0 +1,9 @@
+use Rattle.std.proofs.Common.{◌≡◌, ℕ, length, get_or, None}
+use Rattle.annot_check.proofs.tables.blank_table.Given as goal
+
+abbrev pub invariant-loop : goal.invariant-loop
+invariant-loop l = record {
+  size : length l.table.items ≡ l.counter;
+  blank : (k : ℕ) →
+      get_or l.table.items k None ≡ None;
+}

@@ -1,0 +1,12 @@
+use Rattle.std.proofs.Common.{ℕ, ◌≡◌, ◌<◌, ◌≤◌, length, slice_index}
+use Rattle.cfg_core.specs.View as view
+use Rattle.call_gen.specs.Part.{number, flag_at}
+use Rattle.call_gen.proofs.part_numbers.numbers.Given as goal
+
+abbrev pub invariant-loop-f : goal.invariant-loop-f
+invariant-loop-f l = record {
+  count : length l.numbers.items ≡ l.f;
+  numbers : (k : ℕ) → k < l.f → slice_index l.numbers.items k ≡ number (view.graph l.table.graph.now) (flag_at l.flags) k;
+  sum : l.count ≡ number (view.graph l.table.graph.now) (flag_at l.flags) l.f;
+  few : l.count ≤ l.f;
+}
