@@ -36,3 +36,8 @@ is_there (t ∷ ts) (suc k) d lt = inr (is_there ts k d (omega (arith, lt)))
 -- where each token that is sent is right, all of the list are
 pub all_right : (image : Image) (world : World) (ts : List Token) → ((w i p v : ℕ) → IsSent ts w i p v → RightToken image world w i p v) → All (IsRight image world) ts
 all_right image world ts right k d lt = right (get_or ts k d).wave (get_or ts k d).instr (get_or ts k d).port (get_or ts k d).value (is_there ts k d lt)
+
+-- a token for each destination
+pub tokens_count : (w v : ℕ) (ds : List Dest) → length ds ≡ length (tokens_to w v ds)
+tokens_count w v [] = refl
+tokens_count w v (d ∷ ds) = ap suc (tokens_count w v ds)

@@ -12,6 +12,7 @@ pub mod job;
 pub mod list;
 pub mod pulse;
 pub mod request;
+pub mod sent;
 pub mod token;
 
 pub use code::Code;
@@ -19,4 +20,5 @@ pub use job::Job;
 pub use list::TokenList;
 pub use pulse::start;
 pub use request::Request;
+pub use sent::Sent;
 pub use token::Token;
