@@ -14,11 +14,11 @@ use df_job::{Code, Job, Token};
 use match_table::{Results, Took};
 
 /// Brings a token to the table that serves it, which takes it as by `accept_into`. No table loses anything.
-pub fn bring<J: Job>(
-    code: &Code<'_, J>,
+pub fn bring<'i, J: Job>(
+    code: &Code<'i, J>,
     tables: &mut Tables<J>,
     token: &Token<J>,
-    results: &mut Results<J>,
+    results: &mut Results<'i, J>,
 ) -> Took
     requires { AllServe tables.old }
     ensures brought { BroughtSo J.image (contents tables.old) token.now (contents tables.new)
@@ -33,11 +33,11 @@ pub fn bring<J: Job>(
 }
 
 // Brings it to the table with its number.
-fn bring_to<J: Job>(
-    code: &Code<'_, J>,
+fn bring_to<'i, J: Job>(
+    code: &Code<'i, J>,
     tables: &mut Tables<J>,
     token: &Token<J>,
-    results: &mut Results<J>,
+    results: &mut Results<'i, J>,
 ) -> Took
     ensures { BroughtSo J.image (contents tables.old) token.now (contents tables.new)
         results.new result }

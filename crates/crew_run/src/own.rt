@@ -40,12 +40,12 @@ pub fn see_brought<J: Job, P: Port>(
     if fired(tables) >= budget || is_there(tables, token) {
         return Ok(());
     }
-    let mut results = Results::none(alloc);
+    let mut results = Results::none();
     let took = bring(code, tables, token, &mut results);
     if took == Took::NoMemory {
         return Err(NoMemory);
     }
-    follow(code, buffer, results, tokens)
+    follow(alloc, code, buffer, results, tokens)
 }
 
 /// Whether a table has had a token.
@@ -64,12 +64,13 @@ pub fn is_there<J: Job>(tables: &Tables<J>, token: &Token<J>) -> bool
 
 // What an instance hands on: result tokens, or a request.
 fn follow<J: Job, P: Port>(
+    alloc: Global,
     code: &Code<'_, J>,
     buffer: &mut Buffer<J, P>,
-    results: Results<J>,
+    results: Results<'_, J>,
     tokens: &mut TokenList<J>,
 ) -> Result<(), NoMemory> {
-    pour(results.tokens, tokens);
+    pour(results.sent.listed(alloc), tokens);
     match results.request {
         Some(request) => ask(code, buffer, request, tokens),
         None => Ok(()),

@@ -76,7 +76,12 @@ impl<J: Job, Q: Quotas, const K: u64> Limited<J, Q, K> {
     /// Takes a token, unless it would fire its instance and the quota is spent. What the instance hands
     /// on stands in the place that is lent.
     #[inline(always)]
-    pub fn offer(&mut self, code: &Code<'_, J>, token: &Token<J>, results: &mut Results<J>) -> Offer
+    pub fn offer<'i>(
+        &mut self,
+        code: &Code<'i, J>,
+        token: &Token<J>,
+        results: &mut Results<'i, J>,
+    ) -> Offer
         requires { (token.now.wave + token.now.instr) % 16 ≡ K }
         ensures { Offered J.image (slice_index Q.most K) self.old token.now self.new results.new result }
     {

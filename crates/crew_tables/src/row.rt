@@ -92,12 +92,12 @@ fn unlocked<J: Job, Q: Quotas, const K: u64>(locked: Locked<J, Q, K>) -> Limited
 }
 
 #[inline(always)]
-fn offer_at<J: Job, Q: Quotas, const K: u64, R: Wait>(
+fn offer_at<'i, J: Job, Q: Quotas, const K: u64, R: Wait>(
     rt: &R,
     locked: &Locked<J, Q, K>,
-    code: &Code<'_, J>,
+    code: &Code<'i, J>,
     token: &Token<J>,
-    results: &mut Results<J>,
+    results: &mut Results<'i, J>,
 ) -> Offer
     requires { (token.now.wave + token.now.instr) % 16 ≡ K }
 {
@@ -141,12 +141,12 @@ impl<J: Job, Q: Quotas> Row<J, Q> {
 
     /// Takes the token at the table that serves it, under that table's lock. What its instance hands
     /// on stands in the place that is lent.
-    pub fn offer<R: Wait>(
+    pub fn offer<'i, R: Wait>(
         &self,
         rt: &R,
-        code: &Code<'_, J>,
+        code: &Code<'i, J>,
         token: &Token<J>,
-        results: &mut Results<J>,
+        results: &mut Results<'i, J>,
     ) -> Offer {
         match table_of(token.wave(), token.instr()) {
             0 => offer_at::<J, Q, 0, R>(rt, &self.t0, code, token, results),

@@ -25,7 +25,7 @@ pub fn carry_on<L: Wrap<Token<J>, T>, J: Job, T: Drop, P: Port, R: Wait>(
     rt: &R,
     offer: Offer,
     token: Token<J>,
-    hand: &mut Hand<J>,
+    hand: &mut Hand<'_, J>,
     seat: &mut Seat<T>,
     let_go: &mut TokenList<J>,
     buffer: &Mutex<Buffer<J, P>>,
@@ -61,8 +61,7 @@ fn ask<L: Wrap<Token<J>, T>, J: Job, T: Drop, P: Port, R: Wait>(
     let answer = buffer.lock(rt).submit(code, request);
     match answer {
         Ok(tokens) => {
-            let mut tokens = tokens;
-            put_all::<L, J, T>(seat, let_go, &mut tokens, 0);
+            put_all::<L, J, T>(seat, let_go, tokens);
             Next::More
         }
         Err(BufFault::Old) => Next::More,

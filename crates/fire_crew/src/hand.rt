@@ -1,9 +1,8 @@
 //! What a worker has in hand, and how tokens go into a seat.
 
-use df_job::{Job, Token, TokenList};
+use df_job::{Job, Sent, Token, TokenList};
 use match_table::Results;
 use ready_pool::Seat;
-use std::alloc::Global;
 
 /// How a token is an item of seats, which may have other items too.
 pub trait Wrap<X, T> {
@@ -36,16 +35,16 @@ const STREAK: u32 = 64;
 /// What a worker has in hand of a job: the results of its last firing, of which at most one token is left
 /// between two turns.
 #[derive(Drop)]
-pub struct Hand<J: Job> {
-    pub results: Results<J>,
+pub struct Hand<'i, J: Job> {
+    pub results: Results<'i, J>,
     streak: u32,
 }
 
-impl<J: Job> Hand<J> {
+impl<'i, J: Job> Hand<'i, J> {
     /// Nothing.
-    pub fn empty(alloc: Global) -> Hand<J> {
+    pub fn empty() -> Hand<'i, J> {
         Hand {
-            results: Results::none(alloc),
+            results: Results::none(),
             streak: 0,
         }
     }
@@ -53,7 +52,7 @@ impl<J: Job> Hand<J> {
     /// The token in hand, if there is one.
     #[inline(always)]
     pub fn next(&mut self) -> Option<Token<J>> {
-        match self.results.tokens.pop() {
+        match self.results.sent.next() {
             Some(token) => {
                 self.streak = self.streak.saturating_add(1);
                 Some(token)
@@ -80,26 +79,48 @@ impl<J: Job> Hand<J> {
         let_go: &mut TokenList<J>,
     ) {
         let kept = self.kept();
-        put_all::<L, J, T>(seat, let_go, &mut self.results.tokens, kept);
+        put_sent::<L, J, T>(seat, let_go, &mut self.results.sent, kept);
     }
 }
 
-/// Puts tokens into a seat, until so many are left. Those that it refuses are let go.
-#[inline(always)]
+/// Puts tokens into a seat. Those that it refuses are let go.
 pub fn put_all<L: Wrap<Token<J>, T>, J: Job, T: Drop>(
     seat: &mut Seat<T>,
     let_go: &mut TokenList<J>,
-    tokens: &mut TokenList<J>,
+    tokens: TokenList<J>,
+) {
+    let mut tokens = tokens;
+    while let Some(token) = tokens.pop() {
+        put::<L, J, T>(seat, let_go, token);
+    }
+}
+
+// Puts what a firing sent into a seat, until so many tokens are left. Those that it refuses are let go.
+#[inline(always)]
+fn put_sent<L: Wrap<Token<J>, T>, J: Job, T: Drop>(
+    seat: &mut Seat<T>,
+    let_go: &mut TokenList<J>,
+    sent: &mut Sent<'_, J>,
     kept: usize,
 ) {
-    while tokens.len() > kept {
-        let Some(token) = tokens.pop() else {
+    while sent.len() > kept {
+        let Some(token) = sent.next() else {
             break;
         };
-        if let Err(item) = seat.put(L::wrap(token)) {
-            if let Some(back) = L::unwrap(item) {
-                let _ = let_go.push(back);
-            }
+        put::<L, J, T>(seat, let_go, token);
+    }
+}
+
+// Puts a token into a seat. One that it refuses is let go.
+#[inline(always)]
+fn put<L: Wrap<Token<J>, T>, J: Job, T: Drop>(
+    seat: &mut Seat<T>,
+    let_go: &mut TokenList<J>,
+    token: Token<J>,
+) {
+    if let Err(item) = seat.put(L::wrap(token)) {
+        if let Some(back) = L::unwrap(item) {
+            let _ = let_go.push(back);
         }
     }
 }

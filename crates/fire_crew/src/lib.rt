@@ -16,4 +16,4 @@ pub mod work;
 pub use follow::{Next, carry_on};
 pub use gate::{Free, Gate};
 pub use hand::{Bare, Hand, Wrap};
-pub use pouring::pour;
+pub use pouring::{pour, pour_sent};

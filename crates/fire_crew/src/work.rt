@@ -3,7 +3,7 @@
 use crate::follow::{Next, carry_on};
 use crate::gate::Gate;
 use crate::hand::{Bare, Hand};
-use crate::pouring::pour;
+use crate::pouring::pour_sent;
 use crew_tables::{Quotas, Row};
 use df_job::{Code, Job, Token, TokenList};
 use port_set::Port;
@@ -33,7 +33,7 @@ pub fn work<J: Job, Q: Quotas, P: Port, G: Gate, R: Wait>(
 ) -> Worked<J> {
     let mut seat = seat;
     let mut let_go = TokenList::empty(alloc);
-    let mut hand = Hand::empty(alloc);
+    let mut hand = Hand::empty();
     let mut starved = false;
     for _ in rt.forever() {
         let Some(token) = next_token(rt, &mut hand, &mut seat) else {
@@ -59,7 +59,7 @@ pub fn work<J: Job, Q: Quotas, P: Port, G: Gate, R: Wait>(
             }
         }
     }
-    pour(hand.results.tokens, &mut let_go);
+    pour_sent(hand.results.sent, &mut let_go);
     Worked { let_go, starved }
 }
 
@@ -67,7 +67,7 @@ pub fn work<J: Job, Q: Quotas, P: Port, G: Gate, R: Wait>(
 #[inline(always)]
 fn next_token<J: Job, R: Wait>(
     rt: &R,
-    hand: &mut Hand<J>,
+    hand: &mut Hand<'_, J>,
     seat: &mut Seat<Token<J>>,
 ) -> Option<Token<J>> {
     match hand.next() {

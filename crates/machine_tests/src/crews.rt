@@ -26,9 +26,9 @@ fn offered<J: Job, Q: Quotas, R: Wait>(
     way: &mut Vec<Token<J>>,
     alloc: Global,
 ) -> Result<Count, NoMemory> {
-    let mut results = Results::none(alloc);
+    let mut results = Results::none();
     let offer = row.offer(rt, code, &token, &mut results);
-    take_all(results.tokens, way)?;
+    take_all(results.sent.listed(alloc), way)?;
     match offer {
         Offer::Took(Took::Waits) => Ok((0, 0)),
         Offer::Took(Took::Fires) | Offer::Took(Took::Asks) => Ok((1, 0)),

@@ -1,5 +1,5 @@
 -- A table that takes a token: what it holds, and what is true of it.
-use Rattle.std.proofs.Common.{◌≡◌, ◌+◌, ◌<◌, ◌≤◌, ℕ, suc, Bool, true, false, not, ◌&&◌, cond, List, [], ◌∷◌, ◌++◌, Option, Some, None, length, slice_index, sym, refl, ap, ◌∙◌, subst, arith}
+use Rattle.std.proofs.Common.{◌≡◌, ◌<◌, ◌≤◌, ℕ, suc, Bool, true, false, not, ◌&&◌, cond, List, [], ◌∷◌, ◌++◌, Option, Some, None, length, slice_index, sym, refl, ap, ◌∙◌, subst, arith}
 use Rattle.ws_words.specs.Outside.{World}
 use Rattle.ws_isa.specs.declared.instr.Op.{Op}
 use Rattle.ws_isa.specs.declared.instr.Op.TheVariants.{Load, Store, Input, Output, Give, Take, Nop, Halt}
@@ -39,9 +39,6 @@ ports_small image i = rw (ports_is_op image i) (three_ports (instr_at image i).o
 result_is : (image : Image) (k : ℕ) (xs : List ℕ) → result_of image k xs ≡ result_of_op (instr_at image k).op xs
 unfolding result_of
 result_is image k xs = refl
-
-pub empty_few : (ts : List Token) (ds : List Dest) → ts ≡ [] → length ds ≤ 8 → length ts + length ds ≤ 8
-empty_few ts ds none le = let e : length ts ≡ 0 = ap length none in omega (arith, e, le)
 
 -- the instruction that the code has looked up
 module _ (image im : Image) (k i : ℕ) (op : Op) (looked : op ≡ (instr_at im i).op) (same : im ≡ image) (instr : i ≡ k) where
@@ -96,7 +93,7 @@ module _ (image : Image) (c : Content) (t : Token) where
 module _ {J : Type 0} where
   pub answered : (image : Image) (old mid new : Content) (t : Token) (xs : List ℕ) (rs : Results J) (did : Took) → mid.entries ≡ old.entries → mid.fired ≡ old.fired → Arrives mid t new → Full image mid t new xs → HandedOn image t xs rs did → Answered image old t new rs did
   answered image old mid new t xs rs took.Waits e f a b o = absurd o
-  answered image old mid new t xs rs took.Fires e f a b o = (accepted {J = J} image old mid new t xs (accept.Fires rs.tokens) e f a b o.0, o.1)
+  answered image old mid new t xs rs took.Fires e f a b o = (accepted {J = J} image old mid new t xs (accept.Fires rs.sent) e f a b o.0, o.1)
   answered image old mid new t xs rs took.Asks e f a b o = (o.0, o.1, o.2, accepted {J = J} image old mid new t xs (accept.Asks o.0) e f a b o.3)
   answered image old mid new t xs rs took.Old e f a b o = absurd o
   answered image old mid new t xs rs took.NoMemory e f a b o = absurd o

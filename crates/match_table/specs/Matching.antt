@@ -68,13 +68,13 @@ module _ {J : Type 0} where
 module _ {J : Type 0} where
   -- nothing is handed on
   abbrev pub NoResults : Results J → Type 0
-  NoResults rs = (rs.tokens ≡ []) × (rs.request ≡ None)
+  NoResults rs = (rs.sent ≡ []) × (rs.request ≡ None)
 
   -- what an instance hands on that is full with these operands, and nothing else
   abbrev pub HandedOn : Image → Token → List ℕ → Results J → Took → Type 0
-  HandedOn image t operands rs took.Fires = Outcome {J = J} image t operands (Fires rs.tokens)
+  HandedOn image t operands rs took.Fires = Outcome {J = J} image t operands (Fires rs.sent)
       × (rs.request ≡ None)
-  HandedOn image t operands rs took.Asks = (request : Asked) × (rs.request ≡ Some request) × (rs.tokens ≡ [])
+  HandedOn image t operands rs took.Asks = (request : Asked) × (rs.request ≡ Some request) × (rs.sent ≡ [])
       × Outcome {J = J} image t operands (Asks request)
   HandedOn image t operands rs answer = ⊥
 
@@ -82,10 +82,10 @@ module _ {J : Type 0} where
   -- else stands there
   abbrev pub Answered : Image → Content → Token → Content → Results J → Took → Type 0
   Answered image old t new rs took.Waits = Accepted {J = J} image old t new Waits × NoResults rs
-  Answered image old t new rs took.Fires = Accepted {J = J} image old t new (Fires rs.tokens)
+  Answered image old t new rs took.Fires = Accepted {J = J} image old t new (Fires rs.sent)
       × (rs.request ≡ None)
   Answered image old t new rs took.Asks = (request : Asked) × (rs.request ≡ Some request)
-      × (rs.tokens ≡ []) × Accepted {J = J} image old t new (Asks request)
+      × (rs.sent ≡ []) × Accepted {J = J} image old t new (Asks request)
   Answered image old t new rs took.Old = Refused {J = J} old t new (fault.Old t) × NoResults rs
   Answered image old t new rs took.NoMemory = Refused {J = J} old t new (fault.NoMemory t) × NoResults rs
 

@@ -20,7 +20,7 @@ use crate::meeting::{Operands, Seen, is_taken, meet, operands_of};
 use crate::ops::{result_of, selector};
 use crate::pages::{Found, Pages};
 use core_run::program::Program;
-use df_job::{Code, Job, Request, Token, TokenList};
+use df_job::{Code, Job, Request, Sent, Token, TokenList};
 use std::alloc::Global;
 use std::marker::{Model, PhantomData};
 use ws_isa::Op;
@@ -56,28 +56,29 @@ pub enum Took {
 
 /// What an instance hands on when it fires: its result tokens, or its request.
 #[derive(Drop)]
-pub struct Results<J: Job> {
-    pub tokens: TokenList<J>,
+pub struct Results<'i, J: Job> {
+    pub sent: Sent<'i, J>,
     pub request: Option<Request<J>>,
 }
 
-impl<J: Job> Results<J> {
+impl<'i, J: Job> Results<'i, J> {
     /// Nothing is handed on.
-    pub fn none(alloc: Global) -> Results<J>
+    #[inline(always)]
+    pub fn none() -> Results<'i, J>
         ensures { NoResults result }
     {
         Results {
-            tokens: TokenList::empty(alloc),
+            sent: Sent::none(),
             request: None,
         }
     }
 
-    /// Lets all go, and keeps the room.
+    /// Lets all go.
     #[inline(always)]
     pub fn clear(&mut self)
         ensures { NoResults self.new }
     {
-        self.tokens.clear();
+        self.sent.clear();
         self.request = None;
     }
 }
@@ -334,12 +335,12 @@ impl<J: Job> Table<J> {
             IfNoMemory fault (0 < self.old.spare → token.wave + 1 < 2 ^ 64 → ⊥)) }
         ensures spare { self.old.spare ≤ self.new.spare + 1 }
     {
-        let mut results = Results::none(alloc);
+        let mut results = Results::none();
         let took = self.accept_into(code, &token, &mut results);
-        let Results { tokens, request } = results;
+        let Results { sent, request } = results;
         match took {
             Took::Waits => Ok(Accept::Waits),
-            Took::Fires => Ok(Accept::Fires(tokens)),
+            Took::Fires => Ok(Accept::Fires(sent.listed(alloc))),
             Took::Asks => match request {
                 Some(request) => Ok(Accept::Asks(request)),
                 None => unreachable!(),
@@ -351,11 +352,11 @@ impl<J: Job> Table<J> {
 
     /// Does what `accept` does. The caller lends a place for what the instance hands on when it fires;
     /// nothing else stands there then.
-    pub fn accept_into(
+    pub fn accept_into<'i>(
         &mut self,
-        code: &Code<'_, J>,
+        code: &Code<'i, J>,
         token: &Token<J>,
-        results: &mut Results<J>,
+        results: &mut Results<'i, J>,
     ) -> Took
         ensures answer { Answered J.image self.old token.now self.new results.new result }
         ensures fires { FiresSo result (will_fire J.image self.old token.now) }
@@ -392,13 +393,13 @@ impl<J: Job> Table<J> {
 
     // Takes a token, whose instance is found so.
     #[inline(always)]
-    fn take(
+    fn take<'i>(
         &mut self,
-        program: &Program<'_>,
+        program: &Program<'i>,
         op: Op,
         token: &Token<J>,
         found: Found,
-        results: &mut Results<J>,
+        results: &mut Results<'i, J>,
     ) -> Took
         requires program { ProgramIs program.now }
         requires image { image_of program.now ≡ J.image }
@@ -441,13 +442,13 @@ impl<J: Job> Table<J> {
 
     // Hands on what the token's instance does once it is full with these operands.
     #[inline(always)]
-    fn hand_on(
+    fn hand_on<'i>(
         &self,
-        program: &Program<'_>,
+        program: &Program<'i>,
         op: Op,
         token: &Token<J>,
         operands: Operands,
-        results: &mut Results<J>,
+        results: &mut Results<'i, J>,
     ) -> Result<Took, NoMemory>
         requires program { ProgramIs program.now }
         requires image { image_of program.now ≡ J.image }
@@ -473,7 +474,7 @@ impl<J: Job> Table<J> {
         };
         let dests = program.destinations(instr, selector(op, operands));
         let word = result_of(op, operands);
-        results.tokens.send(number, dests, word)?;
+        results.sent = Sent::right(number, dests, word);
         Ok(Took::Fires)
     }
 

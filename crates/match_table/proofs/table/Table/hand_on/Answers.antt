@@ -1,5 +1,5 @@
-use Rattle.std.proofs.Common.{ℕ, ◌≤◌, List, ◌++◌, length, IsOk, true≢false, refl, subst, sym, ap, ◌∙◌}
-use Rattle.ws_isa.specs.Image.{Token, instr_at, ports, tokens_to}
+use Rattle.std.proofs.Common.{ℕ, ◌≤◌, List, length, refl, subst, sym, ap, ◌∙◌}
+use Rattle.ws_isa.specs.Image.{Token, instr_at, ports}
 use Rattle.core_law.specs.Core.{IsSent}
 use Rattle.core_law.specs.Fit.{RightRequest}
 use Rattle.ws_isa.specs.Formed.{Formed}
@@ -8,7 +8,7 @@ use Rattle.core_run.specs.Places.{image_of}
 use Rattle.df_job.specs.Rights.{Asked, operands_of}
 use Rattle.match_table.specs.Ports.{listed}
 use Rattle.match_table.specs.Tables.{Content}
-use Rattle.match_table.proofs.Answered.{ok_now, fills, memory_is, sent_is, sends_right, asks_right, request_right, empty_few}
+use Rattle.match_table.proofs.Answered.{ok_now, fills, memory_is, sent_is, sends_right, asks_right, request_right}
 use Rattle.match_table.proofs.table.Table.hand_on.Goals as goal
 
 pub right-request-requires : goal.right-request-requires
@@ -34,8 +34,11 @@ returns-then-is_memory-clause-outcome g c =
       ),
     )
 
-pub send-requires : goal.send-requires
-send-requires g c =
+pub right-results-requires-clause-few : goal.right-results-requires-clause-few
+right-results-requires-clause-few g c = subst (λ ds. length ds ≤ 8) (sym c.destinations-dests.ensures) (few (image_of c.args.program.now) (subst Formed (sym c.requires.image) c.requires.formed) c.instr-instr.result c.selector.result)
+
+pub right-results-requires-clause-right : goal.right-results-requires-clause-right
+right-results-requires-clause-right g c =
     let ok = ok_now g.J.Job.image g.J.Job.world c.self.inside.pages.entries c.self.inside.fired.items c.self.inside.asked.items c.self.invariant c.args.self.now (ap (λ (s : Content). s.entries) c.self.view_is) in
     λ w i p v s. sends_right g.J.Job.image g.J.Job.world c.requires.formed c.requires.sound c.args.self.now _ _ ok c.args.token.now c.wave-wave.ensures.right (listed c.args.operands) (fills g.J.Job.image g.J.Job.world c.requires.formed c.requires.sound c.args.self.now _ _ ok c.args.token.now c.wave-wave.ensures.right c.args.operands c.requires.seen) (memory_is g.J.Job.image (image_of c.args.program.now) c.args.token.now.instr c.instr-instr.result c.args.op (c.requires.op ∙ ap (λ (k : ℕ). (instr_at (image_of c.args.program.now) k).op) (sym c.instr-instr.ensures)) c.requires.image c.instr-instr.ensures c.is_memory.result c.is_memory.ensures ∙ c.if-is_memory.false) w i p v
     (subst (λ (ts : List Token). IsSent ts w i p v) (sent_is g.J.Job.image (image_of c.args.program.now) c.args.token.now.instr c.instr-instr.result c.args.op (c.requires.op ∙ ap (λ (k : ℕ). (instr_at (image_of c.args.program.now) k).op) (sym c.instr-instr.ensures)) c.requires.image c.instr-instr.ensures (listed c.args.operands) c.args.token.now.wave c.wave-wave.result c.in-Some.number c.result_of-word.result c.selector.result c.destinations-dests.result.now c.wave-wave.ensures.wave c.in-Some.ensures.number c.result_of-word.ensures c.selector.ensures c.destinations-dests.ensures) s)
@@ -44,11 +47,7 @@ pub returns-clause-outcome : goal.returns-clause-outcome
 returns-clause-outcome g c = (
   (
     (memory_is g.J.Job.image (image_of c.args.program.now) c.args.token.now.instr c.instr-instr.result c.args.op (c.requires.op ∙ ap (λ (k : ℕ). (instr_at (image_of c.args.program.now) k).op) (sym c.instr-instr.ensures)) c.requires.image c.instr-instr.ensures c.is_memory.result c.is_memory.ensures ∙ c.if-is_memory.false),
-    (c.in_ok-send.ensures.ok ∙ ap (λ (ts : List Token). ts ++ tokens_to c.in-Some.number c.result_of-word.result c.destinations-dests.result.now) c.requires.empty.0) ∙ sent_is g.J.Job.image (image_of c.args.program.now) c.args.token.now.instr c.instr-instr.result c.args.op (c.requires.op ∙ ap (λ (k : ℕ). (instr_at (image_of c.args.program.now) k).op) (sym c.instr-instr.ensures)) c.requires.image c.instr-instr.ensures (listed c.args.operands) c.args.token.now.wave c.wave-wave.result c.in-Some.number c.result_of-word.result c.selector.result c.destinations-dests.result.now c.wave-wave.ensures.wave c.in-Some.ensures.number c.result_of-word.ensures c.selector.ensures c.destinations-dests.ensures,
+    c.right-results.ensures ∙ sent_is g.J.Job.image (image_of c.args.program.now) c.args.token.now.instr c.instr-instr.result c.args.op (c.requires.op ∙ ap (λ (k : ℕ). (instr_at (image_of c.args.program.now) k).op) (sym c.instr-instr.ensures)) c.requires.image c.instr-instr.ensures (listed c.args.operands) c.args.token.now.wave c.wave-wave.result c.in-Some.number c.result_of-word.result c.selector.result c.destinations-dests.result.now c.wave-wave.ensures.wave c.in-Some.ensures.number c.result_of-word.ensures c.selector.ensures c.destinations-dests.ensures,
   ),
   c.requires.empty.1,
 )
-
-pub returns-in_err-send-clause-few : goal.returns-in_err-send-clause-few
-returns-in_err-send-clause-few g c = λ lt. absurd (true≢false (sym (subst IsOk c.in_err-send.was (c.send.ensures.few
-    (empty_few c.args.results.now.tokens c.destinations-dests.result.now c.requires.empty.0 (subst (λ ds. length ds ≤ 8) (sym c.destinations-dests.ensures) (few (image_of c.args.program.now) (subst Formed (sym c.requires.image) c.requires.formed) c.instr-instr.result c.selector.result)))))))
