@@ -1,18 +1,18 @@
 -- A request comes, and what is true of a store afterwards.
-use Rattle.std.proofs.Common.{ℕ, suc, ◌≡◌, ◌<◌, ◌≤◌, ◌⊎◌, true, false, List, [], ◌∷◌, ◌++◌, length, Option, Some, None, Result, Ok, Err, slice_index_or, refl, sym, ap, ◌∙◌, subst, inl, inr, arith}
+use Rattle.std.proofs.Common.{ℕ, suc, ◌≡◌, ◌<◌, ◌≤◌, ◌⊎◌, Bool, true, false, List, [], ◌∷◌, ◌++◌, length, Option, Some, None, Result, Ok, Err, slice_index_or, refl, sym, ap, ◌∙◌, subst, inl, inr, arith}
 use Rattle.std.proofs.lemmas.Bool.{both_ways}
 use Rattle.ws_words.specs.Outside.{Outside, World}
 use Rattle.ws_isa.specs.Image.{Image, Token, instr_at, ports, is_load, is_past, note_of}
 use Rattle.ws_isa.specs.Formed.{Formed}
 use Rattle.image_walk.specs.Sound.{Sound}
-use Rattle.core_law.specs.Core.{HasFired, IsNext, has, position_after, with_key}
+use Rattle.core_law.specs.Core.{HasFired, IsNext, Issuable, has, position_after, with_key}
 use Rattle.core_law.specs.Shown.{waits_if}
 use Rattle.core_law.specs.Fit.{RightRequest}
 use Rattle.core_law.proofs.Ports.{with_key_cases}
 use Rattle.df_job.specs.Began.{Began}
 use Rattle.df_job.specs.Rights.{Asked, IsAsked, operands_of}
 use Rattle.core_run.specs.declared.chain.Chain as code
-use Rattle.core_run.specs.Chains.{chain_of}
+use Rattle.core_run.specs.Chains.{chain_of, may_flag}
 use Rattle.core_run.specs.Stands.{HasEarly}
 use Rattle.store_buf.specs.declared.fault.BufFault.{BufFault}
 use Rattle.store_buf.specs.declared.fault.BufFault.TheVariants as fault
@@ -31,7 +31,7 @@ use Rattle.store_buf.proofs.Alike.{going_any, once_of}
 use Rattle.store_buf.proofs.Found as F
 use Rattle.store_buf.proofs.Failing.{none_failed, one_failed, rose_since}
 use Rattle.store_buf.proofs.Within.{port_in}
-use Rattle.store_buf.proofs.Resting.{none_issuable}
+use Rattle.store_buf.proofs.Resting.{none_issuable, lets_issuable}
 
 pub entry_push : (ks : List Kept) (k : Kept) → entry_of ks k.wave k.instr ≡ None → (w i : ℕ) → entry_of (ks ++ k ∷ []) w i ≡ with_key k.wave k.instr (Some k) (entry_of ks) w i
 entry_push [] k fresh w i = refl
@@ -64,6 +64,11 @@ module _ (image : Image) (ks : List Kept) (k : Kept) (fresh : entry_of ks k.wave
     | inl a ↦ ap answer_if a.1 ∙ waits ∙ sym (ap answer_if (subst (λ (n : ℕ). entry_of ks w n ≡ None) a.0.instr (subst (λ (n : ℕ). entry_of ks n k.instr ≡ None) a.0.wave fresh)))
     | inr a ↦ ap answer_if a.1
   ]
+
+-- what a request that waits asks for
+asks_is : (o : Option ℕ) (k : Option (List ℕ)) (ys xs : List ℕ) → k ≡ Some ys → waits_if o k None ≡ Some xs → ys ≡ xs
+asks_is (Some a) k ys xs e w = absurd (let f : None ≡ Some xs = w in cc)
+asks_is None k ys xs e w = let f : Some ys ≡ Some xs = ap (λ (q : Option (List ℕ)). waits_if None q None) (sym e) ∙ w in cc
 
 -- what is issued is kept
 issued_kept : (image : Image) (e : Option Kept) (a : ℕ) → answer_if e ≡ Some a → (xs : List ℕ) × (operands_if image e ≡ Some xs)
@@ -180,15 +185,22 @@ module _ (image : Image) (world : World) (began : List (Option Began)) {P : Type
       memory = refl;
     }
 
-    -- where it is of another wave and no port has found no memory, nothing that waits is issuable
-    module _ (ok : StoreOk mid) (fed : old.starved ≡ false) (later : k.wave ≡ old.order.chain.wave → ⊥) where
+    -- where the chain doesn't let it issue and no port has found no memory, nothing that waits is issuable
+    module _ (ok : StoreOk mid) (fed : old.starved ≡ false) (held : may_flag image (chain_of old.order.chain) k.wave k.instr k.first ≡ false) where
+      not_lets : (c : code.Chain) → c ≡ old.order.chain → (issued : ℕ → ℕ → Option ℕ) (stopped : Bool) → Issuable image issued (chain_of c) stopped k.wave k.instr (operands_of (ports image k.instr) k.first k.second) → ⊥
+      not_lets c same issued stopped may =
+          both_ways (may_flag image (chain_of old.order.chain) k.wave k.instr k.first) held
+          (subst (λ (d : code.Chain). may_flag image (chain_of d) k.wave k.instr k.first ≡ true) same (lets_issuable image issued (chain_of c) stopped k ask.memory may))
+
       later_idle : Idle image (content_of mid)
       later_idle m w i xs asks may =
           let same : issued_in mid.order.kept.items w i ≡ issued_in old.order.kept.items w i = ap (λ (x : List Kept). issued_in x w i) keeps.kept_are ∙ issued_push image old.order.kept.items k fresh waits w i in
           let kept : kept_in image mid.order.kept.items w i ≡ with_key k.wave k.instr (Some (operands_of (ports image k.instr) k.first k.second)) (kept_in image old.order.kept.items) w i =
           ap (λ (x : List Kept). kept_in image x w i) keeps.kept_are ∙ kept_push image old.order.kept.items k fresh waits w i in
           elim (with_key_cases k.wave k.instr (Some (operands_of (ports image k.instr) k.first k.second)) (kept_in image old.order.kept.items) w i) [
-            | inl a ↦ later (a.0.wave ∙ may.current ∙ ap (λ (c : code.Chain). c.wave) keeps.chain)
+            | inl a ↦ (let q : operands_of (ports image k.instr) k.first k.second ≡ xs = asks_is (issued_in mid.order.kept.items w i) (kept_in image mid.order.kept.items w i) (operands_of (ports image k.instr) k.first k.second) xs (kept ∙ a.1) asks in
+                not_lets mid.order.chain keeps.chain (issued_in mid.order.kept.items) (has mid.fault)
+                (subst (λ (x : ℕ × ℕ × List ℕ). Issuable image (issued_in mid.order.kept.items) (chain_of mid.order.chain) (has mid.fault) x.0 x.1 x.2) (λ j. (sym a.0.wave j, sym a.0.instr j, sym q j)) may))
             | inr a ↦ standing.idle working fed m w i xs
                 (subst (λ (x : Option ℕ × Option (List ℕ)). waits_if x.0 x.1 None ≡ Some xs) (λ j. (same j, (kept ∙ a.1) j)) asks)
                 (record {

@@ -3,13 +3,13 @@ use Rattle.std.proofs.Common.{ℕ, ◌≡◌, Bool, true, List, Option, Some, No
 use Rattle.std.specs.Prelude.{is_none}
 use Rattle.std.proofs.lemmas.Bool.{and_from, both_ways}
 use Rattle.ws_words.specs.Outside.{Outside, World}
-use Rattle.ws_isa.specs.Image.{Image, instr_at, ports}
-use Rattle.core_law.specs.Core.{Issuable}
+use Rattle.ws_isa.specs.Image.{Image, instr_at, is_memory, ports}
+use Rattle.core_law.specs.Core.{Chain, Issuable}
 use Rattle.core_law.specs.Shown.{NoneIssuable, waits_if}
 use Rattle.df_job.specs.Began.{Began}
 use Rattle.df_job.specs.Rights.{operands_of}
 use Rattle.core_run.specs.Partial.{listed}
-use Rattle.core_run.specs.Chains.{chain_of}
+use Rattle.core_run.specs.Chains.{chain_of, may_flag}
 use Rattle.core_run.proofs.Driving.{flagged}
 use Rattle.core_run.proofs.Arriving.{ports_is_op, memory_is_op}
 use Rattle.store_buf.specs.declared.kept.Kept.{Kept}
@@ -20,6 +20,16 @@ use Rattle.store_buf.specs.Outdoors.{Holding}
 use Rattle.store_buf.specs.Holds.{Holds, part}
 use Rattle.store_buf.proofs.Found.{Stands, entry_case}
 use Rattle.store_buf.proofs.Stepping.{two_ports}
+
+-- the chain lets a request that is issuable issue
+pub lets_issuable : (image : Image) (issued : ℕ → ℕ → Option ℕ) (c : Chain) (stopped : Bool) (k : Kept) → is_memory image k.instr ≡ true →
+    Issuable image issued c stopped k.wave k.instr (operands_of (ports image k.instr) k.first k.second) → may_flag image c k.wave k.instr k.first ≡ true
+lets_issuable image issued c stopped k memory may =
+    let xs : listed (ports image k.instr) (record { first = k.first; second = k.second; third = 0 }) ≡ operands_of (ports image k.instr) k.first k.second =
+    subst (λ (n : ℕ). listed n (record { first = k.first; second = k.second; third = 0 }) ≡ operands_of n k.first k.second) (sym (ports_is_op image k.instr))
+    (two_ports (instr_at image k.instr).op k.first k.second (sym (memory_is_op image k.instr) ∙ memory)) in
+    flagged image issued c stopped (record { wave = k.wave; instr = k.instr; operands = record { first = k.first; second = k.second; third = 0 } })
+    (subst (λ (ys : List ℕ). Issuable image issued c stopped k.wave k.instr ys) (sym xs) may)
 
 module _ (image : Image) (world : World) (began : List (Option Began)) (o : Order) (stopped : Bool) (h : Holding) (m : Outside) (hold : Holds image world began o stopped h m) where
   -- a request that waits is kept, has no answer, and has these operands
@@ -36,12 +46,7 @@ module _ (image : Image) (world : World) (began : List (Option Began)) (o : Orde
       Issuable image (issued_in o.kept.items) (chain_of o.chain) stopped k.wave k.instr (operands_of (ports image k.instr) k.first k.second) → ready_flag image o k ≡ true
   may_be k e a may =
       let r = hold.right k.wave k.instr (operands_of (ports image k.instr) k.first k.second) e in
-      let xs : listed (ports image k.instr) (record { first = k.first; second = k.second; third = 0 }) ≡ operands_of (ports image k.instr) k.first k.second =
-      subst (λ (n : ℕ). listed n (record { first = k.first; second = k.second; third = 0 }) ≡ operands_of n k.first k.second) (sym (ports_is_op image k.instr))
-      (two_ports (instr_at image k.instr).op k.first k.second (sym (memory_is_op image k.instr) ∙ r.memory)) in
-      and_from (is_none k.answer) _ (ap is_none a)
-      (flagged image (issued_in o.kept.items) (chain_of o.chain) stopped (record { wave = k.wave; instr = k.instr; operands = record { first = k.first; second = k.second; third = 0 } })
-      (subst (λ (ys : List ℕ). Issuable image (issued_in o.kept.items) (chain_of o.chain) stopped k.wave k.instr ys) (sym xs) may))
+      and_from (is_none k.answer) _ (ap is_none a) (lets_issuable image (issued_in o.kept.items) (chain_of o.chain) stopped k r.memory may)
 
   pub none_issuable : NoneMay image o → NoneIssuable image (part image o.kept.items (chain_of o.chain) stopped m)
   none_issuable none w i xs waits may = elim (entry_case o.kept.items w i) [

@@ -146,12 +146,13 @@ impl Order {
             → result ≡ ready_flag (image_of program.now) self.now (kept_at self.now place) }
     {
         match self.kept.get(place) {
-            Some(kept) => kept.answer.is_none() && self.is_ready(program, *kept),
+            Some(kept) => kept.answer.is_none() && self.lets(program, *kept),
             None => false,
         }
     }
 
-    fn is_ready(&self, program: &Program<'_>, kept: Kept) -> bool
+    /// Whether the chain lets a request issue: it is next, or a load before its turn.
+    pub fn lets(&self, program: &Program<'_>, kept: Kept) -> bool
         requires { ProgramIs program.now }
         ensures { result ≡ may_flag (image_of program.now) (chain_of self.now.chain)
             kept.wave kept.instr kept.first }

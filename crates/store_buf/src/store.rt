@@ -3,8 +3,9 @@
 ghost use Rattle.std.specs.Prelude.{◌≡◌, ◌<◌, ◌≤◌, ◌+◌, ◌*◌, ◌++◌, ◌∷◌, ◌⊎◌, [], true, false, Some, None, IfErr, OnOk, OnErr};
 ghost use Rattle.smallvec.specs.SmallVec.{HasRoomFor};
 ghost use Rattle.ws_isa.specs.Formed.{Formed};
-ghost use Rattle.ws_isa.specs.Image.{Image, array_of_op};
+ghost use Rattle.ws_isa.specs.Image.{array_of_op};
 ghost use Rattle.core_law.specs.Core.{has};
+ghost use Rattle.core_run.specs.Chains.{chain_of, may_flag};
 ghost use Rattle.core_run.specs.Places.{ProgramIs, image_of};
 ghost use Rattle.df_job.specs.Rights.{tokens_of};
 ghost use Rattle.store_buf.specs.Requests.{entry_of};
@@ -62,25 +63,27 @@ impl<P: Port> Store<P> {
         match self.order.find(kept.wave, kept.instr) {
             Some(_) => Err(BufFault::Old),
             None => {
-                if self.starved || kept.wave == self.order.chain.wave {
+                if self.starved || self.order.lets(program, kept) {
                     self.take_in(program, kept, told)
                 } else {
-                    self.put_by(kept)
+                    self.put_by(program, kept)
                 }
             }
         }
     }
 
-    // Keeps a request of another wave than the current one, so that nothing may be issued then.
-    fn put_by(&mut self, kept: Kept) -> Result<(), BufFault>
+    // Keeps a request that the chain doesn't let issue, so that nothing may be issued then.
+    fn put_by(&mut self, program: &Program<'_>, kept: Kept) -> Result<(), BufFault>
+        requires program { ProgramIs program.now }
         requires ok { StoreOk self.old }
         requires fresh { entry_of self.old.order.kept.items kept.wave kept.instr ≡ None }
         requires waits { kept.answer ≡ None }
         requires running { self.old.fault ≡ None }
         requires working { self.old.failed ≡ None }
         requires fed { self.old.starved ≡ false }
-        requires later { kept.wave ≡ self.old.order.chain.wave → ⊥ }
-        ensures leads { (image : Image) → SubmitLeads image self.old kept [] result self.new }
+        requires held { may_flag (image_of program.now) (chain_of self.old.order.chain)
+            kept.wave kept.instr kept.first ≡ false }
+        ensures leads { SubmitLeads (image_of program.now) self.old kept [] result self.new }
     {
         match self.keep(kept) {
             Ok(()) => Ok(()),
