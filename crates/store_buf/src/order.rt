@@ -121,19 +121,25 @@ impl Order {
         Ok(())
     }
 
-    /// The place in the list at hand of a request that may be issued.
+    /// The place in the list at hand of a request that may be issued. It is looked for from both
+    /// ends: mostly it stands at one of them.
     pub fn issuable(&self, program: &Program<'_>) -> Option<usize>
         requires program { ProgramIs program.now }
         requires ok { OrderOk self.now }
         ensures { MatchOption result (NoneMay (image_of program.now) self.now)
             (MayAt (image_of program.now) self.now) }
     {
-        let mut at = self.near.len();
-        while at > 0 {
-            at -= 1;
-            if self.may_issue(program, self.near[at]) {
-                return Some(at);
+        let mut front = 0;
+        let mut back = self.near.len();
+        while front < back {
+            back -= 1;
+            if self.may_issue(program, self.near[back]) {
+                return Some(back);
             }
+            if self.may_issue(program, self.near[front]) {
+                return Some(front);
+            }
+            front += 1;
         }
         None
     }
