@@ -1,5 +1,5 @@
 -- One more operation that the chain passes.
-use Rattle.std.proofs.Common.{ℕ, zero, suc, ◌≡◌, ◌<◌, ◌⊎◌, List, [], ◌∷◌, length, slice_index, slice_index_or, true, false, refl, sym, ap, ◌∙◌, subst, inl, inr, arith}
+use Rattle.std.proofs.Common.{ℕ, zero, suc, ◌≡◌, ◌<◌, ◌⊎◌, Bool, List, [], ◌∷◌, length, slice_index, slice_index_or, true, false, refl, sym, ap, ◌∙◌, subst, inl, inr, arith}
 use Rattle.std.specs.List.{remove}
 use Rattle.std.proofs.lemmas.Bool.{both_ways}
 use Rattle.ws_isa.specs.declared.instr.Link.{Link}
@@ -9,7 +9,7 @@ use Rattle.ws_isa.specs.Image.{Image, In, note_of}
 use Rattle.core_law.specs.Core.{Chain, IsNext, pass, pass_by}
 use Rattle.core_run.specs.Stands.{left_by, left_after, Settles, done, goes}
 use Rattle.core_run.specs.Chains.{is_nothing, next_flag, PassedOn}
-use Rattle.core_run.proofs.Nexts.{next_is}
+use Rattle.core_run.proofs.Nexts.{next_is, next_not}
 
 pub in_at : (xs : List ℕ) (i : ℕ) → In i xs → (k : ℕ) × (k < length xs) × (slice_index xs k ≡ i)
 in_at [] i h = absurd h
@@ -51,6 +51,12 @@ pub index_is : (xs : List ℕ) (k x : ℕ) → k < length xs → x ≡ slice_ind
 index_is [] k x l e = absurd (omega arith)
 index_is (y ∷ xs) zero x l e = e
 index_is (y ∷ xs) (suc k) x l e = index_is xs k x (omega arith) e
+
+-- one that was looked at
+pub seen_at : (image : Image) (c : Chain) (xs : List ℕ) (at k : ℕ) (n : Note) (b : Bool) → at ≡ k → n ≡ note_of image (slice_index xs at) → b ≡ next_flag c n → b ≡ false → IsNext c (note_of image (slice_index xs k)) → ⊥
+seen_at image c xs at k n b same note flag held =
+    let e : n ≡ note_of image (slice_index xs k) = note ∙ ap (λ (j : ℕ). note_of image (slice_index xs j)) same in
+    next_not c (note_of image (slice_index xs k)) (ap (λ (m : Note). next_flag c m) (sym e) ∙ sym flag ∙ held)
 
 none_by : (l : Link) (xs : List ℕ) → is_nothing l ≡ true → left_by l xs ≡ []
 none_by Nothing xs e = refl

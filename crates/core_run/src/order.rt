@@ -67,7 +67,7 @@ pub fn forget(note: Note, early: &mut Vec<u32>)
     }
 }
 
-// The place of one that is next.
+// The place of one that is next, looked for from both ends: mostly it stands at one of them.
 fn find_next(program: &Program<'_>, chain: &Chain, early: &[u32]) -> Option<usize>
     requires { ProgramIs program.now }
     ensures { MatchOption result ((i : ℕ) → In i early.now →
@@ -76,12 +76,17 @@ fn find_next(program: &Program<'_>, chain: &Chain, early: &[u32]) -> Option<usiz
         × IsNext (chain_of chain.now)
         (note_of (image_of program.now) (slice_index early.now place))) }
 {
-    let mut place = early.len();
-    while place > 0 {
-        place -= 1;
-        if chain.is_next(program.note(early[place])) {
-            return Some(place);
+    let mut front = 0;
+    let mut back = early.len();
+    while front < back {
+        back -= 1;
+        if chain.is_next(program.note(early[back])) {
+            return Some(back);
         }
+        if chain.is_next(program.note(early[front])) {
+            return Some(front);
+        }
+        front += 1;
     }
     None
 }
