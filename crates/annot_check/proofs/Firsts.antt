@@ -4,7 +4,7 @@ use Rattle.std.proofs.Math.Path.{fun_ext}
 use Rattle.std.proofs.lemmas.Bool.{cases_eq, cases_lt, cases_Bool}
 use Rattle.ws_isa.specs.Image.{Block, Image, nth, or_else, no_block, block_at, is_first, IsBlock}
 use Rattle.ws_isa.specs.Formed.{WavesFrom, WavesInOrder}
-use Rattle.image_walk.specs.Sound.{Slots, AdvancesOpen}
+use Rattle.image_walk.specs.Sound.{OpenSlots, AdvancesOpen}
 
 abbrev pub wave_of : List Block → ℕ → ℕ
 wave_of bs n = (or_else (nth bs n) no_block).wave
@@ -67,7 +67,7 @@ one_first image a b o h g f e w = elim (cases_lt a b) [
 ]
 
 -- only one set of slots is that of a block's advances
-pub one_opening : (image : Image) (b : ℕ) (o p : Slots) → AdvancesOpen image b o → AdvancesOpen image b p → o ≡ p
+pub one_opening : (image : Image) (b : ℕ) (o p : OpenSlots) → AdvancesOpen image b o → AdvancesOpen image b p → o ≡ p
 one_opening image b o p f g = fun_ext (λ j. fun_ext (λ q. same j q (cases_Bool (o j q)) (cases_Bool (p j q))))
   where
     same : (j q : ℕ) → (o j q ≡ true) ⊎ (o j q ≡ false) → (p j q ≡ true) ⊎ (p j q ≡ false) → o j q ≡ p j q

@@ -6,7 +6,7 @@ ghost use Rattle.image_walk.specs.Sound.{ShapeRules, LinkRules, RippleRules, Sou
 ghost use Rattle.annot_check.specs.declared.fault.Bad.{Bad};
 ghost use Rattle.annot_check.specs.declared.lasts.Lasts.{Lasts};
 ghost use Rattle.annot_check.specs.Breach.{BadBreach};
-ghost use Rattle.annot_check.specs.Order.{Passed};
+ghost use Rattle.annot_check.specs.Order.{ClosedTable};
 
 /// An image that is refused isn't sound.
 pub fn breaches_break()
@@ -17,7 +17,7 @@ pub fn breaches_break()
 /// under blocks and edges, gives the rules on links and ripples.
 pub(crate) fn passed_tables_give_order()
     ensures links { (image : Image) (known : ℕ → Option Lasts) → ShapeRules image →
-        Passed image known → LinkRules image }
+        ClosedTable image known → LinkRules image }
     ensures ripples { (image : Image) (known : ℕ → Option Lasts) → ShapeRules image →
-        Passed image known → RippleRules image }
+        ClosedTable image known → RippleRules image }
 {}

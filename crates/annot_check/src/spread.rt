@@ -5,7 +5,7 @@
 ghost use Rattle.std.specs.Prelude.{◌≡◌, ◌⊎◌, ◌+◌, ◌<◌, ◌≤◌, ℕ, List, suc, length, true, false, slice_index_or};
 ghost use Rattle.ws_isa.specs.Image.{instr_at, first_number, block_at, is_first, stops, target, IsBlock, IsIn, Landings};
 ghost use Rattle.ws_isa.specs.View as view;
-ghost use Rattle.image_walk.specs.Sound.{HasPad, Carries, ExitShape, HangShape, DestShape};
+ghost use Rattle.image_walk.specs.Sound.{HasPad, BringsResult, ExitShape, HangShape, DestShape};
 ghost use Rattle.annot_check.specs.Spread.{Reached, SpreadState, Hangs, op_of};
 ghost use Rattle.ws_isa.specs.declared.instr.Op.TheVariants.{Send, Halt, Merge};
 ghost use Rattle.annot_check.specs.Facts.{TableOf};
@@ -153,9 +153,9 @@ impl Spread {
         ensures no_mark { (m : ℕ) → next ≤ m → bit self.new.marks.items m ≡ false }
         ensures no_hit { (m : ℕ) → next ≤ m → bit self.new.hits.items m ≡ false }
         ensures sound { (m : ℕ) → IsIn (view.image image.now) number m →
-            bit self.new.hits.items m ≡ true → Carries (view.image image.now) number source m port }
+            bit self.new.hits.items m ≡ true → BringsResult (view.image image.now) number source m port }
         ensures complete { (m : ℕ) → IsIn (view.image image.now) number m →
-            Carries (view.image image.now) number source m port → bit self.new.hits.items m ≡ true }
+            BringsResult (view.image image.now) number source m port → bit self.new.hits.items m ≡ true }
     {
         self.marks[source as usize] = true;
         for at in first..next {

@@ -10,7 +10,7 @@ use Rattle.asm_text.specs.declared.line.Label.{Label}
 use Rattle.asm_text.specs.declared.line.Target.{Target}
 use Rattle.asm_text.specs.declared.line.InstrLine.{InstrLine}
 use Rattle.asm_text.specs.declared.line.Line.{Line}
-use Rattle.asm_text.specs.declared.state.Place.{Place}
+use Rattle.asm_text.specs.declared.state.Expected.{Expected}
 use Rattle.asm_text.specs.declared.state.State.{State}
 use Rattle.asm_text.specs.Names.{Names}
 use Rattle.asm_text.specs.Limits.{first_most_instrs, first_most_blocks, first_most_waves, first_most_landings}
@@ -21,7 +21,7 @@ use Rattle.asm_text.proofs.Items.{InstrIn, BlockIn, First, firsts_of, blocks_for
 use Rattle.asm_text.proofs.Held.{last_wave}
 use Rattle.ws_isa.specs.Image as plain
 use Rattle.asm_text.specs.declared.line.Line.TheVariants as line
-use Rattle.asm_text.specs.declared.state.Place.TheVariants as place
+use Rattle.asm_text.specs.declared.state.Expected.TheVariants as place
 use Rattle.asm_text.proofs.Labels.{halves, pairs_length, nil_of, cons_of, empty, IsPlain, plain_line, label_number, labels_number, targets_number, label_short, labels_short, targets_ports, targets_few, Sound, own_next, own_new, own_sound}
 use Rattle.asm_text.proofs.Inside.{port_count, last_pad, Rise, rise_first, rise_rest, PadWithin, Inside, behind_instrs, still_inside, still_instrs, op_within, Open, Begun, ports_on, limit_of, go_next, branch_next, send_next, stop_next, same_wave, new_wave, begun_next}
 use Rattle.ws_words.proofs.Lists.{length_map}
@@ -38,13 +38,13 @@ walks_append [] ys s t u h k = let P : State → Type 0 = λ x. Walks x ys u in 
 walks_append (x ∷ xs) ys s t u h k = (h.0, h.1, walks_append xs ys h.0 t u h.2 k)
 
 -- a line that passes each test
-goes : (s : State) (l : Line) (p : Place) → next_place s.place l ≡ Some p → is_other_version l false
+goes : (s : State) (l : Line) (p : Expected) → next_place s.place l ≡ Some p → is_other_version l false
     ≡ false → (s.named || is_plain l) ≡ true → is_numbered s l ≡ true → is_within s l ≡ true
     → is_new s l ≡ true → behind s l false ≡ Ok (record (counted s l) { place = p })
 unfolding behind checked
 goes s l p a o b c d e = rw (a, o, b, c, d, e)
 
-abbrev pub at : Place → Bool → ℕ → ℕ → ℕ → ℕ → List ℕ → Option ℕ → Names → Names → State
+abbrev pub at : Expected → Bool → ℕ → ℕ → ℕ → ℕ → List ℕ → Option ℕ → Names → Names → State
 at p v a c w b ports pad bs is =
     record {
       place = p;
@@ -99,7 +99,7 @@ IsIn image b = BlockIn image (keeps_first_limits image) b
 
 -- Names so far, behind instructions and behind blocks.
 
-pub record Walked (names : Naming) (s : State) (ls : List Line) (p : Place) (v : Bool) (a c w b : ℕ)
+pub record Walked (names : Naming) (s : State) (ls : List Line) (p : Expected) (v : Bool) (a c w b : ℕ)
     (ports : List ℕ) : Type 0 where
   pub pad : Option ℕ
   pub bs : Names
@@ -141,7 +141,7 @@ module _ (image : plain.Image) (v : Bool) (names : Naming) (S : Setting image v 
 
   -- Waves and blocks.
 
-  wave_goes : (p : Place) (a c w b k : ℕ) (ports : List ℕ) (pad : Option ℕ) (bs is : Names) →
+  wave_goes : (p : Expected) (a c w b k : ℕ) (ports : List ℕ) (pad : Option ℕ) (bs is : Names) →
       next_place p (line.Wave k) ≡ Some place.Wave → k ≡ w + 1 → w < limit v first_most_waves
       most_waves
       → behind (at p v a c w b ports pad bs is) (line.Wave k) false ≡ Ok
@@ -152,7 +152,7 @@ module _ (image : plain.Image) (v : Bool) (names : Naming) (S : Setting image v 
       (eq-eqb k (w + 1) e) (lt-ltb w (limit v first_most_waves most_waves) h) refl
       ∙ (λ i. Ok (at place.Wave v a c (sym e i) b ports pad bs is))
 
-  block_goes : (p : Place) (a c w b n : ℕ) (ports : List ℕ) (pad : Option ℕ) (bs is : Names)
+  block_goes : (p : Expected) (a c w b n : ℕ) (ports : List ℕ) (pad : Option ℕ) (bs is : Names)
       (own : Label) → next_place p (line.Block own) ≡ Some place.Pads → n ≡ b + 1
       → b < limit v first_most_blocks most_blocks → Sound bs names.blocks b → IsFor names.blocks own
       n
@@ -208,14 +208,14 @@ module _ (image : plain.Image) (v : Bool) (names : Naming) (S : Setting image v 
 
   -- Instructions.
 
-  instr_next : (p : Place) (i : InstrLine) → Inside p → next_place p (line.Instr i) ≡ Some
+  instr_next : (p : Expected) (i : InstrLine) → Inside p → next_place p (line.Instr i) ≡ Some
       place.Instrs
   unfolding next_place
   instr_next place.Pads i h = refl
   instr_next place.Instrs i h = refl
   instr_next p i h = absurd h
 
-  instr_goes : (p : Place) (a c w b n : ℕ) (ports : List ℕ) (pad : Option ℕ) (bs is : Names)
+  instr_goes : (p : Expected) (a c w b n : ℕ) (ports : List ℕ) (pad : Option ℕ) (bs is : Names)
       (i : plain.Instr) (own : Label) (ts os : List Target) → Inside p → n ≡ length ports + 1
       → length ports < limit v first_most_instrs most_instrs → InstrIn image i → Sound is
       names.instrs (length ports) → IsFor names.instrs own n
@@ -259,7 +259,7 @@ module _ (image : plain.Image) (v : Bool) (names : Naming) (S : Setting image v 
       ))
       (own_new is names.instrs own n (length ports) s k e)
 
-  instrs_walk : (ls : List Line) (xs : List plain.Instr) (p : Place) (a c w b n : ℕ)
+  instrs_walk : (ls : List Line) (xs : List plain.Instr) (p : Expected) (a c w b n : ℕ)
       (ports : List ℕ) (pad : Option ℕ) (bs is : Names) → Pairs (Spells names) ls (instr_items n xs)
       → Inside p
       → n ≡ length ports + 1 → length ports + length xs ≤ limit v first_most_instrs most_instrs →
@@ -320,7 +320,7 @@ module _ (image : plain.Image) (v : Bool) (names : Naming) (S : Setting image v 
   Keeps (plain.Landings s ls) = length ls ≤ limit v first_most_landings most_landings
   Keeps e = Unit {0}
 
-  exit_goes : (p : Place) (a c w b : ℕ) (ports : List ℕ) (pad : Option ℕ) (bs is : Names) (l : Line)
+  exit_goes : (p : Expected) (a c w b : ℕ) (ports : List ℕ) (pad : Option ℕ) (bs is : Names) (l : Line)
       (e : plain.Exit) → Inside p → Keeps e → SpellsExit names l e
       → behind (at p v a c w b ports pad bs is) l false ≡ Ok
       (at place.Exited v a c w b ports pad bs is)
@@ -368,7 +368,7 @@ module _ (image : plain.Image) (v : Bool) (names : Naming) (S : Setting image v 
       ap (λ m. behind s m false) x ∙ goes s line.Stop place.Exited (stop_next p h) refl
       (or_true v) refl refl refl
 
-  exit_walk : (ls : List Line) (p : Place) (a c w b : ℕ) (ports : List ℕ) (pad : Option ℕ)
+  exit_walk : (ls : List Line) (p : Expected) (a c w b : ℕ) (ports : List ℕ) (pad : Option ℕ)
       (bs is : Names) (e : plain.Exit) → Pairs (Spells names) ls (Exit e ∷ []) → Inside p → Keeps e
       → Walks (at p v a c w b ports pad bs is) ls (at place.Exited v a c w b ports pad bs is)
   exit_walk ls p a c w b ports pad bs is e h i k =
@@ -401,11 +401,11 @@ module _ (image : plain.Image) (v : Bool) (names : Naming) (S : Setting image v 
 
   record Opened (a c k b : ℕ) (ports : List ℕ) (pad : Option ℕ) (bs is : Names) (s : State)
       (ls : List Line) : Type 0 where
-    p : Place
+    p : Expected
     begun : Begun p
     walks : Walks s ls (at p v a c k b ports pad bs is)
 
-  wave_walk : (ls : List Line) (p : Place) (a c w b k : ℕ) (ports : List ℕ) (pad : Option ℕ)
+  wave_walk : (ls : List Line) (p : Expected) (a c w b k : ℕ) (ports : List ℕ) (pad : Option ℕ)
       (bs is : Names) → Pairs (Spells names) ls (wave_items w k) → next_place p (line.Wave k) ≡ Some
       place.Wave
       → k ≡ suc w → k ≤ limit v first_most_waves most_waves → Opened a c k b ports pad bs is
@@ -423,7 +423,7 @@ module _ (image : plain.Image) (v : Bool) (names : Naming) (S : Setting image v 
       (t, step, subst (λ l. Walks t l t) (sym none) refl) in
       record { p = place.Wave; begun = tt; walks = walks }
 
-  opens : (ls : List Line) (p : Place) (a c w b k : ℕ) (ports : List ℕ) (pad : Option ℕ)
+  opens : (ls : List Line) (p : Expected) (a c w b k : ℕ) (ports : List ℕ) (pad : Option ℕ)
       (bs is : Names) → Pairs (Spells names) ls (wave_items w k) → Open p w k → k ≤ limit v
       first_most_waves most_waves
       → Opened a c k b ports pad bs is (at p v a c w b ports pad bs is) ls
@@ -440,7 +440,7 @@ module _ (image : plain.Image) (v : Bool) (names : Naming) (S : Setting image v 
       pad bs is h refl e f
   opens ls p a c w b k ports pad bs is h e f = absurd e
 
-  block_walk : (ls : List Line) (p : Place) (a c w b n m : ℕ) (ports : List ℕ) (pad : Option ℕ)
+  block_walk : (ls : List Line) (p : Expected) (a c w b n m : ℕ) (ports : List ℕ) (pad : Option ℕ)
       (bs is : Names) (x : plain.Block) → Pairs (Spells names) ls (block_items w n m x) → IsIn image
       x
       → Open p w x.wave → n ≡ b + 1 → m ≡ length ports + 1 → n ≤ limit v first_most_blocks

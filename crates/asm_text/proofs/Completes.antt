@@ -12,8 +12,8 @@ use Rattle.asm_text.specs.declared.line.Line.{Line}
 use Rattle.asm_text.specs.declared.line.Line.TheVariants as line
 use Rattle.asm_text.specs.declared.reading.Reading.{Reading}
 use Rattle.asm_text.specs.declared.reading.Reading.TheVariants.{Blank, Wrong, Found}
-use Rattle.asm_text.specs.declared.state.Place.{Place}
-use Rattle.asm_text.specs.declared.state.Place.TheVariants as place
+use Rattle.asm_text.specs.declared.state.Expected.{Expected}
+use Rattle.asm_text.specs.declared.state.Expected.TheVariants as place
 use Rattle.asm_text.specs.declared.state.State.{State}
 use Rattle.asm_text.specs.Names.{Names, named}
 use Rattle.asm_text.specs.Words.{is}
@@ -31,7 +31,7 @@ use Rattle.asm_text.proofs.Resolves.{Counts, count_is, parts, Makes, Resolved, p
 
 -- Names that are given are found behind all lines.
 
-step_taken : (t u : State) (l : Line) → behind t l false ≡ Ok u → (p : Place) × Taken t l p ×
+step_taken : (t u : State) (l : Line) → behind t l false ≡ Ok u → (p : Expected) × Taken t l p ×
     (u ≡ after t l p)
 step_taken t u l e = (IfOk-at_ok _ e (taken t l false)).1
 

@@ -11,8 +11,8 @@ use Rattle.asm_text.specs.declared.line.Label.{Label}
 use Rattle.asm_text.specs.declared.line.InstrLine.{InstrLine}
 use Rattle.asm_text.specs.declared.line.Line.{Line}
 use Rattle.asm_text.specs.declared.line.Line.TheVariants as line
-use Rattle.asm_text.specs.declared.state.Place.{Place}
-use Rattle.asm_text.specs.declared.state.Place.TheVariants as place
+use Rattle.asm_text.specs.declared.state.Expected.{Expected}
+use Rattle.asm_text.specs.declared.state.Expected.TheVariants as place
 use Rattle.asm_text.specs.declared.state.State.{State}
 use Rattle.asm_text.specs.Limits.{first_most_instrs, first_most_blocks, first_most_waves, first_most_landings}
 use Rattle.asm_text.specs.State.{next_place, is_short, is_within_op, are_few, limit, is_within, counted}
@@ -47,7 +47,7 @@ within_first : (v : Bool) (n few most : ℕ) → v ≡ false → nat_le n (limit
 within_first true n few most e h = absurd (false≢true (sym e))
 within_first false n few most e h = h
 
-start_named : (t : State) (b : Built) (n : ℕ) (q p : Place) → next_place q (line.Version n) ≡ Some p
+start_named : (t : State) (b : Built) (n : ℕ) (q p : Expected) → next_place q (line.Version n) ≡ Some p
     → Lacks q t b → t.named ≡ false
 unfolding next_place
 start_named t b n place.Start p e l = l.3
@@ -95,7 +95,7 @@ abbrev FewExit : State → Option plain.Exit → Type 0
 FewExit t None = Unit {0}
 FewExit t (Some e) = t.named ≡ false → few_landings e ≡ true
 
-exit_first : (t : State) (b : Built) (e : Maybe (Option plain.Exit)) (p : Place) → t.waves ≡ b.wave
+exit_first : (t : State) (b : Built) (e : Maybe (Option plain.Exit)) (p : Expected) → t.waves ≡ b.wave
     → FirstHeld t b → IfOk e (FewExit t) → IfOk (with_exit b e) (FirstHeld (record t { place = p }))
 exit_first t b (Err k) p w h x = tt
 exit_first t b (Ok None) p w h x =
@@ -119,7 +119,7 @@ exit_first t b (Ok (Some exit)) p w h x = λ e.
     in
     record { ports = k.ports; blocks = k.blocks; waves = k.waves; each = more }
 
-pub line_first : (s t : State) (b : Built) (l : Line) (p : Place) → Held s t b → Lacks t.place t b →
+pub line_first : (s t : State) (b : Built) (l : Line) (p : Expected) → Held s t b → Lacks t.place t b →
     FirstHeld t b → Taken t l p → IfOk (built s b l) (FirstHeld (after t l p))
 unfolding built exit_of counted
 line_first s t b (line.Version n) p held a h g = λ _.

@@ -8,8 +8,8 @@ use Rattle.ws_isa.specs.declared.instr.Op.TheVariants as op
 use Rattle.ws_isa.specs.declared.instr.Dest.{Dest}
 use Rattle.ws_isa.specs.Image.{Image, Block, Pad, Instr, Exit, Goto, Branch, Landings, Stop, flat, nth, or_else, no_instr, instr_at, ports, ports_of, IsBlock, IsInstr}
 use Rattle.ws_isa.specs.Formed.{most_instrs, most_blocks, most_pads, most_dests, DestIn, DestsIn, OpIn, ExitIn, InstrWithin, BlockWithin, WavesFrom, WavesInOrder, RiseFrom, PadsRise, Formed}
-use Rattle.asm_text.specs.declared.state.Place.{Place}
-use Rattle.asm_text.specs.declared.state.Place.TheVariants as place
+use Rattle.asm_text.specs.declared.state.Expected.{Expected}
+use Rattle.asm_text.specs.declared.state.Expected.TheVariants as place
 use Rattle.asm_text.specs.declared.state.State.{State}
 use Rattle.asm_text.specs.State.{opening}
 use Rattle.ws_isa.specs.View as view
@@ -111,7 +111,7 @@ waves_in_order s (b ∷ blocks) some h w =
     let one = first_wave b.wave w.0 (h.0).wave.0 in
     (one, subst (λ n. WavesFrom n blocks) one w.1)
 
-at_end : (p : Place) (s : State) (b : Built) → is_ended p ≡ true → Stands p s b → Exited s b
+at_end : (p : Expected) (s : State) (b : Built) → is_ended p ≡ true → Stands p s b → Exited s b
 at_end place.Ended s b e h = h
 at_end p s b e h = absurd (false≢true e)
 

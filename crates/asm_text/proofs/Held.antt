@@ -7,8 +7,8 @@ use Rattle.ws_isa.specs.declared.instr.Op.TheVariants as op
 use Rattle.ws_isa.specs.declared.instr.Dest.{Dest}
 use Rattle.ws_isa.specs.Image.{Array, Block, Pad, Instr, Exit, Goto, Branch, Landings, Stop, flat, ports_of}
 use Rattle.ws_isa.specs.Formed.{most_instrs, most_blocks, most_waves, most_dests, most_pads, most_port, total_length, ArraysFormed, InstrWithin, ExitWithin, SomeLanding, DestsSuit, OthersSuit, NoteSuits, WavesFrom}
-use Rattle.asm_text.specs.declared.state.Place.{Place}
-use Rattle.asm_text.specs.declared.state.Place.TheVariants as place
+use Rattle.asm_text.specs.declared.state.Expected.{Expected}
+use Rattle.asm_text.specs.declared.state.Expected.TheVariants as place
 use Rattle.asm_text.specs.declared.state.State.{State}
 use Rattle.asm_text.specs.declared.line.Line.{Line}
 use Rattle.asm_text.specs.State.{is_above, counted}
@@ -106,7 +106,7 @@ Inside t b =
     ((t.waves ≡ last_wave 0 b.blocks) ⊎ (t.waves ≡ suc (last_wave 0 b.blocks))) × (1 ≤ t.waves) ×
     (t.pad ≡ last_pad None b.pads)
 
-abbrev pub Stands : Place → State → Built → Type 0
+abbrev pub Stands : Expected → State → Built → Type 0
 Stands place.Start t b = Shut t b × (t.waves ≡ last_wave 0 b.blocks)
 Stands place.Arrays t b = Shut t b × (t.waves ≡ last_wave 0 b.blocks)
 Stands place.Wave t b = Shut t b × (t.waves ≡ suc (last_wave 0 b.blocks))
@@ -129,5 +129,5 @@ pub record Held (s t : State) (b : Built) : Type 0 where
   pub stands : Stands t.place t b
 
 -- the state behind a line, at this place
-abbrev pub after : State → Line → Place → State
+abbrev pub after : State → Line → Expected → State
 after t l p = record (counted t l) { place = p }

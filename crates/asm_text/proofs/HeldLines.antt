@@ -14,8 +14,8 @@ use Rattle.asm_text.specs.declared.line.Target.{Target}
 use Rattle.asm_text.specs.declared.line.InstrLine.{InstrLine}
 use Rattle.asm_text.specs.declared.line.Line.{Line}
 use Rattle.asm_text.specs.declared.line.Line.TheVariants as line
-use Rattle.asm_text.specs.declared.state.Place.{Place}
-use Rattle.asm_text.specs.declared.state.Place.TheVariants as place
+use Rattle.asm_text.specs.declared.state.Expected.{Expected}
+use Rattle.asm_text.specs.declared.state.Expected.TheVariants as place
 use Rattle.asm_text.specs.declared.state.State.{State}
 use Rattle.asm_text.specs.Limits.{first_most_instrs, first_most_landings}
 use Rattle.asm_text.specs.State.{next_place, is_numbered, is_above, are_ports, is_within, is_within_cells, is_within_op, is_short, is_short_name, are_few, are_short, limit, counted}
@@ -27,15 +27,15 @@ use Rattle.asm_text.proofs.HeldNames.{NamesThere, Among, DestFor, EachOf, instr_
 use Rattle.asm_text.proofs.Held.{ExitFor, OpFor, ExitHeld, InstrHeld, PadHeld, InstrsHeld, last_pad, last_wave, Shut, Inside, Stands, so_far, Held, after}
 use Rattle.asm_text.proofs.HeldLists.{arrays_more, instrs_more, flat_snoc, last_pad_snoc, pads_more, last_wave_snoc, blocks_more}
 
-at_place : (P : Place → Type 0) (q p : Place) → Some q ≡ Some p → P q → P p
+at_place : (P : Expected → Type 0) (q p : Expected) → Some q ≡ Some p → P q → P p
 at_place P q p e h = subst P (same_Some q p e) h
 
-nowhere : {P : Type 0} (p : Place) → None ≡ Some p → P
+nowhere : {P : Type 0} (p : Expected) → None ≡ Some p → P
 nowhere p e = absurd (none-some p e)
 
 -- Lines without a block.
 
-version_held : (s t : State) (b : Built) (n : ℕ) (p : Place) → Held s t b
+version_held : (s t : State) (b : Built) (n : ℕ) (p : Expected) → Held s t b
     → next_place t.place (line.Version n) ≡ Some p → Held s (after t (line.Version n) p) b
 unfolding counted next_place
 version_held s t b n p h e =
@@ -49,7 +49,7 @@ version_held s t b n p h e =
       stands = by t.place e h.stands;
     }
   where
-    by : (q : Place) → next_place q (line.Version n) ≡ Some p → Stands q t b
+    by : (q : Expected) → next_place q (line.Version n) ≡ Some p → Stands q t b
         → Stands p (after t (line.Version n) p) b
     by place.Start e k = at_place (λ p. Stands p (after t (line.Version n) p) b) place.Arrays p e k
     by q e k = nowhere p e
@@ -59,11 +59,11 @@ cells_keep : (t : State) (n : ℕ) → is_within_cells t n ≡ true
 cells_keep t n e = (grind (arith, nat_tests), grind (arith, nat_tests), grind (arith, nat_tests))
 
 -- the state behind an array, at this place
-abbrev with_cells : State → ℕ → Place → State
+abbrev with_cells : State → ℕ → Expected → State
 with_cells t n p = record t { place = p; arrays = t.arrays + 1; cells = t.cells + n }
 
 -- an array, with or without a name
-array_held : (s t : State) (b : Built) (o : Option (List ℕ)) (n : ℕ) (p : Place) → Held s t b → NameFormed o
+array_held : (s t : State) (b : Built) (o : Option (List ℕ)) (n : ℕ) (p : Expected) → Held s t b → NameFormed o
     → is_within_cells t n ≡ true
     → Stands p (with_cells t n p) (with_array b o n)
     → Held s (with_cells t n p) (with_array b o n)
@@ -80,7 +80,7 @@ array_held s t b o n p h name within stands =
       stands = stands;
     }
 
-array_stands : (t : State) (b : Built) (w : List ℕ) (o : Option (List ℕ)) (n : ℕ) (q p : Place)
+array_stands : (t : State) (b : Built) (w : List ℕ) (o : Option (List ℕ)) (n : ℕ) (q p : Expected)
     → next_place q (line.Array w n) ≡ Some p → Stands q t b
     → Stands p (with_cells t n p) (with_array b o n)
 unfolding next_place
@@ -88,12 +88,12 @@ array_stands t b w o n place.Arrays p e k =
     at_place (λ p. Stands p (with_cells t n p) (with_array b o n)) place.Arrays p e k
 array_stands t b w o n q p e k = nowhere p e
 
-hidden_place : (q : Place) (n : ℕ) → next_place q (line.Hidden n) ≡ next_place q (line.Array [] n)
+hidden_place : (q : Expected) (n : ℕ) → next_place q (line.Hidden n) ≡ next_place q (line.Array [] n)
 unfolding next_place
 hidden_place place.Arrays n = refl
 hidden_place q n = refl
 
-wave_held : (s t : State) (b : Built) (k : ℕ) (p : Place) → Held s t b
+wave_held : (s t : State) (b : Built) (k : ℕ) (p : Expected) → Held s t b
     → next_place t.place (line.Wave k) ≡ Some p → is_numbered t (line.Wave k) ≡ true
     → is_within t (line.Wave k) ≡ true
     → Held s (after t (line.Wave k) p) (record b { wave = k })
@@ -111,7 +111,7 @@ wave_held s t b k p h e n w =
       stands = by t.place e h.stands;
     }
   where
-    by : (q : Place) → next_place q (line.Wave k) ≡ Some p → Stands q t b
+    by : (q : Expected) → next_place q (line.Wave k) ≡ Some p → Stands q t b
         → Stands p (after t (line.Wave k) p) (record b { wave = k })
     by place.Arrays e l =
         at_place (λ p. Stands p (after t (line.Wave k) p) (record b { wave = k })) place.Wave p e
@@ -123,7 +123,7 @@ wave_held s t b k p h e n w =
 
 -- A block begins.
 
-block_held : (s t : State) (b : Built) (l : Label) (p : Place) → Held s t b
+block_held : (s t : State) (b : Built) (l : Label) (p : Expected) → Held s t b
     → next_place t.place (line.Block l) ≡ Some p → is_within t (line.Block l) ≡ true
     → Held s (after t (line.Block l) p) b
 unfolding counted next_place
@@ -145,7 +145,7 @@ block_held s t b l p h e w =
     one_more : Shut t b → t.blocks + 1 ≡ length b.blocks + 1
     one_more k = ap (λ n. n + 1) k.2
 
-    by : (q : Place) → next_place q (line.Block l) ≡ Some p → Stands q t b
+    by : (q : Expected) → next_place q (line.Block l) ≡ Some p → Stands q t b
         → Stands p (after t (line.Block l) p) b
     by place.Wave e k =
         at_place (λ p. Stands p (after t (line.Block l) p) b) place.Pads p e
@@ -164,7 +164,7 @@ few_targets ts ds e h =
     let l = leb-true (length ts) most_dests few in
     omega arith
 
-pad_held : (s t : State) (b : Built) (k : ℕ) (ts : List Target) (ds : List Dest) (p : Place) → Held s t b
+pad_held : (s t : State) (b : Built) (k : ℕ) (ts : List Target) (ds : List Dest) (p : Expected) → Held s t b
     → EachOf (DestFor s) ts ds
     → next_place t.place (line.Pad k ts) ≡ Some p → is_numbered t (line.Pad k ts) ≡ true
     → is_within t (line.Pad k ts) ≡ true
@@ -190,11 +190,11 @@ pad_held s t b k ts ds p h each e n w =
       stands = by t.place e h.stands;
     }
   where
-    last : (q : Place) → next_place q (line.Pad k ts) ≡ Some p → Stands q t b → t.pad ≡ last_pad None b.pads
+    last : (q : Expected) → next_place q (line.Pad k ts) ≡ Some p → Stands q t b → t.pad ≡ last_pad None b.pads
     last place.Pads e l = l.3
     last q e l = nowhere p e
 
-    by : (q : Place) → next_place q (line.Pad k ts) ≡ Some p → Stands q t b
+    by : (q : Expected) → next_place q (line.Pad k ts) ≡ Some p → Stands q t b
         → Stands p (after t (line.Pad k ts) p) (with_pad b k ds)
     by place.Pads e l =
         at_place (λ p. Stands p (after t (line.Pad k ts) p) (with_pad b k ds)) place.Pads p e
@@ -225,7 +225,7 @@ six a b c d e f h = absurd (false≢true h)
 abbrev resolved : InstrLine → List Dest → List Dest → Instr
 resolved i ds os = record { op = i.op; note = i.note; dests = ds; others = os }
 
-instr_held : (s t : State) (b : Built) (i : InstrLine) (ds os : List Dest) (p : Place) → Held s t b
+instr_held : (s t : State) (b : Built) (i : InstrLine) (ds os : List Dest) (p : Expected) → Held s t b
     → InstrFits i → is_known s i.op ≡ true
     → EachOf (DestFor s) i.dests ds → EachOf (DestFor s) i.others os
     → next_place t.place (line.Instr i) ≡ Some p → is_within t (line.Instr i) ≡ true
@@ -269,7 +269,7 @@ instr_held s t b i ds os p h fits known each other e w =
     more : Built
     more = with_instr b (resolved i ds os)
 
-    by : (q : Place) → next_place q (line.Instr i) ≡ Some p → Stands q t b
+    by : (q : Expected) → next_place q (line.Instr i) ≡ Some p → Stands q t b
         → Stands p (after t (line.Instr i) p) more
     by place.Pads e k = at_place (λ p. Stands p (after t (line.Instr i) p) more) place.Instrs p e k
     by place.Instrs e k = at_place (λ p. Stands p (after t (line.Instr i) p) more) place.Instrs p e k
@@ -317,7 +317,7 @@ abbrev SomeExit : State → Option Exit → Type 0
 SomeExit s None = ⊥
 SomeExit s (Some exit) = ExitHeld s exit
 
-exit_held : (s t : State) (b : Built) (e : Maybe (Option Exit)) (p : Place) → Held s t b
+exit_held : (s t : State) (b : Built) (e : Maybe (Option Exit)) (p : Expected) → Held s t b
     → IfOk e (SomeExit s) → (place.Exited ≡ p) × Inside t b
     → IfOk (with_exit b e) (Held s (record t { place = p }))
 exit_held s t b (Err k) p h x i = tt
@@ -325,38 +325,38 @@ exit_held s t b (Ok None) p h x i = absurd x
 exit_held s t b (Ok (Some exit)) p h x i =
     subst (λ p. Held s (record t { place = p }) (closed b exit)) i.0 (closed_held s t b exit h i.1 x)
 
-exit_at : (P : Type 0) (p : Place) → Some place.Exited ≡ Some p → P → (place.Exited ≡ p) × P
+exit_at : (P : Type 0) (p : Expected) → Some place.Exited ≡ Some p → P → (place.Exited ≡ p) × P
 exit_at P p e k = (same_Some place.Exited p e, k)
 
-go_at : (t : State) (b : Built) (l : Label) (q p : Place) → next_place q (line.Go l) ≡ Some p → Stands q t b
+go_at : (t : State) (b : Built) (l : Label) (q p : Expected) → next_place q (line.Go l) ≡ Some p → Stands q t b
     → (place.Exited ≡ p) × Inside t b
 unfolding next_place
 go_at t b l place.Pads p e k = exit_at (Inside t b) p e k
 go_at t b l place.Instrs p e k = exit_at (Inside t b) p e k
 go_at t b l q p e k = nowhere p e
 
-branch_at : (t : State) (b : Built) (l m n : Label) (q p : Place) → next_place q (line.If l m n) ≡ Some p
+branch_at : (t : State) (b : Built) (l m n : Label) (q p : Expected) → next_place q (line.If l m n) ≡ Some p
     → Stands q t b → (place.Exited ≡ p) × Inside t b
 unfolding next_place
 branch_at t b l m n place.Pads p e k = exit_at (Inside t b) p e k
 branch_at t b l m n place.Instrs p e k = exit_at (Inside t b) p e k
 branch_at t b l m n q p e k = nowhere p e
 
-send_at : (t : State) (b : Built) (l : Label) (ls : List Label) (q p : Place)
+send_at : (t : State) (b : Built) (l : Label) (ls : List Label) (q p : Expected)
     → next_place q (line.Send l ls) ≡ Some p → Stands q t b → (place.Exited ≡ p) × Inside t b
 unfolding next_place
 send_at t b l ls place.Pads p e k = exit_at (Inside t b) p e k
 send_at t b l ls place.Instrs p e k = exit_at (Inside t b) p e k
 send_at t b l ls q p e k = nowhere p e
 
-stop_at : (t : State) (b : Built) (q p : Place) → next_place q line.Stop ≡ Some p → Stands q t b
+stop_at : (t : State) (b : Built) (q p : Expected) → next_place q line.Stop ≡ Some p → Stands q t b
     → (place.Exited ≡ p) × Inside t b
 unfolding next_place
 stop_at t b place.Pads p e k = exit_at (Inside t b) p e k
 stop_at t b place.Instrs p e k = exit_at (Inside t b) p e k
 stop_at t b q p e k = nowhere p e
 
-end_held : (s t : State) (b : Built) (p : Place) → Held s t b → next_place t.place line.End ≡ Some p
+end_held : (s t : State) (b : Built) (p : Expected) → Held s t b → next_place t.place line.End ≡ Some p
     → Held s (after t line.End p) b
 unfolding counted next_place
 end_held s t b p h e =
@@ -370,7 +370,7 @@ end_held s t b p h e =
       stands = by t.place e h.stands;
     }
   where
-    by : (q : Place) → next_place q line.End ≡ Some p → Stands q t b → Stands p (after t line.End p) b
+    by : (q : Expected) → next_place q line.End ≡ Some p → Stands q t b → Stands p (after t line.End p) b
     by place.Exited e k = at_place (λ p. Stands p (after t line.End p) b) place.Ended p e k
     by q e k = nowhere p e
 
@@ -403,7 +403,7 @@ unfolding is_within
 hidden_part t n w = w
 
 -- what is built of a line that is taken
-pub line_held : (s t : State) (b : Built) (l : Line) (p : Place) → NamesThere s → Held s t b → LineFits l
+pub line_held : (s t : State) (b : Built) (l : Line) (p : Expected) → NamesThere s → Held s t b → LineFits l
     → next_place t.place l ≡ Some p → is_numbered t l ≡ true → is_within t l ≡ true
     → IfOk (built s b l) (Held s (after t l p))
 unfolding built exit_of counted

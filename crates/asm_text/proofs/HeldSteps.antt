@@ -3,7 +3,7 @@ use Rattle.std.proofs.Common.{◌≡◌, ℕ, ◌||◌, not, cond, Bool, true, f
 use Rattle.std.proofs.lemmas.Bool.{true≢false, or_parts}
 use Rattle.asm_text.specs.declared.line.Line.{Line}
 use Rattle.asm_text.specs.declared.state.State.{State}
-use Rattle.asm_text.specs.declared.state.Place.{Place}
+use Rattle.asm_text.specs.declared.state.Expected.{Expected}
 use Rattle.asm_text.specs.declared.fault.AsmKind as kind
 use Rattle.asm_text.specs.declared.fault.AsmKind.TheVariants as Kind
 use Rattle.asm_text.specs.State.{next_place, is_plain, is_numbered, is_within, is_new, is_other_version, counted, checked_at, checked, moved, behind}
@@ -28,18 +28,18 @@ line_ok P Q n (Ok a) f h g = g a h
 
 -- a line that is taken may stand where it does, with its numbers in order, and keeps the limits
 pub behind_ok : (t : State) (l : Line) (wide : Bool) (Q : State → Type 0)
-    → ((p : Place) → next_place t.place l ≡ Some p → is_numbered t l ≡ true → is_within t l ≡ true
+    → ((p : Expected) → next_place t.place l ≡ Some p → is_numbered t l ≡ true → is_within t l ≡ true
     → Q (record (counted t l) { place = p }))
     → IfOk (behind t l wide) Q
 unfolding behind checked
 behind_ok t l wide Q h = by (next_place t.place l) refl
   where
-    past : (b : Bool) (k : kind.AsmKind) (r : Result Place kind.AsmKind)
+    past : (b : Bool) (k : kind.AsmKind) (r : Result Expected kind.AsmKind)
         → (b ≡ false → IfOk (moved t l r) Q) → IfOk (moved t l (cond b (Err k) r)) Q
     past true k r g = tt
     past false k r g = g refl
 
-    by : (o : Option Place) → next_place t.place l ≡ o → IfOk (moved t l (checked_at t l wide o)) Q
+    by : (o : Option Expected) → next_place t.place l ≡ o → IfOk (moved t l (checked_at t l wide o)) Q
     by None e = tt
     by (Some p) e =
         past (is_other_version l wide) Kind.Version _ (λ _.

@@ -5,14 +5,14 @@ use Rattle.ws_isa.specs.declared.instr.Op.{Op}
 use Rattle.ws_isa.specs.declared.instr.Op.TheVariants.{Const, Alu, Merge, Advance, Steer, Phi, Send, Load, Store, Input, Output, Give, Take, Nop, Halt}
 use Rattle.ws_isa.specs.Image.{flat, ports_of}
 use Rattle.ws_isa.specs.Formed.{most_dests, most_pads, OpIn, SendWithin, RiseFrom, PadsRise}
-use Rattle.asm_text.specs.declared.state.Place.{Place}
+use Rattle.asm_text.specs.declared.state.Expected.{Expected}
 use Rattle.asm_text.specs.State.{next_place, is_above, is_within_op, limit}
 use Rattle.asm_text.specs.Spelling.{Wave, wave_items}
 use Rattle.std.proofs.lemmas.List.{map-append}
 use Rattle.asm_text.specs.declared.line.Label.{Label}
 use Rattle.ws_isa.specs.Image as plain
 use Rattle.asm_text.specs.declared.line.Line.TheVariants as line
-use Rattle.asm_text.specs.declared.state.Place.TheVariants as place
+use Rattle.asm_text.specs.declared.state.Expected.TheVariants as place
 
 abbrev pub port_count : plain.Instr → ℕ
 port_count i = ports_of i.op
@@ -39,16 +39,16 @@ abbrev pub PadWithin : plain.Pad → Type 0
 PadWithin p = (p.number < most_pads) × (length p.dests ≤ most_dests)
 
 -- among the instructions of a block, or before them
-abbrev pub Inside : Place → Type 0
+abbrev pub Inside : Expected → Type 0
 Inside place.Pads = Unit {0}
 Inside place.Instrs = Unit {0}
 Inside p = ⊥
 
-unfoldable pub behind_instrs : Place → List plain.Instr → Place
+unfoldable pub behind_instrs : Expected → List plain.Instr → Expected
 behind_instrs p [] = p
 behind_instrs p (i ∷ is) = place.Instrs
 
-pub still_inside : (p : Place) (is : List plain.Instr) → Inside p → Inside (behind_instrs p is)
+pub still_inside : (p : Expected) (is : List plain.Instr) → Inside p → Inside (behind_instrs p is)
 unfolding behind_instrs
 still_inside p [] h = h
 still_inside p (i ∷ is) h = tt
@@ -77,13 +77,13 @@ op_within image Nop o s = refl
 op_within image Halt o s = refl
 
 -- where a block may begin: behind an exit, or with a new wave
-abbrev pub Open : Place → ℕ → ℕ → Type 0
+abbrev pub Open : Expected → ℕ → ℕ → Type 0
 Open place.Exited w k = (k ≡ w) ⊎ (k ≡ suc w)
 Open place.Arrays w k = k ≡ suc w
 Open p w k = ⊥
 
 -- where the line of a block may stand
-abbrev pub Begun : Place → Type 0
+abbrev pub Begun : Expected → Type 0
 Begun place.Exited = Unit {0}
 Begun place.Wave = Unit {0}
 Begun p = ⊥
@@ -103,20 +103,20 @@ limit_of false n few most h k = h refl
 
 -- Exits stand inside a block.
 
-pub go_next : (p : Place) (l : Label) → Inside p → next_place p (line.Go l) ≡ Some place.Exited
+pub go_next : (p : Expected) (l : Label) → Inside p → next_place p (line.Go l) ≡ Some place.Exited
 unfolding next_place
 go_next place.Pads l h = refl
 go_next place.Instrs l h = refl
 go_next p l h = absurd h
 
-pub branch_next : (p : Place) (l m n : Label) → Inside p → next_place p (line.If l m n) ≡ Some
+pub branch_next : (p : Expected) (l m n : Label) → Inside p → next_place p (line.If l m n) ≡ Some
     place.Exited
 unfolding next_place
 branch_next place.Pads l m n h = refl
 branch_next place.Instrs l m n h = refl
 branch_next p l m n h = absurd h
 
-pub send_next : (p : Place) (l : Label) (ls : List Label) → Inside p → next_place p (line.Send l ls)
+pub send_next : (p : Expected) (l : Label) (ls : List Label) → Inside p → next_place p (line.Send l ls)
     ≡
     Some place.Exited
 unfolding next_place
@@ -124,7 +124,7 @@ send_next place.Pads l ls h = refl
 send_next place.Instrs l ls h = refl
 send_next p l ls h = absurd h
 
-pub stop_next : (p : Place) → Inside p → next_place p line.Stop ≡ Some place.Exited
+pub stop_next : (p : Expected) → Inside p → next_place p line.Stop ≡ Some place.Exited
 unfolding next_place
 stop_next place.Pads h = refl
 stop_next place.Instrs h = refl
@@ -138,7 +138,7 @@ same_wave last wave e = rw (eq-eqb last wave (sym e))
 pub new_wave : (last wave : ℕ) → wave ≡ suc last → wave_items last wave ≡ Wave wave ∷ []
 new_wave last wave e = rw (ne_eqb last wave (λ d. absurd (omega (arith, d, e))))
 
-pub begun_next : (p : Place) (l : Label) → Begun p → next_place p (line.Block l) ≡ Some place.Pads
+pub begun_next : (p : Expected) (l : Label) → Begun p → next_place p (line.Block l) ≡ Some place.Pads
 unfolding next_place
 begun_next place.Exited l h = refl
 begun_next place.Wave l h = refl

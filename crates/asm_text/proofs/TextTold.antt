@@ -10,8 +10,8 @@ use Rattle.asm_text.specs.declared.line.Line.{Line}
 use Rattle.asm_text.specs.declared.line.Line.TheVariants as line
 use Rattle.asm_text.specs.declared.reading.Reading.{Reading}
 use Rattle.asm_text.specs.declared.reading.Reading.TheVariants.{Blank, Wrong, Found}
-use Rattle.asm_text.specs.declared.state.Place.{Place}
-use Rattle.asm_text.specs.declared.state.Place.TheVariants as place
+use Rattle.asm_text.specs.declared.state.Expected.{Expected}
+use Rattle.asm_text.specs.declared.state.Expected.TheVariants as place
 use Rattle.asm_text.specs.declared.state.State.{State}
 use Rattle.asm_text.specs.declared.fault.AsmKind as kind
 use Rattle.asm_text.specs.declared.fault.AsmKind.TheVariants as Kind
@@ -40,19 +40,19 @@ narrow_version : (l : Line) (wide : Bool) → is_other_version l wide ≡ false 
 narrow_version l wide h e = ap (is_other_version l) (sym e) ∙ h
 
 pub taken : (t : State) (l : Line) (wide : Bool)
-    → IfOk (behind t l wide) (λ u. (wide ≡ false) × ((p : Place) × Taken t l p × (u ≡ after t l p)))
+    → IfOk (behind t l wide) (λ u. (wide ≡ false) × ((p : Expected) × Taken t l p × (u ≡ after t l p)))
 unfolding behind checked
 taken t l wide = by (next_place t.place l) refl
   where
     Q : State → Type 0
-    Q u = (wide ≡ false) × ((p : Place) × Taken t l p × (u ≡ after t l p))
+    Q u = (wide ≡ false) × ((p : Expected) × Taken t l p × (u ≡ after t l p))
 
-    past : (b : Bool) (k : kind.AsmKind) (r : Result Place kind.AsmKind)
+    past : (b : Bool) (k : kind.AsmKind) (r : Result Expected kind.AsmKind)
         → (b ≡ false → IfOk (moved t l r) Q) → IfOk (moved t l (cond b (Err k) r)) Q
     past true k r g = tt
     past false k r g = g refl
 
-    by : (o : Option Place) → next_place t.place l ≡ o → IfOk (moved t l (checked_at t l wide o)) Q
+    by : (o : Option Expected) → next_place t.place l ≡ o → IfOk (moved t l (checked_at t l wide o)) Q
     by None e = tt
     by (Some p) e =
         past (is_other_version l wide) Kind.Version _ (λ v.
@@ -132,7 +132,7 @@ counted_extends t l =
       instrs = sym (append-nil t.instr_names);
     }
 
-pub placed : (t u : State) (p : Place) → Extends t u → Extends t (record u { place = p })
+pub placed : (t u : State) (p : Expected) → Extends t u → Extends t (record u { place = p })
 placed t u p h =
     record {
       block_more = h.block_more;
@@ -197,7 +197,7 @@ step_told s t b (Found l wide) ls names held h y z f =
     IfOk-weaker (behind t l wide) _ (λ u. IfOk (built s b l) (λ c. Adds s u c (Found l wide) ls))
     (λ u k. one u k.0 k.1.0 k.1.1 k.1.2) (taken t l wide)
   where
-    one : (u : State) → wide ≡ false → (p : Place) → Taken t l p → u ≡ after t l p
+    one : (u : State) → wide ≡ false → (p : Expected) → Taken t l p → u ≡ after t l p
         → IfOk (built s b l) (λ c. Adds s u c (Found l wide) ls)
     one u w p g e =
         let v = after t l p in
@@ -308,7 +308,7 @@ unfolding opening nothing
 nothing_first =
     λ e. record { ports = omega arith; blocks = omega arith; waves = omega arith; each = refl }
 
-at_end : (p : Place) (s : State) (b : Built) → is_ended p ≡ true → Stands p s b → Exited s b
+at_end : (p : Expected) (s : State) (b : Built) → is_ended p ≡ true → Stands p s b → Exited s b
 at_end place.Ended s b e h = h
 at_end p s b e h = absurd (true≢false (sym e))
 
@@ -335,7 +335,7 @@ known_version true s h = inl refl
 known_version false s h =
     let n = h refl in inr (refl, λ i. record { blocks = n.0 i; instrs = n.1 i })
 
-end_items : (p : Place) (v : ℕ) (b : Built) → is_ended p ≡ true → told_items p v b ≡ items v
+end_items : (p : Expected) (v : ℕ) (b : Built) → is_ended p ≡ true → told_items p v b ≡ items v
     (record { arrays = b.arrays; blocks = b.blocks })
 end_items place.Ended v b e = refl
 end_items p v b e = absurd (true≢false (sym e))

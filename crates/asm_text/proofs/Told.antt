@@ -13,8 +13,8 @@ use Rattle.asm_text.specs.declared.line.Target.{Target}
 use Rattle.asm_text.specs.declared.line.InstrLine.{InstrLine}
 use Rattle.asm_text.specs.declared.line.Line.{Line}
 use Rattle.asm_text.specs.declared.line.Line.TheVariants as line
-use Rattle.asm_text.specs.declared.state.Place.{Place}
-use Rattle.asm_text.specs.declared.state.Place.TheVariants as place
+use Rattle.asm_text.specs.declared.state.Expected.{Expected}
+use Rattle.asm_text.specs.declared.state.Expected.TheVariants as place
 use Rattle.asm_text.specs.declared.state.State.{State}
 use Rattle.asm_text.specs.Names.{Names, named}
 use Rattle.asm_text.specs.Words.{is}
@@ -50,7 +50,7 @@ begun b =
     wave_items (last_wave 0 b.blocks) b.wave ++ Block (1 + length b.blocks) ∷ map Pad b.pads
     ++ instr_items (1 + length (flat b.blocks)) b.instrs
 
-abbrev pub told_items : Place → ℕ → Built → List Item
+abbrev pub told_items : Expected → ℕ → Built → List Item
 told_items place.Start v b = []
 told_items place.Arrays v b = top v b
 told_items place.Wave v b = shut v b ++ Wave b.wave ∷ []
@@ -63,7 +63,7 @@ abbrev pub NoNames : State → Type 0
 NoNames t = (t.block_names ≡ []) × (t.instr_names ≡ [])
 
 -- what isn't there yet
-abbrev pub Lacks : Place → State → Built → Type 0
+abbrev pub Lacks : Expected → State → Built → Type 0
 Lacks place.Start t b = (b.arrays ≡ []) × (b.blocks ≡ []) × NoNames t × (t.named ≡ false)
 Lacks place.Arrays t b = b.blocks ≡ []
 Lacks place.Pads t b = b.instrs ≡ []
@@ -83,7 +83,7 @@ pub record Extends (t s : State) : Type 0 where
   pub instrs : s.instr_names ≡ t.instr_names ++ instr_more
 
 -- a line that is taken passes each test
-pub record Taken (t : State) (l : Line) (p : Place) : Type 0 where
+pub record Taken (t : State) (l : Line) (p : Expected) : Type 0 where
   pub next : next_place t.place l ≡ Some p
   pub version : is_other_version l false ≡ false
   pub plain : (t.named || is_plain l) ≡ true
@@ -91,10 +91,10 @@ pub record Taken (t : State) (l : Line) (p : Place) : Type 0 where
   pub within : is_within t l ≡ true
   pub new : is_new t l ≡ true
 
-at_place : (P : Place → Type 0) (q p : Place) → Some q ≡ Some p → P q → P p
+at_place : (P : Expected → Type 0) (q p : Expected) → Some q ≡ Some p → P q → P p
 at_place P q p e h = subst P (same_Some q p e) h
 
-nowhere : {P : Type 0} (p : Place) → None ≡ Some p → P
+nowhere : {P : Type 0} (p : Expected) → None ≡ Some p → P
 nowhere p e = absurd (none-some p e)
 
 -- Own names.
@@ -155,7 +155,7 @@ version_is n e =
     one true r = refl
     one false r = absurd (true≢false r)
 
-version_told : (s t : State) (b : Built) (n : ℕ) (p : Place) (ls : List Line) → Told s t b ls
+version_told : (s t : State) (b : Built) (n : ℕ) (p : Expected) (ls : List Line) → Told s t b ls
     → Taken t (line.Version n) p → Told s (after t (line.Version n) p) b (ls ++ line.Version n ∷ [])
 unfolding counted next_place
 version_told s t b n p ls h k =
@@ -169,7 +169,7 @@ version_told s t b n p ls h k =
     v : ℕ
     v = number (n == 2)
 
-    by : (q : Place) → next_place q (line.Version n) ≡ Some p → Lacks q t b
+    by : (q : Expected) → next_place q (line.Version n) ≡ Some p → Lacks q t b
         → (told_items p v b ≡ told_items q (number t.named) b ++ Version n ∷ []) × Lacks p u b × NoNames t
     by place.Start e l =
         at_place (λ p. (told_items p v b ≡ Version n ∷ []) × Lacks p u b × NoNames t) place.Arrays p e
@@ -196,13 +196,13 @@ array_told s t u b l o n ls h k q p v f g =
     told_more s t u b c l ls (Array x) h k (both, subst (λ p. Lacks p u c) (sym p) lacks)
     (λ e. let r = h.plain (sym v ∙ e) in (f ∙ r.0, g ∙ r.1))
 
-array_place : (n : ℕ) (w : List ℕ) (q p : Place) → next_place q (line.Array w n) ≡ Some p
+array_place : (n : ℕ) (w : List ℕ) (q p : Expected) → next_place q (line.Array w n) ≡ Some p
     → (q ≡ place.Arrays) × (p ≡ place.Arrays)
 unfolding next_place
 array_place n w place.Arrays p e = (refl, sym (same_Some place.Arrays p e))
 array_place n w q p e = nowhere p e
 
-hidden_place : (n : ℕ) (q p : Place) → next_place q (line.Hidden n) ≡ Some p
+hidden_place : (n : ℕ) (q p : Expected) → next_place q (line.Hidden n) ≡ Some p
     → (q ≡ place.Arrays) × (p ≡ place.Arrays)
 unfolding next_place
 hidden_place n place.Arrays p e = (refl, sym (same_Some place.Arrays p e))
@@ -210,7 +210,7 @@ hidden_place n q p e = nowhere p e
 
 -- Waves.
 
-wave_told : (s t : State) (b : Built) (k : ℕ) (p : Place) (ls : List Line) → Told s t b ls → Taken t
+wave_told : (s t : State) (b : Built) (k : ℕ) (p : Expected) (ls : List Line) → Told s t b ls → Taken t
     (line.Wave k) p → Told s (after t (line.Wave k) p) (record b { wave = k }) (ls ++ line.Wave k ∷ [])
 unfolding counted next_place
 wave_told s t b k p ls h g =
@@ -226,7 +226,7 @@ wave_told s t b k p ls h g =
     c : Built
     c = record b { wave = k }
 
-    by : (q : Place) → next_place q (line.Wave k) ≡ Some p → Lacks q t b
+    by : (q : Expected) → next_place q (line.Wave k) ≡ Some p → Lacks q t b
         → (told_items p v c ≡ told_items q v b ++ Wave k ∷ []) × Lacks p u c
     by place.Arrays e l =
         at_place (λ p. (told_items p v c ≡ told_items place.Arrays v b ++ Wave k ∷ []) × Lacks p u c)
@@ -255,7 +255,7 @@ same_wave last wave e = rw (eq-eqb last wave (sym e))
 new_wave : (last wave : ℕ) → wave ≡ suc last → wave_items last wave ≡ Wave wave ∷ []
 new_wave last wave e = rw (ne_eqb last wave (λ d. absurd (omega (arith, d, e))))
 
-block_told : (s t : State) (b : Built) (own : Label) (p : Place) (ls : List Line) → Held s t b
+block_told : (s t : State) (b : Built) (own : Label) (p : Expected) (ls : List Line) → Held s t b
     → Told s t b ls → Taken t (line.Block own) p → Extends (after t (line.Block own) p) s
     → Told s (after t (line.Block own) p) b (ls ++ line.Block own ∷ [])
 unfolding counted next_place is_numbered is_new is_plain
@@ -285,7 +285,7 @@ block_told s t b own p ls held h g x =
     wave : t.waves ≡ b.wave
     wave = held.wave.0
 
-    by : (q : Place) → next_place q (line.Block own) ≡ Some p → Stands q t b
+    by : (q : Expected) → next_place q (line.Block own) ≡ Some p → Stands q t b
         → (told_items p v b ≡ told_items q v b ++ Block n ∷ []) × Lacks p u b × (t.blocks ≡ length b.blocks)
     by place.Wave e l =
         let new = begun_new b (Wave b.wave ∷ []) (new_wave (last_wave 0 b.blocks) b.wave (sym wave ∙ l.1))
@@ -324,7 +324,7 @@ begun_pad b k ds q =
     let short : begun b ≡ before = (λ i. before ++ instr_items m (q i)) ∙ append-nil before in
     long ∙ ap (λ is. is ++ Pad x ∷ []) (sym short)
 
-pad_told : (s t : State) (b : Built) (k : ℕ) (ts : List Target) (ds : List Dest) (p : Place) (ls : List Line)
+pad_told : (s t : State) (b : Built) (k : ℕ) (ts : List Target) (ds : List Dest) (p : Expected) (ls : List Line)
     → Told s t b ls → Taken t (line.Pad k ts) p → Pairs (TargetIsFor s.instr_names) ts ds
     → Told s (after t (line.Pad k ts) p) (with_pad b k ds) (ls ++ line.Pad k ts ∷ [])
 unfolding counted next_place
@@ -344,7 +344,7 @@ pad_told s t b k ts ds p ls h g d =
     c : Built
     c = with_pad b k ds
 
-    by : (q : Place) → next_place q (line.Pad k ts) ≡ Some p → Lacks q t b
+    by : (q : Expected) → next_place q (line.Pad k ts) ≡ Some p → Lacks q t b
         → (told_items p v c ≡ told_items q v b ++ Pad x ∷ []) × Lacks p u c
     by place.Pads e l =
         at_place (λ p. (told_items p v c ≡ told_items place.Pads v b ++ Pad x ∷ []) × Lacks p u c)
@@ -379,7 +379,7 @@ first_of_three : (a b c : Bool) → (a && b && c) ≡ true → a ≡ true
 first_of_three true true true h = refl
 first_of_three a b c h = absurd (false≢true h)
 
-instr_told : (s t : State) (b : Built) (i : InstrLine) (ds os : List Dest) (p : Place) (ls : List Line)
+instr_told : (s t : State) (b : Built) (i : InstrLine) (ds os : List Dest) (p : Expected) (ls : List Line)
     → Held s t b → Told s t b ls → Taken t (line.Instr i) p → Extends (after t (line.Instr i) p) s
     → Pairs (TargetIsFor s.instr_names) i.dests ds → Pairs (TargetIsFor s.instr_names) i.others os
     → Told s (after t (line.Instr i) p) (with_instr b (record {
@@ -429,7 +429,7 @@ instr_told s t b i ds os p ls held h g x d o =
     more =
         ap (λ is. shut v b ++ is) (begun_instr b y) ∙ sym (append_assoc (shut v b) (begun b) (Instr n y ∷ []))
 
-    by : (q : Place) → next_place q (line.Instr i) ≡ Some p
+    by : (q : Expected) → next_place q (line.Instr i) ≡ Some p
         → (told_items p v c ≡ told_items q v b ++ Instr n y ∷ []) × Lacks p u c
     by place.Pads e =
         at_place (λ p. (told_items p v c ≡ told_items place.Pads v b ++ Instr n y ∷ []) × Lacks p u c)
@@ -442,35 +442,35 @@ instr_told s t b i ds os p ls held h g x d o =
 -- Exits.
 
 -- the line stands inside a block
-pub record Leaves (v : ℕ) (b : Built) (q p : Place) : Type 0 where
+pub record Leaves (v : ℕ) (b : Built) (q p : Expected) : Type 0 where
   pub inside : told_items q v b ≡ shut v b ++ begun b
   pub exited : p ≡ place.Exited
 
-leaves_at : (v : ℕ) (b : Built) (q p : Place) → told_items q v b ≡ shut v b ++ begun b
+leaves_at : (v : ℕ) (b : Built) (q p : Expected) → told_items q v b ≡ shut v b ++ begun b
     → Some place.Exited ≡ Some p → Leaves v b q p
 leaves_at v b q p i e = record { inside = i; exited = sym (same_Some place.Exited p e) }
 
-go_leaves : (v : ℕ) (b : Built) (l : Label) (q p : Place) → next_place q (line.Go l) ≡ Some p → Leaves v b q p
+go_leaves : (v : ℕ) (b : Built) (l : Label) (q p : Expected) → next_place q (line.Go l) ≡ Some p → Leaves v b q p
 unfolding next_place
 go_leaves v b l place.Pads p e = leaves_at v b place.Pads p refl e
 go_leaves v b l place.Instrs p e = leaves_at v b place.Instrs p refl e
 go_leaves v b l q p e = nowhere p e
 
-branch_leaves : (v : ℕ) (b : Built) (l m n : Label) (q p : Place) → next_place q (line.If l m n) ≡ Some p
+branch_leaves : (v : ℕ) (b : Built) (l m n : Label) (q p : Expected) → next_place q (line.If l m n) ≡ Some p
     → Leaves v b q p
 unfolding next_place
 branch_leaves v b l m n place.Pads p e = leaves_at v b place.Pads p refl e
 branch_leaves v b l m n place.Instrs p e = leaves_at v b place.Instrs p refl e
 branch_leaves v b l m n q p e = nowhere p e
 
-send_leaves : (v : ℕ) (b : Built) (l : Label) (ls : List Label) (q p : Place)
+send_leaves : (v : ℕ) (b : Built) (l : Label) (ls : List Label) (q p : Expected)
     → next_place q (line.Send l ls) ≡ Some p → Leaves v b q p
 unfolding next_place
 send_leaves v b l ls place.Pads p e = leaves_at v b place.Pads p refl e
 send_leaves v b l ls place.Instrs p e = leaves_at v b place.Instrs p refl e
 send_leaves v b l ls q p e = nowhere p e
 
-stop_leaves : (v : ℕ) (b : Built) (q p : Place) → next_place q line.Stop ≡ Some p → Leaves v b q p
+stop_leaves : (v : ℕ) (b : Built) (q p : Expected) → next_place q line.Stop ≡ Some p → Leaves v b q p
 unfolding next_place
 stop_leaves v b place.Pads p e = leaves_at v b place.Pads p refl e
 stop_leaves v b place.Instrs p e = leaves_at v b place.Instrs p refl e
@@ -488,7 +488,7 @@ abbrev SpellsSome : Naming → Line → Option plain.Exit → Type 0
 SpellsSome names l None = ⊥
 SpellsSome names l (Some e) = SpellsExit names l e
 
-exit_told : (s t : State) (b : Built) (l : Line) (e : Maybe (Option plain.Exit)) (p : Place) (ls : List Line)
+exit_told : (s t : State) (b : Built) (l : Line) (e : Maybe (Option plain.Exit)) (p : Expected) (ls : List Line)
     → Told s t b ls → Leaves (number t.named) b t.place p → IfOk e (SpellsSome (naming s) l)
     → IfOk (with_exit b e) (λ c. Told s (record t { place = p }) c (ls ++ l ∷ []))
 exit_told s t b l (Err k) p ls h g x = tt
@@ -502,7 +502,7 @@ exit_told s t b l (Ok (Some e)) p ls h g x =
     let u : State = record t { place = p } in
     told_more s t u b c l ls (Exit e) h x (same, subst (λ p. Lacks p u c) (sym g.exited) tt) h.plain
 
-end_told : (s t : State) (b : Built) (p : Place) (ls : List Line) → Told s t b ls → Taken t line.End p
+end_told : (s t : State) (b : Built) (p : Expected) (ls : List Line) → Told s t b ls → Taken t line.End p
     → Told s (after t line.End p) b (ls ++ line.End ∷ [])
 unfolding counted next_place
 end_told s t b p ls h g =
@@ -514,7 +514,7 @@ end_told s t b p ls h g =
     v : ℕ
     v = number t.named
 
-    by : (q : Place) → next_place q line.End ≡ Some p
+    by : (q : Expected) → next_place q line.End ≡ Some p
         → (told_items p v b ≡ told_items q v b ++ End ∷ []) × Lacks p u b
     by place.Exited e =
         at_place (λ p. (told_items p v b ≡ told_items place.Exited v b ++ End ∷ []) × Lacks p u b)
@@ -522,7 +522,7 @@ end_told s t b p ls h g =
     by q e = nowhere p e
 
 -- One line.
-pub line_told : (s t : State) (b : Built) (l : Line) (p : Place) (ls : List Line) → Held s t b
+pub line_told : (s t : State) (b : Built) (l : Line) (p : Expected) (ls : List Line) → Held s t b
     → Told s t b ls → Taken t l p → Extends (after t l p) s
     → IfOk (built s b l) (λ c. Told s (after t l p) c (ls ++ l ∷ []))
 unfolding built exit_of counted

@@ -7,7 +7,7 @@ ghost use Rattle.cfg_core.specs.View as view;
 ghost use Rattle.cfg_core.specs.Shows.{TableIs};
 ghost use Rattle.call_gen.specs.Spelled.{callee_is, callee, count_of, is_call, is_called, is_calling, address};
 
-use cfg_core::{Leave, Table};
+use cfg_core::{GraphTable, Leave};
 
 /// Whether an exit calls.
 pub(crate) fn calls(exit: &Leave) -> bool
@@ -29,7 +29,7 @@ fn calls_to(exit: &Leave, f: u32) -> bool
 }
 
 /// Whether the block with this number calls.
-pub(crate) fn calls_at(table: &Table<'_>, b: usize) -> bool
+pub(crate) fn calls_at(table: &GraphTable<'_>, b: usize) -> bool
     requires { TableIs table.now }
     ensures { result ≡ calls (block_at (view.graph table.now.graph.now) b).exit }
 {
@@ -40,7 +40,7 @@ pub(crate) fn calls_at(table: &Table<'_>, b: usize) -> bool
 }
 
 /// Whether the block with this number calls this procedure.
-pub(crate) fn calls_to_at(table: &Table<'_>, b: usize, f: u32) -> bool
+pub(crate) fn calls_to_at(table: &GraphTable<'_>, b: usize, f: u32) -> bool
     requires { TableIs table.now }
     ensures { result ≡ callee_is (block_at (view.graph table.now.graph.now) b).exit f }
 {
@@ -60,7 +60,7 @@ fn callee(exit: &Leave) -> Option<u32>
 }
 
 /// The procedure that the block with this number calls.
-pub(crate) fn callee_at(table: &Table<'_>, b: usize) -> Option<u32>
+pub(crate) fn callee_at(table: &GraphTable<'_>, b: usize) -> Option<u32>
     requires { TableIs table.now }
     ensures { result ≡ callee (block_at (view.graph table.now.graph.now) b).exit }
 {
@@ -71,7 +71,7 @@ pub(crate) fn callee_at(table: &Table<'_>, b: usize) -> Option<u32>
 }
 
 /// How many of the first so many blocks call this procedure.
-pub(crate) fn calls_before(table: &Table<'_>, count: usize, f: u32) -> usize
+pub(crate) fn calls_before(table: &GraphTable<'_>, count: usize, f: u32) -> usize
     requires table { TableIs table.now }
     requires there { count ≤ length (spots (view.graph table.now.graph.now)) }
     ensures count { result ≡ address (view.graph table.now.graph.now) f count }
@@ -85,7 +85,7 @@ pub(crate) fn calls_before(table: &Table<'_>, count: usize, f: u32) -> usize
 }
 
 /// Whether some block calls this procedure.
-pub(crate) fn is_called(table: &Table<'_>, f: u32) -> bool
+pub(crate) fn is_called(table: &GraphTable<'_>, f: u32) -> bool
     requires { TableIs table.now }
     ensures { result ≡ is_called (view.graph table.now.graph.now) f }
 {
@@ -93,7 +93,7 @@ pub(crate) fn is_called(table: &Table<'_>, f: u32) -> bool
 }
 
 /// Whether some block of this procedure calls.
-pub(crate) fn is_calling(table: &Table<'_>, homes: &[u32], f: u32) -> bool
+pub(crate) fn is_calling(table: &GraphTable<'_>, homes: &[u32], f: u32) -> bool
     requires table { TableIs table.now }
     requires homes { homes.now ≡ map (λ s. s.home) (spots (view.graph table.now.graph.now)) }
     ensures { result ≡ is_calling (view.graph table.now.graph.now) f }
@@ -107,7 +107,7 @@ pub(crate) fn is_calling(table: &Table<'_>, homes: &[u32], f: u32) -> bool
 
 // Whether the block with this number, which stands in procedure `home`, calls and is one of
 // procedure f.
-fn calls_in(table: &Table<'_>, b: usize, home: u32, f: u32) -> bool
+fn calls_in(table: &GraphTable<'_>, b: usize, home: u32, f: u32) -> bool
     requires { TableIs table.now }
     ensures { result ≡ ((home == f) && calls (block_at (view.graph table.now.graph.now) b).exit) }
 {

@@ -8,7 +8,7 @@ ghost use Rattle.cfg_core.specs.Shows.{TableIs};
 ghost use Rattle.call_gen.specs.Keeps.{NoSend, HasNoSend};
 ghost use Rattle.call_gen.specs.Part.{AreReached, Marks, Next};
 
-use cfg_core::{Leave, Table};
+use cfg_core::{GraphTable, Leave};
 use std::alloc::Global;
 use ws_words::NoMemory;
 
@@ -34,7 +34,7 @@ impl Finder {
     }
 
     // Flags the blocks that an exit leads to.
-    fn leave(&mut self, table: &Table<'_>, exit: &Leave) -> Result<(), NoMemory>
+    fn leave(&mut self, table: &GraphTable<'_>, exit: &Leave) -> Result<(), NoMemory>
         requires table { TableIs table.now }
         requires no_send { NoSend (view.exit exit.now) }
         ensures { OnOk result (Marks (Next (view.graph table.now.graph.now) (view.exit exit.now))
@@ -58,7 +58,7 @@ impl Finder {
     }
 
     // Flags the blocks that block b leads to.
-    fn look(&mut self, table: &Table<'_>, b: usize) -> Result<(), NoMemory>
+    fn look(&mut self, table: &GraphTable<'_>, b: usize) -> Result<(), NoMemory>
         requires table { TableIs table.now }
         requires no_send { HasNoSend (view.graph table.now.graph.now) }
         ensures { let g = view.graph table.now.graph.now in
@@ -74,7 +74,7 @@ impl Finder {
 }
 
 /// Flags of the reached blocks.
-pub(crate) fn find(alloc: Global, table: &Table<'_>) -> Result<Vec<bool>, NoMemory>
+pub(crate) fn find(alloc: Global, table: &GraphTable<'_>) -> Result<Vec<bool>, NoMemory>
     requires table { TableIs table.now }
     requires rules { IsGraph (view.graph table.now.graph.now) }
     requires no_send { HasNoSend (view.graph table.now.graph.now) }

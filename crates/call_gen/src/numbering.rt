@@ -8,7 +8,7 @@ ghost use Rattle.call_gen.specs.Spelled.{is_called, moved, first_cell, own_cells
 ghost use Rattle.call_gen.specs.Plans.{CallPlaced, Few, Tallied};
 
 use crate::counts::{callee_at, calls_at, is_called, is_calling, one_if};
-use cfg_core::{Graph, Table};
+use cfg_core::{Graph, GraphTable};
 use std::alloc::Global;
 use ws_words::NoMemory;
 
@@ -34,7 +34,11 @@ fn add_homes(homes: &mut Vec<u32>, f: u32, count: usize) -> Result<(), NoMemory>
 }
 
 /// The new number of each block.
-pub(crate) fn places(alloc: Global, table: &Table<'_>, homes: &[u32]) -> Result<Vec<u32>, NoMemory>
+pub(crate) fn places(
+    alloc: Global,
+    table: &GraphTable<'_>,
+    homes: &[u32],
+) -> Result<Vec<u32>, NoMemory>
     requires table { TableIs table.now }
     requires homes { homes.now ≡ map (λ s. s.home) (spots (view.graph table.now.graph.now)) }
     requires few { Few (view.graph table.now.graph.now) }
@@ -72,7 +76,7 @@ fn tally(counts: &mut Vec<u32>, f: u32) -> u32
 
 // The place of block b's call among those of its callee, where the counts are those of the blocks
 // before it; then they are those of the blocks before the next one.
-fn next_place(counts: &mut Vec<u32>, table: &Table<'_>, b: usize) -> u32
+fn next_place(counts: &mut Vec<u32>, table: &GraphTable<'_>, b: usize) -> u32
     requires table { TableIs table.now }
     requires few { Few (view.graph table.now.graph.now) }
     requires there { b < length (spots (view.graph table.now.graph.now)) }
@@ -87,7 +91,7 @@ fn next_place(counts: &mut Vec<u32>, table: &Table<'_>, b: usize) -> u32
 }
 
 /// The place of each block's call among those of its callee.
-pub(crate) fn addresses(alloc: Global, table: &Table<'_>) -> Result<Vec<u32>, NoMemory>
+pub(crate) fn addresses(alloc: Global, table: &GraphTable<'_>) -> Result<Vec<u32>, NoMemory>
     requires table { TableIs table.now }
     requires few { Few (view.graph table.now.graph.now) }
     ensures { IfOk result (λ list. (b : ℕ) → b < length (spots (view.graph table.now.graph.now)) →
@@ -102,7 +106,7 @@ pub(crate) fn addresses(alloc: Global, table: &Table<'_>) -> Result<Vec<u32>, No
 }
 
 /// Whether each procedure is called.
-pub(crate) fn called(alloc: Global, table: &Table<'_>) -> Result<Vec<bool>, NoMemory>
+pub(crate) fn called(alloc: Global, table: &GraphTable<'_>) -> Result<Vec<bool>, NoMemory>
     requires table { TableIs table.now }
     requires few { Few (view.graph table.now.graph.now) }
     ensures { IfOk result (λ flags. (f : ℕ) → f < length (view.graph table.now.graph.now).procs →
@@ -118,7 +122,7 @@ pub(crate) fn called(alloc: Global, table: &Table<'_>) -> Result<Vec<bool>, NoMe
 /// The number of each procedure's first hidden cell, and how many there are in all.
 pub(crate) fn cells(
     alloc: Global,
-    table: &Table<'_>,
+    table: &GraphTable<'_>,
     homes: &[u32],
 ) -> Result<(Vec<u64>, u64), NoMemory>
     requires table { TableIs table.now }
@@ -139,7 +143,7 @@ pub(crate) fn cells(
     Ok((starts, total))
 }
 
-fn own(table: &Table<'_>, homes: &[u32], f: u32) -> u64
+fn own(table: &GraphTable<'_>, homes: &[u32], f: u32) -> u64
     requires table { TableIs table.now }
     requires homes { homes.now ≡ map (λ s. s.home) (spots (view.graph table.now.graph.now)) }
     ensures cells { result ≡ own_cells (view.graph table.now.graph.now) f }

@@ -16,7 +16,7 @@ use crate::copy::{arrays, numbers as copy_numbers, operations};
 use crate::find::find;
 use crate::part_numbers::{flag, number_at, numbers, places};
 use cfg_core::{
-    Graph, GraphBlock, GraphBlocks, GraphProc, GraphProcs, Leave, Table, copy_term, copy_terms,
+    Graph, GraphBlock, GraphBlocks, GraphProc, GraphProcs, GraphTable, Leave, copy_term, copy_terms,
 };
 use std::alloc::Global;
 use ws_words::NoMemory;
@@ -24,7 +24,7 @@ use ws_words::NoMemory;
 /// Which blocks of a graph are kept, and the new numbers of blocks and procedures.
 #[derive(Drop)]
 pub(crate) struct Part<'a> {
-    pub(crate) table: Table<'a>,
+    pub(crate) table: GraphTable<'a>,
     pub(crate) flags: Vec<bool>,
     pub(crate) places: Vec<usize>,
     pub(crate) numbers: Vec<usize>,
@@ -227,7 +227,7 @@ pub fn reached(alloc: Global, graph: &Graph) -> Result<Graph, NoMemory>
     ensures places { IfOk result (λ made. ReachedInPlace (view.graph graph.now)
         (view.graph made)) }
 {
-    let table = Table::of(alloc, graph)?;
+    let table = GraphTable::of(alloc, graph)?;
     let flags = find(alloc, &table)?;
     let places = places(alloc, &flags)?;
     let numbers = numbers(alloc, &table, &flags)?;

@@ -6,7 +6,7 @@ ghost use Rattle.cfg_core.specs.Shows.{TableIs};
 ghost use Rattle.call_gen.specs.Part.{flag_at, before, number};
 
 use crate::counts::one_if;
-use cfg_core::Table;
+use cfg_core::GraphTable;
 use std::alloc::Global;
 use ws_words::NoMemory;
 
@@ -40,7 +40,7 @@ pub(crate) fn places(alloc: Global, flags: &[bool]) -> Result<Vec<usize>, NoMemo
 // How many procedures are kept before each.
 pub(crate) fn numbers(
     alloc: Global,
-    table: &Table<'_>,
+    table: &GraphTable<'_>,
     flags: &[bool],
 ) -> Result<Vec<usize>, NoMemory>
     requires { TableIs table.now }

@@ -10,7 +10,7 @@ ghost use Rattle.call_gen.specs.Plans.{Few, PlanIs};
 
 use crate::counts::{calls_before, calls_to_at, is_called};
 use crate::numbering::{addresses, called, cells, homes, places};
-use cfg_core::{Graph, Table};
+use cfg_core::{Graph, GraphTable};
 use live_vars::LiveSets;
 use std::alloc::Global;
 use ws_words::NoMemory;
@@ -25,7 +25,7 @@ const MOST: usize = 1 << 30;
 /// the place of its call, for each procedure whether it is called and the number of its first hidden cell.
 #[derive(Drop)]
 pub(crate) struct Plan<'a> {
-    pub(crate) table: Table<'a>,
+    pub(crate) table: GraphTable<'a>,
     pub(crate) live: &'a LiveSets,
     pub(crate) homes: Vec<u32>,
     pub(crate) places: Vec<u32>,
@@ -42,7 +42,7 @@ pub(crate) struct CellPlace {
     pub(crate) index: u64,
 }
 
-fn is_few(table: &Table<'_>) -> bool
+fn is_few(table: &GraphTable<'_>) -> bool
     requires { TableIs table.now }
     ensures { IsTrue result → Few (view.graph table.now.graph.now) }
 {
@@ -67,7 +67,7 @@ impl<'a> Plan<'a> {
         ensures live { IfOk result (λ plan. plan.live.now ≡ live.now) }
         ensures plan { IfOk result (λ plan. PlanIs plan) }
     {
-        let table = Table::of(alloc, graph)?;
+        let table = GraphTable::of(alloc, graph)?;
         if !is_few(&table) {
             return Err(NoMemory);
         }

@@ -1,7 +1,7 @@
 -- A program within the limits of the language has few blocks, and its ports fit into bytes.
 use Rattle.std.proofs.Common.{ℕ, suc, ◌+◌, ◌*◌, ◌<◌, ◌≤◌, ◌^◌, List, [], ◌∷◌, length, arith}
 use Rattle.std.specs.List.{AllByRecursion}
-use Rattle.seq_run.specs.Resolved.{Action, Assign, Store, Print, Read, Give, Take, Do, Call, If, While, Steps, Nothing, Then, Proc, nth_proc, Program}
+use Rattle.seq_run.specs.Resolved.{Action, Assign, Store, Print, Read, Give, Take, Do, Call, If, While, Steps, Nothing, Then, Proc, nth_proc, ResolvedProgram}
 use Rattle.src_ast.specs.LanguageLimits.{most_array_cells}
 use Rattle.seq_run.specs.InRange.{ActionIn, StepsIn, ProgramIn, size_all, steps_in}
 use Rattle.cfg_build.specs.Lowered.{begun}
@@ -18,7 +18,7 @@ blocks_few : (ps : List Proc) → blocks_of ps ≤ length ps + 3 * steps_in ps
 blocks_few [] = omega arith
 blocks_few (p ∷ ps) = let h = begun_few p.body in let i = blocks_few ps in omega (arith, h, i)
 
-pub room_for : (program : Program) → ProgramIn program → blocks_of program.procs < 2 ^ 32
+pub room_for : (program : ResolvedProgram) → ProgramIn program → blocks_of program.procs < 2 ^ 32
 room_for program h = let i = blocks_few program.procs in omega (arith, i, h.few_procs, h.few_steps)
 
 action_fits : (arrays vars : ℕ) (a : Action) → ActionIn arrays vars a → ActionFits a
@@ -40,7 +40,7 @@ all_fit : (ps : List Proc) → ((n : ℕ) → n < length ps → ProcFits (nth_pr
 all_fit [] f = tt
 all_fit (p ∷ ps) f = (f 0 (omega arith), all_fit ps (λ n lt. f (suc n) (omega (arith, lt))))
 
-pub procs_fit : (program : Program) → ProgramIn program → AllByRecursion ProcFits program.procs
+pub procs_fit : (program : ResolvedProgram) → ProgramIn program → AllByRecursion ProcFits program.procs
 procs_fit program h = all_fit program.procs (λ n lt.
     let p = h.procs n lt in
     record { vars = omega (arith, p.few_vars); body = steps_fit (length program.lengths) program.procs n _ (nth_proc program.procs n).body p.body })
@@ -50,5 +50,5 @@ all_lengths_fit [] h = tt
 all_lengths_fit (n ∷ ns) h = (omega (arith, h.0), all_lengths_fit ns h.1)
 
 -- the lengths of arrays fit
-pub lengths_fit : (program : Program) → ProgramIn program → AllByRecursion LengthFits program.lengths
+pub lengths_fit : (program : ResolvedProgram) → ProgramIn program → AllByRecursion LengthFits program.lengths
 lengths_fit program h = all_lengths_fit program.lengths h.lengths

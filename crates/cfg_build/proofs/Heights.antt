@@ -3,7 +3,7 @@ use Rattle.std.proofs.Common.{ℕ, zero, suc, ◌+◌, ◌-◌, ◌*◌, ◌≡�
 use Rattle.std.specs.List.{sum_by}
 use Rattle.std.proofs.lemmas.List.{length-append}
 use Rattle.std.proofs.lemmas.List.Sums.{sum_by-cons}
-use Rattle.seq_run.specs.Resolved.{Action, Do, Call, If, While, Steps, Nothing, Then, Proc, Program}
+use Rattle.seq_run.specs.Resolved.{Action, Do, Call, If, While, Steps, Nothing, Then, Proc, ResolvedProgram}
 use Rattle.cfg_core.specs.Graph as graph
 use Rattle.cfg_core.specs.Graph.{Op, Tick, Exit, Goto, Branch, Block, Graph, Spot, nth, or_else, no_spot, spots, spots_in, spots_from, spot_at, block_at, entry_from, entry_of}
 use Rattle.cfg_core.specs.Weights.{turns_of, turns_at, handed_on, IsPotential, first_block, TwoBlocksATurn}
@@ -173,7 +173,7 @@ lowest (p ∷ ps) = first_of_steps p.body
     first_of_steps (Then (If t a b) more) = omega arith
     first_of_steps (Then (While t body) more) = omega arith
 
-pub two_blocks_a_turn : (program : Program) → TwoBlocksATurn (lowered program)
+pub two_blocks_a_turn : (program : ResolvedProgram) → TwoBlocksATurn (lowered program)
 unfolding spot_at entry_of
 two_blocks_a_turn program =
     let g = lowered program in let all = all_heights program.procs in

@@ -7,7 +7,7 @@ use Rattle.src_ast.specs.Syntax.{Part}
 use Rattle.src_ast.specs.Turns.{CallEnd, Returned, Stopped}
 use Rattle.src_ast.specs.Meaning as meaning
 use Rattle.src_ast.specs.Meaning.{empty_cells}
-use Rattle.seq_run.specs.Resolved.{Steps, Proc, Program, run_all, run_proc, run, nth_proc, calls_below}
+use Rattle.seq_run.specs.Resolved.{Steps, Proc, ResolvedProgram, run_all, run_proc, run, nth_proc, calls_below}
 use Rattle.seq_run.specs.Resolving as resolving
 use Rattle.seq_run.specs.InRange.{ProgramIn}
 use Rattle.seq_run.specs.TurnsLeft.{AtMost}
@@ -70,7 +70,7 @@ stops_only : (e : CallEnd) (o : Outside) → end_of e ≡ Going o → e ≡ Stop
 stops_only (Returned v u k) o p = absurd (cc)
 stops_only (Stopped u) o p = cc
 
-module _ (grow : TurnsNeverGrow) (program : Program) (fit : ProgramIn program) where
+module _ (grow : TurnsNeverGrow) (program : ResolvedProgram) (fit : ProgramIn program) where
   -- a call of a procedure, on variables that begin with its arguments
   follow_proc : (n : ℕ) → n < length program.procs → CallsFollow (lowered program) n (calls_below n program.procs) → (args vars : List ℕ) → vars ≡ args ++ zeros (nth_proc program.procs n).locals → (o : Outside) (k : ℕ) (fs : List Frame) →
       FollowsCall (lowered program) (run_proc (calls_below n program.procs) (nth_proc program.procs n) args o k) (At (entry_of (lowered program) n) (record { vars = vars; out = o }) fs k) fs

@@ -8,7 +8,7 @@ use Rattle.src_ast.specs.declared.lexeme.Place.{Place}
 use Rattle.src_ast.specs.Rules.{IsAccepted}
 use Rattle.src_ast.specs.Bound.{widest}
 use Rattle.src_ast.specs.Meaning.{scope_of, arrays_of as names_of_arrays, procs_of, names_of}
-use Rattle.seq_run.specs.Resolved.{Program}
+use Rattle.seq_run.specs.Resolved.{ResolvedProgram}
 use Rattle.seq_run.specs.Resolving as resolving
 use Rattle.seq_run.specs.InRange.{ProgramIn}
 use Rattle.cfg_core.specs.Graph.{Graph, GraphArray}
@@ -52,12 +52,12 @@ ShowsGoes = (graph : Graph) → IsGraph graph → NoneHidden graph.arrays → (w
 abbrev pub AllStayInside : Type 0
 AllStayInside = (graph : Graph) → IsGraph graph → NoneHidden graph.arrays → (world : World) → StaysInside graph world
 
-module _ (parts : List Part) (program : Program) (g : Graph) (same : program ≡ resolving.program parts) (made : g ≡ lowered program) (fit : ProgramIn program) where
+module _ (parts : List Part) (program : ResolvedProgram) (g : Graph) (same : program ≡ resolving.program parts) (made : g ≡ lowered program) (fit : ProgramIn program) where
   is_lowered : g ≡ lowered (resolving.program parts)
   is_lowered = made ∙ ap lowered same
 
   pub run_kept : TurnsNeverGrow → NamesArePlaces → KeepsRun parts g
-  run_kept grow places = subst (λ (h : Graph). KeepsRun parts h) (sym is_lowered) (lowered_keeps_run grow places parts (subst (λ (p : Program). ProgramIn p) same fit))
+  run_kept grow places = subst (λ (h : Graph). KeepsRun parts h) (sym is_lowered) (lowered_keeps_run grow places parts (subst (λ (p : ResolvedProgram). ProgramIn p) same fit))
 
   pub arrays_kept : g.arrays ≡ arrays_of parts
   arrays_kept = ap (λ (h : Graph). h.arrays) is_lowered ∙ arrays_are parts
@@ -86,7 +86,7 @@ module _ (parts : List Part) (program : Program) (g : Graph) (same : program ≡
   pub small_kept : (finish : Place) → IsAccepted parts finish → IsSmall parts g
   small_kept finish accepted =
       subst (λ (h : Graph). IsSmall parts h) (sym is_lowered)
-      (is_small parts (subst (λ (p : Program). ProgramIn p) same fit) (arrays_are parts) (few_arrays parts finish accepted) (few_statements parts finish accepted))
+      (is_small parts (subst (λ (p : ResolvedProgram). ProgramIn p) same fit) (arrays_are parts) (few_arrays parts finish accepted) (few_statements parts finish accepted))
 
   none : NoneHidden g.arrays
   none = subst (λ (xs : List GraphArray). NoneHidden xs) (sym arrays_kept) (none_hidden parts)

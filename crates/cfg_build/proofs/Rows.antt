@@ -2,19 +2,19 @@
 use Rattle.std.proofs.Common.{◌≡◌, [], ◌∷◌, refl, Some, None}
 use Rattle.ws_words.specs.declared.alu.Alu.TheVariants.{Add, Mul, Lt, Le}
 use Rattle.ws_words.specs.Outside.{World, prints, reads}
-use Rattle.seq_run.specs.Resolved.{Assign, Print, Read, Do, Call, If, While, Nothing, Then, Proc, Program}
+use Rattle.seq_run.specs.Resolved.{Assign, Print, Read, Do, Call, If, While, Nothing, Then, Proc, ResolvedProgram}
 use Rattle.cfg_core.specs.Graph.{Number, Var, Binary, spot_at, proc_at, entry_of}
 use Rattle.cfg_core.specs.Walk.{Over, Going, walk, opening}
 use Rattle.cfg_build.specs.Lowered.{lowered}
 
-abbrev main_of : Proc → Program
+abbrev main_of : Proc → ResolvedProgram
 main_of p = record { names = []; lengths = []; procs = p ∷ [] }
 
 abbrev given : World
 given = record { input = []; left = [] }
 
 -- adds 1 to 10
-abbrev sum : Program
+abbrev sum : ResolvedProgram
 sum = main_of (record {
   params = 0;
   locals = 2;
@@ -33,7 +33,7 @@ unfolding spot_at proc_at entry_of
 sum_wants_33_turns = refl
 
 -- doubles 5 twice and prints 10 + 20 + 5
-abbrev doubles : Program
+abbrev doubles : ResolvedProgram
 doubles = record {
   names = [];
   lengths = [];
@@ -58,7 +58,7 @@ unfolding spot_at proc_at entry_of
 stops_in_the_call = refl
 
 -- a loop in an arm, after which the join is printed
-abbrev counts_up : Program
+abbrev counts_up : ResolvedProgram
 counts_up = main_of (record {
   params = 0;
   locals = 2;

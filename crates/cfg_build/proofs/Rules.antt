@@ -1,7 +1,7 @@
 -- Lowered graphs keep the rules of graphs.
 use Rattle.std.proofs.Common.{ℕ, suc, ◌+◌, ◌≡◌, ◌<◌, ◌⊎◌, true, ◌||◌, List, [], ◌∷◌, length, refl, sym, ap, subst, inl, inr, arith}
 use Rattle.std.specs.List.{AllByRecursion}
-use Rattle.seq_run.specs.Resolved.{Proc, nth_proc, Program}
+use Rattle.seq_run.specs.Resolved.{Proc, nth_proc, ResolvedProgram}
 use Rattle.seq_run.specs.InRange.{ProcIn, ProgramIn}
 use Rattle.cfg_core.specs.Graph.{Op, Assign, Store, Print, Read, Give, Take, Choose, Tick, TickBy, Exit, Goto, Branch, Call, Return, Send, Stop, Block, GraphProc, Graph, Spot, spots, spots_in, block_at, proc_at}
 use Rattle.cfg_core.specs.Rules.{Leads, Lands, ChoosesBare, CallsEarlier, calls, has_tick, has_turn, Quiet, one, more, ProcNumbers, BlockNumbers, Apart, IsGraph}
@@ -50,7 +50,7 @@ module _ (g : Graph) (only_on : (b c : ℕ) → Leads (block_at g b).exit c → 
   no_quiet_cycle : (b : ℕ) → Quiet g b b → ⊥
   no_quiet_cycle b q = elim (forward b b q) [ inl lt ↦ omega arith | inr t ↦ no_both t (starts_quiet g b b q) ]
 
-on_or_turns : (program : Program) (b c : ℕ) → Leads (block_at (lowered program) b).exit c → (b < c) ⊎ (has_turn (block_at (lowered program) c).ops ≡ true)
+on_or_turns : (program : ResolvedProgram) (b c : ℕ) → Leads (block_at (lowered program) b).exit c → (b < c) ⊎ (has_turn (block_at (lowered program) c).ops ≡ true)
 on_or_turns program b c l = elim ((fine_at program b).on c l) [ inl lt ↦ inl lt | inr back ↦ inr (turns (block_at (lowered program) c).ops back.1.ticks) ]
 
 -- Each number names something.
@@ -93,7 +93,7 @@ module _ (g : Graph) (count : ℕ) (same : length g.arrays ≡ count) (all : Lis
     once = subst (λ xs. Apart xs) (sym h.named) tt;
   }
 
-pub is_graph : (program : Program) → ProgramIn program → IsGraph (lowered program)
+pub is_graph : (program : ResolvedProgram) → ProgramIn program → IsGraph (lowered program)
 is_graph program h =
     let g = lowered program in let all = labels_of program in
     let same : length g.arrays ≡ length program.lengths = count_arrays program.names program.lengths h.names in

@@ -13,7 +13,7 @@ use Rattle.src_ast.specs.Bound.{nodes, nodes_of, most_nodes, most_nodes_of, endi
 use Rattle.src_ast.specs.Meaning.{Scope, scope_of, procs_of}
 use Rattle.src_ast.specs.Rules.{statements_in}
 use Rattle.seq_run.specs.Resolved as resolved
-use Rattle.seq_run.specs.Resolved.{Action, Step, Do, Call, If, While, Steps, Nothing, Then, Proc, nth_proc, Program}
+use Rattle.seq_run.specs.Resolved.{Action, Step, Do, Call, If, While, Steps, Nothing, Then, Proc, nth_proc, ResolvedProgram}
 use Rattle.seq_run.specs.Resolving as resolving
 use Rattle.seq_run.specs.InRange.{steps_in, ProgramIn}
 use Rattle.cfg_core.specs.Graph as graph

@@ -1,7 +1,7 @@
 -- Where the blocks of a lowered graph stand, and what holds of each of them.
 use Rattle.std.proofs.Common.{ℕ, zero, suc, ◌+◌, ◌≡◌, ◌<◌, List, [], ◌∷◌, ◌++◌, length, refl, sym, ap, subst, arith}
 use Rattle.std.proofs.lemmas.List.{length-append}
-use Rattle.seq_run.specs.Resolved.{Do, Call, If, While, Steps, Nothing, Then, Proc, nth_proc, Program}
+use Rattle.seq_run.specs.Resolved.{Do, Call, If, While, Steps, Nothing, Then, Proc, nth_proc, ResolvedProgram}
 use Rattle.cfg_core.specs.Graph.{Block, Graph, Spot, spots, spots_in, spots_from, nth, or_else, spot_at, proc_at, entry_from, entry_of, no_spot, no_proc}
 use Rattle.cfg_build.specs.Lowered.{Part, goes_to, begun, whole, made, proc, procs, proc_blocks, last_part, lowered}
 use Rattle.cfg_build.proofs.Places.{StandAt, stand_all, stand_front, stand_back, Each, each_both}
@@ -70,11 +70,11 @@ module _ (g : Graph) where
       subst (λ b. let first = entry_from b (procs ps next) i in HasAt n (q.params + q.locals) first (proc_blocks q first)) (sym (proc_end p c))
       (proc_blocks_at (suc home) ps next (procs_after home p ps c at) i n (omega (arith, is)) (omega arith))
 
-pub all_spots_at : (program : Program) → SpotsAt (lowered program) 0 (proc_spots 0 program.procs 0)
+pub all_spots_at : (program : ResolvedProgram) → SpotsAt (lowered program) 0 (proc_spots 0 program.procs 0)
 unfolding spot_at
 all_spots_at program = stand_all (spots (lowered program)) no_spot
 
-pub has_blocks : (program : Program) (n : ℕ) → n < length program.procs → let p = nth_proc program.procs n in
+pub has_blocks : (program : ResolvedProgram) (n : ℕ) → n < length program.procs → let p = nth_proc program.procs n in
     HasAt (lowered program) n (p.params + p.locals) (entry_of (lowered program) n) (proc_blocks p (entry_of (lowered program) n))
 unfolding entry_of
 has_blocks program n lt = let same : 0 + n ≡ n = omega arith in proc_blocks_at (lowered program) 0 program.procs 0 (all_spots_at program) n n same lt
@@ -87,7 +87,7 @@ proc_from (p ∷ ps) c (suc n) lt =
     subst (λ (b : ℕ). or_else (nth (procs ps next) n) no_proc ≡ proc (nth_proc ps n) (entry_from b (procs ps next) n)) (sym (proc_end p c)) (proc_from ps next n (omega arith))
 
 -- the procedure with this number
-pub proc_is : (program : Program) (n : ℕ) → n < length program.procs → proc_at (lowered program) n ≡ proc (nth_proc program.procs n) (entry_of (lowered program) n)
+pub proc_is : (program : ResolvedProgram) (n : ℕ) → n < length program.procs → proc_at (lowered program) n ≡ proc (nth_proc program.procs n) (entry_of (lowered program) n)
 unfolding proc_at entry_of
 proc_is program n lt = proc_from program.procs 0 n lt
 

@@ -103,6 +103,6 @@ arrays (name ∷ names) [] = []
 arrays (name ∷ names) (n ∷ lengths) = record { name = Some name; length = n } ∷ arrays names lengths
 
 -- the graph of a program with numbers for names
-abbrev pub lowered : resolved.Program → Graph
+abbrev pub lowered : resolved.ResolvedProgram → Graph
 lowered program =
     record { arrays = arrays program.names program.lengths; procs = procs program.procs 0 }

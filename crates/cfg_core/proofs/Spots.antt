@@ -4,12 +4,12 @@ use Rattle.std.proofs.lemmas.List.{length-map, length-set}
 use Rattle.cfg_core.specs.Graph.{spots, Term, Spot, nth, or_else, no_spot, Block, spots_in}
 use Rattle.cfg_core.specs.View as view
 use Rattle.cfg_core.specs.Shows.{TableIs, spot_in_code, spot_in_graph}
-use Rattle.cfg_core.specs.declared.table.Table.{Table}
+use Rattle.cfg_core.specs.declared.table.GraphTable.{GraphTable}
 use Rattle.cfg_core.specs.Walk.{landed, values}
 use Rattle.std.specs.List.{AllByRecursion, filter}
 use Rattle.cfg_core.specs.Rules.{In}
 
-pub count_is : (table : Table) → TableIs table → length table.spots.items ≡ length (spots (view.graph table.graph.now))
+pub count_is : (table : GraphTable) → TableIs table → length table.spots.items ≡ length (spots (view.graph table.graph.now))
 count_is table h =
     let e : length (map spot_in_code table.spots.items) ≡ length (map spot_in_graph (spots (view.graph table.graph.now))) = ap length h.spots in
     omega (arith, e, length-map table.spots.items spot_in_code, length-map (spots (view.graph table.graph.now)) spot_in_graph)

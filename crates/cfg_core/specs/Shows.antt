@@ -12,7 +12,7 @@ use Rattle.cfg_core.specs.Walk.{Outcome, Done, Out, Config, At, Over, Going}
 use Rattle.cfg_core.specs.declared.blocks.Term.{Term}
 use Rattle.cfg_core.specs.declared.table.Spot.{Spot}
 use Rattle.cfg_core.specs.declared.table.Room.{Room}
-use Rattle.cfg_core.specs.declared.table.Table.{Table}
+use Rattle.cfg_core.specs.declared.table.GraphTable.{GraphTable}
 use Rattle.cfg_core.specs.declared.walker.Frame.{Frame}
 use Rattle.cfg_core.specs.declared.walker.Walker.{Walker}
 use Rattle.cfg_core.specs.declared.walker.Pace.{Pace}
@@ -39,7 +39,7 @@ rooms_from first (p ∷ procs) =
     ∷ rooms_from (first + length p.blocks) procs
 
 -- the table is that of its graph
-pub record TableIs (table : Table) : Type 0 where
+pub record TableIs (table : GraphTable) : Type 0 where
   pub spots : map spot_in_code table.spots.items ≡
       map spot_in_graph (spots (view.graph table.graph.now))
   pub rooms : table.rooms.items ≡ rooms_from 0 (view.graph table.graph.now).procs

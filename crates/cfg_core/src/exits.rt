@@ -8,7 +8,7 @@ ghost use Rattle.cfg_core.specs.View as view;
 ghost use Rattle.cfg_core.specs.Shows.{Moved, TableIs, comes_back, passes};
 
 use crate::blocks::Leave;
-use crate::table::{Room, Table};
+use crate::table::{GraphTable, Room};
 use crate::terms::{value, values};
 use crate::walker::{Frame, Pace, Walker};
 use std::alloc::Global;
@@ -25,7 +25,12 @@ pub enum Next {
 
 impl<'a> Walker<'a> {
     /// Walks one block.
-    pub fn pass(&mut self, alloc: Global, table: &Table<'_>, b: usize) -> Result<Next, NoMemory>
+    pub fn pass(
+        &mut self,
+        alloc: Global,
+        table: &GraphTable<'_>,
+        b: usize,
+    ) -> Result<Next, NoMemory>
         requires { TableIs table.now }
         ensures { let g = view.graph table.now.graph.now in
             IfOk result (λ next. Moved (passes g b) self.old next self.new) }
@@ -42,7 +47,12 @@ impl<'a> Walker<'a> {
         }
     }
 
-    fn leave(&mut self, alloc: Global, table: &Table<'_>, exit: &Leave) -> Result<Next, NoMemory>
+    fn leave(
+        &mut self,
+        alloc: Global,
+        table: &GraphTable<'_>,
+        exit: &Leave,
+    ) -> Result<Next, NoMemory>
         requires { TableIs table.now }
         ensures { let way = walks.leave (view.graph table.now.graph.now) (view.exit exit.now) in
             IfOk result (λ next. Moved way self.old next self.new) }
@@ -139,7 +149,7 @@ fn choose(address: u64, landings: &[u32]) -> u32
 }
 
 // The variables at a landing: the words in those that it names, and 0 in all others.
-fn land(alloc: Global, table: &Table<'_>, b: usize, words: &Words) -> Result<Words, NoMemory>
+fn land(alloc: Global, table: &GraphTable<'_>, b: usize, words: &Words) -> Result<Words, NoMemory>
     requires { TableIs table.now }
     ensures { let spot = plain.spot_at (view.graph table.now.graph.now) b in
         IfOk result (λ vars. vars ≡ walks.landed spot.block.named words.now (zeros spot.vars)) }

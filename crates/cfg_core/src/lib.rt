@@ -23,5 +23,5 @@ pub use blocks::{
 pub use copies::{copy_term, copy_terms};
 pub use laws::{nothing_hidden, turns_are_exact, walks_answer, weights_are_paid};
 pub use run::run_graph;
-pub use table::{Room, Spot, Table};
+pub use table::{GraphTable, Room, Spot};
 pub use terms::{value, values};

@@ -12,7 +12,7 @@ ghost use Rattle.cfg_core.specs.Shows.{Shows, Held, TableIs, Walked, shown_at};
 
 use crate::blocks::{Graph, GraphArray};
 use crate::exits::Next;
-use crate::table::Table;
+use crate::table::GraphTable;
 use crate::walker::Walker;
 use std::alloc::Global;
 use ws_words::{Cells, Memory, NoMemory, Plain, Words, World};
@@ -28,7 +28,7 @@ pub fn run_graph(alloc: Global, graph: &Graph, world: &World, turns: u64) -> Res
     ensures ends_in_time { IfOk result (λ plain. (n : ℕ) (o : Outside) → n ≤ turns →
         walks.Ends (view.graph graph.now) (world_of world.now) n o → IsTrue (has_ended plain)) }
 {
-    let table = Table::of(alloc, graph)?;
+    let table = GraphTable::of(alloc, graph)?;
     let main = table.room(graph.procs.len().saturating_sub(1));
     let mut walker = open(alloc, graph, world, main.vars, turns)?;
     if walk(alloc, &table, &mut walker, main.entry)? {
@@ -51,7 +51,7 @@ pub fn run_graph(alloc: Global, graph: &Graph, world: &World, turns: u64) -> Res
 // Walks on from the start of a block, and says whether the walk ended.
 fn walk(
     alloc: Global,
-    table: &Table<'_>,
+    table: &GraphTable<'_>,
     walker: &mut Walker<'_>,
     start: usize,
 ) -> Result<bool, NoMemory>

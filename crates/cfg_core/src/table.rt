@@ -26,15 +26,15 @@ pub struct Room {
 
 /// A graph, with its blocks and its procedures in order.
 #[derive(Drop)]
-pub struct Table<'a> {
+pub struct GraphTable<'a> {
     pub graph: &'a Graph,
     pub spots: Vec<Spot<'a>>,
     pub rooms: Vec<Room>,
 }
 
-impl<'a> Table<'a> {
+impl<'a> GraphTable<'a> {
     /// The table of a graph.
-    pub fn of(alloc: Global, graph: &'a Graph) -> Result<Table<'a>, NoMemory>
+    pub fn of(alloc: Global, graph: &'a Graph) -> Result<GraphTable<'a>, NoMemory>
         ensures graph { IfOk result (λ table. table.graph.now ≡ graph.now) }
         ensures table { IfOk result (λ table. TableIs table) }
     {
@@ -48,7 +48,7 @@ impl<'a> Table<'a> {
             })?;
             add_blocks(&mut spots, proc)?;
         }
-        Ok(Table {
+        Ok(GraphTable {
             graph,
             spots,
             rooms,

@@ -7,7 +7,7 @@ use Rattle.ws_isa.specs.declared.instr.Op.TheVariants.{Steer, Send}
 use Rattle.ws_isa.specs.declared.instr.Dest.{Dest}
 use Rattle.ws_isa.specs.Image.{Image, Token, instr_at, is_advance, first_number, size_of, stops, target, is_first, now_of, now_dests, edge_of, edge_dests, block_of, selector, sends, tokens_to, start_dests, IsIn}
 use Rattle.image_walk.specs.Walk.{Inst, Pos, pos, fires, choice, result_at, inst_at, start_tokens}
-use Rattle.image_walk.specs.Sound.{Slots, none_open, opened, all_opened, Fresh, closed, edge_all, opens_at, HasDest, PortsThere, ShapeRules, SlotRules}
+use Rattle.image_walk.specs.Sound.{OpenSlots, none_open, opened, all_opened, Fresh, closed, edge_all, opens_at, HasDest, PortsThere, ShapeRules, SlotRules}
 use Rattle.core_law.specs.Core.{Apart, IsSent}
 use Rattle.core_law.specs.Fit.{FiresAt}
 use Rattle.core_law.proofs.Slots.{sent_from, is_sent_append_cases}
@@ -21,7 +21,7 @@ use Rattle.image_walk.proofs.Along.{path_end}
 use Rattle.image_walk.proofs.Slots.{all_opened_has, closed_cases, fresh_apart, opened_cases, with_tokens_lands, fresh_left, fresh_right, edge_all_has}
 
 -- lists of destinations that can be opened have no place twice
-fresh_tokens : (w v : ℕ) (ds : List Dest) (o : Slots) → Fresh ds o → Apart (tokens_to w v ds)
+fresh_tokens : (w v : ℕ) (ds : List Dest) (o : OpenSlots) → Fresh ds o → Apart (tokens_to w v ds)
 fresh_tokens w v [] o f = tt
 fresh_tokens w v (d ∷ ds) o f = (
   (λ u h. fresh_apart ds (opened d o) d.instr d.port f.1
@@ -30,7 +30,7 @@ fresh_tokens w v (d ∷ ds) o f = (
   fresh_tokens w v ds (opened d o) f.1,
 )
 
-fresh_source : (image : Image) (b r k n c : ℕ) (o : Slots) → Fresh (edge_all image b r k n) o → k ≤ c → c < k + n → (p : Slots) × Fresh (edge_dests image b r c) p
+fresh_source : (image : Image) (b r k n c : ℕ) (o : OpenSlots) → Fresh (edge_all image b r k n) o → k ≤ c → c < k + n → (p : OpenSlots) × Fresh (edge_dests image b r c) p
 fresh_source image b r k zero c o f l h = absurd (omega arith)
 fresh_source image b r k (suc n) c o f l h = elim (cases_eq c k) [
   | inl e ↦ (o, rw e (fresh_left (edge_dests image b r k) (edge_all image b r (suc k) n) o f))
@@ -38,11 +38,11 @@ fresh_source image b r k (suc n) c o f l h = elim (cases_eq c k) [
 ]
 
 -- of the steers and sends that open an edge no two open one slot
-later_source : (image : Image) (b r k n d j q : ℕ) (o : Slots) → Fresh (edge_all image b r k (suc n)) o → HasDest (edge_dests image b r k) j q → suc k ≤ d → d < suc k + n → HasDest (edge_dests image b r d) j q → ⊥
+later_source : (image : Image) (b r k n d j q : ℕ) (o : OpenSlots) → Fresh (edge_all image b r k (suc n)) o → HasDest (edge_dests image b r k) j q → suc k ≤ d → d < suc k + n → HasDest (edge_dests image b r d) j q → ⊥
 later_source image b r k n d j q o f g l h i = fresh_apart (edge_all image b r (suc k) n) (all_opened (edge_dests image b r k) o) j q (fresh_right (edge_dests image b r k) (edge_all image b r (suc k) n) o f)
     (all_opened_has (edge_dests image b r k) o j q g) (edge_all_has image b r (suc k) n d j q l h i)
 
-one_source : (image : Image) (b r k n c d j q : ℕ) (o : Slots) → Fresh (edge_all image b r k n) o → k ≤ c → c < k + n → k ≤ d → d < k + n → HasDest (edge_dests image b r c) j q → HasDest (edge_dests image b r d) j q → c ≡ d
+one_source : (image : Image) (b r k n c d j q : ℕ) (o : OpenSlots) → Fresh (edge_all image b r k n) o → k ≤ c → c < k + n → k ≤ d → d < k + n → HasDest (edge_dests image b r c) j q → HasDest (edge_dests image b r d) j q → c ≡ d
 one_source image b r k zero c d j q o f lc hc ld hd g h = absurd (omega arith)
 one_source image b r k (suc n) c d j q o f lc hc ld hd g h = elim (cases_eq c k) [
   | inl e ↦ elim (cases_eq d k) [
@@ -335,7 +335,7 @@ module _ (image : Image) (world : World) (there : PortsThere image) (shape : Sha
   none_or_some [] = inl refl
   none_or_some (d ∷ ds) = inr (d, inl (refl, refl))
 
-  edge_fresh : (t : ℕ) (x : Inst) → Left t x → (o : Slots) × Fresh (edge_dests image (block_of image x.instr) (selector image x.instr x.operands) x.instr) o
+  edge_fresh : (t : ℕ) (x : Inst) → Left t x → (o : OpenSlots) × Fresh (edge_dests image (block_of image x.instr) (selector image x.instr x.operands) x.instr) o
   unfolding opens_at size_of
   edge_fresh t x l = elim (none_or_some (edge_dests image (block_of image x.instr) (selector image x.instr x.operands) x.instr)) [
     | inl e ↦ (none_open, rw e tt)

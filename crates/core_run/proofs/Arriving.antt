@@ -20,7 +20,7 @@ use Rattle.core_run.proofs.StandsMatch.{way_unfired, cleared_cases}
 use Rattle.core_run.proofs.Moving.{Alike, stands_asked, stands_reordered, behind_first, waits, calls, fires_on}
 use Rattle.core_run.specs.declared.token.Token.{Token}
 use Rattle.core_run.specs.declared.token.Operands.{Operands}
-use Rattle.core_run.specs.declared.slots.Slots.{Slots}
+use Rattle.core_run.specs.declared.slots.MatchStore.{MatchStore}
 use Rattle.core_run.specs.declared.way.Way.{Way}
 use Rattle.core_run.specs.declared.flow.Flow.{Flow}
 use Rattle.core_run.specs.Partial.{partial_of, listed}
@@ -289,7 +289,7 @@ module _ (image : Image) (world : World) (formed : Formed image) (sound : Sound 
         let e : with_at tok.wave tok.instr tok.port (Some tok.value) (partial_of old.slots.slots.items old.slots.spill) tok.wave tok.instr 0 ≡ Some tok.value = ap (λ (q : ℕ). with_at tok.wave tok.instr tok.port (Some tok.value) (partial_of old.slots.slots.items old.slots.spill) tok.wave tok.instr q) (sym (single_port one)) ∙ here in
         arrived_fires tok old new s h (with_at tok.wave tok.instr tok.port (Some tok.value) (partial_of old.slots.slots.items old.slots.spill)) (λ a b q. refl)
         (subst (λ (n : ℕ). is_full (with_at tok.wave tok.instr tok.port (Some tok.value) (partial_of old.slots.slots.items old.slots.spill)) tok.wave tok.instr n ≡ true) (sym one) (ap (λ (o : Option ℕ). has o && true) e))
-        (λ a b q. ap (λ (x : Slots). partial_of x.slots.items x.spill a b q) slots ∙ single_cleared one a b q)
+        (λ a b q. ap (λ (x : MatchStore). partial_of x.slots.items x.spill a b q) slots ∙ single_cleared one a b q)
         op op_is (record { first = tok.value; second = 0; third = 0 })
         (subst (λ (n : ℕ). listed n (record { first = tok.value; second = 0; third = 0 }) ≡ gather (with_at tok.wave tok.instr tok.port (Some tok.value) (partial_of old.slots.slots.items old.slots.spill)) tok.wave tok.instr 0 n) (sym one) (ap (λ (o : Option ℕ). or_else o 0 ∷ []) (sym e)))
         early chain stopped memory fired asked not_sent not_asked sent

@@ -22,7 +22,7 @@ use Rattle.core_run.specs.declared.flow.Flow.{Flow}
 use Rattle.core_run.specs.Partial.{partial_of, slotted, first_some, listed}
 use Rattle.core_run.specs.Ways.{token_of, way_of, TakenFrom}
 use Rattle.core_run.specs.Chains.{chain_of, next_flag, may_flag}
-use Rattle.core_run.specs.Flows.{request_of, Holds, Going, GoingBeside, Leads, NoneMay, SameParts, Reaches, stays, steps, Follows, no_asked}
+use Rattle.core_run.specs.Flows.{request_of, Holds, Going, GoingBeside, EventLeads, NoneMay, SameParts, Reaches, stays, steps, RunsOn, no_asked}
 use Rattle.core_run.specs.declared.memory.Memory.{Memory}
 use Rattle.core_run.specs.Outdoors.{OutIs, SameOut}
 use Rattle.core_run.specs.Finishes.{IsSpent, FinishIs, Ended, is_budget, stopped_at}
@@ -37,16 +37,16 @@ reaches_on : (image : Image) (s t u : State) → Reaches image s t → Reaches i
 reaches_on image s t u stays r = r
 reaches_on image s t u (steps {t = m} e st rest) r = steps e st (reaches_on image m t u rest r)
 
-pub follows_on : (image : Image) (a b c : Flow) → Follows image a b → Follows image b c → Follows image a c
+pub follows_on : (image : Image) (a b c : Flow) → RunsOn image a b → RunsOn image b c → RunsOn image a c
 follows_on image a b c f g world s formed sound h =
     let r = f world s formed sound h in
     let q = g world r.0 formed sound r.2 in
     (q.0, reaches_on image s r.0 q.0 r.1 q.1, q.2)
 
-pub follows_none : (image : Image) (a : Flow) → Follows image a a
+pub follows_none : (image : Image) (a : Flow) → RunsOn image a a
 follows_none image a world s formed sound h = (s, stays, h)
 
-pub going_on : (image : Image) (a b : Flow) → Going image [] a → Follows image a b → Going image [] b
+pub going_on : (image : Image) (a b : Flow) → Going image [] a → RunsOn image a b → Going image [] b
 going_on image a b g f = let r = f g.world g.state g.formed g.sound g.holds in record { world = g.world; state = r.0; formed = g.formed; sound = g.sound; holds = r.2 }
 
 out_same : (o : Outside) (old new : Memory) → SameOut old new → OutIs o old → OutIs o new
@@ -135,7 +135,7 @@ pub none_enabled : (image : Image) (world : World) (taken : List plain.Token) (f
 none_enabled image world taken flow s h none w i e = none_issuable image world taken flow s h none w i e.0 (h.stands.asked_to w i e.0 e.1.waits) e.1.issuable
 
 -- an event leads on
-pub leads_on : (image : Image) (event : Event) (a b c : Flow) → SameParts a b → Leads image event [] b c → Follows image a c
+pub leads_on : (image : Image) (event : Event) (a b c : Flow) → SameParts a b → EventLeads image event [] b c → RunsOn image a c
 leads_on image event a b c e f world s formed sound h =
     let r = f [] world s formed sound (same_holds image world [] a b s e h) in
     (r.0, steps event r.1 stays, r.2)
@@ -149,7 +149,7 @@ same_going image a b e g = record { world = g.world; state = g.state; formed = g
 
 -- a token is taken and arrives
 pub takes_on : (image : Image) (a b mid c : Flow) (tok : Token) → SameParts a b → TakenFrom b.way mid.way tok → mid.slots ≡ b.slots → mid.asked ≡ b.asked → mid.early ≡ b.early → mid.chain ≡ b.chain → mid.fault ≡ b.fault → mid.memory ≡ b.memory → mid.fired ≡ b.fired →
-    Leads image (Match tok.wave tok.instr tok.port) (token_of tok ∷ []) mid c → Follows image a c
+    EventLeads image (Match tok.wave tok.instr tok.port) (token_of tok ∷ []) mid c → RunsOn image a c
 takes_on image a b mid c tok e t p1 p2 p3 p4 p5 p6 p7 f world s formed sound h =
     let r = f [] world s formed sound (taken_holds image world b mid tok s t p1 p2 p3 p4 p5 p6 p7 (same_holds image world [] a b s e h)) in
     (r.0, steps (Match tok.wave tok.instr tok.port) r.1 stays, r.2)
@@ -221,10 +221,10 @@ none_may image flow going (inl e) = absurd (both_ways (is_some flow.fault) going
 none_may image flow going (inr n) = n
 
 -- a run that goes on
-pub same_follows : (image : Image) (a b : Flow) → SameParts a b → Follows image a b
+pub same_follows : (image : Image) (a b : Flow) → SameParts a b → RunsOn image a b
 same_follows image a b e world s formed sound h = (s, stays, same_holds image world [] a b s e h)
 
-pub ended_follows : (image : Image) (until : ℕ) (a b : Flow) (finish : Finish) → Ended image until a b finish → Follows image a b
+pub ended_follows : (image : Image) (until : ℕ) (a b : Flow) (finish : Finish) → Ended image until a b finish → RunsOn image a b
 ended_follows image until a b finish e world s formed sound h = let r = e world s formed sound h in (r.0, r.1, r.2)
 
 other_budget : (image : Image) (world : World) (until budget : ℕ) (ended : Finish) (s : State) → (until ≡ budget) ⊎ (is_budget ended ≡ false) → FinishIs image world until ended s → FinishIs image world budget ended s
@@ -233,7 +233,7 @@ other_budget image world until budget (finish.Fault array) s e f = f
 other_budget image world until budget finish.Budget s (inl e) f = subst (λ (n : ℕ). IsSpent image n s) e f
 other_budget image world until budget finish.Budget s (inr e) f = absurd (both_ways true e refl)
 
-pub ended_on : (image : Image) (until budget : ℕ) (a b c : Flow) (ended : Finish) → (until ≡ budget) ⊎ (is_budget ended ≡ false) → Follows image a b → Ended image until b c ended → Ended image budget a c ended
+pub ended_on : (image : Image) (until budget : ℕ) (a b c : Flow) (ended : Finish) → (until ≡ budget) ⊎ (is_budget ended ≡ false) → RunsOn image a b → Ended image until b c ended → Ended image budget a c ended
 ended_on image until budget a b c ended e f g world s formed sound h =
     let r = f world s formed sound h in
     let q = g world r.0 formed sound r.2 in

@@ -33,7 +33,7 @@ use Rattle.core_run.specs.Partial.{partial_of, listed}
 use Rattle.core_run.specs.Places.{destinations}
 use Rattle.core_run.specs.Ways.{way_of, SentTo}
 use Rattle.core_run.specs.Chains.{chain_of, next_flag, may_flag, PassedOn}
-use Rattle.core_run.specs.Outdoors.{OutIs, Answers}
+use Rattle.core_run.specs.Outdoors.{OutIs, CarriesOut}
 use Rattle.core_run.specs.Flows.{request_of, all_of, Holds}
 use Rattle.core_run.proofs.Nexts.{next_is}
 use Rattle.core_run.proofs.Arriving.{same_selector, sends_are, memory_is_op, ports_is_op, sent_beside}
@@ -267,7 +267,7 @@ module _ (image : Image) (world : World) (formed : Formed image) (sound : Sound 
 
   -- else it takes its effect
   module _ (op : Op) (op_is' : op ≡ (instr_at image a.instr).op) (within : is_past_op image.arrays op (a.operands.first ∷ []) ≡ false) (word : ℕ) (new : Flow)
-      (answers : (o : Outside) (third : ℕ) → OutIs o old.memory → Answers op (a.operands.first ∷ a.operands.second ∷ third ∷ []) o word new.memory)
+      (answers : (o : Outside) (third : ℕ) → OutIs o old.memory → CarriesOut op (a.operands.first ∷ a.operands.second ∷ third ∷ []) o word new.memory)
       (slots : new.slots ≡ old.slots) (asked : new.asked.items ≡ swap_remove old.asked.items k a) (stopped : new.fault ≡ old.fault) (fired : new.fired ≡ old.fired)
       (passed : PassedOn image (chain_of old.chain) a.instr old.early.items (chain_of new.chain) new.early.items)
       (sent : SentTo old.way new.way (tokens_to a.wave word (destinations image a.instr (selector_of op (all_of a.operands))))) where
@@ -277,7 +277,7 @@ module _ (image : Image) (world : World) (formed : Formed image) (sound : Sound 
     xs_is : listed (ports_of op) a.operands ≡ xs
     xs_is = ap (λ (n : ℕ). listed n a.operands) (ap ports_of op_is' ∙ sym (ports_is_op image a.instr))
 
-    done : Answers op (a.operands.first ∷ a.operands.second ∷ a.operands.third ∷ []) s.memory word new.memory
+    done : CarriesOut op (a.operands.first ∷ a.operands.second ∷ a.operands.third ∷ []) s.memory word new.memory
     done = answers s.memory a.operands.third h.memory_is
 
     answer_is : word ≡ answer image a.instr xs s.memory

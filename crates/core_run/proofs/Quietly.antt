@@ -14,7 +14,7 @@ use Rattle.core_law.specs.Fit.{Fit}
 use Rattle.core_law.proofs.FromSound.{facts_of}
 use Rattle.core_law.proofs.PortsThere.{ports_there}
 use Rattle.core_run.specs.declared.token.Token.{Token}
-use Rattle.core_run.specs.declared.slots.Slots.{Slots}
+use Rattle.core_run.specs.declared.slots.MatchStore.{MatchStore}
 use Rattle.core_run.specs.declared.way.Way.{Way}
 use Rattle.core_run.specs.declared.flow.Flow.{Flow}
 use Rattle.core_run.specs.declared.engine.Core.{Core}
@@ -55,7 +55,7 @@ not_full f w i p (suc n) l e = elim (cases_eq p n) [
 ]
 
 -- tokens by place
-pub all_fill : (image : Image) (slots : Slots) (ts : List Token) → ((k : ℕ) → k < length ts → fills image slots (token_of (slice_index_or ts k no_token)) ≡ true) → AllFill image slots (map token_of ts)
+pub all_fill : (image : Image) (slots : MatchStore) (ts : List Token) → ((k : ℕ) → k < length ts → fills image slots (token_of (slice_index_or ts k no_token)) ≡ true) → AllFill image slots (map token_of ts)
 all_fill image slots [] f = tt
 all_fill image slots (t ∷ ts) f = (f 0 (omega arith), all_fill image slots ts (λ k l. f (suc k) (omega arith)))
 
@@ -73,12 +73,12 @@ pub sent_right : (xs ys : List plain.Token) (w i p v : ℕ) → IsSent ys w i p 
 sent_right [] ys w i p v h = h
 sent_right (x ∷ xs) ys w i p v h = inr (sent_right xs ys w i p v h)
 
-pub fill_both : (image : Image) (slots : Slots) (xs ys : List plain.Token) → AllFill image slots xs → AllFill image slots ys → AllFill image slots (xs ++ ys)
+pub fill_both : (image : Image) (slots : MatchStore) (xs ys : List plain.Token) → AllFill image slots xs → AllFill image slots ys → AllFill image slots (xs ++ ys)
 fill_both image slots [] ys a b = b
 fill_both image slots (x ∷ xs) ys a b = (a.0, fill_both image slots xs ys a.1 b)
 
 -- one of the first tokens doesn't fill its instance, or else one of the others, or none
-pub quiet_or : (image : Image) (slots : Slots) (way : Way) (o : Option Token) (others : List Token) → others ≡ way.later.items → AllFill image slots (map token_of way.now.items) →
+pub quiet_or : (image : Image) (slots : MatchStore) (way : Way) (o : Option Token) (others : List Token) → others ≡ way.later.items → AllFill image slots (map token_of way.now.items) →
     MatchOption o (AllFill image slots (map token_of others)) (λ t. IsSent (map token_of others) t.wave t.instr t.port t.value × (fills image slots (token_of t) ≡ false)) →
     MatchOption o (AllFill image slots (way_of way)) (λ t. IsSent (way_of way) t.wave t.instr t.port t.value × (fills image slots (token_of t) ≡ false))
 quiet_or image slots way None others e all m = fill_both image slots (map token_of way.now.items) (map token_of way.later.items) all (subst (λ (ts : List Token). AllFill image slots (map token_of ts)) e m)
@@ -87,14 +87,14 @@ quiet_or image slots way (Some t) others e all m = (
   m.1,
 )
 
-pub fill_further : (image : Image) (slots : Slots) (ts : List Token) (place n : ℕ) → n ≡ suc place → fills image slots (token_of (slice_index_or ts place no_token)) ≡ true →
+pub fill_further : (image : Image) (slots : MatchStore) (ts : List Token) (place n : ℕ) → n ≡ suc place → fills image slots (token_of (slice_index_or ts place no_token)) ≡ true →
     ((k : ℕ) → n ≤ k → k < length ts → fills image slots (token_of (slice_index_or ts k no_token)) ≡ true) → (k : ℕ) → place ≤ k → k < length ts → fills image slots (token_of (slice_index_or ts k no_token)) ≡ true
 fill_further image slots ts place n e full rest k a b = elim (cases_eq k place) [
   | inl g ↦ subst (λ (m : ℕ). fills image slots (token_of (slice_index_or ts m no_token)) ≡ true) (sym g) full
   | inr g ↦ rest k (omega arith) b
 ]
 
-fills_sent : (image : Image) (slots : Slots) (ts : List plain.Token) (w i p v : ℕ) → AllFill image slots ts → IsSent ts w i p v → fills image slots (record { wave = w; instr = i; port = p; value = v }) ≡ true
+fills_sent : (image : Image) (slots : MatchStore) (ts : List plain.Token) (w i p v : ℕ) → AllFill image slots ts → IsSent ts w i p v → fills image slots (record { wave = w; instr = i; port = p; value = v }) ≡ true
 fills_sent image slots [] w i p v a h = absurd h
 fills_sent image slots (t ∷ ts) w i p v a (inl h) = subst (λ (u : plain.Token). fills image slots u ≡ true) (λ j. record { wave = h.0 j; instr = h.1 j; port = h.2 j; value = h.3 j }) a.0
 fills_sent image slots (t ∷ ts) w i p v a (inr h) = fills_sent image slots ts w i p v a.1 h

@@ -6,7 +6,7 @@ use Rattle.ws_isa.specs.declared.instr.Op.{Op}
 use Rattle.ws_isa.specs.Image.{is_memory_op}
 use Rattle.core_run.specs.declared.token.Asked.{Asked}
 use Rattle.core_run.specs.declared.memory.Memory.{Memory}
-use Rattle.core_run.specs.declared.slots.Slots.{Slots}
+use Rattle.core_run.specs.declared.slots.MatchStore.{MatchStore}
 use Rattle.core_run.specs.declared.flow.Flow.{Flow}
 use Rattle.core_run.specs.Outdoors.{Space}
 use Rattle.core_run.specs.Flows.{Room, AskedMore}
@@ -22,7 +22,7 @@ pub room_sent : (old new : Flow) (k n : ℕ) → k ≤ 8 → new.slots ≡ old.s
     vec_len new.way.now + vec_len new.way.later ≡ vec_len old.way.now + vec_len old.way.later + k → vec_capacity new.way.now ≡ vec_capacity old.way.now → vec_capacity new.way.later ≡ vec_capacity old.way.later →
     Room old 0 (suc n) → Room new 0 n
 room_sent old new k n l slots asked early memory both now later r =
-    let cs : spare new.slots.spill ≡ spare old.slots.spill = ap (λ (s : Slots). spare s.spill) slots in
+    let cs : spare new.slots.spill ≡ spare old.slots.spill = ap (λ (s : MatchStore). spare s.spill) slots in
     let la : vec_len new.asked ≡ vec_len old.asked = ap (λ (v : Vec Asked Global). vec_len v) asked in
     let ca : vec_capacity new.asked ≡ vec_capacity old.asked = ap (λ (v : Vec Asked Global). vec_capacity v) asked in
     let le : vec_len new.early ≡ vec_len old.early = ap (λ (v : Vec ℕ Global). vec_len v) early in
@@ -54,7 +54,7 @@ pub room_issued : (old new : Flow) (k n : ℕ) → k ≤ 8 → new.slots ≡ old
     vec_len new.way.now + vec_len new.way.later ≡ vec_len old.way.now + vec_len old.way.later + k → vec_capacity new.way.now ≡ vec_capacity old.way.now → vec_capacity new.way.later ≡ vec_capacity old.way.later →
     Room old 0 n → Room new 0 n
 room_issued old new k n l slots la ca le ce memory both now later r =
-    let cs : spare new.slots.spill ≡ spare old.slots.spill = ap (λ (s : Slots). spare s.spill) slots in
+    let cs : spare new.slots.spill ≡ spare old.slots.spill = ap (λ (s : MatchStore). spare s.spill) slots in
     record {
       now = omega (arith, r.now);
       later = omega (arith, r.later);

@@ -28,7 +28,7 @@ use Rattle.core_run.specs.Outdoors.{OutIs}
 use Rattle.core_run.specs.Flows.{IsFault, Holds}
 use Rattle.core_run.specs.Finishes.{FinishIs, IsSpent, Ended, is_budget}
 use Rattle.core_run.specs.Told.{done_of, run_of}
-use Rattle.core_run.specs.Answer.{Tells, Rested, Cut, Faulted, RunSo}
+use Rattle.core_run.specs.Answer.{Tells, Rested, CutShort, Faulted, RunSo}
 use Rattle.core_run.proofs.Issuing.{printed_alike, ports_alike}
 use Rattle.core_run.proofs.Firings.{none_fires}
 
@@ -76,7 +76,7 @@ module _ (image : Image) (world : World) (facts : WalkFacts image world) (budget
       let r : RightToken image world w i 0 g.0 = k.fit.held_right w i 0 g.0 g.1 in
       (r.time, r.inst, r.at)
 
-  cut : IsSpent image budget s → Cut image world budget (done_of flow)
+  cut : IsSpent image budget s → CutShort image world budget (done_of flow)
   cut p =
       let after = after_fired image world facts s k.fit p.going k.grounded p.settled in
       record {

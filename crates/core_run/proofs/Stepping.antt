@@ -19,7 +19,7 @@ use Rattle.core_run.specs.Partial.{partial_of, listed}
 use Rattle.core_run.specs.Places.{image_of}
 use Rattle.core_run.specs.Chains.{chain_of, may_flag}
 use Rattle.core_run.specs.Ways.{token_of, way_of, NoneAt, TakenAt}
-use Rattle.core_run.specs.Flows.{request_of, Holds, Going, GoingBeside, Leads, SameParts, NotReady, NoneMay, no_asked}
+use Rattle.core_run.specs.Flows.{request_of, Holds, Going, GoingBeside, EventLeads, SameParts, NotReady, NoneMay, no_asked}
 use Rattle.core_run.specs.Cores.{Keeps, IsAt, Runs, Makes, NotEnabled, IsEnabled, IsAtRest}
 use Rattle.core_run.proofs.Moving.{Reordered, stands_reordered, to_front}
 use Rattle.core_run.proofs.Driving.{same_holds, has_at, flagged, none_enabled, alone}
@@ -78,7 +78,7 @@ module _ (core : Core) (prepared mid : Flow) (w i p : ℕ) (tok : Token) (same :
     holds = holds_mid r.image r.world r.state r.at;
   }
 
-  pub makes_match : (new : Core) → new.program ≡ core.program → Leads (image_of core.program) (Match tok.wave tok.instr tok.port) (token_of tok ∷ []) mid new.flow → Makes (Match w i p) core new
+  pub makes_match : (new : Core) → new.program ≡ core.program → EventLeads (image_of core.program) (Match tok.wave tok.instr tok.port) (token_of tok ∷ []) mid new.flow → Makes (Match w i p) core new
   makes_match new program leads image world s at =
       let r = leads [] world s (subst Formed (sym at.image_is) at.formed) (subst Sound (sym at.image_is) at.sound) (holds_mid image world s at) in
       let st : MatchStep (image_of core.program) s w i p r.0 = subst (λ (q : ℕ). MatchStep (image_of core.program) s w i q r.0) taken.port (subst (λ (j : ℕ). MatchStep (image_of core.program) s w j tok.port r.0) taken.instr (subst (λ (v : ℕ). MatchStep (image_of core.program) s v tok.instr tok.port r.0) taken.wave r.1)) in (
@@ -131,7 +131,7 @@ module _ (core : Core) (prepared : Flow) (same : SameParts core.flow prepared) w
     holds = holds_prepared r.image r.world r.state r.at;
   })
 
-  pub makes_issue : (new : Core) (a : Asked) (w i : ℕ) → new.program ≡ core.program → a.wave ≡ w → a.instr ≡ i → Leads (image_of core.program) (Issue a.wave a.instr) [] prepared new.flow → Makes (Issue w i) core new
+  pub makes_issue : (new : Core) (a : Asked) (w i : ℕ) → new.program ≡ core.program → a.wave ≡ w → a.instr ≡ i → EventLeads (image_of core.program) (Issue a.wave a.instr) [] prepared new.flow → Makes (Issue w i) core new
   makes_issue new a w i program aw ai leads image world s at =
       let r = leads [] world s (subst Formed (sym at.image_is) at.formed) (subst Sound (sym at.image_is) at.sound) (holds_prepared image world s at) in
       let st : Step (image_of core.program) s (Issue w i) r.0 = subst (λ (j : ℕ). Step (image_of core.program) s (Issue w j) r.0) ai (subst (λ (v : ℕ). Step (image_of core.program) s (Issue v a.instr) r.0) aw r.1) in (

@@ -9,7 +9,7 @@ use Rattle.core_run.specs.Stands.{Stands}
 use Rattle.core_run.specs.Partial.{partial_of}
 use Rattle.core_run.specs.Chains.{chain_of}
 use Rattle.core_run.specs.Ways.{way_of}
-use Rattle.core_run.specs.Flows.{request_of, Holds, Leads}
+use Rattle.core_run.specs.Flows.{request_of, Holds, EventLeads}
 
 module _ (old mid new : Flow) (way : way_of new.way ≡ way_of mid.way) (slots : new.slots ≡ mid.slots) (asked : new.asked ≡ mid.asked) (early : new.early ≡ mid.early) (chain : new.chain ≡ mid.chain) (stopped : new.fault ≡ mid.fault) (memory : new.memory ≡ mid.memory) (fired : new.fired ≡ mid.fired) where
   holds_turned : (image : Image) (world : World) (beside : List plain.Token) (s : State) → Holds image world beside mid s → Holds image world beside new s
@@ -23,7 +23,7 @@ module _ (old mid new : Flow) (way : way_of new.way ≡ way_of mid.way) (slots :
     count_is = h.count_is ∙ sym fired;
   }
 
-  pub leads_turned : (image : Image) (event : Event) (taken : List plain.Token) → Leads image event taken old mid → Leads image event taken old new
+  pub leads_turned : (image : Image) (event : Event) (taken : List plain.Token) → EventLeads image event taken old mid → EventLeads image event taken old new
   leads_turned image event taken leads beside world s formed sound h =
       let r = leads beside world s formed sound h in
       (r.0, r.1, holds_turned image world beside r.0 r.2)

@@ -42,7 +42,7 @@ FirstAmong image world steps p = (t : ℕ) (x : Inst) → fires image world t �
 -- The walk has more instances than the budget, and exactly so many have fired, in a state that the core's
 -- events keep: of the numbers p for which the walk's first p operations are among them `passed` is the
 -- largest, and none of those is past the end. What is told is what the walk leaves with them.
-pub record Cut (image : Image) (world : World) (budget : ℕ) (d : Done) : Type 0 where
+pub record CutShort (image : Image) (world : World) (budget : ℕ) (d : Done) : Type 0 where
   pub dear : CostAtMost image world budget → ⊥
   pub fired : d.fired ≡ budget
   pub state : State
@@ -69,7 +69,7 @@ pub record Faulted (image : Image) (world : World) (budget array : ℕ) (d : Don
 
 abbrev pub ToldSo : Image → World → ℕ → Run → Type 0
 ToldSo image world budget (Rest d) = Rested image world budget d
-ToldSo image world budget (Budget d) = Cut image world budget d
+ToldSo image world budget (Budget d) = CutShort image world budget d
 ToldSo image world budget (Fault array d) = Faulted image world budget array d
 
 abbrev pub is_rest : Run → Bool

@@ -61,8 +61,8 @@ pub record GoingBeside (image : Image) (taken : List plain.Token) (flow : Flow) 
 
 -- an event leads on: for each state for which the parts stood there is one for which they stand,
 -- whichever tokens lie elsewhere
-abbrev pub Leads : Image → Event → List plain.Token → Flow → Flow → Type 0
-Leads image event taken old new = (beside : List plain.Token) (world : World) (s : State) →
+abbrev pub EventLeads : Image → Event → List plain.Token → Flow → Flow → Type 0
+EventLeads image event taken old new = (beside : List plain.Token) (world : World) (s : State) →
     Formed image → Sound image → Holds image world (taken ++ beside) old s →
     (t : State) × Step image s event t × Holds image world beside new t
 
@@ -136,11 +136,11 @@ pub data Reaches (image : Image) : State → State → Type 0 where
       Reaches image s u
 
 -- some events lead on, for each state for which the parts stood
-abbrev pub Follows : Image → Flow → Flow → Type 0
-Follows image old new = (world : World) (s : State) → Formed image → Sound image →
+abbrev pub RunsOn : Image → Flow → Flow → Type 0
+RunsOn image old new = (world : World) (s : State) → Formed image → Sound image →
     Holds image world [] old s → (t : State) × Reaches image s t × Holds image world [] new t
 
 -- the parts stand for the opening state
-abbrev pub Opens : Image → World → Flow → Type 0
-Opens image world flow = Sound image → Formed image →
+abbrev pub StandsForOpening : Image → World → Flow → Type 0
+StandsForOpening image world flow = Sound image → Formed image →
     Holds image world [] flow (core_opening image world)

@@ -20,7 +20,7 @@ pub record OutIs (o : Outside) (m : Memory) : Type 0 where
   pub same_took : took_by_ports o.acts ≡ rows_of m.took.items
 
 -- the answer of a memory operation, and what it leaves
-pub record Answers (op : Op) (xs : List ℕ) (o : Outside) (word : ℕ) (m : Memory) : Type 0 where
+pub record CarriesOut (op : Op) (xs : List ℕ) (o : Outside) (word : ℕ) (m : Memory) : Type 0 where
   pub answer : word ≡ answer_op op xs o
   pub after : OutIs (after_op op xs o) m
 

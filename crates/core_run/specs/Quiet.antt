@@ -6,7 +6,7 @@ use Rattle.ws_isa.specs.Image.{Image, ports}
 use Rattle.core_law.specs.Core as law
 use Rattle.core_law.specs.Core.{State, Step, Enabled, is_full, with_at}
 use Rattle.core_run.specs.declared.engine.Core.{Core}
-use Rattle.core_run.specs.declared.slots.Slots.{Slots}
+use Rattle.core_run.specs.declared.slots.MatchStore.{MatchStore}
 use Rattle.core_run.specs.Partial.{partial_of}
 use Rattle.core_run.specs.Cores.{IsAt}
 
@@ -25,11 +25,11 @@ OnlyFires core = (image : Image) (world : World) (s : State) → IsAt image worl
     (event : law.Event) → Enabled image s event → IsQuiet image s event → ⊥
 
 -- the instance of the token is full with it
-abbrev pub fills : Image → Slots → plain.Token → Bool
+abbrev pub fills : Image → MatchStore → plain.Token → Bool
 fills image slots t =
     is_full (with_at t.wave t.instr t.port (Some t.value)
     (partial_of slots.slots.items slots.spill)) t.wave t.instr (ports image t.instr)
 
-abbrev pub AllFill : Image → Slots → List plain.Token → Type 0
+abbrev pub AllFill : Image → MatchStore → List plain.Token → Type 0
 AllFill image slots [] = Unit {0}
 AllFill image slots (t ∷ ts) = (fills image slots t ≡ true) × AllFill image slots ts

@@ -6,7 +6,7 @@ ghost use Rattle.ws_isa.specs.Formed.{Formed};
 ghost use Rattle.image_walk.specs.Sound.{Sound};
 ghost use Rattle.core_law.specs.Core.{State};
 ghost use Rattle.core_run.specs.Places.{ProgramIs, image_of};
-ghost use Rattle.core_run.specs.Flows.{Going, Follows, Room, weight};
+ghost use Rattle.core_run.specs.Flows.{Going, RunsOn, Room, weight};
 ghost use Rattle.core_run.specs.Finishes.{Ended, is_budget, is_fault, stopped_at};
 
 use crate::flow::Flow;
@@ -111,7 +111,7 @@ fn match_next(program: &Program<'_>, flow: &mut Flow<'_>)
     requires some { 0 < vec_len flow.old.way.now + vec_len flow.old.way.later }
     requires running { is_some flow.old.fault ≡ false }
     requires room { Room flow.old 0 1 }
-    ensures follows { Follows (image_of program.now) flow.old flow.new }
+    ensures follows { RunsOn (image_of program.now) flow.old flow.new }
     ensures room { (n m : ℕ) → m + flow.new.fired ≡ n + flow.old.fired → Room flow.old 0 n →
         Room flow.new 0 m }
     ensures weight { weight flow.new + 9 * flow.old.fired < weight flow.old + 9 * flow.new.fired }
@@ -136,7 +136,7 @@ fn issue_last(program: &Program<'_>, flow: &mut Flow<'_>)
     requires running { is_some flow.old.fault ≡ false }
     requires some { 0 < length flow.old.asked.items }
     requires room { Room flow.old 0 0 }
-    ensures follows { Follows (image_of program.now) flow.old flow.new }
+    ensures follows { RunsOn (image_of program.now) flow.old flow.new }
     ensures room { (n : ℕ) → Room flow.old 0 n → Room flow.new 0 n }
     ensures weight { weight flow.new ≤ weight flow.old }
     ensures count { flow.new.fired ≡ flow.old.fired }
@@ -153,7 +153,7 @@ fn issue_next(program: &Program<'_>, flow: &mut Flow<'_>)
     requires going { Going (image_of program.now) [] flow.old }
     requires fired { flow.old.fired < 2 ^ 64 }
     requires room { Room flow.old 0 0 }
-    ensures follows { Follows (image_of program.now) flow.old flow.new }
+    ensures follows { RunsOn (image_of program.now) flow.old flow.new }
     ensures room { (n : ℕ) → Room flow.old 0 n → Room flow.new 0 n }
     ensures weight { weight flow.new ≤ weight flow.old }
     ensures count { flow.new.fired ≡ flow.old.fired }

@@ -7,14 +7,14 @@ ghost use Rattle.core_law.specs.Core.{Match, Issue};
 ghost use Rattle.core_run.specs.Chains.{chain_of, may_flag};
 ghost use Rattle.core_run.specs.Places.{ProgramIs, image_of, destinations};
 ghost use Rattle.core_run.specs.Ways.{token_of, SentTo};
-ghost use Rattle.core_run.specs.Flows.{GoingBeside, Leads, Room, flight, AskedMore, all_of, asked_at, MayAt, NoneMay, NotReady, SameParts, weight};
+ghost use Rattle.core_run.specs.Flows.{GoingBeside, EventLeads, Room, flight, AskedMore, all_of, asked_at, MayAt, NoneMay, NotReady, SameParts, weight};
 
 use crate::chain::Chain;
 use crate::hints::Hints;
 use crate::memory::Memory;
 use crate::order::pass_on;
 use crate::program::Program;
-use crate::slots::Slots;
+use crate::slots::MatchStore;
 use crate::token::{Asked, Operands, Token};
 use crate::way::Way;
 use ws_isa::Op;
@@ -28,7 +28,7 @@ const MOST: u64 = 1 << 56;
 /// which it is stopped, if it is, memory, and how many instances have fired.
 #[derive(Drop)]
 pub struct Flow<'w> {
-    pub slots: Slots,
+    pub slots: MatchStore,
     pub way: Way,
     pub asked: Vec<Asked>,
     pub hints: Hints,
@@ -47,7 +47,7 @@ impl<'w> Flow<'w> {
         requires going { GoingBeside (image_of program.now) (token_of token ∷ []) self.old }
         requires room { Room self.old 1 1 }
         requires fired { self.old.fired + 1 < 2 ^ 64 }
-        ensures leads { Leads (image_of program.now) (Match token.wave token.instr token.port)
+        ensures leads { EventLeads (image_of program.now) (Match token.wave token.instr token.port)
             (token_of token ∷ []) self.old self.new }
         ensures room { (n m : ℕ) → m + self.new.fired ≡ n + self.old.fired → Room self.old 1 n →
             Room self.new 0 m }
@@ -196,7 +196,7 @@ impl<'w> Flow<'w> {
         requires may { MayAt (image_of program.now) self.old place }
         requires room { Room self.old 0 0 }
         requires fired { self.old.fired < 2 ^ 64 }
-        ensures leads { Leads (image_of program.now)
+        ensures leads { EventLeads (image_of program.now)
             (Issue (asked_at self.old place).wave (asked_at self.old place).instr)
             [] self.old self.new }
         ensures room { (n : ℕ) → Room self.old 0 n → Room self.new 0 n }

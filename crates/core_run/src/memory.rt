@@ -5,7 +5,7 @@ ghost use Rattle.ws_words.specs.Outside.{Outside, opening_out, with_act, takes, 
 ghost use Rattle.ws_words.specs.Plain.{took_by_ports, world_of};
 ghost use Rattle.ws_isa.specs.Image.{cells_of};
 ghost use Rattle.ws_isa.specs.View as view;
-ghost use Rattle.core_run.specs.Outdoors.{OutIs, Answers, Space, HasSpace, rows_of, SameOut};
+ghost use Rattle.core_run.specs.Outdoors.{OutIs, CarriesOut, Space, HasSpace, rows_of, SameOut};
 
 use std::alloc::Global;
 use ws_isa::{ArrayDecl, Op};
@@ -55,7 +55,7 @@ impl<'a> Memory<'a> {
     pub fn run(&mut self, op: Op, first: u64, second: u64) -> u64
         requires { Space self.old 1 }
         ensures answer { (o : Outside) (third : ℕ) → OutIs o self.old →
-            Answers op (first ∷ second ∷ third ∷ []) o result self.new }
+            CarriesOut op (first ∷ second ∷ third ∷ []) o result self.new }
         ensures space { (n : ℕ) → Space self.old (suc n) → Space self.new n }
     {
         match op {

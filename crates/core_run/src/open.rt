@@ -5,14 +5,14 @@ ghost use Rattle.ws_words.specs.Plain.{world_of};
 ghost use Rattle.ws_isa.specs.Formed.{Formed};
 ghost use Rattle.core_law.specs.Core.{core_opening};
 ghost use Rattle.core_run.specs.Places.{ProgramIs, image_of};
-ghost use Rattle.core_run.specs.Flows.{Opens};
+ghost use Rattle.core_run.specs.Flows.{StandsForOpening};
 
 use crate::chain::Chain;
 use crate::flow::Flow;
 use crate::hints::Hints;
 use crate::memory::Memory;
 use crate::program::Program;
-use crate::slots::Slots;
+use crate::slots::MatchStore;
 use crate::way::Way;
 use std::alloc::Global;
 use ws_words::{NoMemory, World};
@@ -25,7 +25,7 @@ pub fn open<'w>(
 ) -> Result<Flow<'w>, NoMemory>
     requires program { ProgramIs program.now }
     requires formed { Formed (image_of program.now) }
-    ensures { IfOk result (Opens (image_of program.now) (world_of world.now)) }
+    ensures { IfOk result (StandsForOpening (image_of program.now) (world_of world.now)) }
 {
     let mut way = Way {
         front: 0,
@@ -36,7 +36,7 @@ pub fn open<'w>(
     way.later.reserve(8)?;
     way.send(program.start(), 0, 0);
     Ok(Flow {
-        slots: Slots::open(alloc, program.places.len().saturating_add(1))?,
+        slots: MatchStore::open(alloc, program.places.len().saturating_add(1))?,
         way,
         asked: Vec::new(alloc),
         hints: Hints::open(alloc, program.places.len().saturating_add(1))?,

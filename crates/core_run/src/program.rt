@@ -11,7 +11,7 @@ use ws_words::NoMemory;
 
 /// An instruction, and the number of its block.
 #[derive(Clone, Copy)]
-pub struct Place<'i> {
+pub struct PlacedInstr<'i> {
     pub instr: &'i Instr,
     pub block: u32,
 }
@@ -20,7 +20,7 @@ pub struct Place<'i> {
 #[derive(Drop)]
 pub struct Program<'i> {
     pub image: &'i Image,
-    pub places: Vec<Place<'i>>,
+    pub places: Vec<PlacedInstr<'i>>,
 }
 
 impl<'i> Program<'i> {
@@ -43,7 +43,7 @@ impl<'i> Program<'i> {
     }
 
     /// The instruction with this number, counted from 1.
-    pub fn place(&self, number: u32) -> Option<Place<'i>>
+    pub fn place(&self, number: u32) -> Option<PlacedInstr<'i>>
         requires { ProgramIs self.now }
         ensures { MatchOption result (instr_at (image_of self.now) number ≡ no_instr)
             (λ place. PlaceIs (image_of self.now) number (view.instr place.instr.now) place.block) }
@@ -219,13 +219,17 @@ fn dests_of<'a>(pads: &'a [Pad], number: u8) -> &'a [Dest]
 }
 
 // The instructions of a block, behind those of the earlier ones.
-fn add_instrs<'i>(spots: &mut Vec<Place<'i>>, block: &'i Block, number: u32) -> Result<(), NoMemory>
+fn add_instrs<'i>(
+    spots: &mut Vec<PlacedInstr<'i>>,
+    block: &'i Block,
+    number: u32,
+) -> Result<(), NoMemory>
     ensures { OnOk result (map place_in_code spots.new.items
         ≡ map place_in_code spots.old.items
         ++ map (λ i. (view.instr i, number)) block.now.instrs.items) }
 {
     for instr in &block.instrs {
-        spots.push(Place {
+        spots.push(PlacedInstr {
             instr,
             block: number,
         })?;

@@ -9,7 +9,7 @@ ghost use Rattle.core_run.specs.Quiet as spec;
 
 use crate::flow::{Flow, ports_of};
 use crate::program::Program;
-use crate::slots::Slots;
+use crate::slots::MatchStore;
 use crate::token::Token;
 
 /// A token on the way that doesn't fill its instance, if there is one.
@@ -27,7 +27,7 @@ pub fn quiet_token(program: &Program<'_>, flow: &Flow<'_>) -> Option<Token>
 }
 
 // One of these tokens that doesn't fill its instance, if there is one.
-fn quiet_among(program: &Program<'_>, slots: &Slots, tokens: &[Token]) -> Option<Token>
+fn quiet_among(program: &Program<'_>, slots: &MatchStore, tokens: &[Token]) -> Option<Token>
     requires { ProgramIs program.now }
     ensures { MatchOption result
         (spec.AllFill (image_of program.now) slots.now (map token_of tokens.now))
@@ -46,7 +46,7 @@ fn quiet_among(program: &Program<'_>, slots: &Slots, tokens: &[Token]) -> Option
 }
 
 /// Whether the instance of a token is full with it.
-pub fn fills(program: &Program<'_>, slots: &Slots, token: Token) -> bool
+pub fn fills(program: &Program<'_>, slots: &MatchStore, token: Token) -> bool
     requires { ProgramIs program.now }
     ensures { result ≡ spec.fills (image_of program.now) slots.now (token_of token) }
 {
@@ -54,7 +54,7 @@ pub fn fills(program: &Program<'_>, slots: &Slots, token: Token) -> bool
 }
 
 // Whether the instance of a token has all of so many ports with it.
-fn is_filled(slots: &Slots, token: Token, ports: u8) -> bool
+fn is_filled(slots: &MatchStore, token: Token, ports: u8) -> bool
     ensures { result ≡ is_full (with_at token.wave token.instr token.port (Some token.value)
         (partial_of slots.now.slots.items slots.now.spill)) token.wave token.instr ports }
 {
@@ -68,7 +68,7 @@ fn is_filled(slots: &Slots, token: Token, ports: u8) -> bool
 
 // Whether the instance of a token has one at a port with it.
 #[tactic(auto, using(crate::proofs::Quietly::has_at_port))]
-fn has_with(slots: &Slots, token: Token, port: u8) -> bool
+fn has_with(slots: &MatchStore, token: Token, port: u8) -> bool
     ensures { result ≡ has (with_at token.wave token.instr token.port (Some token.value)
         (partial_of slots.now.slots.items slots.now.spill) token.wave token.instr port) }
 {

@@ -24,7 +24,7 @@ pub struct Slot {
 /// The tokens that have arrived at instances that aren't full. Each instruction has a slot for one
 /// instance; tokens of other instances of it are spilled, and found by wave number and instruction.
 #[derive(Drop)]
-pub struct Slots {
+pub struct MatchStore {
     pub slots: Vec<Slot>,
     pub spill: HashMap<(u64, u32), Slot>,
 }
@@ -86,13 +86,13 @@ impl Slot {
     }
 }
 
-impl Slots {
+impl MatchStore {
     /// No tokens, for so many instructions.
-    pub fn open(alloc: Global, count: usize) -> Result<Slots, NoMemory>
+    pub fn open(alloc: Global, count: usize) -> Result<MatchStore, NoMemory>
         ensures slots { IfOk result (λ slots. slots.slots.items ≡ replicate count empty_slot) }
         ensures spill { IfOk result (λ slots. IsEmpty slots.spill) }
     {
-        Ok(Slots {
+        Ok(MatchStore {
             slots: vec![in alloc; Slot::empty(); count]?,
             spill: HashMap::new(alloc),
         })

@@ -9,7 +9,7 @@ use Rattle.ws_isa.specs.Image as plain
 use Rattle.ws_isa.specs.Image.{Image, ports, is_memory, note_of}
 use Rattle.ws_isa.specs.Formed.{Formed}
 use Rattle.image_walk.specs.Walk.{Inst, fires, pos}
-use Rattle.image_walk.specs.Sound.{Sound, LinkRules, Follows, last_op, seq}
+use Rattle.image_walk.specs.Sound.{Sound, LinkRules, ComesNext, last_op, seq}
 use Rattle.core_law.specs.Core.{Chain, State, Issuable, IsNext, pass, pass_by, position_after}
 use Rattle.core_law.specs.Fit.{RightRequest, Fit, chain_at}
 use Rattle.core_law.proofs.Facts.{WalkFacts}
@@ -37,7 +37,7 @@ goes c n Nothing h = absurd (h refl)
 goes c n Unknown h = refl
 goes c n (Is k) h = refl
 
-rise_behind : (image : Image) → LinkRules image → (w : ℕ) (l : Option ℕ) (k : ℕ) → Follows image l k → position_after (behind_last image w l).last < seq image k
+rise_behind : (image : Image) → LinkRules image → (w : ℕ) (l : Option ℕ) (k : ℕ) → ComesNext image l k → position_after (behind_last image w l).last < seq image k
 rise_behind image links w None k f = links.positive k None f
 rise_behind image links w (Some j) k f =
     rw (goes (record { wave = w; last = None }) (note_of image j) (note_of image j).succ (λ e. links.succ_ends j k e f)) (links.rise j k f)
@@ -52,7 +52,7 @@ module _ (image : Image) (world : World) (formed : Formed image) (sound : Sound 
       let p : seq image z.instr ≤ position_after (chain_at image world u).last = O.reach image world sound.shape sound.links k u z fz mz l (sym yw ∙ sym w) in
       let t = turn_at image world sound.shape u y fy in
       let c : chain_at image world u ≡ behind_last image (pos image world u).wave (last_op image (O.done_in image world u)) = O.chain_is image world sound.shape sound.links u t.over in
-      let f : Follows image (last_op image (O.done_in image world u)) y.instr = O.follows image world sound.shape sound.links u y fy my in
+      let f : ComesNext image (last_op image (O.done_in image world u)) y.instr = O.follows image world sound.shape sound.links u y fy my in
       let q : position_after (behind_last image (pos image world u).wave (last_op image (O.done_in image world u))).last < seq image y.instr = rise_behind image sound.links (pos image world u).wave (last_op image (O.done_in image world u)) y.instr f in
       let r : position_after (chain_at image world u).last ≡ position_after (behind_last image (pos image world u).wave (last_op image (O.done_in image world u))).last = ap (λ (d : Chain). position_after d.last) c in
       omega (arith, p, q, r)

@@ -6,7 +6,7 @@ use Rattle.ws_isa.specs.declared.instr.Op.{Op}
 use Rattle.ws_isa.specs.declared.instr.Op.TheVariants.{Const, Alu, Merge, Advance, Steer, Phi, Send, Load, Store, Input, Output, Give, Take, Nop, Halt}
 use Rattle.ws_isa.specs.declared.instr.Dest.{Dest}
 use Rattle.ws_isa.specs.Image.{Instr, Pad, Image, nth, instr_at, block_at, ports, target, edge_of, edge_dests}
-use Rattle.image_walk.specs.Sound.{Slots, HasDest, all_opened, Fresh, edge_all}
+use Rattle.image_walk.specs.Sound.{OpenSlots, HasDest, all_opened, Fresh, edge_all}
 use Rattle.image_walk.specs.Shows.{delivered, edge_by, edge_list, crossed}
 use Rattle.image_walk.proofs.Slots.{has_append_left, has_append_right, fresh_apart, fresh_right, all_opened_has}
 use Rattle.ws_isa.proofs.Images.{three_ports as few}
@@ -119,7 +119,7 @@ module _ (image : Image) (b r : ℕ) where
       ∙ rw e (delivered_other (edge_dests image b r k) (slice_index results k) t j q size fs.0 l (λ h. n (has_append_left (edge_dests image b r k) _ j q h)))
 
   -- the value of a steer or send comes to what it opens on the edge
-  pub crossed_lands : (is : List Instr) (k : ℕ) (results t : List ℕ) (o : Slots) (m j q : ℕ) → InRow image is k → Fits (edge_all image b r k (length is)) (length t) → Fresh (edge_all image b r k (length is)) o →
+  pub crossed_lands : (is : List Instr) (k : ℕ) (results t : List ℕ) (o : OpenSlots) (m j q : ℕ) → InRow image is k → Fits (edge_all image b r k (length is)) (length t) → Fresh (edge_all image b r k (length is)) o →
       k ≤ m → m < k + length is → HasDest (edge_dests image b r m) j q → slice_index (crossed pads r is k results t) (4 * j + q) ≡ slice_index results m
   crossed_lands [] k results t o m j q row f fr a c h = absurd (omega arith)
   crossed_lands (x ∷ is) k results t o m j q row f fr a c h =

@@ -7,7 +7,7 @@ use Rattle.ws_isa.specs.declared.instr.Op.TheVariants.{Const, Alu, Merge, Advanc
 use Rattle.ws_isa.specs.Image.{Image, instr_at, first_number, size_of, ports, ports_of, stops}
 use Rattle.image_walk.specs.Walk.{Inst, Pos, pos, mem, walk, fires, choice, with_inst, CostAtMost}
 use Rattle.image_walk.specs.Operations.{fault_among}
-use Rattle.image_walk.specs.Sound.{Slots, HasDest, opens_at, edge_all}
+use Rattle.image_walk.specs.Sound.{OpenSlots, HasDest, opens_at, edge_all}
 use Rattle.image_walk.specs.Open.{Walkable}
 use Rattle.image_walk.specs.Standing.{slots_at}
 use Rattle.image_walk.specs.declared.walker.Walker.{Walker}
@@ -165,7 +165,7 @@ module _ (image : Image) (world : World) where
         record {
           next = ap (λ (p : Pos). p.next) e ∙ ap (first_number image) (sym (ap (λ (p : Pos). p.block) e));
           none = λ j q. elim (cases_Bool (slots_at image world (suc t) j q)) [
-            | inl y ↦ absurd (nothing j q (all_opened_from (opens_at image (pos image world t).block (choice image (pos image world t))) (slots_at image world t) j q (ap (λ (x : Slots). x j q) (sym (slots_leave image world t a l)) ∙ y)))
+            | inl y ↦ absurd (nothing j q (all_opened_from (opens_at image (pos image world t).block (choice image (pos image world t))) (slots_at image world t) j q (ap (λ (x : OpenSlots). x j q) (sym (slots_leave image world t a l)) ∙ y)))
             | inr n ↦ n
           ];
         },

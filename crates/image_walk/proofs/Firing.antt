@@ -10,7 +10,7 @@ use Rattle.ws_isa.specs.declared.instr.Dest.{Dest}
 use Rattle.ws_isa.specs.Image.{Instr, Array, Image, or_else, flat, instr_at, first_number, ports, ports_of, is_memory, is_memory_op, is_advance, is_advance_op, is_past, is_past_op, array_at, array_of_op, result_of, result_of_op, answer, answer_op, after, after_op, now_of, now_dests}
 use Rattle.image_walk.specs.Walk.{Ports, Inst, Pos, pos, mem, walk, fires, fire, inst_at, wave_of, operands_at, result_at, gather, with_inst}
 use Rattle.image_walk.specs.Operations.{past, fault_among}
-use Rattle.image_walk.specs.Sound.{Slots, HasDest, closed, Fresh}
+use Rattle.image_walk.specs.Sound.{OpenSlots, HasDest, closed, Fresh}
 use Rattle.image_walk.specs.Open.{Walkable}
 use Rattle.image_walk.specs.Standing.{turn_number, slots_at}
 use Rattle.image_walk.specs.declared.walker.Walker.{Walker}
@@ -350,7 +350,7 @@ module _ (image : Image) (world : World) (ok : Walkable image) where
         ∙ sym (ap (λ (x : Option ℕ). or_else x 0) (st.value (turn_number image (P (suc t)) j)))
 
     operands_next : (j q : ℕ) → slots_at image world (suc t) j q ≡ true → slice_index new.table.operands (4 * j + q) ≡ or_else ((P (suc t)).sent (turn_number image (P (suc t)) j) j q) 0
-    operands_next j q s = elim (all_opened_from (now_dests image (P t).next) (closed (P t).next (slots_at image world t)) j q (ap (λ (x : Slots). x j q) (sym (slots_turn image world t at.running within)) ∙ s)) [
+    operands_next j q s = elim (all_opened_from (now_dests image (P t).next) (closed (P t).next (slots_at image world t)) j q (ap (λ (x : OpenSlots). x j q) (sym (slots_turn image world t at.running within)) ∙ s)) [
       | inl g ↦ elim (closed_cases (P t).next (slots_at image world t) j q) [
         | inl c ↦ absurd (both_ways (closed (P t).next (slots_at image world t) j q) c.1 g)
         | inr c ↦ stayed j q (sym c.1 ∙ g) g c.0

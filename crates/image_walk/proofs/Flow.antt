@@ -4,7 +4,7 @@ use Rattle.std.proofs.lemmas.Bool.{cases_Bool, cases_lt, both_ways, cond-true, c
 use Rattle.ws_words.specs.Outside.{World}
 use Rattle.ws_isa.specs.Image.{Image, ports, is_advance, first_number, size_of, stops, target, is_first, now_dests, start_dests, IsIn, IsBlock}
 use Rattle.image_walk.specs.Walk.{Pos, pos, opening, enter, fire, is_within, choice, with_tokens, edge_tokens}
-use Rattle.image_walk.specs.Sound.{Slots, none_open, all_opened, closed, opens_at, HasDest, PortsThere, Opens, begin, turn, edge, ShapeRules, SlotRules}
+use Rattle.image_walk.specs.Sound.{OpenSlots, none_open, all_opened, closed, opens_at, HasDest, PortsThere, Opens, begin, turn, edge, ShapeRules, SlotRules}
 use Rattle.image_walk.specs.Standing.{turn_number, slots_at}
 use Rattle.image_walk.proofs.Slots.{all_opened_keeps, all_opened_from, fresh_apart, with_tokens_other, edge_all_from, edge_other, closed_cases}
 use Rattle.image_walk.proofs.Steps.{StepCase, stands, turns, ends, leaves, step_case, Place, place, pos_start}
@@ -90,7 +90,7 @@ module _ (image : Image) (world : World) where
 
     port_step : (t j q : ℕ) → (P (suc t)).over ≡ false → StepCase image world t → ((P t).over ≡ false → slots_at image world t j q ≡ true → q < ports image j) → slots_at image world (suc t) j q ≡ true → q < ports image j
     port_step t j q o (stands a e f) ih h = absurd (both_ways true (sym a ∙ ap (λ (p : Pos). p.over) (sym e) ∙ o) refl)
-    port_step t j q o (turns a w e f) ih h = elim (all_opened_from (now_dests image (P t).next) (closed (P t).next (slots_at image world t)) j q (ap (λ (s : Slots). s j q) (sym (slots_turn t a w)) ∙ h)) [
+    port_step t j q o (turns a w e f) ih h = elim (all_opened_from (now_dests image (P t).next) (closed (P t).next (slots_at image world t)) j q (ap (λ (s : OpenSlots). s j q) (sym (slots_turn t a w)) ∙ h)) [
       | inl g ↦ elim (closed_cases (P t).next (slots_at image world t) j q) [
         | inl c ↦ absurd (both_ways (closed (P t).next (slots_at image world t) j q) c.1 g)
         | inr c ↦ ih a (sym c.1 ∙ g)
@@ -98,14 +98,14 @@ module _ (image : Image) (world : World) where
       | inr g ↦ there.now (P t).next j q g
     ]
     port_step t j q o (ends a w s e f) ih h = absurd (both_ways true (ap (λ (p : Pos). p.over) (sym e) ∙ o) refl)
-    port_step t j q o (leaves a w s e f) ih h = elim (all_opened_from (opens_at image (P t).block (choice image (P t))) (slots_at image world t) j q (ap (λ (s : Slots). s j q) (sym (slots_leave t a w)) ∙ h)) [
+    port_step t j q o (leaves a w s e f) ih h = elim (all_opened_from (opens_at image (P t).block (choice image (P t))) (slots_at image world t) j q (ap (λ (s : OpenSlots). s j q) (sym (slots_leave t a w)) ∙ h)) [
       | inl g ↦ ih a g
       | inr g ↦ edge_port (P t).block (choice image (P t)) j q g
     ]
 
     -- an open slot is a port
     pub slot_port : (t j q : ℕ) → (P t).over ≡ false → slots_at image world t j q ≡ true → q < ports image j
-    slot_port zero j q o h = elim (all_opened_from (start_dests image) none_open j q (ap (λ (s : Slots). s j q) (sym slots_start) ∙ h)) [
+    slot_port zero j q o h = elim (all_opened_from (start_dests image) none_open j q (ap (λ (s : OpenSlots). s j q) (sym slots_start) ∙ h)) [
       | inl g ↦ absurd (both_ways true (sym g) refl)
       | inr g ↦ there.start j q g
     ]
@@ -151,7 +151,7 @@ module _ (image : Image) (world : World) where
     turn_stays t j q a w e h n =
         let still : closed (P t).next (slots_at image world t) j q ≡ true = elim (closed_cases (P t).next (slots_at image world t) j q) [ inl c ↦ absurd (n c.0) | inr c ↦ c.1 ∙ h ] in
         record {
-          slot = ap (λ (s : Slots). s j q) (slots_turn t a w) ∙ all_opened_keeps (now_dests image (P t).next) (closed (P t).next (slots_at image world t)) j q still;
+          slot = ap (λ (s : OpenSlots). s j q) (slots_turn t a w) ∙ all_opened_keeps (now_dests image (P t).next) (closed (P t).next (slots_at image world t)) j q still;
           value = λ b. ap (λ (p : Pos). p.sent b j q) e ∙ with_tokens_other (P t).wave _ (now_dests image (P t).next) (P t).sent b j q
               (fresh_apart (now_dests image (P t).next) (closed (P t).next (slots_at image world t)) j q ((slots.turns (P t).block (P t).next (slots_at image world t) (path t a) w).fresh) still);
         }
@@ -167,7 +167,7 @@ module _ (image : Image) (world : World) where
         slots_at image world t j q ≡ true → Stays t j q
     unfolding opens_at
     leave_stays t j q a w s e h = record {
-      slot = ap (λ (x : Slots). x j q) (slots_leave t a w) ∙ all_opened_keeps (opens_at image (P t).block (choice image (P t))) (slots_at image world t) j q h;
+      slot = ap (λ (x : OpenSlots). x j q) (slots_leave t a w) ∙ all_opened_keeps (opens_at image (P t).block (choice image (P t))) (slots_at image world t) j q h;
       value = λ b. ap (λ (p : Pos). p.sent b j q) e ∙ edge_other image (P t).block (choice image (P t)) (P t).wave (P t).results (first_number image (P t).block) (size_of image (P t).block) (P t).sent b j q (apart_edge t j q a w s h);
     }
 
@@ -195,7 +195,7 @@ module _ (image : Image) (world : World) where
         (P (suc t)).wave ≡ cond (is_first image (target image (P t).block (choice image (P t)))) (suc (P t).wave) (P t).wave →
         is_first image (target image (P t).block (choice image (P t))) ≡ true → slots_at image world (suc t) j q ≡ true → Ahead image (P (suc t)) j × (turn_number image (P (suc t)) j ≡ (P t).wave)
     cross_number t j q a w st bl nx wv fst s =
-        let c = (slots.crossing (P t).block _ _ (along (path t a) (at_end t a w) st (choice image (P t))) fst j q).0 (ap (λ (x : Slots). x j q) (sym (slots_leave t a w)) ∙ s) in
+        let c = (slots.crossing (P t).block _ _ (along (path t a) (at_end t a w) st (choice image (P t))) fst j q).0 (ap (λ (x : OpenSlots). x j q) (sym (slots_leave t a w)) ∙ s) in
         let ah : Ahead image (P (suc t)) j = record { advance = c.1; low = rw nx c.0.0; high = rw bl c.0.1 } in
         let wv' : (P (suc t)).wave ≡ suc (P t).wave = wv ∙ cond-true (is_first image (target image (P t).block (choice image (P t)))) _ _ fst in
         (ah, number_ahead image (P (suc t)) j ah ∙ (let g : (P (suc t)).wave - 1 ≡ (P t).wave = omega arith in g))

@@ -5,7 +5,7 @@ use Rattle.ws_words.specs.Outside.{World}
 use Rattle.ws_isa.specs.Image.{Instr, Exit, Goto, Branch, Landings, Stop, Image, nth, or_else, no_block, no_instr, flat, block_at, first_number, size_of, ports, stops, target, is_first, IsBlock}
 use Rattle.image_walk.specs.Walk.{Pos, pos, mem, walk, fires, enter, choice, choice_of, with_tokens, edge_tokens, with_inst}
 use Rattle.image_walk.specs.Operations.{fault_among}
-use Rattle.image_walk.specs.Sound.{Slots, PortsThere, HasDest, Fresh, opens_at, edge_all}
+use Rattle.image_walk.specs.Sound.{OpenSlots, PortsThere, HasDest, Fresh, opens_at, edge_all}
 use Rattle.image_walk.specs.Open.{Walkable}
 use Rattle.image_walk.specs.Standing.{turn_number, slots_at}
 use Rattle.image_walk.specs.declared.walker.Walker.{Walker}
@@ -162,7 +162,7 @@ module _ (image : Image) (world : World) (ok : Walkable image) where
         ∙ sym (ap (λ (n : ℕ). or_else ((P (suc t)).sent n j q) 0) (number_is j q s) ∙ ap (λ (x : Option ℕ). or_else x 0) (sy.value (P t).wave))
 
     operands_next : (j q : ℕ) → slots_at image world (suc t) j q ≡ true → slice_index new.table.operands (4 * j + q) ≡ or_else ((P (suc t)).sent (turn_number image (P (suc t)) j) j q) 0
-    operands_next j q s = elim (all_opened_from (opens_at image (P t).block (choice image (P t))) (slots_at image world t) j q (ap (λ (x : Slots). x j q) (sym (slots_leave image world t at.running over_end)) ∙ s)) [
+    operands_next j q s = elim (all_opened_from (opens_at image (P t).block (choice image (P t))) (slots_at image world t) j q (ap (λ (x : OpenSlots). x j q) (sym (slots_leave image world t at.running over_end)) ∙ s)) [
       | inl g ↦ stayed j q s g
       | inr g ↦ landed j q s g
     ]

@@ -2,7 +2,7 @@
 use Rattle.std.proofs.Common.{ℕ, suc, ◌+◌, ◌-◌, ◌*◌, ◌≡◌, ◌<◌, ◌≤◌, Bool, false, ◌&&◌, ◌==◌, List, [], ◌∷◌, length, refl, sym, ap, ◌∙◌, arith}
 use Rattle.std.proofs.Math.Nat.{mul-le-mul_right, suc-mul}
 use Rattle.ws_isa.specs.Image.{Instr, is_first}
-use Rattle.image_walk.specs.declared.program.Program.{Program}
+use Rattle.image_walk.specs.declared.program.BlockTable.{BlockTable}
 use Rattle.image_walk.specs.Shows.{image_of, block_in}
 
 -- the blocks ahead of an empty block
@@ -11,11 +11,11 @@ idle [] n = suc n
 idle (i ∷ is) n = 0
 
 -- what is left of a walk: firings, and while nothing fires the blocks ahead
-abbrev pub heft : Program → ℕ → ℕ → ℕ
+abbrev pub heft : BlockTable → ℕ → ℕ → ℕ
 heft p place left = left * (length p.blocks.now + 2) + idle (block_in p place).instrs (length p.blocks.now - place)
 
 -- the block at this place is no empty first block of a wave
-abbrev pub Alive : Program → ℕ → Type 0
+abbrev pub Alive : BlockTable → ℕ → Type 0
 Alive p place = ((length (block_in p place).instrs == 0) && is_first (image_of p) (suc place)) ≡ false
 
 idle_low : (is : List Instr) (n m : ℕ) → n ≤ m → idle is n ≤ suc m
@@ -27,7 +27,7 @@ first_false [] f e h = h
 first_false (i ∷ is) f e h = absurd (cc)
 
 -- each block that is passed leaves less
-pub lighter : (p : Program) (place next a b : ℕ) → next < length p.blocks.now → Alive p next → (is_first (image_of p) (suc next) ≡ false → place < next) → b + length (block_in p place).instrs ≡ a →
+pub lighter : (p : BlockTable) (place next a b : ℕ) → next < length p.blocks.now → Alive p next → (is_first (image_of p) (suc next) ≡ false → place < next) → b + length (block_in p place).instrs ≡ a →
     heft p next b < heft p place a
 lighter p place next a b l alive ahead e = go (block_in p place).instrs refl
   where

@@ -4,7 +4,7 @@ use Rattle.std.proofs.lemmas.Bool.{cases_Bool, both_ways}
 use Rattle.ws_words.specs.Outside.{World, zeros}
 use Rattle.ws_isa.specs.Image.{Image, or_else, flat, first_number, ports, is_first, tokens_to, start_dests, IsIn}
 use Rattle.image_walk.specs.Walk.{Pos, pos, opening, opening_memory, start_tokens, mem, walk, no_ports, with_tokens, choice}
-use Rattle.image_walk.specs.Sound.{Slots, HasDest, none_open, all_opened, AdvancesOpen}
+use Rattle.image_walk.specs.Sound.{OpenSlots, HasDest, none_open, all_opened, AdvancesOpen}
 use Rattle.image_walk.specs.Open.{Walkable}
 use Rattle.image_walk.specs.Standing.{turn_number, slots_at}
 use Rattle.image_walk.specs.declared.walker.Walker.{Walker}
@@ -79,7 +79,7 @@ module _ (image : Image) (world : World) (ok : Walkable image) where
     opened : (j q : ℕ) → slots_at image world 0 j q ≡ true → slice_index w.table.operands (4 * j + q) ≡ or_else ((opening image world).sent (turn_number image (opening image world) j) j q) 0
     unfolding opening start_tokens is_first
     opened j q s =
-        let s' : all_opened (start_dests image) none_open j q ≡ true = ap (λ (x : Slots). x j q) (sym (slots_start image world)) ∙ s in
+        let s' : all_opened (start_dests image) none_open j q ≡ true = ap (λ (x : OpenSlots). x j q) (sym (slots_start image world)) ∙ s in
         let h : HasDest (start_dests image) j q = elim (all_opened_from (start_dests image) none_open j q s') [ inl x ↦ absurd (both_ways true (sym x) refl) | inr x ↦ x ] in
         let a = (ok.slots.begins j q).0 s' in
         let ah : Ahead image (opening image world) j = record { advance = a.1; low = a.0.0; high = a.0.1 } in

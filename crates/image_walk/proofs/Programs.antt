@@ -12,7 +12,7 @@ use Rattle.ws_isa.specs.Image.{Exit, Image, nth, or_else, no_block, no_instr, in
 use Rattle.ws_isa.specs.View as view
 use Rattle.image_walk.specs.Walk.{choice_of}
 use Rattle.image_walk.specs.Open.{Walkable}
-use Rattle.image_walk.specs.declared.program.Program.{Program}
+use Rattle.image_walk.specs.declared.program.BlockTable.{BlockTable}
 use Rattle.image_walk.specs.declared.walker.Walker.{Walker}
 use Rattle.image_walk.specs.declared.walker.Edge.{Edge}
 use Rattle.image_walk.specs.Shows.{ProgramIs, image_of, block_in, crossed, EdgeIs, At, AtStart, AtEnd, Final}
@@ -20,7 +20,7 @@ use Rattle.image_walk.proofs.Blocks.{first_in, number_within, number_next, block
 use Rattle.image_walk.proofs.Leaving.{left_at}
 use Rattle.image_walk.proofs.Opening.{dead_final}
 
-module _ (p : Program) (is : ProgramIs p) where
+module _ (p : BlockTable) (is : ProgramIs p) where
   pub blocks_long : length (image_of p).blocks ≡ length p.blocks.now
   blocks_long = length-map p.blocks.now view.block
 

@@ -5,7 +5,7 @@ use Rattle.ws_isa.specs.declared.instr.Op.TheVariants.{Const, Alu, Merge, Advanc
 use Rattle.ws_isa.specs.declared.instr.Dest.{Dest}
 use Rattle.ws_isa.specs.Image.{Instr, Goto, Block, Pad, Image, nth, or_else, no_block, instr_at, block_at, first_number, IsBlock, IsIn}
 use Rattle.image_walk.specs.Open.{Walkable}
-use Rattle.image_walk.specs.declared.program.Program.{Program}
+use Rattle.image_walk.specs.declared.program.BlockTable.{BlockTable}
 use Rattle.image_walk.specs.Shows.{edge_by, edge_list, delivered, crossed, ProgramIs, image_of, block_in}
 use Rattle.image_walk.proofs.Blocks.{block_is, number_next}
 use Rattle.image_walk.proofs.Leaving.{row_of}
@@ -67,7 +67,7 @@ goto_quiet image ok n l c goes i x e = (
         (omega arith, omega arith)
 
 -- the edge of a `Goto` brings nothing
-pub goto_crossed : (p : Program) → ProgramIs p → Walkable (image_of p) → (n : ℕ) → n < length p.blocks.now → (c : ℕ) → (block_in p n).exit ≡ Goto c →
+pub goto_crossed : (p : BlockTable) → ProgramIs p → Walkable (image_of p) → (n : ℕ) → n < length p.blocks.now → (c : ℕ) → (block_in p n).exit ≡ Goto c →
     (pads : List Pad) (r k : ℕ) (results operands : List ℕ) → operands ≡ crossed pads r (block_in p n).instrs k results operands
 goto_crossed p is ok n l c goes pads r k results operands =
     let e : block_at (image_of p) (suc n) ≡ block_in p n = block_is (image_of p) n in

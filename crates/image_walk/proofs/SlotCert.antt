@@ -1,14 +1,14 @@
 -- The slot rules by one set of open slots per place: what a checker computes.
 use Rattle.std.specs.Prelude.{ℕ, suc, ◌≡◌, ◌<◌, Bool, true, false}
 use Rattle.ws_isa.specs.Image.{Image, ports, first_number, stops, target, is_first, now_dests, start_dests, IsIn}
-use Rattle.image_walk.specs.Sound.{Slots, none_open, all_opened, Fresh, closed, opens_at, AdvancesOpen}
+use Rattle.image_walk.specs.Sound.{OpenSlots, none_open, all_opened, Fresh, closed, opens_at, AdvancesOpen}
 
 -- the same slots are open
-abbrev pub Alike : Slots → Slots → Type 0
+abbrev pub Alike : OpenSlots → OpenSlots → Type 0
 Alike o p = (j q : ℕ) → o j q ≡ p j q
 
 -- reached blocks, and the open slots before instruction k of block b
-pub record SlotCert (image : Image) (reached : ℕ → Bool) (open_at : ℕ → ℕ → Slots) : Type 0 where
+pub record SlotCert (image : Image) (reached : ℕ → Bool) (open_at : ℕ → ℕ → OpenSlots) : Type 0 where
   pub start : reached 1 ≡ true
   pub start_open : Alike (all_opened (start_dests image) none_open) (open_at 1 (first_number image 1))
   pub turn_open : (b k : ℕ) → reached b ≡ true → IsIn image b k → Alike (all_opened (now_dests image k) (closed k (open_at b k))) (open_at b (suc k))

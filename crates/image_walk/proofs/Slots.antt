@@ -4,9 +4,9 @@ use Rattle.std.proofs.lemmas.Bool.{cases_eq, both_ways}
 use Rattle.ws_isa.specs.declared.instr.Dest.{Dest}
 use Rattle.ws_isa.specs.Image.{Image, Token, tokens_to, nth, or_else, edge_dests}
 use Rattle.image_walk.specs.Walk.{Ports, is_at, with_token, with_tokens, edge_tokens, gather}
-use Rattle.image_walk.specs.Sound.{Slots, HasDest, opened, all_opened, Fresh, closed, edge_all}
+use Rattle.image_walk.specs.Sound.{OpenSlots, HasDest, opened, all_opened, Fresh, closed, edge_all}
 
-pub opened_cases : (d : Dest) (o : Slots) (j q : ℕ) → ((d.instr ≡ j) × (d.port ≡ q) × (opened d o j q ≡ true)) ⊎ (((d.instr ≡ j) × (d.port ≡ q) → ⊥) × (opened d o j q ≡ o j q))
+pub opened_cases : (d : Dest) (o : OpenSlots) (j q : ℕ) → ((d.instr ≡ j) × (d.port ≡ q) × (opened d o j q ≡ true)) ⊎ (((d.instr ≡ j) × (d.port ≡ q) → ⊥) × (opened d o j q ≡ o j q))
 opened_cases d o j q = go (cases_eq d.instr j) (cases_eq d.port q)
   where
     go : (d.instr ≡ j) ⊎ (d.instr ≡ j → ⊥) → (d.port ≡ q) ⊎ (d.port ≡ q → ⊥) → ((d.instr ≡ j) × (d.port ≡ q) × (opened d o j q ≡ true)) ⊎ (((d.instr ≡ j) × (d.port ≡ q) → ⊥) × (opened d o j q ≡ o j q))
@@ -14,16 +14,16 @@ opened_cases d o j q = go (cases_eq d.instr j) (cases_eq d.port q)
     go (inr n) f = inr ((λ h. n h.0), rw (ne_eqb d.instr j n) refl)
     go (inl e) (inr n) = inr ((λ h. n h.1), rw (eq-eqb d.instr j e, ne_eqb d.port q n) refl)
 
-pub opened_keeps : (d : Dest) (o : Slots) (j q : ℕ) → o j q ≡ true → opened d o j q ≡ true
+pub opened_keeps : (d : Dest) (o : OpenSlots) (j q : ℕ) → o j q ≡ true → opened d o j q ≡ true
 opened_keeps d o j q e = elim (opened_cases d o j q) [ inl h ↦ h.2 | inr h ↦ h.1 ∙ e ]
 
 -- what is open stays open
-pub all_opened_keeps : (ds : List Dest) (o : Slots) (j q : ℕ) → o j q ≡ true → all_opened ds o j q ≡ true
+pub all_opened_keeps : (ds : List Dest) (o : OpenSlots) (j q : ℕ) → o j q ≡ true → all_opened ds o j q ≡ true
 all_opened_keeps [] o j q e = e
 all_opened_keeps (d ∷ ds) o j q e = all_opened_keeps ds (opened d o) j q (opened_keeps d o j q e)
 
 -- what is open then was open, or is a destination
-pub all_opened_from : (ds : List Dest) (o : Slots) (j q : ℕ) → all_opened ds o j q ≡ true → (o j q ≡ true) ⊎ HasDest ds j q
+pub all_opened_from : (ds : List Dest) (o : OpenSlots) (j q : ℕ) → all_opened ds o j q ≡ true → (o j q ≡ true) ⊎ HasDest ds j q
 all_opened_from [] o j q e = inl e
 all_opened_from (d ∷ ds) o j q e = elim (all_opened_from ds (opened d o) j q e) [
   | inl h ↦ elim (opened_cases d o j q) [ inl g ↦ inr (inl (g.0, g.1)) | inr g ↦ inl (sym g.1 ∙ h) ]
@@ -31,29 +31,29 @@ all_opened_from (d ∷ ds) o j q e = elim (all_opened_from ds (opened d o) j q e
 ]
 
 -- destinations are open then
-pub all_opened_has : (ds : List Dest) (o : Slots) (j q : ℕ) → HasDest ds j q → all_opened ds o j q ≡ true
+pub all_opened_has : (ds : List Dest) (o : OpenSlots) (j q : ℕ) → HasDest ds j q → all_opened ds o j q ≡ true
 all_opened_has [] o j q h = absurd h
 all_opened_has (d ∷ ds) o j q (inr h) = all_opened_has ds (opened d o) j q h
 all_opened_has (d ∷ ds) o j q (inl h) = all_opened_keeps ds (opened d o) j q
     (elim (opened_cases d o j q) [ inl g ↦ g.2 | inr g ↦ absurd (g.0 h) ])
 
 -- two lists open one after the other
-pub all_opened_append : (ds es : List Dest) (o : Slots) → all_opened (ds ++ es) o ≡ all_opened es (all_opened ds o)
+pub all_opened_append : (ds es : List Dest) (o : OpenSlots) → all_opened (ds ++ es) o ≡ all_opened es (all_opened ds o)
 all_opened_append [] es o = refl
 all_opened_append (d ∷ ds) es o = all_opened_append ds es (opened d o)
 
 -- what is open is no destination that can be opened
-pub fresh_apart : (ds : List Dest) (o : Slots) (j q : ℕ) → Fresh ds o → o j q ≡ true → HasDest ds j q → ⊥
+pub fresh_apart : (ds : List Dest) (o : OpenSlots) (j q : ℕ) → Fresh ds o → o j q ≡ true → HasDest ds j q → ⊥
 fresh_apart [] o j q f e h = h
 fresh_apart (d ∷ ds) o j q f e (inl h) = both_ways (o j q) (rw (h.0, h.1) at f.0) e
 fresh_apart (d ∷ ds) o j q f e (inr h) = fresh_apart ds (opened d o) j q f.1 (opened_keeps d o j q e) h
 
-pub fresh_left : (ds es : List Dest) (o : Slots) → Fresh (ds ++ es) o → Fresh ds o
+pub fresh_left : (ds es : List Dest) (o : OpenSlots) → Fresh (ds ++ es) o → Fresh ds o
 fresh_left [] es o f = tt
 fresh_left (d ∷ ds) es o f = (f.0, fresh_left ds es (opened d o) f.1)
 
 -- the second of two lists can be opened after the first
-pub fresh_right : (ds es : List Dest) (o : Slots) → Fresh (ds ++ es) o → Fresh es (all_opened ds o)
+pub fresh_right : (ds es : List Dest) (o : OpenSlots) → Fresh (ds ++ es) o → Fresh es (all_opened ds o)
 fresh_right [] es o f = f
 fresh_right (d ∷ ds) es o f = fresh_right ds es (opened d o) f.1
 
@@ -158,7 +158,7 @@ edge_other image b r w results k (suc n) sent a j q no' =
     ∙ with_tokens_other w (results k) (edge_dests image b r k) sent a j q (λ h. no' (has_append_left (edge_dests image b r k) (edge_all image b r (suc k) n) j q h))
 
 -- the value of a steer or send comes along the edge
-pub edge_lands : (image : Image) (b r w : ℕ) (results : ℕ → ℕ) (k n : ℕ) (sent : Ports) (o : Slots) (m j q : ℕ) → Fresh (edge_all image b r k n) o → k ≤ m → m < k + n → HasDest (edge_dests image b r m) j q →
+pub edge_lands : (image : Image) (b r w : ℕ) (results : ℕ → ℕ) (k n : ℕ) (sent : Ports) (o : OpenSlots) (m j q : ℕ) → Fresh (edge_all image b r k n) o → k ≤ m → m < k + n → HasDest (edge_dests image b r m) j q →
     with_tokens (edge_tokens image b r w results k n) sent w j q ≡ Some (results m)
 edge_lands image b r w results k zero sent o m j q f l u h = absurd (omega arith)
 edge_lands image b r w results k (suc n) sent o m j q f l u h = elim (cases_eq m k) [
@@ -183,7 +183,7 @@ gather_length f w i p zero = refl
 gather_length f w i p (suc n) = ap suc (gather_length f w i (suc p) n)
 
 -- a slot is closed with its instruction, or stays
-pub closed_cases : (k : ℕ) (o : Slots) (j q : ℕ) → ((k ≡ j) × (closed k o j q ≡ false)) ⊎ ((k ≡ j → ⊥) × (closed k o j q ≡ o j q))
+pub closed_cases : (k : ℕ) (o : OpenSlots) (j q : ℕ) → ((k ≡ j) × (closed k o j q ≡ false)) ⊎ ((k ≡ j → ⊥) × (closed k o j q ≡ o j q))
 closed_cases k o j q = elim (cases_eq k j) [
   | inl e ↦ inl (e, rw (eq-eqb k j e) refl)
   | inr n ↦ inr (n, rw (ne_eqb k j n) refl)

@@ -12,12 +12,12 @@ use Rattle.ws_isa.specs.View as view
 use Rattle.image_walk.specs.Walk.{choice_of, pos, mem, walk, CostAtMost}
 use Rattle.image_walk.specs.Operations.{fault_among}
 use Rattle.image_walk.specs.Standing.{turn_number, slots_at}
-use Rattle.image_walk.specs.declared.program.Program.{Program}
+use Rattle.image_walk.specs.declared.program.BlockTable.{BlockTable}
 use Rattle.image_walk.specs.declared.walker.Walker.{Walker}
 use Rattle.image_walk.specs.declared.walker.Edge.{Edge}
 
 -- the answer of a memory operation, and what it leaves
-pub record Answers (op : Op) (xs : List ℕ) (o : Outside) (word : ℕ) (m : Memory) : Type 0 where
+pub record Performs (op : Op) (xs : List ℕ) (o : Outside) (word : ℕ) (m : Memory) : Type 0 where
   pub answer : word ≡ answer_op op xs o
   pub after : OutIs (after_op op xs o) m
 
@@ -59,10 +59,10 @@ pub record EdgeIs (exit : Exit) (results : List ℕ) (e : Edge) : Type 0 where
   pub next : e.next ≡ leave_to exit e.choice - 1
 
 -- the image of a program, and the numbers of its blocks' first instructions
-abbrev pub image_of : Program → Image
+abbrev pub image_of : BlockTable → Image
 image_of p = view.parts p.arrays.now p.blocks.now
 
-pub record ProgramIs (p : Program) : Type 0 where
+pub record ProgramIs (p : BlockTable) : Type 0 where
   pub firsts_length : length p.firsts.items ≡ suc (length p.blocks.now)
   pub firsts : (b : ℕ) → b ≤ length p.blocks.now →
       slice_index p.firsts.items b ≡ first_of (map view.block p.blocks.now) b
@@ -70,7 +70,7 @@ pub record ProgramIs (p : Program) : Type 0 where
   pub small : 4 * p.total < 2 ^ 64
 
 -- the block at a place
-abbrev pub block_in : Program → ℕ → Block
+abbrev pub block_in : BlockTable → ℕ → Block
 block_in p place = or_else (nth (image_of p).blocks place) no_block
 
 -- the code stands where the walk stands after t steps: in block b before instruction k

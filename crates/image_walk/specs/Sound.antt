@@ -8,26 +8,26 @@ use Rattle.ws_isa.specs.Image.{Pad, Branch, Landings, Image, In, nth, instr_at, 
 use Rattle.ws_isa.specs.Formed.{WavesInOrder}
 
 -- the slots that are open: an instruction with a port
-abbrev pub Slots : Type 0
-Slots = ℕ → ℕ → Bool
+abbrev pub OpenSlots : Type 0
+OpenSlots = ℕ → ℕ → Bool
 
-abbrev pub none_open : Slots
+abbrev pub none_open : OpenSlots
 none_open j q = false
 
-abbrev pub opened : Dest → Slots → Slots
+abbrev pub opened : Dest → OpenSlots → OpenSlots
 opened d o j q = cond (eqb d.instr j && eqb d.port q) true (o j q)
 
-abbrev pub all_opened : List Dest → Slots → Slots
+abbrev pub all_opened : List Dest → OpenSlots → OpenSlots
 all_opened [] o = o
 all_opened (d ∷ ds) o = all_opened ds (opened d o)
 
 -- the destinations can be opened one after the other: none is open
-abbrev pub Fresh : List Dest → Slots → Type 0
+abbrev pub Fresh : List Dest → OpenSlots → Type 0
 Fresh [] o = Unit {0}
 Fresh (d ∷ ds) o = (o d.instr d.port ≡ false) × Fresh ds (opened d o)
 
 -- all slots of instruction k are closed
-abbrev pub closed : ℕ → Slots → Slots
+abbrev pub closed : ℕ → OpenSlots → OpenSlots
 closed k o j q = cond (eqb k j) false (o j q)
 
 -- the destinations that the steers and sends among n instructions from k on open on the edge at r
@@ -51,35 +51,35 @@ pub record PortsThere (image : Image) : Type 0 where
 -- Slots.
 
 -- a path from block 1 leads to block b before instruction k, and these slots are open there
-pub data Opens (image : Image) : ℕ → ℕ → Slots → Type 0 where
+pub data Opens (image : Image) : ℕ → ℕ → OpenSlots → Type 0 where
   begin : Opens image 1 (first_number image 1) (all_opened (start_dests image) none_open)
-  turn : {b k : ℕ} {o : Slots} → Opens image b k o → k < first_number image (suc b) →
+  turn : {b k : ℕ} {o : OpenSlots} → Opens image b k o → k < first_number image (suc b) →
       Opens image b (suc k) (all_opened (now_dests image k) (closed k o))
-  edge : {b k : ℕ} {o : Slots} → Opens image b k o → k ≡ first_number image (suc b) →
+  edge : {b k : ℕ} {o : OpenSlots} → Opens image b k o → k ≡ first_number image (suc b) →
       stops image b ≡ false → (r : ℕ) →
       Opens image (target image b r) (first_number image (target image b r))
       (all_opened (opens_at image b r) o)
 
 -- the open slots are those of the advances of block b
-abbrev pub AdvancesOpen : Image → ℕ → Slots → Type 0
+abbrev pub AdvancesOpen : Image → ℕ → OpenSlots → Type 0
 AdvancesOpen image b o = (j q : ℕ) →
     (o j q ≡ true) ↔ (IsIn image b j × (is_advance image j ≡ true) × (q ≡ 0))
 
 -- at its turn an instruction has all its slots open, and closes them; then none of its destinations
 -- is open
-pub record TurnSlots (image : Image) (k : ℕ) (o : Slots) : Type 0 where
+pub record TurnSlots (image : Image) (k : ℕ) (o : OpenSlots) : Type 0 where
   pub has_all : (q : ℕ) → q < ports image k → o k q ≡ true
   pub fresh : Fresh (now_dests image k) (closed k o)
 
 -- at the end of a block: on an edge none of what steers and sends open is open, and at a stop nothing
 -- is
-pub record EndSlots (image : Image) (b : ℕ) (o : Slots) : Type 0 where
+pub record EndSlots (image : Image) (b : ℕ) (o : OpenSlots) : Type 0 where
   pub edges : stops image b ≡ false → (r : ℕ) → Fresh (opens_at image b r) o
   pub stop : stops image b ≡ true → (j q : ℕ) → o j q ≡ false
 
 -- a path leads along an edge into block b with these slots
-pub record EdgeInto (image : Image) (from b : ℕ) (o : Slots) : Type 0 where
-  pub before : Slots
+pub record EdgeInto (image : Image) (from b : ℕ) (o : OpenSlots) : Type 0 where
+  pub before : OpenSlots
   pub path : Opens image from (first_number image (suc from)) before
   pub goes_on : stops image from ≡ false
   pub choice : ℕ
@@ -89,26 +89,26 @@ pub record EdgeInto (image : Image) (from b : ℕ) (o : Slots) : Type 0 where
 pub record SlotRules (image : Image) : Type 0 where
   pub start : Fresh (start_dests image) none_open
   pub begins : AdvancesOpen image 1 (all_opened (start_dests image) none_open)
-  pub turns : (b k : ℕ) (o : Slots) → Opens image b k o → k < first_number image (suc b) →
+  pub turns : (b k : ℕ) (o : OpenSlots) → Opens image b k o → k < first_number image (suc b) →
       TurnSlots image k o
-  pub ends : (b : ℕ) (o : Slots) → Opens image b (first_number image (suc b)) o → EndSlots image b o
+  pub ends : (b : ℕ) (o : OpenSlots) → Opens image b (first_number image (suc b)) o → EndSlots image b o
   -- into the first block of a wave exactly its advances are open
-  pub crossing : (c b : ℕ) (o : Slots) → EdgeInto image c b o → is_first image b ≡ true →
+  pub crossing : (c b : ℕ) (o : OpenSlots) → EdgeInto image c b o → is_first image b ≡ true →
       AdvancesOpen image b o
   -- the edges into any other block leave equal open slots
-  pub pending : (c d b : ℕ) (o p : Slots) → EdgeInto image c b o → EdgeInto image d b p →
+  pub pending : (c d b : ℕ) (o p : OpenSlots) → EdgeInto image c b o → EdgeInto image d b p →
       is_first image b ≡ false → (j q : ℕ) → o j q ≡ p j q
 
 -- Shape.
 
 -- the result of instruction k comes to port q of instruction m, directly or through merges of block
 -- b
-pub data Carries (image : Image) (b : ℕ) : ℕ → ℕ → ℕ → Type 0 where
+pub data BringsResult (image : Image) (b : ℕ) : ℕ → ℕ → ℕ → Type 0 where
   direct : {k m q : ℕ} → (place : ℕ) (d : Dest) → nth (now_dests image k) place ≡ Some d →
-      d.instr ≡ m → d.port ≡ q → Carries image b k m q
+      d.instr ≡ m → d.port ≡ q → BringsResult image b k m q
   through : {k m q : ℕ} → (place : ℕ) (d : Dest) → nth (now_dests image k) place ≡ Some d →
       d.port ≡ 0 → IsIn image b d.instr →
-      (instr_at image d.instr).op ≡ Merge → Carries image b d.instr m q → Carries image b k m q
+      (instr_at image d.instr).op ≡ Merge → BringsResult image b d.instr m q → BringsResult image b k m q
 
 abbrev pub HasPad : List Pad → ℕ → Type 0
 HasPad [] k = ⊥
@@ -148,9 +148,9 @@ pub record ExitShape (image : Image) (b : ℕ) : Type 0 where
 -- each send
 pub record HangShape (image : Image) (b : ℕ) : Type 0 where
   pub steers : (k : ℕ) → IsIn image b k → (instr_at image k).op ≡ Steer → (s x y : ℕ) ×
-      ((block_at image b).exit ≡ Branch s x y) × Carries image b s k 1
+      ((block_at image b).exit ≡ Branch s x y) × BringsResult image b s k 1
   pub sends : (k p : ℕ) → IsIn image b k → (instr_at image k).op ≡ Send p → (s : ℕ) ×
-      (ls : List ℕ) × ((block_at image b).exit ≡ Landings s ls) × Carries image b s k 0
+      (ls : List ℕ) × ((block_at image b).exit ≡ Landings s ls) × BringsResult image b s k 0
   pub landing_pad : (k p r : ℕ) → IsIn image b k → (instr_at image k).op ≡ Send p →
       HasPad (block_at image (target image b r)).pads p
   pub landing_first : (s r : ℕ) (ls : List ℕ) → (block_at image b).exit ≡ Landings s ls →
@@ -209,7 +209,7 @@ last_op image [] = None
 last_op image (k ∷ ks) = cond (is_memory image k) (Some k) (last_op image ks)
 
 -- operation k comes on a path inside a wave, right after the last one, if there is one
-pub record Follows (image : Image) (last : Option ℕ) (k : ℕ) : Type 0 where
+pub record ComesNext (image : Image) (last : Option ℕ) (k : ℕ) : Type 0 where
   pub block : ℕ
   pub done : List ℕ
   pub path : InWave image block k done
@@ -218,7 +218,7 @@ pub record Follows (image : Image) (last : Option ℕ) (k : ℕ) : Type 0 where
   pub last_is : last_op image done ≡ last
 
 -- a path inside a wave ends after this last operation
-pub record Ends (image : Image) (last : Option ℕ) : Type 0 where
+pub record PathEnds (image : Image) (last : Option ℕ) : Type 0 where
   pub block : ℕ
   pub next : ℕ
   pub done : List ℕ
@@ -232,32 +232,32 @@ abbrev pub seq : Image → ℕ → ℕ
 seq image k = (note_of image k).seq
 
 -- the wave of the block in which an operation comes on a path
-abbrev pub wave_at : {image : Image} {last : Option ℕ} {k : ℕ} → Follows image last k → ℕ
+abbrev pub wave_at : {image : Image} {last : Option ℕ} {k : ℕ} → ComesNext image last k → ℕ
 wave_at {image} {last} {k} f = (block_at image f.block).wave
 
 pub record LinkRules (image : Image) : Type 0 where
   -- sequence numbers are at least 1, differ within a wave, and rise along every path
-  pub positive : (k : ℕ) (last : Option ℕ) → Follows image last k → 1 ≤ seq image k
-  pub differ : (j k : ℕ) (l m : Option ℕ) (f : Follows image l j) (g : Follows image m k) →
+  pub positive : (k : ℕ) (last : Option ℕ) → ComesNext image last k → 1 ≤ seq image k
+  pub differ : (j k : ℕ) (l m : Option ℕ) (f : ComesNext image l j) (g : ComesNext image m k) →
       wave_at f ≡ wave_at g → seq image j ≡ seq image k → j ≡ k
-  pub rise : (j k : ℕ) → Follows image (Some j) k → seq image j < seq image k
+  pub rise : (j k : ℕ) → ComesNext image (Some j) k → seq image j < seq image k
   -- every path has an operation; the first has no predecessor, the last no successor
-  pub some_op : Ends image None → ⊥
-  pub first_pred : (k : ℕ) → Follows image None k → (note_of image k).pred ≡ Nothing
-  pub last_succ : (k : ℕ) → Ends image (Some k) → (note_of image k).succ ≡ Nothing
+  pub some_op : PathEnds image None → ⊥
+  pub first_pred : (k : ℕ) → ComesNext image None k → (note_of image k).pred ≡ Nothing
+  pub last_succ : (k : ℕ) → PathEnds image (Some k) → (note_of image k).succ ≡ Nothing
   -- of two neighbours one names the other
-  pub linked : (j k : ℕ) → Follows image (Some j) k →
+  pub linked : (j k : ℕ) → ComesNext image (Some j) k →
       ((note_of image j).succ ≡ Is (seq image k)) ⊎ ((note_of image k).pred ≡ Is (seq image j))
   -- a named successor is the next operation on every path, and where none is said, none follows
-  pub succ_is : (j k n : ℕ) → (note_of image j).succ ≡ Is n → Follows image (Some j) k →
+  pub succ_is : (j k n : ℕ) → (note_of image j).succ ≡ Is n → ComesNext image (Some j) k →
       seq image k ≡ n
-  pub succ_goes_on : (j n : ℕ) → (note_of image j).succ ≡ Is n → Ends image (Some j) → ⊥
-  pub succ_ends : (j k : ℕ) → (note_of image j).succ ≡ Nothing → Follows image (Some j) k → ⊥
+  pub succ_goes_on : (j n : ℕ) → (note_of image j).succ ≡ Is n → PathEnds image (Some j) → ⊥
+  pub succ_ends : (j k : ℕ) → (note_of image j).succ ≡ Nothing → ComesNext image (Some j) k → ⊥
   -- the same for predecessors
-  pub pred_is : (j k n : ℕ) → (note_of image k).pred ≡ Is n → Follows image (Some j) k →
+  pub pred_is : (j k n : ℕ) → (note_of image k).pred ≡ Is n → ComesNext image (Some j) k →
       seq image j ≡ n
-  pub pred_is_some : (k n : ℕ) → (note_of image k).pred ≡ Is n → Follows image None k → ⊥
-  pub pred_none : (j k : ℕ) → (note_of image k).pred ≡ Nothing → Follows image (Some j) k → ⊥
+  pub pred_is_some : (k n : ℕ) → (note_of image k).pred ≡ Is n → ComesNext image None k → ⊥
+  pub pred_none : (j k : ℕ) → (note_of image k).pred ≡ Nothing → ComesNext image (Some j) k → ⊥
 
 -- Ripples.
 
@@ -267,7 +267,7 @@ IsAmong k (j ∷ js) = (k ≡ j) ⊎ IsAmong k js
 
 pub record RippleRules (image : Image) : Type 0 where
   -- that of a writing operation is its own sequence number
-  pub own : (k : ℕ) (last : Option ℕ) → Follows image last k → is_writing image k ≡ true →
+  pub own : (k : ℕ) (last : Option ℕ) → ComesNext image last k → is_writing image k ≡ true →
       (note_of image k).ripple ≡ seq image k
   -- that of another is at least that of each writing operation that may stand before it
   pub above : (b k j : ℕ) (done : List ℕ) → InWave image b k done → k < first_number image (suc b) →

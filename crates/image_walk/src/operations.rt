@@ -5,7 +5,7 @@ ghost use Rattle.ws_words.specs.Outside.{Outside};
 ghost use Rattle.ws_words.specs.Memory.{OutIs};
 ghost use Rattle.ws_isa.specs.Image.{cells_of};
 ghost use Rattle.ws_isa.specs.View as view;
-ghost use Rattle.image_walk.specs.Shows.{Answers};
+ghost use Rattle.image_walk.specs.Shows.{Performs};
 
 use std::alloc::Global;
 use ws_isa::{ArrayDecl, Op};
@@ -15,7 +15,7 @@ use ws_words::{Cells, Memory, NoMemory, Words};
 /// nothing.
 pub fn perform(memory: &mut Memory<'_>, op: Op, first: u64, second: u64) -> Result<u64, NoMemory>
     ensures { IfOk result (λ word. (o : Outside) (third : ℕ) → OutIs o memory.old →
-        Answers op (first ∷ second ∷ third ∷ []) o word memory.new) }
+        Performs op (first ∷ second ∷ third ∷ []) o word memory.new) }
 {
     match op {
         Op::Load(array) => Ok(memory.load(array, first)),

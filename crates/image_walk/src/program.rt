@@ -12,20 +12,20 @@ use ws_words::NoMemory;
 /// The arrays and blocks of an image, the number of each block's first instruction, and the number
 /// after the last instruction.
 #[derive(Drop)]
-pub struct Program<'a> {
+pub struct BlockTable<'a> {
     pub arrays: &'a [ArrayDecl],
     pub blocks: &'a [Block],
     pub firsts: Vec<usize>,
     pub total: usize,
 }
 
-impl<'a> Program<'a> {
+impl<'a> BlockTable<'a> {
     /// The image with these arrays and blocks.
     pub fn of(
         alloc: Global,
         arrays: &'a [ArrayDecl],
         blocks: &'a [Block],
-    ) -> Result<Program<'a>, NoMemory>
+    ) -> Result<BlockTable<'a>, NoMemory>
         ensures arrays { IfOk result (λ program. program.arrays.now ≡ arrays.now) }
         ensures blocks { IfOk result (λ program. program.blocks.now ≡ blocks.now) }
         ensures program { IfOk result (λ program. ProgramIs program) }
@@ -35,7 +35,7 @@ impl<'a> Program<'a> {
         if total >= usize::MAX / 4 {
             return Err(NoMemory);
         }
-        Ok(Program {
+        Ok(BlockTable {
             arrays,
             blocks,
             firsts,

@@ -13,21 +13,21 @@ use ws_words::{NoMemory, Words};
 /// The values that stand at ports, that of port `port` of instruction `instr` at
 /// `4 * instr + port`, and the results of instructions.
 #[derive(Drop)]
-pub struct Table {
+pub struct PortValues {
     pub operands: Words,
     pub results: Words,
 }
 
-impl Table {
+impl PortValues {
     /// Before the first instruction, with 0 at the destinations of pad 0; `total` is the number
     /// after the last instruction.
-    pub fn open(alloc: Global, total: usize, pads: &[Pad]) -> Result<Table, NoMemory>
+    pub fn open(alloc: Global, total: usize, pads: &[Pad]) -> Result<PortValues, NoMemory>
         requires { 4 * total < 2 ^ 64 }
         ensures operands { IfOk result (λ table. table.operands
             ≡ delivered (pad_of (map view.pad pads.now) 0) 0 (zeros (4 * total))) }
         ensures results { IfOk result (λ table. table.results ≡ zeros total) }
     {
-        let mut table = Table {
+        let mut table = PortValues {
             operands: Words::zeros(alloc, 4 * total)?,
             results: Words::zeros(alloc, total)?,
         };

@@ -10,8 +10,8 @@ ghost use Rattle.image_walk.specs.Answer.{WalkedSo};
 
 use crate::checked::Checked;
 use crate::operations::empty_cells;
-use crate::program::Program;
-use crate::table::Table;
+use crate::program::BlockTable;
+use crate::table::PortValues;
 use crate::walker::Walker;
 use std::alloc::Global;
 use ws_isa::{ArrayDecl, Block, Draft};
@@ -69,7 +69,7 @@ fn walk_blocks<'a>(
     ensures { IfOk result
         (WalkedSo (view.parts arrays.now blocks.now) (world_of world.now) firings) }
 {
-    let program = Program::of(alloc, arrays, blocks)?;
+    let program = BlockTable::of(alloc, arrays, blocks)?;
     let mut walker = open(alloc, &program, world)?;
     let whole = walk(&program, &mut walker, firings)?;
     let fired = walker.fired;
@@ -86,7 +86,7 @@ fn walk_blocks<'a>(
 }
 
 // Walks on from the first block, and says whether this was the whole walk.
-fn walk(program: &Program<'_>, walker: &mut Walker<'_>, firings: u64) -> Result<bool, NoMemory>
+fn walk(program: &BlockTable<'_>, walker: &mut Walker<'_>, firings: u64) -> Result<bool, NoMemory>
     requires program { ProgramIs program.now }
     requires walks { Walkable (image_of program.now) }
     requires left { walker.old.fired ≤ firings }
@@ -116,14 +116,18 @@ fn walk(program: &Program<'_>, walker: &mut Walker<'_>, firings: u64) -> Result<
 }
 
 // Before the first step, with the start pulse at its destinations.
-fn open<'a>(alloc: Global, program: &Program<'_>, world: &'a World) -> Result<Walker<'a>, NoMemory>
+fn open<'a>(
+    alloc: Global,
+    program: &BlockTable<'_>,
+    world: &'a World,
+) -> Result<Walker<'a>, NoMemory>
     requires program { ProgramIs program.now }
     requires walks { Walkable (image_of program.now) }
     ensures start { IfOk result (AtStart (image_of program.now) (world_of world.now) 0 1) }
     ensures fired { IfOk result (λ walker. walker.fired ≡ zero) }
 {
     Ok(Walker {
-        table: Table::open(alloc, program.total, &program.block(0).pads)?,
+        table: PortValues::open(alloc, program.total, &program.block(0).pads)?,
         memory: Memory::open(alloc, empty_cells(alloc, program.arrays)?, world)?,
         fired: 0,
         fault: None,

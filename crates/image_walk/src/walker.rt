@@ -9,8 +9,8 @@ ghost use Rattle.image_walk.specs.Open.{Walkable};
 ghost use Rattle.image_walk.specs.Shows.{Resulted, looked, delivered, crossed, EdgeIs, ProgramIs, image_of, block_in, At, AtStart, AtEnd, Ran, Left};
 
 use crate::operations::perform;
-use crate::program::Program;
-use crate::table::Table;
+use crate::program::BlockTable;
+use crate::table::PortValues;
 use ws_isa::{Dest, Exit, Instr, Op};
 use ws_words::{Memory, NoMemory};
 
@@ -18,7 +18,7 @@ use ws_words::{Memory, NoMemory};
 /// fired, and the array of the first load or store past the end.
 #[derive(Drop)]
 pub struct Walker<'a> {
-    pub table: Table,
+    pub table: PortValues,
     pub memory: Memory<'a>,
     pub fired: u64,
     pub fault: Option<u32>,
@@ -36,7 +36,7 @@ impl<'a> Walker<'a> {
     /// else as many instances as may fire have fired.
     pub fn run_block(
         &mut self,
-        program: &Program<'_>,
+        program: &BlockTable<'_>,
         place: usize,
         firings: u64,
     ) -> Result<bool, NoMemory>
@@ -62,7 +62,7 @@ impl<'a> Walker<'a> {
     }
 
     // Fires the instruction with this number.
-    fn fire(&mut self, program: &Program<'_>, instr: &Instr, k: usize) -> Result<(), NoMemory>
+    fn fire(&mut self, program: &BlockTable<'_>, instr: &Instr, k: usize) -> Result<(), NoMemory>
         requires program { ProgramIs program.now }
         requires walks { Walkable (image_of program.now) }
         requires number { k < program.now.total }
@@ -126,7 +126,7 @@ impl<'a> Walker<'a> {
     }
 
     // Keeps the array of the first load or store past the end.
-    fn look(&mut self, program: &Program<'_>, op: Op, index: u64)
+    fn look(&mut self, program: &BlockTable<'_>, op: Op, index: u64)
         ensures table { self.new.table ≡ self.old.table }
         ensures memory { self.new.memory ≡ self.old.memory }
         ensures fired { self.new.fired ≡ self.old.fired }
@@ -144,7 +144,7 @@ impl<'a> Walker<'a> {
     }
 
     /// Leaves the block at this place: the place of the next one, if there is one.
-    pub fn leave(&mut self, program: &Program<'_>, place: usize) -> Option<usize>
+    pub fn leave(&mut self, program: &BlockTable<'_>, place: usize) -> Option<usize>
         requires program { ProgramIs program.now }
         requires walks { Walkable (image_of program.now) }
         requires place { place < length program.now.blocks.now }
@@ -191,7 +191,7 @@ impl<'a> Walker<'a> {
 
     // What the block at this place sends along the edge to another comes there. No steer and no
     // send stands in a block that ends by a `Goto`.
-    fn cross(&mut self, program: &Program<'_>, place: usize, choice: u64, next: usize)
+    fn cross(&mut self, program: &BlockTable<'_>, place: usize, choice: u64, next: usize)
         requires program { ProgramIs program.now }
         requires walks { Walkable (image_of program.now) }
         requires place { place < length program.now.blocks.now }

@@ -4,7 +4,7 @@ use Rattle.std.proofs.lemmas.Bool.{cases_lt}
 use Rattle.cfg_core.specs.Graph.{Spot, no_spot, spots, spot_at, Graph, block_at}
 use Rattle.cfg_core.specs.View as view
 use Rattle.cfg_core.specs.Shows.{TableIs}
-use Rattle.cfg_core.specs.declared.table.Table.{Table}
+use Rattle.cfg_core.specs.declared.table.GraphTable.{GraphTable}
 use Rattle.cfg_core.specs.declared.table.Spot as code
 use Rattle.cfg_core.proofs.Tables.{spot_in, spot_past}
 use Rattle.live_vars.specs.Live.{Live, reads, passes, ReadsFirst, Carries}
@@ -17,11 +17,11 @@ pub spot_beyond : (g : Graph) (b : ℕ) → length (spots g) ≤ b → spot_at g
 unfolding spot_at
 spot_beyond g b le = past (spots g) b le
 
-pub vars_in : (table : Table) (b : ℕ) (x : code.Spot) → TableIs table → b < length table.spots.items → x ≡ slice_index_or table.spots.items b x → (spot_at (view.graph table.graph.now) b).vars ≡ x.vars
+pub vars_in : (table : GraphTable) (b : ℕ) (x : code.Spot) → TableIs table → b < length table.spots.items → x ≡ slice_index_or table.spots.items b x → (spot_at (view.graph table.graph.now) b).vars ≡ x.vars
 unfolding spot_at
 vars_in table b x h lt e = (spot_in table.spots.items (spots (view.graph table.graph.now)) b x h.spots lt e).vars
 
-pub vars_more : (table : Table) (i m n : ℕ) (x : code.Spot) → TableIs table → i < length table.spots.items → x ≡ slice_index_or table.spots.items i x → ((b : ℕ) → b < i → (spot_at (view.graph table.graph.now) b).vars ≤ m) → m ≤ n → x.vars ≤ n → (b : ℕ) → b < i + 1 → (spot_at (view.graph table.graph.now) b).vars ≤ n
+pub vars_more : (table : GraphTable) (i m n : ℕ) (x : code.Spot) → TableIs table → i < length table.spots.items → x ≡ slice_index_or table.spots.items i x → ((b : ℕ) → b < i → (spot_at (view.graph table.graph.now) b).vars ≤ m) → m ≤ n → x.vars ≤ n → (b : ℕ) → b < i + 1 → (spot_at (view.graph table.graph.now) b).vars ≤ n
 vars_more table i m n x h lt e all le fits b below = elim (cases_lt b i) [
   | inl before ↦ omega (arith, all b before)
   | inr from ↦
@@ -29,7 +29,7 @@ vars_more table i m n x h lt e all le fits b below = elim (cases_lt b i) [
       subst (λ k. (spot_at (view.graph table.graph.now) k).vars ≤ n) (sym is) (omega (arith, vars_in table i x h lt e))
 ]
 
-pub vars_beyond : (table : Table) (b : ℕ) → TableIs table → length table.spots.items ≤ b → (spot_at (view.graph table.graph.now) b).vars ≡ 0
+pub vars_beyond : (table : GraphTable) (b : ℕ) → TableIs table → length table.spots.items ≤ b → (spot_at (view.graph table.graph.now) b).vars ≡ 0
 unfolding spot_at no_spot
 vars_beyond table b h le = ap (λ (s : Spot). s.vars) (spot_past table.spots.items (spots (view.graph table.graph.now)) b h.spots le)
 

@@ -9,7 +9,7 @@ ghost use Rattle.live_vars.specs.Marks.{Marks};
 ghost use Rattle.live_vars.specs.Found.{Writes};
 
 use crate::marks::{read_at, read_by, written_at, written_by};
-use cfg_core::{GraphBlock, Table};
+use cfg_core::{GraphBlock, GraphTable};
 
 /// The variables that a block reads before it writes them, and those that it or its exit writes.
 #[derive(Clone, Copy)]
@@ -37,7 +37,7 @@ fn uses_of(block: &GraphBlock, low: u32) -> Uses
 }
 
 /// The same of the block with this number.
-pub(crate) fn uses_at(table: &Table<'_>, b: usize, low: u32) -> Uses
+pub(crate) fn uses_at(table: &GraphTable<'_>, b: usize, low: u32) -> Uses
     requires { TableIs table.now }
     ensures reads { let block = block_at (view.graph table.now.graph.now) b in
         Marks low result.reads (ReadsFirst block.ops block.exit) }

@@ -10,12 +10,12 @@ ghost use Rattle.live_vars.specs.Marks.{Marks};
 ghost use Rattle.live_vars.specs.Found.{Flows, ClosedAt, ClosedFrom, IsPlane, Carried, room};
 
 use crate::block::uses_at;
-use cfg_core::{Leave, Table};
+use cfg_core::{GraphTable, Leave};
 use std::alloc::Global;
 use ws_words::{NoMemory, Words};
 
 /// The words of all blocks.
-pub(crate) fn plane(alloc: Global, table: &Table<'_>, low: u32) -> Result<Words, NoMemory>
+pub(crate) fn plane(alloc: Global, table: &GraphTable<'_>, low: u32) -> Result<Words, NoMemory>
     requires { TableIs table.now }
     ensures { IfOk result (λ words. IsPlane (view.graph table.now.graph.now) low words) }
 {
@@ -31,7 +31,7 @@ pub(crate) fn plane(alloc: Global, table: &Table<'_>, low: u32) -> Result<Words,
 }
 
 // Passes over all blocks until nothing changes.
-fn settle(table: &Table<'_>, low: u32, writes: &Words, live: &mut Words)
+fn settle(table: &GraphTable<'_>, low: u32, writes: &Words, live: &mut Words)
     requires table { TableIs table.now }
     requires flows { Flows (view.graph table.now.graph.now) low writes.now live.old }
     ensures flows { Flows (view.graph table.now.graph.now) low writes.now live.new }
@@ -45,7 +45,7 @@ fn settle(table: &Table<'_>, low: u32, writes: &Words, live: &mut Words)
 }
 
 // Visits each block, the last one first, and says whether a word changed.
-fn pass(table: &Table<'_>, low: u32, writes: &Words, live: &mut Words) -> bool
+fn pass(table: &GraphTable<'_>, low: u32, writes: &Words, live: &mut Words) -> bool
     requires table { TableIs table.now }
     requires flows { Flows (view.graph table.now.graph.now) low writes.now live.old }
     ensures flows { Flows (view.graph table.now.graph.now) low writes.now live.new }
@@ -64,7 +64,7 @@ fn pass(table: &Table<'_>, low: u32, writes: &Words, live: &mut Words) -> bool
 }
 
 // What is live after a block and not written in it is live at its start. Says whether that is new.
-fn visit(table: &Table<'_>, low: u32, writes: &Words, live: &mut Words, b: usize) -> bool
+fn visit(table: &GraphTable<'_>, low: u32, writes: &Words, live: &mut Words, b: usize) -> bool
     requires table { TableIs table.now }
     requires flows { Flows (view.graph table.now.graph.now) low writes.now live.old }
     requires there { b < length (spots (view.graph table.now.graph.now)) }
@@ -79,7 +79,7 @@ fn visit(table: &Table<'_>, low: u32, writes: &Words, live: &mut Words, b: usize
 }
 
 // What is live after the block with this number.
-fn onward(table: &Table<'_>, live: &Words, b: usize) -> u64
+fn onward(table: &GraphTable<'_>, live: &Words, b: usize) -> u64
     requires { TableIs table.now }
     ensures { (low : ℕ) →
         Marks low result (Carried (block_at (view.graph table.now.graph.now) b).exit low live.now) }

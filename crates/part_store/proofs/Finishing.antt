@@ -22,7 +22,7 @@ use Rattle.part_store.specs.Bares.{is_in}
 use Rattle.part_store.specs.Queues.{without}
 use Rattle.part_store.specs.Contents.{Content, cell}
 use Rattle.part_store.specs.Parted.{Parting, is_store_op}
-use Rattle.part_store.specs.Rules.{Follows, Followed, Moves, stays, follows, operands_at, word_of}
+use Rattle.part_store.specs.Rules.{FrontGoes, Followed, Moves, stays, follows, operands_at, word_of}
 use Rattle.part_store.specs.Parts.{Stands, Beside, content_of, issued_flag}
 use Rattle.part_store.proofs.Answering as A
 use Rattle.part_store.proofs.Fronts as F
@@ -50,7 +50,7 @@ counts image world began c s e h =
     let x = entry_with (entry_of c.kept e.wave e.instr) r.0 r.1 in
     record { request = x.0; is_kept = x.1; answer = r.0; answered = x.2 }
 
-module _ {P : Type 0} (image : Image) (world : World) (formed : Formed image) (sound : Sound image) (began : List (Option Began)) (s n : Parts P) (e : Entry) (p : ℕ) (ok : OrderOk s.order) (st : Stands image world began s) (going : s.fault ≡ None) (fol : Follows (content_of s) e)
+module _ {P : Type 0} (image : Image) (world : World) (formed : Formed image) (sound : Sound image) (began : List (Option Began)) (s n : Parts P) (e : Entry) (p : ℕ) (ok : OrderOk s.order) (st : Stands image world began s) (going : s.fault ≡ None) (fol : FrontGoes (content_of s) e)
     (l : p < length s.order.kept.items) (flag : issued_flag s.order p e.wave e.instr ≡ true) (word : ℕ)
     (kept : n.order.kept.items ≡ slice_set s.order.kept.items p (record { wave = (kept_at s.order p).wave; instr = (kept_at s.order p).instr; first = (kept_at s.order p).first; second = (kept_at s.order p).second; answer = Some word }))
     (word_is : word ≡ cond (is_store_op (instr_at image e.instr).op) 0 (cell s.outer.cells e.row e.index))

@@ -12,7 +12,7 @@ use Rattle.part_store.specs.declared.parts.Parts.{Parts}
 use Rattle.part_store.specs.Bares.{is_in}
 use Rattle.part_store.specs.Queues.{front, is_queued, without}
 use Rattle.part_store.specs.Parted.{OnCell}
-use Rattle.part_store.specs.Rules.{Follows, stays}
+use Rattle.part_store.specs.Rules.{FrontGoes, stays}
 use Rattle.part_store.specs.Parts.{FinishLeads, FollowsOn, Stands, content_of}
 use Rattle.part_store.proofs.Keys.{IsOn}
 use Rattle.part_store.proofs.Fronts as F
@@ -50,7 +50,7 @@ module _ {P : Type 0} where
     λ world began formed sound st going but.
         let x = all.2 world began formed sound st going but in
         let on = (F.front_in b.queues.entries.items r j e h).1 in
-        let fol : Follows (content_of b) e = record { first = subst (λ (n : ℕ). front b.queues.entries.items e.row n ≡ Some e) (sym on.index) (subst (λ (n : ℕ). front b.queues.entries.items n j ≡ Some e) (sym on.row) h); whole = whole } in
+        let fol : FrontGoes (content_of b) e = record { first = subst (λ (n : ℕ). front b.queues.entries.items e.row n ≡ Some e) (sym on.index) (subst (λ (n : ℕ). front b.queues.entries.items n j ≡ Some e) (sym on.row) h); whole = whole } in
         let y = one.2 world began formed sound x.1 (fault ∙ going) fol in (
           L.moves_on image (content_of a) (content_of b) (content_of c) all.0 one.0 x.0 y.0,
           y.1,

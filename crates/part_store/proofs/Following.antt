@@ -25,7 +25,7 @@ use Rattle.part_store.specs.declared.entry.Entry.{Entry}
 use Rattle.part_store.specs.Queues.{front, holds, is_queued, open_queues, without}
 use Rattle.part_store.specs.Contents.{Content, is_bare, cell, is_on_row}
 use Rattle.part_store.specs.Parted.{OnCell, IsKept, Partly, Rising, is_store_op}
-use Rattle.part_store.specs.Rules.{Follows, Followed, operands_at, word_of, cells_left}
+use Rattle.part_store.specs.Rules.{FrontGoes, Followed, operands_at, word_of, cells_left}
 use Rattle.part_store.proofs.Keys.{IsOn, cell_cases}
 use Rattle.part_store.proofs.Fronts as F
 use Rattle.part_store.proofs.Times as T
@@ -36,7 +36,7 @@ use Rattle.part_store.proofs.Standing as S
 
 module _ (image : Image) (world : World) (formed : Formed image) (sound : Sound image) (began : List (Option Began))
     (c : Content) (stopped : Bool) (waiting : ℕ → ℕ → Option (List ℕ)) (counts : ℕ → ℕ → Option ℕ) (memory : Outside) (legal : Legal image world counts waiting stopped c.chain memory) (p : Partly image world began counts memory c)
-    (e : Entry) (fol : Follows c e) (some : List Token) (d : Content) (go : Followed image c e some d) where
+    (e : Entry) (fol : FrontGoes c e) (some : List Token) (d : Content) (go : Followed image c e some d) where
   abbrev facts : WalkFacts image world
   facts = T.facts image world formed sound
 

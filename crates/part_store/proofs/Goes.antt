@@ -14,7 +14,7 @@ use Rattle.df_job.specs.Began.{Began}
 use Rattle.store_buf.specs.declared.kept.Kept.{Kept}
 use Rattle.store_buf.specs.Requests.{entry_of, issued_in, answer_if}
 use Rattle.store_buf.specs.Ordering.{kept_at}
-use Rattle.store_buf.specs.Outdoors.{Holding, OutIs, Answers}
+use Rattle.store_buf.specs.Outdoors.{Holding, OutIs, Performed}
 use Rattle.store_buf.specs.Outers.{holding}
 use Rattle.part_store.specs.declared.entry.Entry.{Entry}
 use Rattle.part_store.specs.declared.parts.Parts.{Parts}
@@ -22,7 +22,7 @@ use Rattle.part_store.specs.Bares.{is_in}
 use Rattle.part_store.specs.Queues.{joined, open_queues}
 use Rattle.part_store.specs.Contents.{Content, asking, holds_op}
 use Rattle.part_store.specs.Parted.{Parting, IsAddressed}
-use Rattle.part_store.specs.Rules.{Alike, Waits, Opens, Goes, Faults, Counted, Moves, stays, opens, joins, issues, stops, operands_at, entry_at, is_past_at}
+use Rattle.part_store.specs.Rules.{Alike, Waits, OpensQueue, GoesByChain, Faults, Counted, Moves, stays, opens, joins, issues, stops, operands_at, entry_at, is_past_at}
 use Rattle.part_store.specs.Parts.{PartsOk, Stands, Calm, GoesAt, content_of}
 use Rattle.part_store.specs.Queues as Q
 use Rattle.part_store.specs.Contents as C
@@ -158,7 +158,7 @@ module _ {P : Type 0} (image : Image) (world : World) (formed : Formed image) (s
     outside_moved : (word : ℕ) (q : List Entry) → Counted image (content_of s) k word q (holding n.outer) (content_of n) → Counted image (content_of s) k word q (holding s.outer) (content_of n)
     outside_moved word q g = subst (λ (h : Holding). Counted image (content_of s) k word q h (content_of n)) (ap holding outer) g
 
-    opens_so : is_in s.bare k.wave k.instr ≡ true → Opens image (content_of s) k
+    opens_so : is_in s.bare k.wave k.instr ≡ true → OpensQueue image (content_of s) k
     opens_so b =
         let r = and_parts (not (is_past_at image k)) (ltb (open_queues s.queues.entries.items) 16 || holds_op s.queues.entries.items (instr_at image k.instr).op k.first) (subst (λ (x : Bool). cond x (not (is_past_at image k) && (ltb (open_queues s.queues.entries.items) 16 || holds_op s.queues.entries.items (instr_at image k.instr).op k.first)) (nat_eq (length s.queues.entries.items) 0 || not (is_past_at image k)) ≡ true) b goes.rule) in
         record {
@@ -170,7 +170,7 @@ module _ {P : Type 0} (image : Image) (world : World) (formed : Formed image) (s
           room = elim (either (ltb (open_queues s.queues.entries.items) 16) (holds_op s.queues.entries.items (instr_at image k.instr).op k.first) r.1) [ inl h ↦ inr (ltb-true (open_queues s.queues.entries.items) 16 h) | inr h ↦ inl h ];
         }
 
-    goes_so : is_in s.bare k.wave k.instr ≡ false → Goes image (content_of s) k
+    goes_so : is_in s.bare k.wave k.instr ≡ false → GoesByChain image (content_of s) k
     goes_so b = record { waits = waits false b; may = may_whole; within = within; going = going }
 
     pub waits_on : (is_in s.bare k.wave k.instr ≡ true) ⊎ ((is_in s.bare k.wave k.instr ≡ false) × (holds_op s.queues.entries.items (instr_at image k.instr).op k.first ≡ true)) →
@@ -188,11 +188,11 @@ module _ {P : Type 0} (image : Image) (world : World) (formed : Formed image) (s
       (kept : n.order.kept.items ≡ slice_set s.order.kept.items p (record { wave = (kept_at s.order p).wave; instr = (kept_at s.order p).instr; first = (kept_at s.order p).first; second = (kept_at s.order p).second; answer = Some word }))
       (passed : PassedOn image (chain_of s.order.chain) (kept_at s.order p).instr s.order.early.items (chain_of n.order.chain) n.order.early.items)
       (bare : n.bare ≡ s.bare) (fault : n.fault ≡ s.fault) (queued : n.queues.entries.items ≡ s.queues.entries.items) (whole : is_in s.bare k.wave k.instr ≡ false) (held : holds_op s.queues.entries.items (instr_at image k.instr).op k.first ≡ false)
-      (answers : (b : List (Option Began)) (o : Outside) → OutIs b o (holding s.outer) → Answers b (instr_at image k.instr).op (k.first ∷ k.second ∷ 0 ∷ []) o word (holding n.outer)) where
+      (answers : (b : List (Option Began)) (o : Outside) → OutIs b o (holding s.outer) → Performed b (instr_at image k.instr).op (k.first ∷ k.second ∷ 0 ∷ []) o word (holding n.outer)) where
     pub issues_now : Moves image (content_of s) (sends image k.wave k.instr (operands_at image k) word) (content_of n) × Calm image world began n
     issues_now =
         let g = counted n word within (ask_whole whole) kept passed bare fault s.queues.entries.items queued in
-        let gs : Goes image (content_of s) k = record { waits = waits false whole; may = may_whole; within = within; going = going } in
+        let gs : GoesByChain image (content_of s) k = record { waits = waits false whole; may = may_whole; within = within; going = going } in
         let m0 : Moves image (content_of s) (sends image k.wave k.instr (operands_at image k) word ++ []) (content_of n) = issues k word (holding n.outer) calm.1 gs held answers g stays in
         let m : Moves image (content_of s) (sends image k.wave k.instr (operands_at image k) word) (content_of n) = subst (λ (ts : List Token). Moves image (content_of s) ts (content_of n)) (append-nil (sends image k.wave k.instr (operands_at image k) word)) m0 in
         (m, (stands n word within (ask_whole whole) kept passed bare fault (sends image k.wave k.instr (operands_at image k) word) m, λ e r j h. ap (λ (b : _). is_in b e.wave e.instr) bare ∙ calm.1 e r j (subst (λ (es : List Entry). Q.front es r j ≡ Some e) queued h)))

@@ -14,7 +14,7 @@ use Rattle.core_law.proofs.Ports.{SameKey, with_key_cases}
 use Rattle.df_job.specs.Began.{Began}
 use Rattle.store_buf.specs.declared.kept.Kept.{Kept}
 use Rattle.store_buf.specs.Requests.{entry_of, issued_in, answer_if}
-use Rattle.store_buf.specs.Outdoors.{Holding, OutIs, Answers}
+use Rattle.store_buf.specs.Outdoors.{Holding, OutIs, Performed}
 use Rattle.store_buf.specs.Contents.{RightTokens}
 use Rattle.part_store.specs.declared.entry.Entry.{Entry}
 use Rattle.part_store.specs.Queues.{front, holds, is_queued, open_queues}
@@ -30,7 +30,7 @@ module _ (image : Image) (world : World) (formed : Formed image) (sound : Sound 
     (c : Content) (waiting : ℕ → ℕ → Option (List ℕ)) (counts : ℕ → ℕ → Option ℕ) (memory : Outside) (legal : Legal image world counts waiting false c.chain memory) (p : Partly image world began counts memory c)
     (k : Kept) (is_kept : entry_of c.kept k.wave k.instr ≡ Some k) (req : RightRequest image world k.wave k.instr (operands_at image k)) (may : Issuable image counts c.chain false k.wave k.instr (operands_at image k))
     (word : ℕ) (left : Holding) (held : holds_op c.queued (instr_at image k.instr).op k.first ≡ false)
-    (answers : Answers began (instr_at image k.instr).op (k.first ∷ k.second ∷ 0 ∷ []) (record { cells = c.outside.cells; input = memory.input; left = memory.left; acts = memory.acts }) word left)
+    (answers : Performed began (instr_at image k.instr).op (k.first ∷ k.second ∷ 0 ∷ []) (record { cells = c.outside.cells; input = memory.input; left = memory.left; acts = memory.acts }) word left)
     (bare_is : is_bare c k.wave k.instr ≡ false) (d : Content) (go : Counted image c k word c.queued left d) where
   abbrev facts : WalkFacts image world
   facts = T.facts image world formed sound

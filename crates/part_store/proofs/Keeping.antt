@@ -15,13 +15,13 @@ use Rattle.core_law.proofs.Quiet.{mem_same, no_op_no_write}
 use Rattle.df_job.specs.Began.{Began}
 use Rattle.store_buf.specs.declared.kept.Kept.{Kept}
 use Rattle.store_buf.specs.Requests.{entry_of, issued_in, answer_if, operands_if, kept_in}
-use Rattle.store_buf.specs.Outdoors.{Holding, OutIs, Answers}
+use Rattle.store_buf.specs.Outdoors.{Holding, OutIs, Performed}
 use Rattle.store_buf.specs.Contents.{RightTokens, FaultIs}
 use Rattle.part_store.specs.declared.entry.Entry.{Entry}
 use Rattle.part_store.specs.Queues.{front, holds, joined, open_queues}
 use Rattle.part_store.specs.Contents.{Content, is_bare, asking, cell, is_on_row, holds_op}
 use Rattle.part_store.specs.Parted.{OnCell, Earlier, IsAddressed, Partly, Parting, Fronts, is_store_op}
-use Rattle.part_store.specs.Rules.{Opens, Goes, Follows, Faults, Waits, Counted, Followed, Moves, stays, opens, joins, issues, follows, stops, operands_at, entry_at, is_past_at}
+use Rattle.part_store.specs.Rules.{OpensQueue, GoesByChain, FrontGoes, Faults, Waits, Counted, Followed, Moves, stays, opens, joins, issues, follows, stops, operands_at, entry_at, is_past_at}
 use Rattle.part_store.proofs.Keys.{IsOn, cell_cases}
 use Rattle.part_store.proofs.Fronts as F
 use Rattle.part_store.proofs.Times as T
@@ -167,7 +167,7 @@ module _ (image : Image) (world : World) (formed : Formed image) (sound : Sound 
       joined_now new = counted k bare w xs req may first_is within 0 (joined image (entry_at image k) c.queued) c.outside d go same_now new
 
   -- rule 1
-  opened : (c d : Content) → Parting image world began c → (k : Kept) → Fronts c → Opens image c k → Counted image c k 0 (joined image (entry_at image k) c.queued) c.outside d → Parting image world began d
+  opened : (c d : Content) → Parting image world began c → (k : Kept) → Fronts c → OpensQueue image c k → Counted image c k 0 (joined image (entry_at image k) c.queued) c.outside d → Parting image world began d
   opened c d s k fronts o go =
       let ad : IsAddressed image world k.wave k.instr k.first = S.bare_kept image world (is_bare c k.wave k.instr) k o.waits.bare_is (s.partly.right k.wave k.instr k o.waits.kept) in
       let row : is_on_row (instr_at image k.instr).op (array_at image k.instr - 1) ≡ true = O.store_row image k.instr ad.store in
@@ -189,7 +189,7 @@ module _ (image : Image) (world : World) (formed : Formed image) (sound : Sound 
           which None e = inr e
           which (Some x) e = inl (x, e)
 
-  pub opened_fronts : (c d : Content) → Parting image world began c → (k : Kept) → Fronts c → Opens image c k → Counted image c k 0 (joined image (entry_at image k) c.queued) c.outside d → Fronts d
+  pub opened_fronts : (c d : Content) → Parting image world began c → (k : Kept) → Fronts c → OpensQueue image c k → Counted image c k 0 (joined image (entry_at image k) c.queued) c.outside d → Fronts d
   opened_fronts c d s k fronts o go =
       let ad : IsAddressed image world k.wave k.instr k.first = S.bare_kept image world (is_bare c k.wave k.instr) k o.waits.bare_is (s.partly.right k.wave k.instr k o.waits.kept) in
       let row : is_on_row (instr_at image k.instr).op (array_at image k.instr - 1) ≡ true = O.store_row image k.instr ad.store in
@@ -203,14 +203,14 @@ module _ (image : Image) (world : World) (formed : Formed image) (sound : Sound 
       which (Some x) = inl (x, refl)
 
   -- the chain lets a whole request issue
-  pub may_counts : (c : Content) (s : Parting image world began c) (k : Kept) → Goes image c k → Issuable image s.counts c.chain false k.wave k.instr (operands_at image k)
+  pub may_counts : (c : Content) (s : Parting image world began c) (k : Kept) → GoesByChain image c k → Issuable image s.counts c.chain false k.wave k.instr (operands_at image k)
   may_counts c s k g = record { going = refl; current = g.may.current; fresh = O.no_more (s.counts k.wave k.instr) (issued_in c.kept k.wave k.instr) (s.partly.same k.wave k.instr) g.may.fresh; turn = g.may.turn }
 
   pub right_of : (c : Content) (s : Parting image world began c) (k : Kept) → Waits c k false → RightRequest image world k.wave k.instr (operands_at image k)
   right_of c s k w = S.whole_kept image world (is_bare c k.wave k.instr) k w.bare_is (s.partly.right k.wave k.instr k w.kept)
 
   -- rule 2
-  joined_so : (c d : Content) → Parting image world began c → (k : Kept) → Fronts c → Goes image c k → holds_op c.queued (instr_at image k.instr).op k.first ≡ true → Counted image c k 0 (joined image (entry_at image k) c.queued) c.outside d → Parting image world began d
+  joined_so : (c d : Content) → Parting image world began c → (k : Kept) → Fronts c → GoesByChain image c k → holds_op c.queued (instr_at image k.instr).op k.first ≡ true → Counted image c k 0 (joined image (entry_at image k) c.queued) c.outside d → Parting image world began d
   joined_so c d s k fronts g h go = elim (O.cases_row image c.queued k.instr k.first) [
     | inl z ↦ (let req = right_of c s k g.waits in
         let may = may_counts c s k g in
@@ -220,7 +220,7 @@ module _ (image : Image) (world : World) (formed : Formed image) (sound : Sound 
     | inr z ↦ absurd (both_ways (holds_op c.queued (instr_at image k.instr).op k.first) z.1 h)
   ]
 
-  pub joined_fronts : (c d : Content) → Parting image world began c → (k : Kept) → Fronts c → Goes image c k → holds_op c.queued (instr_at image k.instr).op k.first ≡ true → Counted image c k 0 (joined image (entry_at image k) c.queued) c.outside d → Fronts d
+  pub joined_fronts : (c d : Content) → Parting image world began c → (k : Kept) → Fronts c → GoesByChain image c k → holds_op c.queued (instr_at image k.instr).op k.first ≡ true → Counted image c k 0 (joined image (entry_at image k) c.queued) c.outside d → Fronts d
   joined_fronts c d s k fronts g h go = elim (O.cases_row image c.queued k.instr k.first) [
     | inl z ↦ (let req = right_of c s k g.waits in
         let may = may_counts c s k g in
@@ -230,14 +230,14 @@ module _ (image : Image) (world : World) (formed : Formed image) (sound : Sound 
   ]
 
   -- rule 5
-  issued_so : (c d : Content) → Parting image world began c → (k : Kept) (word : ℕ) (left : Holding) → Goes image c k → holds_op c.queued (instr_at image k.instr).op k.first ≡ false →
-      ((b : List (Option Began)) (o : Outside) → OutIs b o c.outside → Answers b (instr_at image k.instr).op (k.first ∷ k.second ∷ 0 ∷ []) o word left) → Counted image c k word c.queued left d →
+  issued_so : (c d : Content) → Parting image world began c → (k : Kept) (word : ℕ) (left : Holding) → GoesByChain image c k → holds_op c.queued (instr_at image k.instr).op k.first ≡ false →
+      ((b : List (Option Began)) (o : Outside) → OutIs b o c.outside → Performed b (instr_at image k.instr).op (k.first ∷ k.second ∷ 0 ∷ []) o word left) → Counted image c k word c.queued left d →
       Parting image world began d × RightTokens image world (sends image k.wave k.instr (operands_at image k) word)
   issued_so c d s k word left g h answers go =
       let req = right_of c s k g.waits in
       let may = may_counts c s k g in
       let law = legal c s g.going in
-      let told : Answers began (instr_at image k.instr).op (k.first ∷ k.second ∷ 0 ∷ []) (record { cells = c.outside.cells; input = s.memory.input; left = s.memory.left; acts = s.memory.acts }) word left = answers began (record { cells = c.outside.cells; input = s.memory.input; left = s.memory.left; acts = s.memory.acts }) s.partly.outside in (
+      let told : Performed began (instr_at image k.instr).op (k.first ∷ k.second ∷ 0 ∷ []) (record { cells = c.outside.cells; input = s.memory.input; left = s.memory.left; acts = s.memory.acts }) word left = answers began (record { cells = c.outside.cells; input = s.memory.input; left = s.memory.left; acts = s.memory.acts }) s.partly.outside in (
         counted c s g.going k false g.waits (operands_at image k) req may (O.first_of image k) g.within word c.queued left d go
             (I.new_same image world formed sound began c (asking image c) s.counts s.memory law s.partly k g.waits.kept req may word left h told g.waits.bare_is d go)
             (I.issues image world formed sound began c (asking image c) s.counts s.memory law s.partly k g.waits.kept req may word left h told g.waits.bare_is d go),
@@ -245,7 +245,7 @@ module _ (image : Image) (world : World) (formed : Formed image) (sound : Sound 
       )
 
   -- rule 3
-  followed_so : (c d : Content) → Parting image world began c → (e : Entry) → Follows c e → (some : List Token) → Followed image c e some d → c.fault ≡ None → Parting image world began d × RightTokens image world some
+  followed_so : (c d : Content) → Parting image world began c → (e : Entry) → FrontGoes c e → (some : List Token) → Followed image c e some d → c.fault ≡ None → Parting image world began d × RightTokens image world some
   followed_so c d s e fol some go going =
       let law = legal c s going in
       let p = W.follows image world formed sound began c false (asking image c) s.counts s.memory law s.partly e fol some d go in (

@@ -14,7 +14,7 @@ use Rattle.part_store.specs.declared.parts.Parts.{Parts}
 use Rattle.part_store.specs.Contents.{Content}
 use Rattle.part_store.proofs.Goes as G
 use Rattle.part_store.specs.Rules.{Alike, Moves, stays, opens, joins, issues, follows, stops, operands_at}
-use Rattle.part_store.specs.Parts.{Leads, LeadsTo, NoneGo, SilentSo, StaysCalm, content_of, go_flag, rule_flag}
+use Rattle.part_store.specs.Parts.{MovesOn, LeadsTo, NoneGo, SilentSo, StaysCalm, content_of, go_flag, rule_flag}
 
 no_going : {X : Type 0} (c : Content) (a : ℕ) → c.fault ≡ Some a → c.fault ≡ None → X
 no_going c a e f = absurd (let g : Some a ≡ None = sym e ∙ f in cc)
@@ -48,10 +48,10 @@ pub same : (c : Content) → Alike c c
 same c = record { kept = refl; bare = refl; queued = refl; chain = refl; fault = refl; cells = refl; input = refl; printed = refl; ports = λ began o h. h }
 
 module _ {P : Type 0} where
-  pub none_yet : (image : Image) (s : Parts P) (ts : List Token) → Leads image s s ts ts
+  pub none_yet : (image : Image) (s : Parts P) (ts : List Token) → MovesOn image s s ts ts
   none_yet image s ts = ([], sym (append-nil ts), λ world began formed sound calm. (stays, calm))
 
-  pub one_more : (image : Image) (a b c : Parts P) (t0 t1 t2 : List Token) → Leads image a b t0 t1 → Leads image b c t1 t2 → Leads image a c t0 t2
+  pub one_more : (image : Image) (a b c : Parts P) (t0 t1 t2 : List Token) → MovesOn image a b t0 t1 → MovesOn image b c t1 t2 → MovesOn image a c t0 t2
   one_more image a b c t0 t1 t2 all one = (
     all.0 ++ one.0,
     one.1 ∙ ap (λ (ts : List Token). ts ++ one.0) all.1 ∙ append_assoc t0 all.0 one.0,
@@ -61,11 +61,11 @@ module _ {P : Type 0} where
         (moves_on image (content_of a) (content_of b) (content_of c) all.0 one.0 r.0 q.0, q.1),
   )
 
-  pub led : (image : Image) (a b : Parts P) (t0 t1 : List Token) → Leads image a b t0 t1 → LeadsTo image a b t0 t1
+  pub led : (image : Image) (a b : Parts P) (t0 t1 : List Token) → MovesOn image a b t0 t1 → LeadsTo image a b t0 t1
   led image a b t0 t1 all = (all.0, all.1, λ world began formed sound calm. let r = all.2 world began formed sound calm in (record { mid = content_of b; moves = r.0; alike = same (content_of b) }, r.1))
 
   -- a port that doesn't answer changes no more than what it tells of its faults
-  pub still : (image : Image) (a b c : Parts P) (t0 t1 : List Token) → Leads image a b t0 t1 → StaysCalm image b c → LeadsTo image a c t0 t1
+  pub still : (image : Image) (a b c : Parts P) (t0 t1 : List Token) → MovesOn image a b t0 t1 → StaysCalm image b c → LeadsTo image a c t0 t1
   still image a b c t0 t1 all so = (all.0, all.1, λ world began formed sound calm. let r = all.2 world began formed sound calm in let q = so world began r.1 in (record { mid = content_of b; moves = r.0; alike = q.1 }, q.0))
 
   pub silent_from : (image : Image) (a b c : Parts P) (why : Silent) → FaultsGrow a.outer.ports b.outer.ports → SilentSo image b c why → SilentSo image a c why

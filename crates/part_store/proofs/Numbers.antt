@@ -3,7 +3,7 @@ use Rattle.std.proofs.Common.{ℕ, ◌≡◌, ◌<◌, ◌≤◌, true, Option, 
 use Rattle.ws_words.specs.Outside.{World}
 use Rattle.ws_isa.specs.Image.{Image, note_of, is_memory}
 use Rattle.image_walk.specs.Walk.{Inst, pos, fires}
-use Rattle.image_walk.specs.Sound.{last_op, Follows, seq, ShapeRules, LinkRules}
+use Rattle.image_walk.specs.Sound.{last_op, ComesNext, seq, ShapeRules, LinkRules}
 use Rattle.core_law.specs.Core.{Chain, pass, position_after}
 use Rattle.core_law.specs.Fit.{chain_at}
 use Rattle.core_law.proofs.Ops as O
@@ -15,7 +15,7 @@ chain_of image w None = record { wave = w; last = None }
 chain_of image w (Some k) = pass (record { wave = w; last = None }) (note_of image k)
 
 module _ (image : Image) (world : World) (shape : ShapeRules image) (links : LinkRules image) where
-  rise_of : (w : ℕ) (l : Option ℕ) (k : ℕ) → Follows image l k → position_after (chain_of image w l).last < seq image k
+  rise_of : (w : ℕ) (l : Option ℕ) (k : ℕ) → ComesNext image l k → position_after (chain_of image w l).last < seq image k
   rise_of w None k f = links.positive k None f
   rise_of w (Some j) k f = rw (pass_goes_op (record { wave = w; last = None }) (note_of image j) (note_of image j).succ (λ e. links.succ_ends j k e f)) (links.rise j k f)
 

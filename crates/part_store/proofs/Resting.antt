@@ -17,7 +17,7 @@ use Rattle.part_store.specs.Bares.{is_in}
 use Rattle.part_store.specs.Queues.{front, open_queues}
 use Rattle.part_store.specs.Contents.{Content, is_bare, holds_op}
 use Rattle.part_store.specs.Parted.{Fronts}
-use Rattle.part_store.specs.Rules.{Comes, Goes, NoRule, Waits, is_past_at, operands_at}
+use Rattle.part_store.specs.Rules.{Comes, GoesByChain, NoRule, Waits, is_past_at, operands_at}
 use Rattle.part_store.specs.Calls.{SameAs}
 use Rattle.part_store.specs.Parts.{NoneGo, content_of, go_flag, rule_flag}
 use Rattle.part_store.proofs.Keys.{key_cases}
@@ -48,7 +48,7 @@ module _ {P : Type 0} (image : Image) (s : Parts P) (none : NoneGo image s) wher
   next_ready : (k : Kept) → k.answer ≡ None → k.wave ≡ s.order.chain.wave → IsNext (chain_of s.order.chain) (note_of image k.instr) → ready_flag image s.order k ≡ true
   next_ready k waits current next = ready k waits current (or_left _ _ (is_next_flag (chain_of s.order.chain) (note_of image k.instr) next))
 
-  goes_ready : (k : Kept) → Goes image (content_of s) k → ready_flag image s.order k ≡ true
+  goes_ready : (k : Kept) → GoesByChain image (content_of s) k → ready_flag image s.order k ≡ true
   goes_ready k g = ready k g.waits.waits g.may.current (elim g.may.turn [
     | inl n ↦ or_left _ _ (is_next_flag (chain_of s.order.chain) (note_of image k.instr) n)
     | inr l ↦ or_right (next_flag (chain_of s.order.chain) (note_of image k.instr)) _
@@ -180,7 +180,7 @@ module _ (image : Image) (c d : Content) (k : Kept) (b : Bool) (come : Comes c k
   lets_old : (x : Kept) → x.wave ≡ d.chain.wave → IsNext d.chain (note_of image x.instr) → may_flag image c.chain x.wave x.instr x.first ≡ true
   lets_old x current n = next_lets image c.chain x.wave x.instr x.first (current ∙ ap (λ (y : Chain). y.wave) come.chain) (next_old x n)
 
-  goes_lets : (x : Kept) → Goes image d x → may_flag image c.chain x.wave x.instr x.first ≡ true
+  goes_lets : (x : Kept) → GoesByChain image d x → may_flag image c.chain x.wave x.instr x.first ≡ true
   goes_lets x g = elim g.may.turn [
     | inl n ↦ lets_old x g.may.current n
     | inr l ↦ load_lets image c.chain x.wave x.instr x.first (g.may.current ∙ ap (λ (y : Chain). y.wave) come.chain) l.0 g.within

@@ -21,7 +21,7 @@ use Rattle.store_buf.specs.Requests.{entry_of, issued_in, issued_keys, key_if, k
 use Rattle.store_buf.specs.Ordering.{no_request}
 use Rattle.store_buf.specs.Holds.{Issued, Issues, Stopped, part, waiting_in}
 use Rattle.store_buf.specs.Holds as Holds
-use Rattle.store_buf.specs.Outdoors.{Answers, Holding, OutIs}
+use Rattle.store_buf.specs.Outdoors.{Performed, Holding, OutIs}
 use Rattle.store_buf.specs.Contents.{FaultIs, IsBuffer}
 use Rattle.store_buf.specs.Contents as whole
 use Rattle.store_buf.specs.Stores.{asked_of}
@@ -30,7 +30,7 @@ use Rattle.part_store.specs.declared.entry.Entry.{Entry}
 use Rattle.part_store.specs.Queues.{front, holds, is_queued, open_queues}
 use Rattle.part_store.specs.Contents.{Content, NoBare, asking, cell, holds_op, is_bare, whole_of}
 use Rattle.part_store.specs.Parted.{Fronts, IsKept, Parted, Rising}
-use Rattle.part_store.specs.Rules.{Counted, Goes, Moves, NoRule, Waits, stays, opens, joins, issues, follows, stops, is_past_at, operands_at}
+use Rattle.part_store.specs.Rules.{Counted, GoesByChain, Moves, NoRule, Waits, stays, opens, joins, issues, follows, stops, is_past_at, operands_at}
 use Rattle.part_store.proofs.Fronts as F
 use Rattle.part_store.proofs.Ops as O
 use Rattle.part_store.proofs.Standing as S
@@ -195,7 +195,7 @@ module _ (image : Image) (world : World) (formed : Formed image) (sound : Sound 
     }
 
   -- one issue
-  module _ (c : Content) (m : Outside) (on : On c false m) (going : c.fault ≡ None) (k : Kept) (g : Goes image c k) where
+  module _ (c : Content) (m : Outside) (on : On c false m) (going : c.fault ≡ None) (k : Kept) (g : GoesByChain image c k) where
     abbrev xs : List ℕ
     xs = operands_at image k
 
@@ -211,7 +211,7 @@ module _ (image : Image) (world : World) (formed : Formed image) (sound : Sound 
     within : is_past image k.instr (operands_at image k) ≡ false
     within = O.past_is image k (operands_at image k) (O.first_of image k) ∙ g.within
 
-    module _ (word : ℕ) (left : Holding) (answers : Answers began (instr_at image k.instr).op (k.first ∷ k.second ∷ 0 ∷ []) m word left) (d : Content) (go : Counted image c k word c.queued left d) where
+    module _ (word : ℕ) (left : Holding) (answers : Performed began (instr_at image k.instr).op (k.first ∷ k.second ∷ 0 ∷ []) m word left) (d : Content) (go : Counted image c k word c.queued left d) where
       abbrev k' : Kept
       k' = record { wave = k.wave; instr = k.instr; first = k.first; second = k.second; answer = Some word }
 

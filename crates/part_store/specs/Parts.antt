@@ -34,7 +34,7 @@ use Rattle.part_store.specs.Queues.{front, open_queues}
 use Rattle.part_store.specs.Contents.{Content, is_bare, holds_op}
 use Rattle.part_store.specs.Parted.{Fronts, IsAddressed, Parting}
 use Rattle.part_store.specs.Calls.{AddressSo, FailedSo, Idle, SubmitSo}
-use Rattle.part_store.specs.Rules.{Alike, Fills, Follows, Moves, MovesTo, is_past_at}
+use Rattle.part_store.specs.Rules.{Alike, Fills, FrontGoes, Moves, MovesTo, is_past_at}
 
 -- each queue's first entry is a store without data, but on this cell
 abbrev pub FrontsBut : ℕ → ℕ → Content → Type 0
@@ -94,8 +94,8 @@ module _ {P : Type 0} where
     pub rule : rule_flag image s (near_at s.order at) ≡ true
 
   -- moves lead on from each calm buffer to a calm one; their tokens come behind others
-  abbrev pub Leads : Image → Parts P → Parts P → List Token → List Token → Type 0
-  Leads image old new before after = (tokens : List Token) × (after ≡ before ++ tokens)
+  abbrev pub MovesOn : Image → Parts P → Parts P → List Token → List Token → Type 0
+  MovesOn image old new before after = (tokens : List Token) × (after ≡ before ++ tokens)
       × ((world : World) (began : List (Option Began)) → Formed image → Sound image →
       Calm image world began old →
       Moves image (content_of old) tokens (content_of new) × Calm image world began new)
@@ -172,7 +172,7 @@ module _ {P : Type 0} where
   abbrev pub FinishLeads : Image → Entry → Parts P → Parts P → List Token → List Token → Type 0
   FinishLeads image e old new before after = (tokens : List Token) × (after ≡ before ++ tokens)
       × ((world : World) (began : List (Option Began)) → Formed image → Sound image →
-      Stands image world began old → old.fault ≡ None → Follows (content_of old) e →
+      Stands image world began old → old.fault ≡ None → FrontGoes (content_of old) e →
       Moves image (content_of old) tokens (content_of new) × Stands image world began new)
 
   -- first entries on a cell are done, one after another

@@ -8,7 +8,7 @@ use Rattle.df_job.specs.Began.{Began}
 use Rattle.df_job.specs.Rights.{operands_of}
 use Rattle.store_buf.specs.declared.kept.Kept.{Kept}
 use Rattle.store_buf.specs.Requests.{entry_of, issued_in}
-use Rattle.store_buf.specs.Outdoors.{Holding, OutIs, Answers}
+use Rattle.store_buf.specs.Outdoors.{Holding, OutIs, Performed}
 use Rattle.part_store.specs.declared.entry.Entry.{Entry}
 use Rattle.part_store.specs.Queues.{front, joined, open_queues, without}
 use Rattle.part_store.specs.Contents.{Content, is_bare, cell, holds_op}
@@ -27,7 +27,7 @@ abbrev pub is_past_at : Image → Kept → Bool
 is_past_at image k = is_past_op image.arrays (instr_at image k.instr).op (k.first ∷ [])
 
 -- rule 1: an address within its array is next, and a queue holds its cell or one is free
-pub record Opens (image : Image) (c : Content) (k : Kept) : Type 0 where
+pub record OpensQueue (image : Image) (c : Content) (k : Kept) : Type 0 where
   pub waits : Waits c k true
   pub current : k.wave ≡ c.chain.wave
   pub next : IsNext c.chain (note_of image k.instr)
@@ -36,14 +36,14 @@ pub record Opens (image : Image) (c : Content) (k : Kept) : Type 0 where
   pub room : (holds_op c.queued (instr_at image k.instr).op k.first ≡ true) ⊎ (open_queues c.queued < 16)
 
 -- rules 2 and 5: the chain lets a whole request issue that isn't past the end
-pub record Goes (image : Image) (c : Content) (k : Kept) : Type 0 where
+pub record GoesByChain (image : Image) (c : Content) (k : Kept) : Type 0 where
   pub waits : Waits c k false
   pub may : Issuable image (issued_in c.kept) c.chain false k.wave k.instr (operands_at image k)
   pub within : is_past_at image k ≡ false
   pub going : c.fault ≡ None
 
 -- rule 3: the first entry of a queue has its data, or needs none
-pub record Follows (c : Content) (e : Entry) : Type 0 where
+pub record FrontGoes (c : Content) (e : Entry) : Type 0 where
   pub first : front c.queued e.row e.index ≡ Some e
   pub whole : is_bare c e.wave e.instr ≡ false
 
@@ -57,9 +57,9 @@ pub record Faults (image : Image) (c : Content) (k : Kept) : Type 0 where
   pub none : c.queued ≡ []
 
 pub record NoRule (image : Image) (c : Content) : Type 0 where
-  pub opens : (k : Kept) → Opens image c k → ⊥
-  pub goes : (k : Kept) → Goes image c k → ⊥
-  pub follows : (e : Entry) → Follows c e → ⊥
+  pub opens : (k : Kept) → OpensQueue image c k → ⊥
+  pub goes : (k : Kept) → GoesByChain image c k → ⊥
+  pub follows : (e : Entry) → FrontGoes c e → ⊥
   pub faults : (k : Kept) → Faults image c k → ⊥
 
 -- the request with this answer
@@ -118,20 +118,20 @@ pub record Followed (image : Image) (c : Content) (e : Entry) (tokens : List Tok
 -- queues, or the chain stops.
 pub data Moves (image : Image) : Content → List Token → Content → Type 0 where
   stays : {c : Content} → Moves image c [] c
-  opens : {c d e : Content} {rest : List Token} (k : Kept) → Fronts c → Opens image c k →
+  opens : {c d e : Content} {rest : List Token} (k : Kept) → Fronts c → OpensQueue image c k →
       Counted image c k 0 (joined image (entry_at image k) c.queued) c.outside d → Moves image d rest e →
       Moves image c rest e
-  joins : {c d e : Content} {rest : List Token} (k : Kept) → Fronts c → Goes image c k →
+  joins : {c d e : Content} {rest : List Token} (k : Kept) → Fronts c → GoesByChain image c k →
       holds_op c.queued (instr_at image k.instr).op k.first ≡ true →
       Counted image c k 0 (joined image (entry_at image k) c.queued) c.outside d → Moves image d rest e →
       Moves image c rest e
   issues : {c d e : Content} {rest : List Token} (k : Kept) (word : ℕ) (left : Holding) → Fronts c →
-      Goes image c k → holds_op c.queued (instr_at image k.instr).op k.first ≡ false →
+      GoesByChain image c k → holds_op c.queued (instr_at image k.instr).op k.first ≡ false →
       ((began : List (Option Began)) (o : Outside) → OutIs began o c.outside →
-      Answers began (instr_at image k.instr).op (k.first ∷ k.second ∷ 0 ∷ []) o word left) →
+      Performed began (instr_at image k.instr).op (k.first ∷ k.second ∷ 0 ∷ []) o word left) →
       Counted image c k word c.queued left d → Moves image d rest e →
       Moves image c (sends image k.wave k.instr (operands_at image k) word ++ rest) e
-  follows : {c d e : Content} {some rest : List Token} (first : Entry) → Follows c first → c.fault ≡ None →
+  follows : {c d e : Content} {some rest : List Token} (first : Entry) → FrontGoes c first → c.fault ≡ None →
       Followed image c first some d → Moves image d rest e → Moves image c (some ++ rest) e
   stops : {c : Content} (k : Kept) → Faults image c k →
       Moves image c [] (record c { fault = Some (array_at image k.instr) })

@@ -24,7 +24,7 @@ ghost use Rattle.part_store.specs.Parted.{is_store_op};
 ghost use Rattle.part_store.specs.Contents.{cell, holds_op};
 ghost use Rattle.part_store.specs.Rules.{entry_at};
 ghost use Rattle.part_store.specs.Bares.{is_in};
-ghost use Rattle.part_store.specs.Parts.{AddressLeads, Calm, GoesAt, Keeps, Leads, LeadsTo, NoneGo, PartsOk};
+ghost use Rattle.part_store.specs.Parts.{AddressLeads, Calm, GoesAt, Keeps, MovesOn, LeadsTo, NoneGo, PartsOk};
 ghost use Rattle.part_store.specs.Parts.{SettledSo, SilentSo, StaysCalm, Beside, DrainLeads, FinishLeads};
 ghost use Rattle.part_store.specs.Parts.{Filled, FollowsOn, SubmitLeads, go_flag, issued_flag, kept_flag};
 ghost use Rattle.part_store.specs.Parts.{left_over, rule_flag};
@@ -692,7 +692,7 @@ impl<P: Port> Parts<P> {
         requires going { self.old.fault ≡ None }
         requires room { HasRoomFor told.old (8 * self.old.order.waiting) }
         ensures ok { PartsOk self.new }
-        ensures leads { OnOk result (Leads (image_of program.now) self.old self.new
+        ensures leads { OnOk result (MovesOn (image_of program.now) self.old self.new
             (tokens_of told.old.items) (tokens_of told.new.items)) }
         ensures stays { OnErr result (StaysCalm (image_of program.now) self.old self.new) }
         ensures fewer { OnOk result (left_over self.new < left_over self.old) }

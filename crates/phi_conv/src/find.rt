@@ -8,7 +8,7 @@ ghost use Rattle.cfg_core.specs.Shows.{TableIs};
 ghost use Rattle.phi_conv.specs.Short as short;
 ghost use Rattle.phi_conv.specs.Found.{ArmIs, LoneArmIs, FoundIs};
 
-use cfg_core::{GraphBlock, GraphOp, Leave, Table, Term};
+use cfg_core::{GraphBlock, GraphOp, GraphTable, Leave, Term};
 
 // The arms of a short branch have at most so many nodes together.
 const MOST_NODES: u32 = 8;
@@ -139,7 +139,7 @@ fn is_arm(block: &GraphBlock, j: u32) -> bool
 }
 
 // The operations of block b, if it is an arm that goes on to j.
-fn arm_to<'a>(table: &Table<'a>, b: u32, j: u32) -> Option<&'a [GraphOp]>
+fn arm_to<'a>(table: &GraphTable<'a>, b: u32, j: u32) -> Option<&'a [GraphOp]>
     requires { TableIs table.now }
     ensures { let block = block_at (view.graph table.now.graph.now) b in
         MatchOption result (short.is_arm block j ≡ false)
@@ -158,7 +158,7 @@ fn arm_to<'a>(table: &Table<'a>, b: u32, j: u32) -> Option<&'a [GraphOp]>
 }
 
 // The same, if it is small enough beside no other arm.
-fn lone_arm<'a>(table: &Table<'a>, b: u32, j: u32) -> Option<&'a [GraphOp]>
+fn lone_arm<'a>(table: &GraphTable<'a>, b: u32, j: u32) -> Option<&'a [GraphOp]>
     requires { TableIs table.now }
     ensures { let block = block_at (view.graph table.now.graph.now) b in
         MatchOption result (short.is_lone_arm block j ≡ false)
@@ -171,7 +171,7 @@ fn lone_arm<'a>(table: &Table<'a>, b: u32, j: u32) -> Option<&'a [GraphOp]>
 }
 
 // The block that block b goes on to alone.
-fn goal(table: &Table<'_>, b: u32) -> Option<u32>
+fn goal(table: &GraphTable<'_>, b: u32) -> Option<u32>
     requires { TableIs table.now }
     ensures { result ≡ short.goal (block_at (view.graph table.now.graph.now) b).exit }
 {
@@ -185,7 +185,7 @@ fn goal(table: &Table<'_>, b: u32) -> Option<u32>
 }
 
 // The branch whose arms are both blocks.
-fn two_arms<'a>(table: &Table<'a>, test: &'a Term, c: u32, d: u32) -> Option<ShortBranch<'a>>
+fn two_arms<'a>(table: &GraphTable<'a>, test: &'a Term, c: u32, d: u32) -> Option<ShortBranch<'a>>
     requires { TableIs table.now }
     ensures { let g = view.graph table.now.graph.now in
         let found = short.two_arms g (view.term test.now) c d (short.goal (block_at g c).exit) in
@@ -216,7 +216,7 @@ fn two_arms<'a>(table: &Table<'a>, test: &'a Term, c: u32, d: u32) -> Option<Sho
 }
 
 // The branch to blocks c and d, if it is short.
-fn short_to<'a>(table: &Table<'a>, test: &'a Term, c: u32, d: u32) -> Option<ShortBranch<'a>>
+fn short_to<'a>(table: &GraphTable<'a>, test: &'a Term, c: u32, d: u32) -> Option<ShortBranch<'a>>
     requires { TableIs table.now }
     ensures { let g = view.graph table.now.graph.now in
         FoundIs (short.short_to g (view.term test.now) c d) result }
@@ -249,7 +249,7 @@ fn short_to<'a>(table: &Table<'a>, test: &'a Term, c: u32, d: u32) -> Option<Sho
 }
 
 /// The short branch that an exit is, if it is one.
-pub(crate) fn short<'a>(table: &Table<'a>, exit: &'a Leave) -> Option<ShortBranch<'a>>
+pub(crate) fn short<'a>(table: &GraphTable<'a>, exit: &'a Leave) -> Option<ShortBranch<'a>>
     requires { TableIs table.now }
     ensures { let g = view.graph table.now.graph.now in
         FoundIs (short.short g (view.exit exit.now)) result }

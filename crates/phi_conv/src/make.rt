@@ -14,7 +14,7 @@ ghost use Rattle.phi_conv.specs.Keeps.{ExitsKept, NoCopyLive, PassesNoMore, Shor
 use crate::copy::{arrays, exit, numbers, operations};
 use crate::find::short;
 use crate::join::Join;
-use cfg_core::{Graph, GraphBlock, GraphProc, GraphProcs, Leave, Table};
+use cfg_core::{Graph, GraphBlock, GraphProc, GraphProcs, GraphTable, Leave};
 use live_vars::LiveSets;
 use std::alloc::Global;
 use ws_words::NoMemory;
@@ -22,7 +22,7 @@ use ws_words::NoMemory;
 // The block, with what stands for its exit if that is a short branch.
 fn joined_block(
     alloc: Global,
-    table: &Table<'_>,
+    table: &GraphTable<'_>,
     live: &LiveSets,
     vars: u32,
     block: &GraphBlock,
@@ -64,7 +64,7 @@ fn more_vars(vars: u32) -> Result<u32, NoMemory>
 
 fn joined_proc(
     alloc: Global,
-    table: &Table<'_>,
+    table: &GraphTable<'_>,
     live: &LiveSets,
     proc: &GraphProc,
 ) -> Result<GraphProc, NoMemory>
@@ -84,7 +84,11 @@ fn joined_proc(
     })
 }
 
-fn joined_procs(alloc: Global, table: &Table<'_>, live: &LiveSets) -> Result<GraphProcs, NoMemory>
+fn joined_procs(
+    alloc: Global,
+    table: &GraphTable<'_>,
+    live: &LiveSets,
+) -> Result<GraphProcs, NoMemory>
     requires { TableIs table.now }
     ensures { let g = view.graph table.now.graph.now in let proc = joined.joined_proc g live.now in
         IfOk result (λ procs. map view.proc procs.items ≡ map proc g.procs) }
@@ -96,7 +100,7 @@ fn joined_procs(alloc: Global, table: &Table<'_>, live: &LiveSets) -> Result<Gra
     Ok(procs)
 }
 
-fn joined_graph(alloc: Global, table: &Table<'_>, live: &LiveSets) -> Result<Graph, NoMemory>
+fn joined_graph(alloc: Global, table: &GraphTable<'_>, live: &LiveSets) -> Result<Graph, NoMemory>
     requires { TableIs table.now }
     ensures { let g = view.graph table.now.graph.now in
         IfOk result (λ made. view.graph made ≡ joined.joined g live.now) }
@@ -134,7 +138,7 @@ pub fn join_short(alloc: Global, graph: &Graph, live: &LiveSets) -> Result<Graph
     ensures work { IfOk result (λ made. (most : ℕ) → TurnsPayWork (view.graph graph.now) most →
         TurnsPayMost (view.graph made) most) }
 {
-    let table = Table::of(alloc, graph)?;
+    let table = GraphTable::of(alloc, graph)?;
     let made = joined_graph(alloc, &table, live)?;
     Ok(made)
 }

@@ -5,7 +5,7 @@ use Rattle.src_ast.specs.Turns.{PartEnd, Ended, Out, and_then, turn, CallEnd, Re
 use Rattle.src_ast.specs.Meaning.{Calls, empty_cells}
 use Rattle.cfg_core.specs.Graph.{Term}
 use Rattle.cfg_core.specs.Walk.{value_of, values_of}
-use Rattle.seq_run.specs.Resolved.{Step, Do, Call, If, While, Steps, Nothing, Then, Proc, Program, run_one, run_all, finish, run_proc, calls_below, nth_proc, run, run_at}
+use Rattle.seq_run.specs.Resolved.{Step, Do, Call, If, While, Steps, Nothing, Then, Proc, ResolvedProgram, run_one, run_all, finish, run_proc, calls_below, nth_proc, run, run_at}
 use Rattle.seq_run.specs.TurnsLeft.{AtMost}
 use Rattle.seq_run.proofs.TurnsLeft.{all_most, calls_most, CallsAtMost}
 
@@ -151,18 +151,18 @@ calls_cost (suc n) procs f args o k v p j e =
     (proc_cost (calls_below n procs) (calls_most n procs) (calls_cost n procs) (nth_proc procs n) args o k v p j)
     (calls_cost n procs f args o k v p j) e
 
-at_cost : (main : ℕ) (program : Program) (world : World) (k v : ℕ) (o : Outside) (j : ℕ) → run_at main program world k ≡ Returned v o j → CallCost (run_at main program world) v o j k
+at_cost : (main : ℕ) (program : ResolvedProgram) (world : World) (k v : ℕ) (o : Outside) (j : ℕ) → run_at main program world k ≡ Returned v o j → CallCost (run_at main program world) v o j k
 at_cost main program world k v o j e = proc_cost (calls_below main program.procs) (calls_most main program.procs) (calls_cost main program.procs) (nth_proc program.procs main) [] (opening_out (empty_cells program.lengths) world) k v o j e
 
 -- a run that ended with turns left ends with none left if it has so many fewer
-pub exactly : (program : Program) (world : World) (k v : ℕ) (o : Outside) (j : ℕ) → run program world k ≡ Returned v o j → (n : ℕ) × (k ≡ j + n) × (run program world n ≡ Returned v o 0)
+pub exactly : (program : ResolvedProgram) (world : World) (k v : ℕ) (o : Outside) (j : ℕ) → run program world k ≡ Returned v o j → (n : ℕ) × (k ≡ j + n) × (run program world n ≡ Returned v o 0)
 exactly program world k v o j e =
     let r = at_cost (length program.procs - 1) program world k v o j e in
     let z : 0 + r.cost ≡ r.cost = omega arith in
     (r.cost, r.sum, subst (λ (n : ℕ). run program world n ≡ Returned v o 0) z (r.again 0))
 
 -- a run that ended with none left ends with so many left if it has so many more
-pub more_turns : (program : Program) (world : World) (k v : ℕ) (o : Outside) (i : ℕ) → run program world k ≡ Returned v o 0 → run program world (i + k) ≡ Returned v o i
+pub more_turns : (program : ResolvedProgram) (world : World) (k v : ℕ) (o : Outside) (i : ℕ) → run program world k ≡ Returned v o 0 → run program world (i + k) ≡ Returned v o i
 more_turns program world k v o i e =
     let r = at_cost (length program.procs - 1) program world k v o 0 e in
     let z : k ≡ r.cost = omega (arith, r.sum) in

@@ -16,7 +16,7 @@ use Rattle.seq_run.specs.Resolving as resolving
 use Rattle.seq_run.specs.Resolving.{texts}
 use Rattle.seq_run.specs.Tables.{IsTable, FewVars}
 use Rattle.seq_run.specs.View as view
-use Rattle.seq_run.specs.declared.table.Table.{Table}
+use Rattle.seq_run.specs.declared.table.NameNumbers.{NameNumbers}
 use Rattle.seq_run.specs.declared.tree.ArrayShape.{ArrayShape}
 use Rattle.seq_run.specs.declared.tree.Proc.{Proc as CodeProc}
 
@@ -84,7 +84,7 @@ pub one_further : (first i next now : ℕ) → next ≡ first + i → now ≡ ne
 one_further first i next now e d = omega (arith, e, d)
 
 -- tables of names
-pub declared_more : (first : ℕ) (names list : List Name) (i : ℕ) (x : Name) (table : Table) → i < length list → x ≡ slice_index_or list i x → IsTable first ((names ++ take i list) ++ x ∷ []) table → IsTable first (names ++ take (i + 1) list) table
+pub declared_more : (first : ℕ) (names list : List Name) (i : ℕ) (x : Name) (table : NameNumbers) → i < length list → x ≡ slice_index_or list i x → IsTable first ((names ++ take i list) ++ x ∷ []) table → IsTable first (names ++ take (i + 1) list) table
 declared_more first names list i x table lt is h = subst (λ (ns : List Name). IsTable first ns table) (append_assoc names (take i list) (x ∷ []) ∙ ap (λ (ns : List Name). names ++ ns) (sym (taken_more list i x lt is))) h
 
 length_take : {X : Type 0} (xs : List X) (i : ℕ) → length (take i xs) ≤ i
@@ -143,11 +143,11 @@ module _ (xs : List Item) (i : ℕ) (x : Item) (lt : i < length xs) (is : x ≡ 
   -- an array more
   module _ (name : Name) (n : ℕ) (at : Place) (isa : x ≡ items.Array name n at) where
     -- an array is one more name of arrays
-    pub array_more : (table : Table) → IsTable 1 (arrays_of (ast.parts (take i xs)) ++ name ∷ []) table → IsTable 1 (arrays_of (ast.parts (take (i + 1) xs))) table
+    pub array_more : (table : NameNumbers) → IsTable 1 (arrays_of (ast.parts (take i xs)) ++ name ∷ []) table → IsTable 1 (arrays_of (ast.parts (take (i + 1) xs))) table
     array_more table h = subst (λ (ns : List Name). IsTable 1 ns table) (sym (more arrays_of arrays_append ∙ ap (λ (y : Item). arrays_of (ast.parts (take i xs)) ++ arrays_of (ast.part y ∷ [])) isa)) h
 
     -- and none of procedures
-    pub array_no_proc : (table : Table) → IsTable 0 (names_of (procs_of (ast.parts (take i xs)))) table → IsTable 0 (names_of (procs_of (ast.parts (take (i + 1) xs)))) table
+    pub array_no_proc : (table : NameNumbers) → IsTable 0 (names_of (procs_of (ast.parts (take i xs)))) table → IsTable 0 (names_of (procs_of (ast.parts (take (i + 1) xs)))) table
     array_no_proc table h = subst (λ (ns : List Name). IsTable 0 ns table) (sym (proc_names_more ∙ ap (λ (y : Item). names_of (procs_of (ast.parts (take i xs))) ++ names_of (procs_of (ast.part y ∷ []))) isa ∙ append-nil (names_of (procs_of (ast.parts (take i xs)))))) h
 
     -- its name
@@ -172,11 +172,11 @@ module _ (xs : List Item) (i : ℕ) (x : Item) (lt : i < length xs) (is : x ≡ 
   -- a procedure more
   module _ (p : Procedure) (isp : ast.part x ≡ Proc p) where
     -- a procedure is one more name of procedures
-    pub proc_more : (table : Table) → IsTable 0 (names_of (procs_of (ast.parts (take i xs))) ++ p.name ∷ []) table → IsTable 0 (names_of (procs_of (ast.parts (take (i + 1) xs)))) table
+    pub proc_more : (table : NameNumbers) → IsTable 0 (names_of (procs_of (ast.parts (take i xs))) ++ p.name ∷ []) table → IsTable 0 (names_of (procs_of (ast.parts (take (i + 1) xs)))) table
     proc_more table h = subst (λ (ns : List Name). IsTable 0 ns table) (sym (proc_names_more ∙ ap (λ (y : Part). names_of (procs_of (ast.parts (take i xs))) ++ names_of (procs_of (y ∷ []))) isp)) h
 
     -- and none of arrays
-    pub proc_no_array : (table : Table) → IsTable 1 (arrays_of (ast.parts (take i xs))) table → IsTable 1 (arrays_of (ast.parts (take (i + 1) xs))) table
+    pub proc_no_array : (table : NameNumbers) → IsTable 1 (arrays_of (ast.parts (take i xs))) table → IsTable 1 (arrays_of (ast.parts (take (i + 1) xs))) table
     proc_no_array table h = subst (λ (ns : List Name). IsTable 1 ns table) (sym (more arrays_of arrays_append ∙ ap (λ (y : Part). arrays_of (ast.parts (take i xs)) ++ arrays_of (y ∷ [])) isp ∙ append-nil (arrays_of (ast.parts (take i xs))))) h
 
     -- it leaves the names of arrays

@@ -7,7 +7,7 @@ use Rattle.src_ast.specs.Meaning.{Calls, empty_cells}
 use Rattle.src_ast.specs.Runs.{outside_of}
 use Rattle.cfg_core.specs.Graph.{Term}
 use Rattle.cfg_core.specs.Walk.{value_of, values_of}
-use Rattle.seq_run.specs.Resolved.{Step, Do, Call, If, While, Steps, Nothing, Then, Proc, Program, run_one, run_all, finish, run_proc, calls_below, nth_proc, run_at}
+use Rattle.seq_run.specs.Resolved.{Step, Do, Call, If, While, Steps, Nothing, Then, Proc, ResolvedProgram, run_one, run_all, finish, run_proc, calls_below, nth_proc, run_at}
 use Rattle.seq_run.specs.Laws.{Begins}
 use Rattle.seq_run.specs.Seen.{seen}
 use Rattle.seq_run.specs.TurnsLeft.{AtMost}
@@ -147,6 +147,6 @@ calls_longer (suc n) procs f args o k j =
     if_call_longer j (f == n) _ _ _ _ (proc_longer (calls_below n procs) (calls_most n procs) (calls_tell n procs) (calls_longer n procs) (nth_proc procs n) args o k j) (calls_longer n procs f args o k j)
 
 -- so it is with a run
-pub run_longer : (main : ℕ) (program : Program) (world : World) (k j : ℕ) → CallLonger j (run_at main program world k) (run_at main program world (k + j))
+pub run_longer : (main : ℕ) (program : ResolvedProgram) (world : World) (k j : ℕ) → CallLonger j (run_at main program world k) (run_at main program world (k + j))
 run_longer main program world k j =
     proc_longer (calls_below main program.procs) (calls_most main program.procs) (calls_tell main program.procs) (calls_longer main program.procs) (nth_proc program.procs main) [] (opening_out (empty_cells program.lengths) world) k j

@@ -9,7 +9,7 @@ use Rattle.src_ast.specs.Turns.{PartEnd, Ended, Out, and_then, turn, CallEnd, Re
 use Rattle.src_ast.specs.Meaning.{Calls, empty_cells}
 use Rattle.cfg_core.specs.Graph.{Term, Number, Var, Cell, Flip, Not, Neg, Binary}
 use Rattle.cfg_core.specs.Walk.{loads_of, all_loads, value_of, values_of}
-use Rattle.seq_run.specs.Resolved.{Action, Assign, Store, Print, Read, Give, Take, Step, Do, Call, If, While, Steps, Nothing, Then, Proc, Program, done, run_one, run_all, finish, run_proc, calls_below, nth_proc, run_at}
+use Rattle.seq_run.specs.Resolved.{Action, Assign, Store, Print, Read, Give, Take, Step, Do, Call, If, While, Steps, Nothing, Then, Proc, ResolvedProgram, done, run_one, run_all, finish, run_proc, calls_below, nth_proc, run_at}
 
 -- what is outside later is what acts leave
 pub record Tells (o p : Outside) : Type 0 where
@@ -184,5 +184,5 @@ calls_tell zero procs f args o k = tells_none o
 calls_tell (suc n) procs f args o k = if_call_tells o (f == n) _ _ (proc_tells (calls_below n procs) (calls_tell n procs) (nth_proc procs n) args o k) (calls_tell n procs f args o k)
 
 -- so it is after a run
-pub run_tells : (main : ℕ) (program : Program) (world : World) (k : ℕ) → CallTells (opening_out (empty_cells program.lengths) world) (run_at main program world k)
+pub run_tells : (main : ℕ) (program : ResolvedProgram) (world : World) (k : ℕ) → CallTells (opening_out (empty_cells program.lengths) world) (run_at main program world k)
 run_tells main program world k = proc_tells (calls_below main program.procs) (calls_tell main program.procs) (nth_proc program.procs main) [] (opening_out (empty_cells program.lengths) world) k

@@ -7,7 +7,7 @@ use lib.Pointwise.{pointwise}
 use Rattle.src_ast.specs.declared.lexeme.Name.{Name}
 use Rattle.src_ast.specs.Meaning.{place_of}
 use Rattle.seq_run.specs.Tables.{numbered, IsTable}
-use Rattle.seq_run.specs.declared.table.Table.{Table}
+use Rattle.seq_run.specs.declared.table.NameNumbers.{NameNumbers}
 
 place_numbered : (first : ℕ) (names : List Name) (text : List ℕ) → unwrap_or (numbered first names text) (first + length names) ≡ first + place_of names text
 place_numbered first [] text = refl
@@ -21,7 +21,7 @@ place_numbered first (n ∷ ns) text = by_flag (pointwise nat_eq n.text text) (p
         ap (λ (k : ℕ). unwrap_or (numbered (suc first) ns text) k) e ∙ h ∙ d
 
 -- what a table says of a name
-pub number_is : (table : Table) (first : ℕ) (names : List Name) (text : List ℕ) (r : ℕ) → IsTable first names table → r ≡ unwrap_or (get_by (λ k. bytes_eq text k.now) table.numbers) table.next → r ≡ first + place_of names text
+pub number_is : (table : NameNumbers) (first : ℕ) (names : List Name) (text : List ℕ) (r : ℕ) → IsTable first names table → r ≡ unwrap_or (get_by (λ k. bytes_eq text k.now) table.numbers) table.next → r ≡ first + place_of names text
 number_is table first names text r is e =
     e ∙ ap (λ (o : Option ℕ). unwrap_or o table.next) (is.numbers text) ∙ ap (λ (k : ℕ). unwrap_or (numbered first names text) k) is.next ∙ place_numbered first names text
 
@@ -82,7 +82,7 @@ abbrev by_text : {S : Type 0} → HashMap (Bor (List ℕ)) ℕ S → List ℕ �
 by_text m text = get_by (λ k. bytes_eq text k.now) m
 
 -- a name that is new
-pub added_new : (table : Table) (first : ℕ) (names : List Name) (x : Name) (text : List ℕ) (after : ℕ) (now : Table) → IsTable first names table → text ≡ x.text → is_some (by_text table.numbers text) ≡ false → ((cs : List ℕ) → by_text now.numbers cs ≡ cond (bytes_eq text cs) (Some table.next) (by_text table.numbers cs)) → after ≡ table.next + 1 → now.next ≡ after → IsTable first (names ++ x ∷ []) now
+pub added_new : (table : NameNumbers) (first : ℕ) (names : List Name) (x : Name) (text : List ℕ) (after : ℕ) (now : NameNumbers) → IsTable first names table → text ≡ x.text → is_some (by_text table.numbers text) ≡ false → ((cs : List ℕ) → by_text now.numbers cs ≡ cond (bytes_eq text cs) (Some table.next) (by_text table.numbers cs)) → after ≡ table.next + 1 → now.next ≡ after → IsTable first (names ++ x ∷ []) now
 added_new table first names x text after now is e absent put ea en = record {
   numbers = put_new first names x (by_text table.numbers) (by_text now.numbers) is.numbers table.next is.next (none_of (by_text table.numbers x.text) (ap (λ (t : List ℕ). is_some (by_text table.numbers t)) (sym e) ∙ absent))
       (λ cs. put cs ∙ ap (λ (t : List ℕ). cond (bytes_eq t cs) (Some table.next) (by_text table.numbers cs)) e);
@@ -90,7 +90,7 @@ added_new table first names x text after now is e absent put ea en = record {
 }
 
 -- a name that is there already
-pub added_again : (table : Table) (first : ℕ) (names : List Name) (x : Name) (text : List ℕ) (after : ℕ) (now : Table) → IsTable first names table → text ≡ x.text → is_some (by_text table.numbers text) ≡ true → now.numbers ≡ table.numbers → after ≡ table.next + 1 → now.next ≡ after → IsTable first (names ++ x ∷ []) now
+pub added_again : (table : NameNumbers) (first : ℕ) (names : List Name) (x : Name) (text : List ℕ) (after : ℕ) (now : NameNumbers) → IsTable first names table → text ≡ x.text → is_some (by_text table.numbers text) ≡ true → now.numbers ≡ table.numbers → after ≡ table.next + 1 → now.next ≡ after → IsTable first (names ++ x ∷ []) now
 added_again table first names x text after now is e there same ea en = record {
   numbers = put_again first names x (by_text table.numbers) (by_text now.numbers) is.numbers (ap (λ (t : List ℕ). is_some (by_text table.numbers t)) (sym e) ∙ there)
       (λ cs. ap (λ (m : _). by_text m cs) same);

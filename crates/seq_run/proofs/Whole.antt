@@ -139,7 +139,7 @@ accepted_has_proc parts finish a = some_proc parts (list_all_end (rules_after []
 pub resolved_has_proc : (r : Resolved) (parts : List Part) (finish : Place) → view.program r ≡ resolving.program parts → IsAccepted parts finish → 0 < length r.procs.items
 resolved_has_proc r parts finish e a =
     let h = accepted_has_proc parts finish a in
-    let l : length r.procs.items ≡ length (procs_of parts) = sym (length_view r.procs.items) ∙ ap (λ (p : resolved.Program). length p.procs) e ∙ length_procs (arrays_of parts) (names_of (procs_of parts)) (procs_of parts) in
+    let l : length r.procs.items ≡ length (procs_of parts) = sym (length_view r.procs.items) ∙ ap (λ (p : resolved.ResolvedProgram). length p.procs) e ∙ length_procs (arrays_of parts) (names_of (procs_of parts)) (procs_of parts) in
     omega (arith, h, l)
 
 -- the lengths of the cells at the start are those of the arrays
@@ -159,7 +159,7 @@ module _ (r : Resolved) (parts : List Part) (world : World) (turns : ℕ) (plain
   says_names : RunSays (opened parts world) named turns plain
   says_names =
       subst (λ (f : ℕ → CallEnd). RunSays (opened parts world) f turns plain) (fun_ext (λ k. sym (run_same parts world k)))
-      (subst (λ (p : resolved.Program). RunSays (opening_out (empty_cells p.lengths) world) (run p world) turns plain) e says)
+      (subst (λ (p : resolved.ResolvedProgram). RunSays (opening_out (empty_cells p.lengths) world) (run p world) turns plain) e says)
 
   -- one of the three answers
   pub one_of : HasEnded parts world turns plain ⊎ (HasFaulted parts world turns plain ⊎ IsGoing parts world turns plain)

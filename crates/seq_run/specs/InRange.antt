@@ -4,7 +4,7 @@ use Rattle.std.specs.Prelude.{◌≡◌, ℕ, suc, ◌+◌, ◌-◌, ◌<◌, �
 use Rattle.std.specs.List.{AllByRecursion}
 use Rattle.src_ast.specs.LanguageLimits.{most_port, most_parameters, most_locals, most_procedures, most_array_cells, most_statements}
 use Rattle.cfg_core.specs.Graph.{Term, Number, Var, Cell, Flip, Not, Neg, Binary}
-use Rattle.seq_run.specs.Resolved.{Action, Assign, Store, Print, Read, Give, Take, Step, Do, Call, If, While, Steps, Nothing, Then, Proc, nth_proc, Program}
+use Rattle.seq_run.specs.Resolved.{Action, Assign, Store, Print, Read, Give, Take, Step, Do, Call, If, While, Steps, Nothing, Then, Proc, nth_proc, ResolvedProgram}
 
 -- one of this many arrays, by its number from 1
 abbrev pub IsArray : ℕ → ℕ → Type 0
@@ -86,7 +86,7 @@ steps_in [] = 0
 steps_in (p ∷ ps) = size_all p.body + steps_in ps
 
 -- `main` is the last procedure, and has no parameters
-pub record ProgramIn (program : Program) : Type 0 where
+pub record ProgramIn (program : ResolvedProgram) : Type 0 where
   pub some_proc : 0 < length program.procs
   pub few_procs : length program.procs ≤ most_procedures
   pub main : (nth_proc program.procs (length program.procs - 1)).params ≡ 0

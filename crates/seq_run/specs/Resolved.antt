@@ -83,16 +83,16 @@ calls_below (suc n) procs f args o k =
     else calls_below n procs f args o k
 
 -- the names and lengths of the arrays, and the procedures, main last
-pub record Program : Type 0 where
+pub record ResolvedProgram : Type 0 where
   pub names : List (List ℕ)
   pub lengths : List ℕ
   pub procs : List Proc
 
-abbrev pub run_at : ℕ → Program → World → ℕ → CallEnd
+abbrev pub run_at : ℕ → ResolvedProgram → World → ℕ → CallEnd
 run_at main program world k =
     run_proc (calls_below main program.procs) (nth_proc program.procs main) []
     (opening_out (empty_cells program.lengths) world) k
 
 -- main with at most k turns
-abbrev pub run : Program → World → ℕ → CallEnd
+abbrev pub run : ResolvedProgram → World → ℕ → CallEnd
 run program world k = run_at (length program.procs - 1) program world k

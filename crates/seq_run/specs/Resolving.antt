@@ -68,7 +68,7 @@ texts [] = []
 texts (x ∷ xs) = x.text ∷ texts xs
 
 -- a program
-abbrev pub program : List Part → resolved.Program
+abbrev pub program : List Part → resolved.ResolvedProgram
 program parts = record {
   names = texts (arrays_of parts);
   lengths = lengths_of parts;

@@ -88,8 +88,8 @@ ReplyIs start call turns (replies.Fault array) memory left =
     Faulted start (λ k. call_seen (call k)) turns array memory left
 
 -- from each state that the code holds it goes as a part of the run does
-abbrev pub Follows : (State → ℕ → PartEnd) → Run → List ℕ → Flow → Run → List ℕ → Type 0
-Follows part before vars flow after now =
+abbrev pub GoesAsPart : (State → ℕ → PartEnd) → Run → List ℕ → Flow → Run → List ℕ → Type 0
+GoesAsPart part before vars flow after now =
     (start : Outside) (s : State) → Holds start s before.memory vars →
     FlowIs start (part s) before.turns flow after.memory now after.turns
 

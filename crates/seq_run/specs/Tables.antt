@@ -6,7 +6,7 @@ use lib.Pointwise.{pointwise}
 use Rattle.src_ast.specs.declared.lexeme.Name.{Name}
 use Rattle.src_ast.specs.Syntax.{Procedure}
 use Rattle.src_ast.specs.Meaning.{Scope}
-use Rattle.seq_run.specs.declared.table.Table.{Table}
+use Rattle.seq_run.specs.declared.table.NameNumbers.{NameNumbers}
 use Rattle.seq_run.specs.declared.names.Names.{Names}
 
 -- the number of the first name that is spelled so, counted from this number
@@ -15,7 +15,7 @@ numbered k [] text = None
 numbered k (n ∷ ns) text = if pointwise nat_eq n.text text then Some k else numbered (suc k) ns text
 
 -- the table of these names, the first of which has this number
-pub record IsTable (first : ℕ) (names : List Name) (table : Table) : Type 0 where
+pub record IsTable (first : ℕ) (names : List Name) (table : NameNumbers) : Type 0 where
   pub numbers : (text : List ℕ) →
       get_by (λ k. bytes_eq text k.now) table.numbers ≡ numbered first names text
   pub next : table.next ≡ first + length names

@@ -65,7 +65,7 @@ abbrev pub lengths : List ArrayShape → List ℕ
 lengths [] = []
 lengths (a ∷ arrays) = a.length ∷ lengths arrays
 
-abbrev pub program : Resolved → resolved.Program
+abbrev pub program : Resolved → resolved.ResolvedProgram
 program r = record {
   names = names r.arrays.items;
   lengths = lengths r.arrays.items;

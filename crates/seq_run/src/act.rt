@@ -5,7 +5,7 @@ ghost use Rattle.ws_words.specs.Outside.{Outside, State, zeros};
 ghost use Rattle.src_ast.specs.Turns.{with_result};
 ghost use Rattle.src_ast.specs.Meaning.{Calls};
 ghost use Rattle.seq_run.specs.Resolved.{Do, run_one, finish as finished};
-ghost use Rattle.seq_run.specs.Shows.{Follows, Holds, IsDone, ReplyIs};
+ghost use Rattle.seq_run.specs.Shows.{GoesAsPart, Holds, IsDone, ReplyIs};
 ghost use Rattle.seq_run.specs.View as view;
 
 use crate::flow::{Flow, Reply, Run};
@@ -92,7 +92,7 @@ pub(crate) fn run_action(
 ) -> Result<Flow, NoMemory>
     ensures follows { IfOk result (λ flow. (calls : Calls) →
         let part = run_one calls (Do (view.action action.now)) in
-        Follows part run.old vars.old flow run.new vars.new) }
+        GoesAsPart part run.old vars.old flow run.new vars.new) }
     ensures turns { run.new.turns ≤ run.old.turns }
 {
     if run.turns == 0 {

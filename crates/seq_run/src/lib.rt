@@ -19,7 +19,7 @@ ghost use Rattle.src_ast.specs.Turns.{Returned};
 ghost use Rattle.src_ast.specs.Meaning as meaning;
 ghost use Rattle.src_ast.specs.Runs.{Runs, Goes, Faults, acts_in, opened, outside_of};
 ghost use Rattle.seq_run.specs.Laws.{Begins, HasAnswer};
-ghost use Rattle.seq_run.specs.Resolved.{Steps as StepsOf, Proc as ProcOf, Program};
+ghost use Rattle.seq_run.specs.Resolved.{Steps as StepsOf, Proc as ProcOf, ResolvedProgram};
 ghost use Rattle.seq_run.specs.Resolved.{calls_below, run_all, run};
 ghost use Rattle.seq_run.specs.Resolving as resolving;
 ghost use Rattle.seq_run.specs.TurnsLeft.{AtMost};
@@ -49,10 +49,10 @@ pub fn names_are_places()
 /// A run that ended with turns left ends with none left where it has that many fewer, and with as
 /// many left where it has more.
 pub fn turns_are_exact()
-    ensures fewer { (program : Program) (world : World) (k v : ℕ) (o : Outside) (j : ℕ) →
+    ensures fewer { (program : ResolvedProgram) (world : World) (k v : ℕ) (o : Outside) (j : ℕ) →
         run program world k ≡ Returned v o j →
         (n : ℕ) × (k ≡ j + n) × (run program world n ≡ Returned v o 0) }
-    ensures more { (program : Program) (world : World) (k v : ℕ) (o : Outside) (j : ℕ) →
+    ensures more { (program : ResolvedProgram) (world : World) (k v : ℕ) (o : Outside) (j : ℕ) →
         run program world k ≡ Returned v o 0 → run program world (j + k) ≡ Returned v o j }
 {}
 

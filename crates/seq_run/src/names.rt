@@ -3,15 +3,15 @@
 ghost use Rattle.std.specs.Prelude.{◌≡◌};
 ghost use Rattle.src_ast.specs.Meaning.{Scope, var_number, array_number, proc_number};
 
-use crate::table::Table;
+use crate::table::NameNumbers;
 use src_ast::Name;
 
 /// The names of a procedure's variables, from 0, of arrays, from 1, and of procedures, from 0.
 #[derive(Drop)]
 pub struct Names<'a> {
-    pub vars: Table<'a>,
-    pub arrays: Table<'a>,
-    pub procs: Table<'a>,
+    pub vars: NameNumbers<'a>,
+    pub arrays: NameNumbers<'a>,
+    pub procs: NameNumbers<'a>,
 }
 
 impl<'a> Names<'a> {

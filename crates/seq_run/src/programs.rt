@@ -14,7 +14,7 @@ ghost use Rattle.seq_run.specs.View as view;
 
 use crate::names::Names;
 use crate::resolving::{steps, term};
-use crate::table::Table;
+use crate::table::NameNumbers;
 use crate::tree::{ArrayShape, Proc, Resolved};
 use cfg_core::Term;
 use src_ast::{Ending, Item, Name, Stmt};
@@ -22,7 +22,7 @@ use src_check::Accepted;
 use std::alloc::Global;
 use ws_words::NoMemory;
 
-fn declare<'a>(table: &mut Table<'a>, list: &'a [Name]) -> Result<(), NoMemory>
+fn declare<'a>(table: &mut NameNumbers<'a>, list: &'a [Name]) -> Result<(), NoMemory>
     requires { table.old.next + length list.now < 2 ^ 32 }
     ensures { (first : ℕ) (names : List Name) → IsTable first names table.old →
         OnOk result (IsTable first (names ++ list.now) table.new) }
@@ -41,9 +41,9 @@ fn declared<'a>(alloc: Global, items: &'a [Item]) -> Result<Names<'a>, NoMemory>
     ensures procs { IfOk result (λ names.
         IsTable 0 (names_of (procs_of (ast.parts items.now))) names.procs) }
 {
-    let vars = Table::from(alloc, 0);
-    let mut arrays = Table::from(alloc, 1);
-    let mut procs = Table::from(alloc, 0);
+    let vars = NameNumbers::from(alloc, 0);
+    let mut arrays = NameNumbers::from(alloc, 1);
+    let mut procs = NameNumbers::from(alloc, 0);
     for item in items {
         match item {
             Item::Array { name, .. } => arrays.add(name)?,
@@ -115,7 +115,7 @@ fn proc<'a>(
     ensures arrays { names.new.arrays ≡ names.old.arrays }
     ensures procs { names.new.procs ≡ names.old.procs }
 {
-    let mut table = Table::from(alloc, 0);
+    let mut table = NameNumbers::from(alloc, 0);
     declare(&mut table, params)?;
     let count = table.next;
     declare(&mut table, vars)?;

@@ -3,7 +3,7 @@
 ghost use Rattle.std.specs.Prelude.{◌≤◌, length, map, IfOk};
 ghost use Rattle.cfg_core.specs.View as graph;
 ghost use Rattle.seq_run.specs.Resolved.{Do, Call, If, While, calls_below, run_one, run_all};
-ghost use Rattle.seq_run.specs.Shows.{Follows, FollowsCall};
+ghost use Rattle.seq_run.specs.Shows.{GoesAsPart, FollowsCall};
 ghost use Rattle.seq_run.specs.View as view;
 
 use crate::act::{add_zeros, finish, run_action, take_result};
@@ -35,7 +35,7 @@ impl<'a> Runner<'a> {
         requires { below ≤ length self.now.procs.now }
         ensures follows { IfOk result (λ flow.
             let calls = calls_below below (view.procs self.now.procs.now) in
-            Follows (run_all calls (view.steps steps.now)) run.old vars.old flow run.new vars.new) }
+            GoesAsPart (run_all calls (view.steps steps.now)) run.old vars.old flow run.new vars.new) }
         ensures turns { run.new.turns ≤ run.old.turns }
     {
         for step in steps {
@@ -60,7 +60,7 @@ impl<'a> Runner<'a> {
         requires { below ≤ length self.now.procs.now }
         ensures follows { IfOk result (λ flow.
             let calls = calls_below below (view.procs self.now.procs.now) in
-            Follows (run_one calls (view.step step.now)) run.old vars.old flow run.new vars.new) }
+            GoesAsPart (run_one calls (view.step step.now)) run.old vars.old flow run.new vars.new) }
         ensures turns { run.new.turns ≤ run.old.turns }
     {
         match step {
@@ -99,7 +99,7 @@ impl<'a> Runner<'a> {
         ensures follows { IfOk result (λ flow.
             let calls = calls_below below (view.procs self.now.procs.now) in
             let call = Call x.now f (map graph.term args.now) in
-            Follows (run_one calls call) run.old vars.old flow run.new vars.new) }
+            GoesAsPart (run_one calls call) run.old vars.old flow run.new vars.new) }
         ensures turns { run.new.turns ≤ run.old.turns }
     {
         if run.turns == 0 {
@@ -137,7 +137,7 @@ impl<'a> Runner<'a> {
         ensures follows { IfOk result (λ flow.
             let calls = calls_below below (view.procs self.now.procs.now) in
             let choice = If (graph.term test.now) (view.steps first.now) (view.steps second.now) in
-            Follows (run_one calls choice) run.old vars.old flow run.new vars.new) }
+            GoesAsPart (run_one calls choice) run.old vars.old flow run.new vars.new) }
         ensures turns { run.new.turns ≤ run.old.turns }
     {
         if run.turns == 0 {
@@ -169,7 +169,7 @@ impl<'a> Runner<'a> {
         ensures follows { IfOk result (λ flow.
             let calls = calls_below below (view.procs self.now.procs.now) in
             let repeat = While (graph.term test.now) (view.steps body.now) in
-            Follows (run_one calls repeat) run.old vars.old flow run.new vars.new) }
+            GoesAsPart (run_one calls repeat) run.old vars.old flow run.new vars.new) }
         ensures turns { run.new.turns ≤ run.old.turns }
     {
         while run.turns > 0 {

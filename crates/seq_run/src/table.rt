@@ -11,19 +11,19 @@ use ws_words::NoMemory;
 /// Names that were declared one after another, and the number of each: that of the first name
 /// spelled so. `next` is the number of the name that comes next.
 #[derive(Drop)]
-pub struct Table<'a> {
+pub struct NameNumbers<'a> {
     pub numbers: HashMap<&'a [u8], u32>,
     pub next: u32,
 }
 
-impl<'a> Table<'a> {
+impl<'a> NameNumbers<'a> {
     ghost use Rattle.seq_run.specs.Tables.{IsTable};
 
     /// No names, the first of which gets this number.
-    pub(crate) fn from(alloc: Global, first: u32) -> Table<'a>
+    pub(crate) fn from(alloc: Global, first: u32) -> NameNumbers<'a>
         ensures { IsTable first [] result }
     {
-        Table {
+        NameNumbers {
             numbers: HashMap::new(alloc),
             next: first,
         }

@@ -6,7 +6,7 @@ use Rattle.src_ast.specs.declared.lexeme.Place.{Place}
 use Rattle.src_ast.specs.declared.lexeme.Lexeme.{Lexeme}
 use Rattle.src_ast.specs.declared.lexeme.Shape.{Shape}
 use Rattle.src_ast.specs.declared.lexeme.Shape.TheVariants as shape
-use Rattle.src_ast.specs.Lexemes.{spelling, start, after, past, is_blank, is_gap, is_comment, Spells, Leads, stop, next, Lex, IsShort, open_past, row_past, KeepLimits}
+use Rattle.src_ast.specs.Lexemes.{spelling, start, after, past, is_blank, is_gap, is_comment, Spells, LexesTo, stop, next, Lex, IsShort, open_past, row_past, KeepLimits}
 
 -- a gap or a lexeme of a printed text
 pub data Piece : Type 0 where
@@ -69,7 +69,7 @@ blank-append (x ∷ xs) ys h k =
 -- the lexemes of a text, to its end
 record Led (at : Place) (text : List ℕ) (ls : List Lexeme) : Type 0 where
   place : Place
-  leads : Leads at text ls place []
+  leads : LexesTo at text ls place []
 
 led : (ps : List Piece) (at : Place) (pre : List ℕ) → IsTrue (list_all is_blank pre) → AreSpelled ps → Led at (pre ++ text_of ps) (placed (after at pre) ps)
 led [] at pre blank h = record { place = after at pre; leads = stop pre refl (blank_gap pre blank) refl }
@@ -77,8 +77,8 @@ led (gap bytes ∷ ps) at pre blank h =
     let following = led ps at (pre ++ bytes) (blank-append pre bytes blank h.0) h.1 in
     record {
       place = following.place;
-      leads = subst (λ text. Leads at text (placed (after at pre) (gap bytes ∷ ps)) following.place []) (append_assoc pre bytes (text_of ps))
-          (subst (λ p. Leads at ((pre ++ bytes) ++ text_of ps) (placed p ps) following.place []) (after-append at pre bytes) following.leads);
+      leads = subst (λ text. LexesTo at text (placed (after at pre) (gap bytes ∷ ps)) following.place []) (append_assoc pre bytes (text_of ps))
+          (subst (λ p. LexesTo at ((pre ++ bytes) ++ text_of ps) (placed p ps) following.place []) (after-append at pre bytes) following.leads);
     }
 led (lexeme s ∷ ps) at pre blank h =
     let following = led ps (after (after at pre) (spelled s)) [] refl h.1 in

@@ -6,7 +6,7 @@ use Rattle.src_ast.specs.declared.lexeme.Shape.{Shape}
 use Rattle.src_ast.specs.declared.lexeme.Shape.TheVariants.{Word, Number, Mark}
 use Rattle.src_ast.specs.declared.lexeme.Mark.{Mark as AnyMark}
 use Rattle.src_ast.specs.declared.lexeme.Mark.TheVariants.{LBrace, RBrace, Semi}
-use Rattle.src_ast.specs.Lexemes.{is_word, Spells, word, number, mark, Leads, stop, next, IsShort, open_past, row_past, KeepLimits}
+use Rattle.src_ast.specs.Lexemes.{is_word, Spells, word, number, mark, LexesTo, stop, next, IsShort, open_past, row_past, KeepLimits}
 use Rattle.src_ast.specs.Grammar.{Is, IsNumber}
 use Rattle.src_ast.proofs.Kept.{is_inner}
 
@@ -45,7 +45,7 @@ spells_sound (number n h k e l) short = l
 spells_sound (mark m e l) short = tt
 
 -- lexemes of a text within the limits are such
-pub leads_sound : {at place : Place} {text rest : List ℕ} {ls : List Lexeme} (braces row : ℕ) → Leads at text ls place rest → KeepLimits braces row ls → AllSound ls
+pub leads_sound : {at place : Place} {text rest : List ℕ} {ls : List Lexeme} (braces row : ℕ) → LexesTo at text ls place rest → KeepLimits braces row ls → AllSound ls
 leads_sound braces row (stop gap e g p) k = no_sound
 leads_sound braces row (next l gap bytes following e g p s more) k =
     sound (spells_sound s k.0) (leads_sound (open_past braces l.shape) (row_past row l.shape) more k.3)

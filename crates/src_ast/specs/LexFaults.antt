@@ -13,7 +13,7 @@ use Rattle.src_ast.specs.declared.fault.RefusalKind.TheVariants.{Byte, Wide, Lim
 use Rattle.src_ast.specs.declared.fault.Quantity.TheVariants.{NameBytes, Depth, Lexemes}
 use Rattle.src_ast.specs.declared.fault.TextFault.{TextFault}
 use Rattle.src_ast.specs.declared.fault.TextFault.TheVariants.{Refused, NoMemory}
-use Rattle.src_ast.specs.Lexemes.{start, is_blank, is_letter, is_word, is_word_byte, starts_without, spelling, Spells, Leads, IsShort, open_past, row_past, Lex, KeepLimits, open_after, row_after}
+use Rattle.src_ast.specs.Lexemes.{start, is_blank, is_letter, is_word, is_word_byte, starts_without, spelling, Spells, LexesTo, IsShort, open_past, row_past, Lex, KeepLimits, open_after, row_after}
 
 -- no lexeme and no gap begins with this byte
 pub record BeginsNothing (b : ℕ) : Type 0 where
@@ -45,7 +45,7 @@ pub data Wrong (open' row : ℕ) : List ℕ → RefusalKind → Type 0 where
 pub record LexFault (text : List ℕ) (refusal : Refusal) : Type 0 where
   pub ls : List Lexeme
   pub rest : List ℕ
-  pub leads : Leads start text ls refusal.place rest
+  pub leads : LexesTo start text ls refusal.place rest
   pub kept : KeepLimits 0 0 ls
   pub wrong : Wrong (open_after 0 ls) (row_after 0 ls) rest refusal.kind
 

@@ -108,21 +108,21 @@ pub data Spells : Shape → List ℕ → List ℕ → Type 0 where
 
 -- From this place on the text begins with these lexemes, each after a gap; after them and a gap
 -- stands this rest, at its place.
-pub data Leads : Place → List ℕ → List Lexeme → Place → List ℕ → Type 0 where
+pub data LexesTo : Place → List ℕ → List Lexeme → Place → List ℕ → Type 0 where
   stop : {at place : Place} {text rest : List ℕ} (gap : List ℕ) → text ≡ gap ++ rest
       → IsTrue (is_gap gap) → place ≡ after at gap
-      → Leads at text [] place rest
+      → LexesTo at text [] place rest
   next : {at place : Place} {text rest : List ℕ} {ls : List Lexeme} (l : Lexeme)
       (gap bytes following : List ℕ)
       → text ≡ gap ++ (bytes ++ following) → IsTrue (is_gap gap) → l.place ≡ after at gap
       → Spells l.shape bytes following
-      → Leads (after l.place bytes) following ls place rest → Leads at text (l ∷ ls) place rest
+      → LexesTo (after l.place bytes) following ls place rest → LexesTo at text (l ∷ ls) place rest
 
 -- the text has these lexemes, and its end stands at this place
 pub record Lex (text : List ℕ) (ls : List Lexeme) (finish : Place) : Type 0 where
   pub place : Place
   pub rest : List ℕ
-  pub leads : Leads start text ls place rest
+  pub leads : LexesTo start text ls place rest
   pub over : IsTrue (is_end rest)
   pub finish_is : finish ≡ after start text
 

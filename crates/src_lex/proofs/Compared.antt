@@ -7,7 +7,7 @@ use Rattle.src_ast.specs.declared.lexeme.Lexeme.{Lexeme}
 use Rattle.src_ast.specs.declared.lexeme.Shape.{Shape}
 use Rattle.src_ast.specs.declared.lexeme.Shape.TheVariants as shape
 use Rattle.ws_words.specs.Digits.{is_digit}
-use Rattle.src_ast.specs.Lexemes.{after, is_end, is_letter, Spells, Leads}
+use Rattle.src_ast.specs.Lexemes.{after, is_end, is_letter, Spells, LexesTo}
 use Rattle.src_lex.specs.Reads.{begins_gap, ends_gap}
 use Rattle.src_lex.proofs.Unique.{gap_same, spelled_same, head_kind, spelled_kind}
 
@@ -42,19 +42,19 @@ same_lexeme l m e p = λ i. record { shape = e i; place = p i }
 
 -- any two readings of a text that leave no gap
 pub compare : (at : Place) (text : List ℕ) (ls : List Lexeme) (p : Place) (r : List ℕ) (ms : List Lexeme) (q : Place) (t : List ℕ)
-    → Leads at text ls p r → Leads at text ms q t → ends_gap r ≡ true → ends_gap t ≡ true → Compared ls p r ms q t
-compare at text ls p r ms q t (Leads.stop gap x g h) (Leads.stop gap' x' g' h') k k' =
+    → LexesTo at text ls p r → LexesTo at text ms q t → ends_gap r ≡ true → ends_gap t ≡ true → Compared ls p r ms q t
+compare at text ls p r ms q t (LexesTo.stop gap x g h) (LexesTo.stop gap' x' g' h') k k' =
     let s = gap_same gap gap' r t g g' k k' (sym x ∙ x') in
     Compared.same refl (h ∙ (ap (after at) s.front ∙ sym h')) s.back
-compare at text ls p r ms q t (Leads.stop gap x g h) (Leads.next {ls = more} l gap' bytes far x' g' h' w d) k k' =
+compare at text ls p r ms q t (LexesTo.stop gap x g h) (LexesTo.next {ls = more} l gap' bytes far x' g' h' w d) k k' =
     let s = gap_same gap gap' r (bytes ++ far) g g' k (spelled_ends_gap l.shape bytes far w) (sym x ∙ x') in
     Compared.short l more bytes far refl s.back w
-compare at text ls p r ms q t (Leads.next {ls = more} l gap bytes far x g h w d) (Leads.stop gap' x' g' h') k k' =
+compare at text ls p r ms q t (LexesTo.next {ls = more} l gap bytes far x g h w d) (LexesTo.stop gap' x' g' h') k k' =
     let s = gap_same gap' gap t (bytes ++ far) g' g k' (spelled_ends_gap l.shape bytes far w) (sym x' ∙ x) in
     Compared.ahead l more bytes far refl s.back w
-compare at text ls p r ms q t (Leads.next {ls = ls'} l gap bytes far x g h w d) (Leads.next {ls = ms'} m gap' bytes' far' x' g' h' w' d') k k' =
+compare at text ls p r ms q t (LexesTo.next {ls = ls'} l gap bytes far x g h w d) (LexesTo.next {ls = ms'} m gap' bytes' far' x' g' h' w' d') k k' =
     let s = gap_same gap gap' (bytes ++ far) (bytes' ++ far') g g' (spelled_ends_gap l.shape bytes far w) (spelled_ends_gap m.shape bytes' far' w') (sym x ∙ x') in
     let o = spelled_same l.shape m.shape bytes far bytes' far' w w' s.back in
     let place : l.place ≡ m.place = h ∙ (ap (after at) s.front ∙ sym h') in
-    let on : Leads (after l.place bytes) far ms' q t = rw (place, o.1.front, o.1.back) d' in
+    let on : LexesTo (after l.place bytes) far ms' q t = rw (place, o.1.front, o.1.back) d' in
     compared_more l m ls' ms' p q r t (same_lexeme l m o.0 place) (compare (after l.place bytes) far ls' p r ms' q t d on k k')

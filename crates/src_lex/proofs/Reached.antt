@@ -8,7 +8,7 @@ use Rattle.src_ast.specs.declared.lexeme.Shape.{Shape}
 use Rattle.src_ast.specs.declared.fault.Refusal.{Refusal}
 use Rattle.src_ast.specs.declared.fault.TextFault.{TextFault}
 use Rattle.src_ast.specs.declared.fault.TextFault.TheVariants.{Refused, NoMemory}
-use Rattle.src_ast.specs.Lexemes.{start, after, is_gap, is_end, Leads, Lex, Spells, IsShort, KeepLimits, open_past, row_past, open_after, row_after}
+use Rattle.src_ast.specs.Lexemes.{start, after, is_gap, is_end, LexesTo, Lex, Spells, IsShort, KeepLimits, open_past, row_past, open_after, row_after}
 use Rattle.src_ast.specs.LexFaults.{Wrong, LexFault, IsLexFault}
 use Rattle.src_lex.specs.Reads.{Reads, IsWrongHere, Exceeds}
 use Rattle.src_lex.proofs.Places.{after_kept}
@@ -17,7 +17,7 @@ use Rattle.src_ast.proofs.Pieces.{after-append as after_append}
 
 -- a text is read so far: these lexemes, this place and rest, these counts
 pub record Reached (text : List ℕ) (items : List Lexeme) (at : Place) (rest : List ℕ) (open' row : ℕ) : Type 0 where
-  pub leads : (ls : List Lexeme) (place : Place) (following : List ℕ) → Leads at rest ls place following → Leads start text (items ++ ls) place following
+  pub leads : (ls : List Lexeme) (place : Place) (following : List ℕ) → LexesTo at rest ls place following → LexesTo start text (items ++ ls) place following
   pub kept : KeepLimits 0 0 items
   pub depth_is : open' ≡ open_after 0 items
   pub row_is : row ≡ row_after 0 items
@@ -44,11 +44,11 @@ at_start text = record {
 }
 
 leads_gap : (at : Place) (gap front : List ℕ) → IsTrue (is_gap gap) → (ls : List Lexeme) (place : Place) (following : List ℕ)
-    → Leads (after at gap) front ls place following → Leads at (gap ++ front) ls place following
-leads_gap at gap front g all place following (Leads.stop more t h p) =
-    Leads.stop (gap ++ more) (ap (λ x. gap ++ x) t ∙ sym (append_assoc gap more following)) (gap_append gap more g h) (p ∙ sym (after_append at gap more))
-leads_gap at gap front g all place following (Leads.next l more bytes far t h p s d) =
-    Leads.next l (gap ++ more) bytes far (ap (λ x. gap ++ x) t ∙ sym (append_assoc gap more (bytes ++ far))) (gap_append gap more g h) (p ∙ sym (after_append at gap more)) s d
+    → LexesTo (after at gap) front ls place following → LexesTo at (gap ++ front) ls place following
+leads_gap at gap front g all place following (LexesTo.stop more t h p) =
+    LexesTo.stop (gap ++ more) (ap (λ x. gap ++ x) t ∙ sym (append_assoc gap more following)) (gap_append gap more g h) (p ∙ sym (after_append at gap more))
+leads_gap at gap front g all place following (LexesTo.next l more bytes far t h p s d) =
+    LexesTo.next l (gap ++ more) bytes far (ap (λ x. gap ++ x) t ∙ sym (append_assoc gap more (bytes ++ far))) (gap_append gap more g h) (p ∙ sym (after_append at gap more)) s d
 
 -- over a gap
 pub past_gap : (text : List ℕ) (items : List Lexeme) (at : Place) (rest gap front : List ℕ) (open' row : ℕ)
@@ -91,7 +91,7 @@ past_lexeme text items l front bytes following open' row open_more row_more r t 
     let depth_is : open_more ≡ open_past (open_after 0 items) l.shape = o ∙ ap (λ n. open_past n l.shape) r.depth_is in
     let row_is : row_more ≡ row_past (row_after 0 items) l.shape = w ∙ ap (λ n. row_past n l.shape) r.row_is in
     record {
-      leads = λ ls place far d. rw (append_assoc items (l ∷ []) ls) (r.leads (l ∷ ls) place far (Leads.next l [] bytes following t refl refl s d));
+      leads = λ ls place far d. rw (append_assoc items (l ∷ []) ls) (r.leads (l ∷ ls) place far (LexesTo.next l [] bytes following t refl refl s d));
       kept = kept_append 0 0 items l r.kept short (rw (← depth_is) ok) (rw (← row_is) wk);
       depth_is = depth_is ∙ sym (open_append 0 items l);
       row_is = row_is ∙ sym (row_append 0 items l);
@@ -103,8 +103,8 @@ past_lexeme text items l front bytes following open' row open_more row_more r t 
       room = let h = r.room in let k = kept.room in omega (arith, ap length t, length-append bytes following);
     }
 
-pub here : (text : List ℕ) (items : List Lexeme) (at : Place) (rest : List ℕ) (open' row : ℕ) → Reached text items at rest open' row → Leads start text items at rest
-here text items at rest open' row r = rw (← (append-nil items)) (r.leads [] at rest (Leads.stop [] refl refl refl))
+pub here : (text : List ℕ) (items : List Lexeme) (at : Place) (rest : List ℕ) (open' row : ℕ) → Reached text items at rest open' row → LexesTo start text items at rest
+here text items at rest open' row r = rw (← (append-nil items)) (r.leads [] at rest (LexesTo.stop [] refl refl refl))
 
 -- at the end the lexemes are the text's
 pub all_read : {text : List ℕ} {items : List Lexeme} {at : Place} {rest : List ℕ} {open' row : ℕ} {finish : Place} → Reached text items at rest open' row → IsTrue (is_end rest)

@@ -65,8 +65,9 @@ pub record Submitted (image : Image) (world : World) (began : List (Option Began
   pub is : IsBuffer image world began new memory
 
 -- so it is with each memory with which it was a buffer of the run
-abbrev pub Leads : Image → World → List (Option Began) → Content → Asked → List Token → Content → Type 0
-Leads image world began old r tokens new = (m : Outside) → IsBuffer image world began old m
+abbrev pub SubmittedAlways : Image → World → List (Option Began) → Content → Asked → List Token → Content →
+    Type 0
+SubmittedAlways image world began old r tokens new = (m : Outside) → IsBuffer image world began old m
     → Submitted image world began old m r tokens new
 
 -- the walk has these tokens
@@ -103,7 +104,7 @@ IsNew c r = entry_of c.kept r.wave r.instr ≡ None
 abbrev pub Comes : Image → World → List (Option Began) → Content → Asked → List Token → Option ℕ → Option ℕ
     → Bool → Content → Type 0
 Comes image world began old r tokens fault failed starved new =
-    Runs old × IsNew old r × Leads image world began old r tokens new × (new.fault ≡ fault)
+    Runs old × IsNew old r × SubmittedAlways image world began old r tokens new × (new.fault ≡ fault)
     × (new.failed ≡ failed) × (new.starved ≡ starved)
 
 -- What came of a request. Where it isn't answered for want of memory, it is the buffer's own and nothing

@@ -47,7 +47,7 @@ pub record OutIs (began : List (Option Began)) (o : Outside) (h : Holding) : Typ
   pub slots_are : SlotsAre began o h.ports
 
 -- the answer of a memory operation, and what it leaves
-pub record Answers (began : List (Option Began)) (op : Op) (xs : List ℕ) (o : Outside) (word : ℕ)
+pub record Performed (began : List (Option Began)) (op : Op) (xs : List ℕ) (o : Outside) (word : ℕ)
     (h : Holding) : Type 0 where
   pub answer : word ≡ answer_op op xs o
   pub after : OutIs began (after_op op xs o) h

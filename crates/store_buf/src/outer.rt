@@ -6,7 +6,7 @@ ghost use Rattle.ws_isa.specs.Image.{cells_of};
 ghost use Rattle.ws_isa.specs.View as view;
 ghost use Rattle.port_set.specs.Slots.{AllOpen, contents};
 ghost use Rattle.df_job.specs.Began.{Began};
-ghost use Rattle.store_buf.specs.Outdoors.{OutIs, Answers, PortIn, SilentAt, FaultsGrow, silent_of};
+ghost use Rattle.store_buf.specs.Outdoors.{OutIs, Performed, PortIn, SilentAt, FaultsGrow, silent_of};
 ghost use Rattle.store_buf.specs.Outers.{holding};
 
 use crate::fault::Silent;
@@ -41,7 +41,7 @@ impl<P: Port> Outer<P> {
         requires room { vec_len self.old.printed < vec_capacity self.old.printed }
         ensures answer { IfOk result (λ word. (began : List (Option Began)) (o : Outside) (third : ℕ)
             → OutIs began o (holding self.old)
-            → Answers began op (first ∷ second ∷ third ∷ []) o word (holding self.new)) }
+            → Performed began op (first ∷ second ∷ third ∷ []) o word (holding self.new)) }
         ensures kept { OnErr result ((began : List (Option Began)) (o : Outside)
             → OutIs began o (holding self.old) → OutIs began o (holding self.new)) }
         ensures room { vec_capacity self.new.printed ≡ vec_capacity self.old.printed }

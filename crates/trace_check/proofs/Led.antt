@@ -12,7 +12,7 @@ use Rattle.core_run.specs.Cores.{IsAt, Makes, IsEnabled, IsAtRest, event_of}
 use Rattle.core_run.specs.Quiet.{IsQuiet, IsQuietly, OnlyFires}
 use Rattle.trace_check.specs.declared.recording.TraceEnd.{TraceEnd}
 use Rattle.trace_check.specs.declared.recording.TraceEnd.TheVariants as end
-use Rattle.trace_check.specs.Recorded.{Spent, EndIs, Traces, Led, Leads, IsDone, IsNext}
+use Rattle.trace_check.specs.Recorded.{OutOfBudget, EndIs, Traces, Led, MakesEvents, IsDone, IsNext}
 use Rattle.trace_check.proofs.Making.{same_refl}
 use Rattle.core_run.proofs.Saying.{no_fault_at as no_fault}
 
@@ -64,14 +64,14 @@ next_quiet core budget fired (Some e) l count m = λ image world s at. (
 )
 
 -- events made one after the other
-pub none_led : (core : Core) (budget : ℕ) → Leads budget [] core core
+pub none_led : (core : Core) (budget : ℕ) → MakesEvents budget [] core core
 none_led core budget image world s at le = record { state = s; run = λ es u r. r; at = at; within = le }
 
 one_more : (events : List Made) (e : Made) (es : List Event) → map event_of events ++ event_of e ∷ es ≡ map event_of (events ++ e ∷ []) ++ es
 one_more [] e es = refl
 one_more (x ∷ events) e es = ap (λ (xs : List Event). event_of x ∷ xs) (one_more events e es)
 
-pub one_led : (events : List Made) (e : Made) (budget : ℕ) (old core new : Core) → Leads budget events old core → IsNext budget (event_of e) core → Makes (event_of e) core new → Leads budget (events ++ e ∷ []) old new
+pub one_led : (events : List Made) (e : Made) (budget : ℕ) (old core new : Core) → MakesEvents budget events old core → IsNext budget (event_of e) core → Makes (event_of e) core new → MakesEvents budget (events ++ e ∷ []) old new
 one_led events e budget old core new leads next makes image world s at le =
     let a = leads image world s at le in
     let m = makes image world a.state a.at in
@@ -104,7 +104,7 @@ module _ (image : Image) (world : World) (budget : ℕ) (s : State) (facts : Fac
       omega (arith, count)
   dear_by (Issue w i) on fires count cost = fires (Issue w i) on (issue_quiet image s w i)
 
-  dear : Spent image budget s → CostAtMost image world budget → ⊥
+  dear : OutOfBudget image budget s → CostAtMost image world budget → ⊥
   dear p = dear_by p.event p.enabled p.fires p.count
 
   module _ (events : List Made) (run : Run image (core_opening image world) (map event_of events) s) (within : length s.fired ≤ budget) where

@@ -13,7 +13,7 @@ use Rattle.trace_check.specs.declared.recording.TraceEnd.{TraceEnd}
 use Rattle.trace_check.specs.declared.recording.TraceEnd.TheVariants as end
 
 -- as many instances have fired as may, something is still to come, and all that may come fires one
-pub record Spent (image : Image) (budget : ℕ) (s : State) : Type 0 where
+pub record OutOfBudget (image : Image) (budget : ℕ) (s : State) : Type 0 where
   pub going : s.stopped ≡ false
   pub count : length s.fired ≡ budget
   pub event : Event
@@ -22,7 +22,7 @@ pub record Spent (image : Image) (budget : ℕ) (s : State) : Type 0 where
 
 abbrev pub EndIs : Image → ℕ → TraceEnd → State → Type 0
 EndIs image budget end.Rest s = Rest image s × (s.stopped ≡ false)
-EndIs image budget end.Budget s = Spent image budget s
+EndIs image budget end.Budget s = OutOfBudget image budget s
 EndIs image budget end.Fault s = s.stopped ≡ true
 
 -- Each of these events is enabled after those before it, and they end so. They come to rest exactly
@@ -50,8 +50,8 @@ pub record Led (image : Image) (world : World) (s : State) (budget : ℕ) (event
   pub at : IsAt image world core state
   pub within : length state.fired ≤ budget
 
-abbrev pub Leads : ℕ → List Made → Core → Core → Type 0
-Leads budget events old new = (image : Image) (world : World) (s : State) → IsAt image world old s →
+abbrev pub MakesEvents : ℕ → List Made → Core → Core → Type 0
+MakesEvents budget events old new = (image : Image) (world : World) (s : State) → IsAt image world old s →
     length s.fired ≤ budget → Led image world s budget events new
 
 -- no event is to be made

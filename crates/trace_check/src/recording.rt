@@ -6,7 +6,7 @@ ghost use Rattle.ws_words.specs.Plain.{world_of};
 ghost use Rattle.ws_isa.specs.Image.{Image};
 ghost use Rattle.core_law.specs.Core.{State};
 ghost use Rattle.core_run.specs.Cores.{IsAt, Runs, Makes, IsEnabled, event_of};
-ghost use Rattle.trace_check.specs.Recorded.{Traces, Leads, IsDone, IsNext, EndIs};
+ghost use Rattle.trace_check.specs.Recorded.{Traces, MakesEvents, IsDone, IsNext, EndIs};
 
 use crate::events::Events;
 use core_law::{counts, every_list_of_events};
@@ -65,7 +65,7 @@ fn make(core: &mut Core<'_>, event: Event) -> Result<(), NoMemory>
 fn make_events(alloc: Global, core: &mut Core<'_>, budget: u64) -> Result<Events, NoMemory>
     requires { Runs core.old }
     ensures core { Runs core.new }
-    ensures leads { IfOk result (λ events. Leads budget events core.old core.new) }
+    ensures leads { IfOk result (λ events. MakesEvents budget events core.old core.new) }
     ensures finished { OnOk result (IsDone budget core.new) }
 {
     let mut events = Events::empty(alloc);

@@ -15,7 +15,7 @@ use Rattle.live_vars.specs.Marks.{has}
 use Rattle.wave_cut.specs.Cut.{Cut}
 use Rattle.wave_gen.specs.Cost.{quarters, CostsAtMost}
 use Rattle.wave_link.specs.Passed.{WalksFor}
-use Rattle.wave_build.specs.Passed.{Passed}
+use Rattle.wave_build.specs.Passed.{PassGraphs}
 use Rattle.wave_build.specs.Bounds.{StaysWithin}
 use Rattle.wave_build.proofs.Costing.{last_weighs}
 
@@ -32,7 +32,7 @@ in_all e v n h =
     let s : 4 * ((2 * e + 16 * (v + 8)) * suc n) ≡ (8 * e + 64 * v + 512) + (8 * e + 64 * v + 512) * n = grind arith in
     omega (arith, m, s)
 
-module _ (parts : List Part) (l j k s : Graph) (needed live : List (List ℕ)) (cut : Cut) (narrow : widest parts ≤ most_statement_nodes) (P : Passed parts l j k s needed live cut) where
+module _ (parts : List Part) (l j k s : Graph) (needed live : List (List ℕ)) (cut : Cut) (narrow : widest parts ≤ most_statement_nodes) (P : PassGraphs parts l j k s needed live cut) where
   pub stays_within : (draft image : Image) (world : World) (turns : ℕ) → CostsAtMost s (has live) draft world turns → WalksFor draft image world → StaysWithin parts s image world turns
   stays_within draft image world turns costs walks o ends =
       let c = costs ends.0 o 0 ends.1 in

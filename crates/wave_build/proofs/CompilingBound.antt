@@ -12,12 +12,12 @@ use Rattle.wave_gen.specs.Cost.{CostsAtMost}
 use Rattle.wave_gen.specs.Words.{WorldOfWords}
 use Rattle.wave_link.specs.Passed.{WalksFor}
 use Rattle.wave_build.specs.Compiled.{KeepsBound}
-use Rattle.wave_build.specs.Passed.{Passed}
+use Rattle.wave_build.specs.Passed.{PassGraphs}
 use Rattle.wave_build.specs.Prepared.{Prepared}
 use Rattle.wave_build.proofs.Bounding.{stays_within}
 
 pub all_passed : (parts : List Part) (g : Graph) (p : Prepared parts g) (live : List (List ℕ)) (cut : Cut) → AreLive g live → IsCut g cut → AreWaves g cut →
-    Passed parts p.begun.lowered p.joined p.kept g p.needed live cut
+    PassGraphs parts p.begun.lowered p.joined p.kept g p.needed live cut
 all_passed parts g p live cut l c w = record {
   lowering = p.begun.lowering;
   joining = p.begun.joining;

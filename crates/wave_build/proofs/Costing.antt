@@ -19,7 +19,7 @@ use Rattle.call_gen.proofs.Facts.{Placed}
 use Rattle.call_gen.proofs.Places.{all_placed}
 use Rattle.call_gen.proofs.PartRules.{none_past}
 use Rattle.wave_gen.specs.Cost.{term_quarters, op_quarters, live_in, exit_quarters, quarters}
-use Rattle.wave_build.specs.Passed.{Passed}
+use Rattle.wave_build.specs.Passed.{PassGraphs}
 use Rattle.wave_build.proofs.Weights.{number_few, saves_weigh, loads_weigh, clears_weigh}
 use Rattle.wave_build.proofs.Counting.{few_in, some_and, some_count, in_some}
 use Rattle.wave_build.proofs.Paying.{exit_charge, charge, pay, vars_few, joined_calls_few, joined_weighs}
@@ -50,7 +50,7 @@ gone : (g : Graph) (c : ℕ) → length (spots g) ≤ c → (spot_at g c).vars �
 unfolding no_spot
 gone g c ge = ap (λ (s : Spot). s.vars) (none_past g c ge)
 
-module _ (parts : List Part) (l j k s : Graph) (needed live : List (List ℕ)) (cut : Cut) (P : Passed parts l j k s needed live cut) where
+module _ (parts : List Part) (l j k s : Graph) (needed live : List (List ℕ)) (cut : Cut) (P : PassGraphs parts l j k s needed live cut) where
   abbrev V : ℕ
   V = most_variables parts
 

@@ -13,7 +13,7 @@ use Rattle.call_gen.specs.Keeps.{NoSend, HasNoSend, NoCall, NoneAcross}
 use Rattle.call_gen.proofs.Arms.{shaped_alone}
 use Rattle.wave_gen.specs.Listing.{landings_of}
 use Rattle.wave_gen.specs.Fitting.{Fits}
-use Rattle.wave_build.specs.Passed.{Lowered, Joined, Passed}
+use Rattle.wave_build.specs.Passed.{Lowered, Joined, PassGraphs}
 
 none_calls : (x : Exit) → NoCall x → calls x ≡ false
 none_calls (Goto b) n = refl
@@ -47,7 +47,7 @@ joined_none parts l j L J b = elim (J.short.others b) [
   | inr new ↦ subst NoSend (sym new.goes) tt
 ]
 
-module _ (parts : List Part) (l j k s : Graph) (needed live : List (List ℕ)) (cut : Cut) (P : Passed parts l j k s needed live cut) where
+module _ (parts : List Part) (l j k s : Graph) (needed live : List (List ℕ)) (cut : Cut) (P : PassGraphs parts l j k s needed live cut) where
   arms : ArmsAlone s
   arms = P.spelling.arms (P.keeping.arms (P.joining.arms (shaped_alone l P.lowering.shape)))
 

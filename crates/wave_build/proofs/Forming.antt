@@ -20,7 +20,7 @@ use Rattle.wave_gen.specs.Limits.{BringsAtMost, LandsAtMost, KeepsLimits}
 use Rattle.wave_gen.specs.Lists.{ListsFit}
 use Rattle.wave_gen.specs.Words.{GraphOfWords, array_of, arrays_of}
 use Rattle.wave_link.specs.Room.{LeavesRoom}
-use Rattle.wave_build.specs.Passed.{Passed}
+use Rattle.wave_build.specs.Passed.{PassGraphs}
 use Rattle.wave_build.specs.Small.{lowered_sizes, joined_sizes}
 use Rattle.wave_build.proofs.Sizing.{last_within}
 use Rattle.wave_build.proofs.Named.{names_formed}
@@ -54,7 +54,7 @@ larger_few m n k h i = by_test (nat_lt m n)
     by_test true = i
     by_test false = h
 
-module _ (parts : List Part) (l j k s : Graph) (needed live : List (List ℕ)) (cut : Cut) (P : Passed parts l j k s needed live cut) (written : IsWritten parts) (narrow : widest parts ≤ most_statement_nodes) (locals : most_variables parts ≤ most_locals) where
+module _ (parts : List Part) (l j k s : Graph) (needed live : List (List ℕ)) (cut : Cut) (P : PassGraphs parts l j k s needed live cut) (written : IsWritten parts) (narrow : widest parts ≤ most_statement_nodes) (locals : most_variables parts ≤ most_locals) where
   abbrev z : Sizes
   z = spelled_sizes (joined_sizes (lowered_sizes parts))
 

@@ -16,7 +16,7 @@ use Rattle.phi_conv.specs.Joined.{joining}
 use Rattle.phi_conv.specs.Keeps.{JoinedAt}
 use Rattle.phi_conv.proofs.Standing.{numbers_at}
 use Rattle.wave_gen.specs.Cost.{term_quarters, op_quarters}
-use Rattle.wave_build.specs.Passed.{Passed}
+use Rattle.wave_build.specs.Passed.{PassGraphs}
 use Rattle.wave_cut.specs.Cut.{Cut}
 use Rattle.wave_build.proofs.Weights.{term_paid, terms_paid, ops_paid, no_acts, joining_weight}
 use Rattle.ws_words.proofs.Lists.{all_append as all_both}
@@ -72,7 +72,7 @@ params_few V [] f n h = omega arith
 params_few V (p ∷ ps) zero n h = omega (arith, n.0.params, h.0)
 params_few V (p ∷ ps) (suc f) n h = params_few V ps f n.1 h.1
 
-module _ (parts : List Part) (l j k s : Graph) (needed live : List (List ℕ)) (cut : Cut) (P : Passed parts l j k s needed live cut) where
+module _ (parts : List Part) (l j k s : Graph) (needed live : List (List ℕ)) (cut : Cut) (P : PassGraphs parts l j k s needed live cut) where
   abbrev V : ℕ
   V = most_variables parts
 

@@ -15,7 +15,7 @@ use Rattle.phi_conv.specs.Joined.{joined_if, joined_proc}
 use Rattle.phi_conv.proofs.Placing.{joined_spot, spots_are}
 use Rattle.call_gen.specs.Keeps.{SendsAtMost}
 use Rattle.call_gen.specs.Sizes.{call_count, cell_count, Sizes, LandingsAtMost, BlockWithin, ProcWithin, IsWithin, spelled_sizes}
-use Rattle.wave_build.specs.Passed.{Passed}
+use Rattle.wave_build.specs.Passed.{PassGraphs}
 use Rattle.wave_build.specs.Small.{lowered_sizes, joined_sizes}
 use Rattle.ws_words.proofs.Lists.{length_map as map_count}
 
@@ -85,7 +85,7 @@ calls_paid (s ∷ ss) h =
     let i = calls_paid ss h.1 in let o = one_call s.block.exit in let a = h.0 in
     let c = sum_by-cons (λ (t : Spot). sum_by turns_of t.block.ops) s ss in omega (arith, i, o, a, c)
 
-module _ (parts : List Part) (l j k s : Graph) (needed live : List (List ℕ)) (cut : Cut) (P : Passed parts l j k s needed live cut) where
+module _ (parts : List Part) (l j k s : Graph) (needed live : List (List ℕ)) (cut : Cut) (P : PassGraphs parts l j k s needed live cut) where
   abbrev z : Sizes
   z = lowered_sizes parts
 

@@ -17,7 +17,7 @@ use Rattle.call_gen.specs.Reached.{Reached}
 use Rattle.call_gen.specs.Charged.{beside, charged, CallsCharged, ReachedInPlace}
 use Rattle.call_gen.specs.Sizes.{Sizes, ProcWithin, IsWithin, spelled_sizes}
 use Rattle.wave_gen.specs.Limits.{most_quarters, KeepsLimits}
-use Rattle.wave_build.specs.Passed.{Passed}
+use Rattle.wave_build.specs.Passed.{PassGraphs}
 use Rattle.wave_build.specs.Small.{lowered_sizes, joined_sizes}
 use Rattle.wave_build.proofs.Sums.{low, low_is, spots_low, low_both, low_less, low_few, low_more, low_turns, in_range, Pays, paid}
 use Rattle.wave_build.proofs.Sizing.{kept_within, last_within}
@@ -95,7 +95,7 @@ vars_within : (z : Sizes) (n : ℕ) → z.vars ≤ n → (ps : List GraphProc) �
 vars_within z n le [] h = tt
 vars_within z n le (p ∷ ps) h = ((let v = h.0.vars in omega (arith, v, le)), vars_within z n le ps h.1)
 
-module _ (parts : List Part) (l j k s : Graph) (needed live : List (List ℕ)) (cut : Cut) (P : Passed parts l j k s needed live cut) (narrow : widest parts ≤ most_statement_nodes) (locals : most_variables parts ≤ most_locals) where
+module _ (parts : List Part) (l j k s : Graph) (needed live : List (List ℕ)) (cut : Cut) (P : PassGraphs parts l j k s needed live cut) (narrow : widest parts ≤ most_statement_nodes) (locals : most_variables parts ≤ most_locals) where
   W : IsWithin (spelled_sizes (joined_sizes (lowered_sizes parts))) s
   W = last_within parts l j k s needed live cut P
 

@@ -57,7 +57,7 @@ pub record Spelled (given : Graph) (sets : List (List ℕ)) (spelled : Graph) : 
 
 -- The graphs of a program after each pass, in this order: lowered, joined, kept and spelled out; the
 -- sets of live variables of the last two, and the waves of the last.
-pub record Passed (parts : List Part) (lowered joined kept spelled : Graph)
+pub record PassGraphs (parts : List Part) (lowered joined kept spelled : Graph)
     (needed live : List (List ℕ)) (cut : Cut) : Type 0 where
   pub lowering : Lowered parts lowered
   pub joining : Joined lowered joined

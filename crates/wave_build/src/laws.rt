@@ -22,7 +22,7 @@ ghost use Rattle.wave_gen.specs.Words.{GraphOfWords};
 ghost use Rattle.wave_link.specs.Passed.{WalksFor};
 ghost use Rattle.wave_link.specs.Room.{LeavesRoom};
 ghost use Rattle.wave_build.specs.Bounds.{StaysWithin};
-ghost use Rattle.wave_build.specs.Passed.{Joined, Lowered, Passed};
+ghost use Rattle.wave_build.specs.Passed.{Joined, Lowered, PassGraphs};
 
 use src_ast::written_is_narrow;
 
@@ -36,7 +36,7 @@ pub(crate) fn joined_graphs_send_nothing()
 pub(crate) fn passed_graphs_fit()
     ensures { (parts : List Part) (lowered joined kept spelled : Graph)
         (needed live : List (List ℕ)) (cut : Cut) →
-        Passed parts lowered joined kept spelled needed live cut →
+        PassGraphs parts lowered joined kept spelled needed live cut →
         Fits spelled (has live) cut }
 {}
 
@@ -45,7 +45,7 @@ pub(crate) fn passed_graphs_fit()
 pub(crate) fn passed_drafts_leave_room()
     ensures { (parts : List Part) (lowered joined kept spelled : Graph)
         (needed live : List (List ℕ)) (cut : Cut) →
-        Passed parts lowered joined kept spelled needed live cut → IsWritten parts →
+        PassGraphs parts lowered joined kept spelled needed live cut → IsWritten parts →
         most_variables parts ≤ most_locals → shown_arrays spelled.arrays ≡ arrays_of parts →
         GraphOfWords spelled → (draft : Image) → KeepsLimits spelled (has live) draft →
         ListsFit draft → draft.arrays ≡ words.arrays_of spelled → LeavesRoom draft }
@@ -58,7 +58,7 @@ pub(crate) fn passed_drafts_leave_room()
 pub(crate) fn passed_walks_stay_within()
     ensures { (parts : List Part) (lowered joined kept spelled : Graph)
         (needed live : List (List ℕ)) (cut : Cut) → widest parts ≤ most_statement_nodes →
-        Passed parts lowered joined kept spelled needed live cut →
+        PassGraphs parts lowered joined kept spelled needed live cut →
         (draft image : Image) (world : World) (turns : ℕ) →
         CostsAtMost spelled (has live) draft world turns → WalksFor draft image world →
         StaysWithin parts spelled image world turns }

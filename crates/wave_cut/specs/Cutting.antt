@@ -43,7 +43,7 @@ pub record Heads (g : Graph) (waves heads : List ℕ) (b : ℕ) : Type 0 where
   pub first : slice_index heads (slice_index waves b - 1) ≡ b
 
 -- block b lies in the wave of the blocks before it
-pub record Follows (g : Graph) (waves heads : List ℕ) (b : ℕ) : Type 0 where
+pub record StaysInWave (g : Graph) (waves heads : List ℕ) (b : ℕ) : Type 0 where
   pub free : Begins g b → ⊥
   pub entered : (p : ℕ) × Edge g p b
   pub same : (p : ℕ) → Edge g p b → (p < b) × (slice_index waves p ≡ slice_index waves b)
@@ -51,7 +51,7 @@ pub record Follows (g : Graph) (waves heads : List ℕ) (b : ℕ) : Type 0 where
 
 pub record Numbered (g : Graph) (waves heads : List ℕ) (b : ℕ) : Type 0 where
   pub lies : (1 ≤ slice_index waves b) × (slice_index waves b ≤ length heads)
-  pub how : Heads g waves heads b ⊎ Follows g waves heads b
+  pub how : Heads g waves heads b ⊎ StaysInWave g waves heads b
 
 -- the blocks before this one have their waves
 pub record Cutting (g : Graph) (i : ℕ) (begins : List Bool) (from waves heads : List ℕ) : Type 0 where

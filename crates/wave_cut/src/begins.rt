@@ -10,12 +10,12 @@ ghost use Rattle.wave_cut.specs.Cut.{Begins};
 ghost use Rattle.wave_cut.specs.Cutting.{Set, Marked, Says};
 
 use crate::cutter::set_flag;
-use cfg_core::{Leave, Table};
+use cfg_core::{GraphTable, Leave};
 use std::alloc::Global;
 use ws_words::NoMemory;
 
 /// For each block whether a wave begins there whatever waves there are.
-pub(crate) fn begins(alloc: Global, table: &Table<'_>) -> Result<Vec<bool>, NoMemory>
+pub(crate) fn begins(alloc: Global, table: &GraphTable<'_>) -> Result<Vec<bool>, NoMemory>
     requires { TableIs table.now }
     ensures count { IfOk result (λ flags. length flags.items ≡
         length (spots (view.graph table.now.graph.now))) }
@@ -35,7 +35,7 @@ pub(crate) fn begins(alloc: Global, table: &Table<'_>) -> Result<Vec<bool>, NoMe
 }
 
 // The blocks of which the block with this number says that a wave begins there.
-fn mark_at(table: &Table<'_>, flags: &mut Vec<bool>, b: usize)
+fn mark_at(table: &GraphTable<'_>, flags: &mut Vec<bool>, b: usize)
     requires { TableIs table.now }
     ensures { Marked (Says (block_at (view.graph table.now.graph.now) b).exit b) flags.old.items
         flags.new.items }

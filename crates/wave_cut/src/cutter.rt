@@ -6,7 +6,7 @@ ghost use Rattle.cfg_core.specs.View as view;
 ghost use Rattle.cfg_core.specs.Shows.{TableIs};
 ghost use Rattle.wave_cut.specs.Cutting.{Cutting, number, heads_with, left_begins, left_from, entered_begins, entered_from};
 
-use cfg_core::{Leave, Table};
+use cfg_core::{GraphTable, Leave};
 use ws_words::NoMemory;
 
 /// For each block whether a wave is known to begin there, and the wave of the edges that enter it
@@ -21,7 +21,7 @@ pub(crate) struct Cutter {
 
 impl Cutter {
     /// The wave of one block more, and what its edges say of later ones.
-    pub(crate) fn advance(&mut self, table: &Table<'_>, b: u32) -> Result<(), NoMemory>
+    pub(crate) fn advance(&mut self, table: &GraphTable<'_>, b: u32) -> Result<(), NoMemory>
         requires table { TableIs table.now }
         requires there { b < length (spots (view.graph table.now.graph.now)) }
         requires few { b + 1 < 2 ^ 32 }
@@ -62,7 +62,7 @@ impl Cutter {
     }
 
     // The edges of a block, which lies in this wave.
-    fn pass(&mut self, table: &Table<'_>, b: u32, wave: u32)
+    fn pass(&mut self, table: &GraphTable<'_>, b: u32, wave: u32)
         requires { TableIs table.now }
         ensures begins { self.new.begins.items ≡
             left_begins (block_at (view.graph table.now.graph.now) b).exit wave

@@ -2,14 +2,14 @@
 use Rattle.std.proofs.Common.{ℕ, zero, suc, ◌+◌, ◌≡◌, ◌<◌, ◌≤◌, List, [], ◌∷◌, ◌++◌, length, map, Some, refl, sym, subst, arith}
 use Rattle.std.specs.List.{AllByRecursion}
 use Rattle.ws_isa.specs.Image.{Image, Instr, Block, Array, nth, flat, instr_at, block_at, first_number, IsIn, IsBlock}
-use Rattle.wave_gen.specs.Wire.{Line}
+use Rattle.wave_gen.specs.Wire.{WiredInstr}
 use Rattle.wave_gen.specs.Plans.{Plan, made_at, begins, instr_of, blocks_of, draft_of}
 use Rattle.wave_gen.proofs.Blocks.{begins_next}
 use Rattle.wave_gen.proofs.Number.{number_is, block_at_is, block_is, instr_is}
 use Rattle.ws_words.proofs.Lists.{all_append}
 use Rattle.ws_isa.proofs.Images.{nth_short as nth_lt}
 
-all_map : (P : Instr → Type 0) (f : Line → Instr) (ls : List Line) → ((i : ℕ) (l : Line) → nth ls i ≡ Some l → P (f l)) → AllByRecursion P (map f ls)
+all_map : (P : Instr → Type 0) (f : WiredInstr → Instr) (ls : List WiredInstr) → ((i : ℕ) (l : WiredInstr) → nth ls i ≡ Some l → P (f l)) → AllByRecursion P (map f ls)
 all_map P f [] h = tt
 all_map P f (l ∷ ls) h = (h 0 l refl, all_map P f ls (λ i m e. h (suc i) m e))
 

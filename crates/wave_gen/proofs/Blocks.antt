@@ -5,7 +5,7 @@ use Rattle.ws_isa.specs.declared.instr.Op.TheVariants.{Merge, Advance}
 use Rattle.ws_isa.specs.Image.{In, nth, or_else}
 use Rattle.image_walk.specs.Sound.{HasDest}
 use Rattle.wave_gen.specs.Waits.{Owner}
-use Rattle.wave_gen.specs.Wire.{Spot, Back, Front, dests_of, Line, Wants, no_wants, Made, emit, wire}
+use Rattle.wave_gen.specs.Wire.{Spot, Back, Front, dests_of, WiredInstr, Wants, no_wants, Made, emit, wire}
 use Rattle.wave_gen.specs.Plans.{merges, Leaves, Onto, Either, Lands, Halts, Plan, pulse, same_spot, same_spots, differing, steered, is_among, past, Tail, steers, sends, selected, tails_of, end_wants, behind_source, exit_made, body_made, block_made, has_front, renew, advances, fronts, no_plan, no_made, plan_at, start_of, blocks_from, mades, made_at, starts_at, numbers, begins, owner_of}
 use Rattle.wave_gen.proofs.Planned.{Needs, Apart, Inner, Outer, EdgesAre, PlanIs}
 use Rattle.image_walk.proofs.Steps.{first_le}
@@ -294,7 +294,7 @@ module _ (width : ℕ) (ps : List Plan) where
       pub clean : (k : ℕ) → k ≤ F b → Clean F Fine k width (S b)
       pub spare : (plan_at ps b).first ≡ true → (x : ℕ) → (In x (plan_at ps b).entries → ⊥) → (made_at width ps b).wants x ≡ []
       -- an advance sends to no entry of its block
-      pub bars : (plan_at ps b).first ≡ true → (i : ℕ) (l : Line) → i < length (plan_at ps b).entries → nth (made_at width ps b).code i ≡ Some l → (q : Spot) → In q l.dests → Ahead F (FineAt b) (F b + length (plan_at ps b).entries) q
+      pub bars : (plan_at ps b).first ≡ true → (i : ℕ) (l : WiredInstr) → i < length (plan_at ps b).entries → nth (made_at width ps b).code i ≡ Some l → (q : Spot) → In q l.dests → Ahead F (FineAt b) (F b + length (plan_at ps b).entries) q
 
     outer_is : (c : ℕ) → Outer ps c → Is c
     outer_is c o = (o.some, o.there)
@@ -492,11 +492,11 @@ module _ (width : ℕ) (ps : List Plan) where
           bars = λ f i l u e q a. bar (plan_at ps b).entries i l u (plans b h).entries_apart (ap (λ (m : Made). nth m.code i) (sym made_outer) ∙ e) q a;
         }
           where
-            bar : (ys : List ℕ) (i : ℕ) (l : Line) → i < length ys → Apart ys → nth (advances b ys core).code i ≡ Some l → (q : Spot) → In q l.dests → Ahead F (FineAt b) (F b + length (plan_at ps b).entries) q
+            bar : (ys : List ℕ) (i : ℕ) (l : WiredInstr) → i < length ys → Apart ys → nth (advances b ys core).code i ≡ Some l → (q : Spot) → In q l.dests → Ahead F (FineAt b) (F b + length (plan_at ps b).entries) q
             bar [] i l u a e q k = absurd (omega arith)
             bar (y ∷ ys) zero l u a e q k =
                 let g : record { op = Advance; dests = (advances b ys core).wants y; others = [] } ≡ l = cc in
-                core_inv.ahead y q (subst (λ (d : List Spot). In q d) (ap (λ (m : Line). m.dests) (sym g) ∙ advances_other b ys core y a.0) k)
+                core_inv.ahead y q (subst (λ (d : List Spot). In q d) (ap (λ (m : WiredInstr). m.dests) (sym g) ∙ advances_other b ys core y a.0) k)
             bar (y ∷ ys) (suc i) l u a e q k = bar ys i l (omega arith) a.1 e q k
 
       facts_here : Facts b

@@ -14,7 +14,7 @@ use Rattle.cfg_core.specs.Rules.{ExitIn}
 use Rattle.cfg_core.specs.Walk.{Outcome, Done, Out, run_ops, Config, At, Over, Going, passed, step, walk, opening}
 use Rattle.cfg_core.specs.Weights.{block_left, path}
 use Rattle.wave_cut.specs.Cut.{Cut, is_first}
-use Rattle.wave_gen.specs.Waits.{Code, count, names_at, chosen, Place, pass, places}
+use Rattle.wave_gen.specs.Waits.{Code, count, names_at, chosen, RunPlace, pass, places}
 use Rattle.wave_gen.specs.Plans.{Leaves, Plan, pulse, tails_of, end_wants, steered, steers, plan_at, made_at, starts_at, begins, draft_of, code_of}
 use Rattle.wave_gen.specs.Gen.{gen_term, gen_ops}
 use Rattle.wave_gen.specs.Drawn.{gen_terms}
@@ -56,13 +56,13 @@ module _ (g : Graph) (arrays : List Array) (width : ℕ) (ps : List Plan) (live 
   abbrev C : Code
   C = code_of width ps
 
-  abbrev Ties : Place → Config → Type 0
+  abbrev Ties : RunPlace → Config → Type 0
   Ties p c = Tied arrays width ps (λ b x. live b x ≡ true) d.plans g d.rules place zeroed d.drawn p c
 
-  abbrev after : Place → Place
+  abbrev after : RunPlace → RunPlace
   after p = next arrays width ps (λ b x. live b x ≡ true) d.plans g d.rules place zeroed d.drawn p
 
-  abbrev afters : ℕ → Place → Place
+  abbrev afters : ℕ → RunPlace → RunPlace
   afters m p = nexts arrays width ps (λ b x. live b x ≡ true) d.plans g d.rules place zeroed d.drawn m p
 
   -- the spots that wait for values in a configuration
@@ -82,37 +82,37 @@ module _ (g : Graph) (arrays : List Array) (width : ℕ) (ps : List Plan) (live 
       omega (arith, e, y, z, s)
 
   -- a block that is passed stops, or leads on
-  pass_case : (p : Place) → ((pass I C p).fired ≡ p.fired + count ((code_of width ps).steps p.block))
+  pass_case : (p : RunPlace) → ((pass I C p).fired ≡ p.fired + count ((code_of width ps).steps p.block))
       × (((stops I p.block ≡ true) × ((pass I C p).over ≡ true)) ⊎ ((r : ℕ) × ((pass I C p).over ≡ false) × ((pass I C p).block ≡ target I p.block r)))
   unfolding pass
   pass_case p = elim (cases_Bool (stops I p.block)) [
-    | inl h ↦ (let e = cond-true (stops I p.block) stopped gone h in (ap (λ (q : Place). q.fired) e, inl (h, ap (λ (q : Place). q.over) e)))
-    | inr h ↦ (let e = cond-false (stops I p.block) stopped gone h in (ap (λ (q : Place). q.fired) e, inr (chosen I C p.block (names_at C p).env, ap (λ (q : Place). q.over) e, ap (λ (q : Place). q.block) e)))
+    | inl h ↦ (let e = cond-true (stops I p.block) stopped gone h in (ap (λ (q : RunPlace). q.fired) e, inl (h, ap (λ (q : RunPlace). q.over) e)))
+    | inr h ↦ (let e = cond-false (stops I p.block) stopped gone h in (ap (λ (q : RunPlace). q.fired) e, inr (chosen I C p.block (names_at C p).env, ap (λ (q : RunPlace). q.over) e, ap (λ (q : RunPlace). q.block) e)))
   ]
     where
-      stopped : Place
+      stopped : RunPlace
       stopped = record { over = true; block = p.block; env = (names_at C p).env; out = (names_at C p).out; fired = p.fired + count (C.steps p.block) }
 
-      gone : Place
+      gone : RunPlace
       gone = record { over = false; block = target I p.block (chosen I C p.block (names_at C p).env); env = C.next p.block (chosen I C p.block (names_at C p).env) (names_at C p).env; out = (names_at C p).out; fired = p.fired + count (C.steps p.block) }
 
-  tied_at : (p : Place) (c : Config) → Ties p c → (b : ℕ) (st : State) (frames : List _) (k : ℕ) → c ≡ At b st frames k → (p.over ≡ false) × (p.block ≡ place b)
+  tied_at : (p : RunPlace) (c : Config) → Ties p c → (b : ℕ) (st : State) (frames : List _) (k : ℕ) → c ≡ At b st frames k → (p.over ≡ false) × (p.block ≡ place b)
   tied_at p c (at_block b' st' j a) b st frames k e = let z : At b' st' [] j ≡ At b st frames k = e in let q : b' ≡ b = cc in (a.stands.over, a.stands.block ∙ ap place q)
   tied_at p c (at_end o j x y) b st frames k e = absurd (let z : Over o j ≡ At b st frames k = e in cc)
   tied_at p c (out_of_turns o) b st frames k e = absurd (let z : Going o ≡ At b st frames k = e in cc)
 
-  tied_over : (p : Place) (c : Config) → Ties p c → (o : Outside) (k : ℕ) → c ≡ Over o k → p.over ≡ true
+  tied_over : (p : RunPlace) (c : Config) → Ties p c → (o : Outside) (k : ℕ) → c ≡ Over o k → p.over ≡ true
   tied_over p c (at_block b' st' j a) o k e = absurd (let z : At b' st' [] j ≡ Over o k = e in cc)
   tied_over p c (at_end o' j x y) o k e = x
   tied_over p c (out_of_turns o') o k e = absurd (let z : Going o' ≡ Over o k = e in cc)
 
   -- a block is paid for by its weight and by what is wanted behind it
-  one_block : (b : ℕ) (st : State) (p : Place) → AtBlock arrays width ps (λ b x. live b x ≡ true) d.plans g d.rules place zeroed d.drawn b st p → (c : Config) (l : ℕ) → Ties (after p) c → paced.Leaves c l → 4 * (after p).fired + total (starts_at width ps (place b)) n ≤ 4 * p.fired + weight b + wanted c
+  one_block : (b : ℕ) (st : State) (p : RunPlace) → AtBlock arrays width ps (λ b x. live b x ≡ true) d.plans g d.rules place zeroed d.drawn b st p → (c : Config) (l : ℕ) → Ties (after p) c → paced.Leaves c l → 4 * (after p).fired + total (starts_at width ps (place b)) n ≤ 4 * p.fired + weight b + wanted c
   one_block b st p a c l t leaves =
       let h : (1 ≤ place b) × (place b ≤ length ps) = a.stands.there in
       let q : after p ≡ pass I C p = cond-false p.over p (pass I C p) a.stands.over in
       let w = weigh b a.there in
-      let f : (after p).fired ≡ p.fired + count ((code_of width ps).steps (place b)) = ap (λ (x : Place). x.fired) q ∙ (pass_case p).0 ∙ ap (λ (x : ℕ). p.fired + count ((code_of width ps).steps x)) a.stands.block in
+      let f : (after p).fired ≡ p.fired + count ((code_of width ps).steps (place b)) = ap (λ (x : RunPlace). x.fired) q ∙ (pass_case p).0 ∙ ap (λ (x : ℕ). p.fired + count ((code_of width ps).steps x)) a.stands.block in
       let k : count ((code_of width ps).steps (place b)) ≡ length (made_at width ps (place b)).code = count_is (place b) h in
       let u : total (end_wants width (starts_at width ps) (plan_at ps (place b)).exit) n ≤ wanted c = behind h q leaves in
       omega (arith, w, f, k, u)
@@ -121,8 +121,8 @@ module _ (g : Graph) (arrays : List Array) (width : ℕ) (ps : List Plan) (live 
       behind h q (inl (b2, s2, fr, e)) =
           let v = tied_at (after p) c t b2 s2 fr l e in
           elim (pass_case p).1 [
-            | inl s ↦ absurd (both_ways (after p).over v.0 (ap (λ (x : Place). x.over) q ∙ s.1))
-            | inr s ↦ (let to : target I (place b) s.0 ≡ place b2 = ap (λ (x : ℕ). target I x s.0) (sym a.stands.block) ∙ sym s.2 ∙ ap (λ (x : Place). x.block) (sym q) ∙ v.1 in
+            | inl s ↦ absurd (both_ways (after p).over v.0 (ap (λ (x : RunPlace). x.over) q ∙ s.1))
+            | inr s ↦ (let to : target I (place b) s.0 ≡ place b2 = ap (λ (x : ℕ). target I x s.0) (sym a.stands.block) ∙ sym s.2 ∙ ap (λ (x : RunPlace). x.block) (sym q) ∙ v.1 in
                 let i = ends_on arrays width ps (λ b x. live b x ≡ true) d.plans n (place b) s.0 h in
                 let j : total (starts_at width ps (target I (place b) s.0)) n ≡ total (starts_at width ps (place b2)) n = ap (λ (x : ℕ). total (starts_at width ps x) n) to in
                 let m : wanted c ≡ total (starts_at width ps (place b2)) n = ap wanted e in
@@ -132,17 +132,17 @@ module _ (g : Graph) (arrays : List Array) (width : ℕ) (ps : List Plan) (live 
           let v = tied_over (after p) c t o l e in
           elim (pass_case p).1 [
             | inl s ↦ (let i = ends_stop arrays width ps (λ b x. live b x ≡ true) d.plans n (place b) h (ap (λ (x : ℕ). stops I x) (sym a.stands.block) ∙ s.0) in omega (arith, i))
-            | inr s ↦ absurd (both_ways (after p).over (ap (λ (x : Place). x.over) q ∙ s.1) v)
+            | inr s ↦ absurd (both_ways (after p).over (ap (λ (x : RunPlace). x.over) q ∙ s.1) v)
           ]
 
   -- a walk that ends
-  pub cost_from : (m : ℕ) (p : Place) (c : Config) → Ties p c → WalkFine g c → (o : Outside) (k : ℕ) → walk g m c ≡ Over o k → 4 * (afters m p).fired + wanted c ≤ 4 * p.fired + sum_by weight (path g m c)
+  pub cost_from : (m : ℕ) (p : RunPlace) (c : Config) → Ties p c → WalkFine g c → (o : Outside) (k : ℕ) → walk g m c ≡ Over o k → 4 * (afters m p).fired + wanted c ≤ 4 * p.fired + sum_by weight (path g m c)
   cost_from zero p c t f o k e = let z : wanted c ≡ 0 = ap wanted e in omega (arith, z)
   cost_from (suc m) p c (out_of_turns q) f o k e = absurd (walk_going g m q o k e)
   cost_from (suc m) p c (at_end q j x y) f o k e =
       let s = one_more arrays width ps (λ b x. live b x ≡ true) d.plans g d.rules place zeroed d.drawn p (Over q j) (at_end q j x y) f in
       let i = cost_from m (after p) (Over q j) s (λ i b st fr l h. f (suc i) b st fr l h) o k e in
-      let z : (after p).fired ≡ p.fired = ap (λ (r : Place). r.fired) (cond-true p.over p (pass I C p) x) in
+      let z : (after p).fired ≡ p.fired = ap (λ (r : RunPlace). r.fired) (cond-true p.over p (pass I C p) x) in
       omega (arith, i, z)
   cost_from (suc m) p c (at_block b st j a) f o k e =
       let s = one_more arrays width ps (λ b x. live b x ≡ true) d.plans g d.rules place zeroed d.drawn p (At b st [] j) (at_block b st j a) f in
@@ -172,7 +172,7 @@ module _ (g : Graph) (arrays : List Array) (width : ℕ) (ps : List Plan) (live 
     over_at : (m : ℕ) (o : Outside) (left : ℕ) → walk g m (opening g world turns) ≡ Over o left → (places I C (opening_memory I world) m).over ≡ true
     over_at m o left e =
         let s = Rattle.wave_gen.proofs.Tied.follows arrays width ps (λ b x. live b x ≡ true) d.plans g d.rules place zeroed d.drawn m (places I C (opening_memory I world) 0) (opening g world turns) starts_tied fine in
-        ap (λ (p : Place). p.over) (sym (place_of_walk m)) ∙ tied_over (afters m (places I C (opening_memory I world) 0)) (walk g m (opening g world turns)) s o left e
+        ap (λ (p : RunPlace). p.over) (sym (place_of_walk m)) ∙ tied_over (afters m (places I C (opening_memory I world) 0)) (walk g m (opening g world turns)) s o left e
 
     -- the draft's walk leaves no more blocks than the graph's
     leaves_few : (m : ℕ) (o : Outside) (left : ℕ) → walk g m (opening g world turns) ≡ Over o left → (t : ℕ) → blocks_left I world t ≤ length (path g m (opening g world turns))
@@ -193,7 +193,7 @@ module _ (g : Graph) (arrays : List Array) (width : ℕ) (ps : List Plan) (live 
         let c = cost_from m (places I C (opening_memory I world) 0) (opening g world turns) starts_tied fine o left e in
         let w : (places I C (opening_memory I world) m).over ≡ true = over_at m o left e in
         let r = forth I world C (shape arrays width ps (λ b x. live b x ≡ true) d.plans) (waits arrays width ps (λ b x. live b x ≡ true) d.plans) m in
-        let f : (afters m (places I C (opening_memory I world) 0)).fired ≡ (places I C (opening_memory I world) m).fired = ap (λ (p : Place). p.fired) (place_of_walk m) in
+        let f : (afters m (places I C (opening_memory I world) 0)).fired ≡ (places I C (opening_memory I world) m).fired = ap (λ (p : RunPlace). p.fired) (place_of_walk m) in
         let x : length (Rattle.image_walk.specs.Walk.walk I world r.0) ≡ (places I C (opening_memory I world) m).fired = r.1.cost in
         (length (Rattle.image_walk.specs.Walk.walk I world r.0), over_is_whole I world r.0 (r.1.over ∙ w), omega (arith, c, f, x), leaves_few m o left e)
 

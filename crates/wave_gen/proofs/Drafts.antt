@@ -7,7 +7,7 @@ use Rattle.ws_isa.specs.declared.instr.Dest.{Dest}
 use Rattle.ws_isa.specs.Image.{Image, Instr, Array, nth, instr_at, first_number, now_dests, now_of, is_advance, is_advance_op, IsIn}
 use Rattle.image_walk.specs.Sound.{HasDest}
 use Rattle.wave_gen.specs.Waits.{Distinct, Owner, Step, Fires, Rests, Skips, Copies, Stands}
-use Rattle.wave_gen.specs.Wire.{Spot, Back, Front, dest_of, dests_of, Line, Wants, Made, emit, rest, with_rooms, make, Item, Make, Act, Same}
+use Rattle.wave_gen.specs.Wire.{Spot, Back, Front, dest_of, dests_of, WiredInstr, Wants, Made, emit, rest, with_rooms, make, Item, Make, Act, Same}
 use Rattle.wave_gen.specs.Plans.{merges, Leaves, Onto, Either, Lands, Halts, Plan, pulse, Tail, TailAt, steers, sends, steered, hang, selected, tails_of, end_wants, behind_source, exit_made, body_made, renew, advances, plan_at, made_at, starts_at, begins, owner_of, instr_of, draft_of, source_of, operands_needed, chooses, KeptOf}
 use Rattle.wave_gen.proofs.Planned.{is_act_op, ItemsAre, SourceIs, PlanIs}
 use Rattle.wave_gen.proofs.Wiring.{Ahead, CodeOk, spot_of}
@@ -91,9 +91,9 @@ exit_no_advance (Lands op from values ls) s = (s.0.1, λ p. refl)
 exit_no_advance Halts s = refl
 
 -- the lines of a first block
-pub advance_line : (b : ℕ) (xs : List ℕ) (s : Made) (i : ℕ) (l : Line) → i < length xs → nth (advances b xs s).code i ≡ Some l → l.op ≡ Advance
+pub advance_line : (b : ℕ) (xs : List ℕ) (s : Made) (i : ℕ) (l : WiredInstr) → i < length xs → nth (advances b xs s).code i ≡ Some l → l.op ≡ Advance
 advance_line b [] s i l u e = absurd (omega arith)
-advance_line b (x ∷ xs) s zero l u e = let g : record { op = Advance; dests = (advances b xs s).wants x; others = [] } ≡ l = cc in ap (λ (m : Line). m.op) (sym g)
+advance_line b (x ∷ xs) s zero l u e = let g : record { op = Advance; dests = (advances b xs s).wants x; others = [] } ≡ l = cc in ap (λ (m : WiredInstr). m.op) (sym g)
 advance_line b (x ∷ xs) s (suc i) l u e = advance_line b xs s i l (omega arith) e
 
 pub behind_advances : (b : ℕ) (xs : List ℕ) (s : Made) (i : ℕ) → nth (advances b xs s).code (length xs + i) ≡ nth s.code i
@@ -102,9 +102,9 @@ behind_advances b (x ∷ xs) s i = let z : suc (length xs) + i ≡ suc (length x
 
 -- steps and lines make an image's instructions
 module _ (image : Image) (first : ℕ → ℕ) (b : ℕ) (o : Owner) (K : ℕ → ℕ → Type 0) where
-  stands_of : (k : ℕ) (code : List Line) (ss : List Step) → CodeOk first o k code ss → KeptOk K k ss → k + length code ≡ first_number image (suc b) →
-      ((i : ℕ) (l : Line) → nth code i ≡ Some l → instr_at image (k + i) ≡ instr_of first l) →
-      ((i j q : ℕ) (l : Line) → nth code i ≡ Some l → HasDest (dests_of first l.dests) j q → is_advance image j ≡ true → IsIn image b j → j ≤ k + i) → Stands image b K k ss o
+  stands_of : (k : ℕ) (code : List WiredInstr) (ss : List Step) → CodeOk first o k code ss → KeptOk K k ss → k + length code ≡ first_number image (suc b) →
+      ((i : ℕ) (l : WiredInstr) → nth code i ≡ Some l → instr_at image (k + i) ≡ instr_of first l) →
+      ((i j q : ℕ) (l : WiredInstr) → nth code i ≡ Some l → HasDest (dests_of first l.dests) j q → is_advance image j ≡ true → IsIn image b j → j ≤ k + i) → Stands image b K k ss o
   unfolding now_dests
   stands_of k code [] c t n look back = let z : length code ≡ 0 = ap length c in omega arith
   stands_of k [] (Fires x op from ∷ ss) c t n look back = absurd c
@@ -177,10 +177,10 @@ module _ (arrays : List Array) (width : ℕ) (ps : List Plan) (Live : ℕ → �
     block_lines P m k i = body_lines P m width S b (plan_at ps b) k i
 
     -- a line behind the front: of a first block, behind its advances
-    pub record BehindFront (P : Op → Type 0) (i : ℕ) (l : Line) : Type 0 where
+    pub record BehindFront (P : Op → Type 0) (i : ℕ) (l : WiredInstr) : Type 0 where
       pub kind : P l.op
 
-    pub inner_line : (P : Op → Type 0) → P Merge → Kind P (plan_at ps b).exit → Items P (plan_at ps b).items → (plan_at ps b).first ≡ false → (i : ℕ) (l : Line) → nth (made_at width ps b).code i ≡ Some l → P l.op
+    pub inner_line : (P : Op → Type 0) → P Merge → Kind P (plan_at ps b).exit → Items P (plan_at ps b).items → (plan_at ps b).first ≡ false → (i : ℕ) (l : WiredInstr) → nth (made_at width ps b).code i ≡ Some l → P l.op
     inner_line P m k is f i l e = line_at P (made_at width ps b).code i l (subst (λ (s : Made). Lines P s.code) (sym (made_is width ps b h (plans b h).edges ∙ cond-false (plan_at ps b).first _ _ f)) (go (merges (plan_at ps b) (body_made width S b (plan_at ps b))))) e
       where
         go : (j : Bool) → Lines P (cond j (emit b pulse Merge (pulse ∷ []) (body_made width S b (plan_at ps b))) (body_made width S b (plan_at ps b))).code
@@ -190,20 +190,20 @@ module _ (arrays : List Array) (width : ℕ) (ps : List Plan) (Live : ℕ → �
     made_first : (plan_at ps b).first ≡ true → made_at width ps b ≡ advances b (plan_at ps b).entries (renew b (plan_at ps b).entries (body_made width S b (plan_at ps b)))
     made_first f = made_is width ps b h (plans b h).edges ∙ cond-true (plan_at ps b).first _ _ f
 
-    pub outer_line : (P : Op → Type 0) → P Merge → Kind P (plan_at ps b).exit → Items P (plan_at ps b).items → (plan_at ps b).first ≡ true → (i : ℕ) (l : Line) → nth (made_at width ps b).code (length (plan_at ps b).entries + i) ≡ Some l → P l.op
+    pub outer_line : (P : Op → Type 0) → P Merge → Kind P (plan_at ps b).exit → Items P (plan_at ps b).items → (plan_at ps b).first ≡ true → (i : ℕ) (l : WiredInstr) → nth (made_at width ps b).code (length (plan_at ps b).entries + i) ≡ Some l → P l.op
     outer_line P m k is f i l e = line_at P core.code i l ((renew_more P m b (plan_at ps b).entries (body_made width S b (plan_at ps b))).lines (block_lines P m k is))
         (sym (behind_advances b (plan_at ps b).entries core i) ∙ ap (λ (s : Made). nth s.code (length (plan_at ps b).entries + i)) (sym (made_first f)) ∙ e)
       where
         core : Made
         core = renew b (plan_at ps b).entries (body_made width S b (plan_at ps b))
 
-    pub front_line : (plan_at ps b).first ≡ true → (i : ℕ) (l : Line) → i < length (plan_at ps b).entries → nth (made_at width ps b).code i ≡ Some l → l.op ≡ Advance
+    pub front_line : (plan_at ps b).first ≡ true → (i : ℕ) (l : WiredInstr) → i < length (plan_at ps b).entries → nth (made_at width ps b).code i ≡ Some l → l.op ≡ Advance
     front_line f i l u e = advance_line b (plan_at ps b).entries (renew b (plan_at ps b).entries (body_made width S b (plan_at ps b))) i l u (ap (λ (s : Made). nth s.code i) (sym (made_first f)) ∙ e)
 
     -- the line of an instruction
     pub record LineOf (j : ℕ) : Type 0 where
       pub place : ℕ
-      pub line : Line
+      pub line : WiredInstr
       pub number : j ≡ F b + place
       pub found : nth (made_at width ps b).code place ≡ Some line
       pub is : instr_at I j ≡ instr_of F line
@@ -415,7 +415,7 @@ module _ (arrays : List Array) (width : ℕ) (ps : List Plan) (Live : ℕ → �
           ]
         ]
 
-    back : (i j q : ℕ) (l : Line) → nth (made_at width ps b).code i ≡ Some l → HasDest (dests_of F l.dests) j q → is_advance I j ≡ true → IsIn I b j → j ≤ F b + i
+    back : (i j q : ℕ) (l : WiredInstr) → nth (made_at width ps b).code i ≡ Some l → HasDest (dests_of F l.dests) j q → is_advance I j ≡ true → IsIn I b j → j ≤ F b + i
     back i j q l e d a inn = elim (cases_lt i (length (plan_at ps b).entries)) [
       | inr u ↦ (let lt : j < F b + length (plan_at ps b).entries = (advance_front j inn a).1 in omega arith)
       | inl u ↦ absurd (away (spot_of F l.dests j q d).spot (spot_of F l.dests j q d).instr (fact.bars (advance_front j inn a).0 i l u e (spot_of F l.dests j q d).spot (spot_of F l.dests j q d).inside))

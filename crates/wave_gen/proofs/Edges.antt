@@ -8,7 +8,7 @@ use Rattle.ws_isa.specs.Image as image
 use Rattle.ws_isa.specs.Image.{Image, Instr, Pad, Array, In, nth, or_else, instr_at, block_at, first_number, is_first, edge_of, edge_dests, pad_of, leave_to, landing_of, target, stops, IsIn, IsBlock}
 use Rattle.image_walk.specs.Sound.{HasDest, edge_all, opens_at}
 use Rattle.wave_gen.specs.Waits.{Distinct, Code, starts, Arrives, went_past, was_sent}
-use Rattle.wave_gen.specs.Wire.{Spot, Back, Front, dests_of, Line, Wants}
+use Rattle.wave_gen.specs.Wire.{Spot, Back, Front, dests_of, WiredInstr, Wants}
 use Rattle.wave_gen.specs.Plans.{Leaves, Onto, Either, Lands, Plan, same_spot, same_spots, differing, steered, is_among, past, Tail, TailAt, steer_of, steers, sends, fronts, plan_at, starts_at, begins, tails_of, end_wants, pads_of, draft_of, code_of, exit_of, source_of, filled, next_of, instr_of}
 use Rattle.wave_gen.proofs.SteeredNames.{or_apart, in_or}
 use Rattle.wave_gen.proofs.Planned.{Apart, AllIn, PadsFit, PlansAre, Outer}
@@ -199,7 +199,7 @@ module _ (arrays : List Array) (width : ℕ) (ps : List Plan) (Live : ℕ → �
       | inr e ↦ absurd (subst (λ (l : List Dest). HasDest l j q) (edge_none I b r (instr_at I m) (instr_at I m).op e) d)
     ]
 
-    tail_edge : (r m : ℕ) (line : Line) → instr_at I m ≡ instr_of F line → edge_dests I b r m ≡ edge_of I b r (instr_of F line) line.op
+    tail_edge : (r m : ℕ) (line : WiredInstr) → instr_at I m ≡ instr_of F line → edge_dests I b r m ≡ edge_of I b r (instr_of F line) line.op
     unfolding edge_dests
     tail_edge r m line e = ap (λ (i : Instr). edge_of I b r i i.op) e
 

@@ -4,14 +4,14 @@ use Rattle.std.proofs.lemmas.Bool.{cases_eq, cases_lt, cases_order, lt-ltb, le-l
 use Rattle.ws_isa.specs.declared.instr.Op.{Op}
 use Rattle.ws_isa.specs.declared.instr.Op.TheVariants.{Advance, Send}
 use Rattle.ws_isa.specs.Image.{In, is_memory_op, ports_of}
-use Rattle.wave_gen.specs.Wire.{Spot, Back, Line, Wants, Made, with_wants, with_uses, moved, emit, rest, skip, copy, gather, with_room, with_rooms, Item, Make, Act, Same, is_nil, make, alias, wire, most}
+use Rattle.wave_gen.specs.Wire.{Spot, Back, WiredInstr, Wants, Made, with_wants, with_uses, moved, emit, rest, skip, copy, gather, with_room, with_rooms, Item, Make, Act, Same, is_nil, make, alias, wire, most}
 use Rattle.wave_gen.specs.Plans.{Tail, operands_of, hung, hang, chain, renew, advances, has_front}
 use Rattle.wave_gen.proofs.Planned.{ItemsAre, Apart, AllBelow}
 use Rattle.wave_gen.proofs.Flow.{helds}
 use Rattle.wave_gen.proofs.Fronts.{in_or_not}
 use Rattle.ws_isa.proofs.Images.{three_ports as ports_few}
 
-abbrev pub Short : List Line → Type 0
+abbrev pub Short : List WiredInstr → Type 0
 Short [] = Unit {0}
 Short (l ∷ ls) = (length l.dests ≤ 7) × (length l.others ≤ 7) × Short ls
 
@@ -53,7 +53,7 @@ emit_few b x op from s f r = record {
   lines = (f.wants x, omega arith, f.lines);
 }
 
-pub rest_few : (b : ℕ) (line : Line) (from : List ℕ) (s : Made) → length line.dests ≤ 7 → length line.others ≤ 7 → Few s → Room (length from) from s → Few (rest b line from s)
+pub rest_few : (b : ℕ) (line : WiredInstr) (from : List ℕ) (s : Made) → length line.dests ≤ 7 → length line.others ≤ 7 → Few s → Room (length from) from s → Few (rest b line from s)
 rest_few b line from s d e f r = record {
   wants = λ y. elim (in_or_not from y) [
     | inl i ↦ (let h : length (with_uses b (length s.code) 0 from s.wants y) ≤ length (s.wants y) + length from = uses_most b (length s.code) 0 from s.wants y in let m : length (s.wants y) + length from ≤ 7 = r y i in omega arith)

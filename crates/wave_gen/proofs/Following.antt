@@ -3,7 +3,7 @@ use Rattle.std.proofs.Common.{ℕ, ◌≡◌, ◌≤◌, true, false, cond, eqb,
 use Rattle.std.proofs.lemmas.Bool.{cond-true, cond-false}
 use Rattle.ws_isa.specs.Image as image
 use Rattle.ws_isa.specs.Image.{Image, Array, stops, target, block_at}
-use Rattle.wave_gen.specs.Waits.{Names, Code, Place, names_at, pass, chosen, chosen_of}
+use Rattle.wave_gen.specs.Waits.{Names, Code, RunPlace, names_at, pass, chosen, chosen_of}
 use Rattle.wave_gen.specs.Plans.{Leaves, Onto, Either, Lands, Halts, Plan, plan_at, starts_at, draft_of, code_of, exit_of, source_of, filled}
 use Rattle.wave_gen.proofs.Planned.{PlansAre}
 use Rattle.wave_gen.proofs.Runs.{run_items, run_choice}
@@ -23,7 +23,7 @@ module _ (arrays : List Array) (width : ℕ) (ps : List Plan) (Live : ℕ → �
   Is b = (1 ≤ b) × (b ≤ length ps)
 
   -- what a block leaves
-  module _ (p : Place) (n : ℕ) (h : Is n) (b : p.block ≡ n) where
+  module _ (p : RunPlace) (n : ℕ) (h : Is n) (b : p.block ≡ n) where
     abbrev start : Names
     start = record { env = p.env; out = p.out }
 
@@ -39,7 +39,7 @@ module _ (arrays : List Array) (width : ℕ) (ps : List Plan) (Live : ℕ → �
     unfolding pass
     stopped q =
         let s : stops I p.block ≡ true = ap (stops I) b ∙ stops_is arrays width ps Live plans n h ∙ ap (λ (l : Leaves). image.is_stop (exit_of (source_of width ps n) l)) q in
-        (ap (λ (z : Place). z.over) (cond-true (stops I p.block) _ _ s), ap (λ (z : Place). z.out) (cond-true (stops I p.block) _ _ s) ∙ left.out)
+        (ap (λ (z : RunPlace). z.over) (cond-true (stops I p.block) _ _ s), ap (λ (z : RunPlace). z.out) (cond-true (stops I p.block) _ _ s) ∙ left.out)
 
     -- where it goes on
     pub record Onward (r : ℕ) : Type 0 where
@@ -53,10 +53,10 @@ module _ (arrays : List Array) (width : ℕ) (ps : List Plan) (Live : ℕ → �
     goes_on t =
         let s : stops I p.block ≡ false = ap (stops I) b ∙ t in
         record {
-          over = ap (λ (z : Place). z.over) (cond-false (stops I p.block) _ _ s);
-          block = ap (λ (z : Place). z.block) (cond-false (stops I p.block) _ _ s) ∙ ap (λ (m : ℕ). target I m (chosen I C m (names_at C p).env)) b;
-          env = λ x. ap (λ (z : Place). z.env x) (cond-false (stops I p.block) _ _ s) ∙ ap (λ (m : ℕ). C.next m (chosen I C m (names_at C p).env) (names_at C p).env x) b;
-          out = ap (λ (z : Place). z.out) (cond-false (stops I p.block) _ _ s) ∙ left.out;
+          over = ap (λ (z : RunPlace). z.over) (cond-false (stops I p.block) _ _ s);
+          block = ap (λ (z : RunPlace). z.block) (cond-false (stops I p.block) _ _ s) ∙ ap (λ (m : ℕ). target I m (chosen I C m (names_at C p).env)) b;
+          env = λ x. ap (λ (z : RunPlace). z.env x) (cond-false (stops I p.block) _ _ s) ∙ ap (λ (m : ℕ). C.next m (chosen I C m (names_at C p).env) (names_at C p).env x) b;
+          out = ap (λ (z : RunPlace). z.out) (cond-false (stops I p.block) _ _ s) ∙ left.out;
         }
 
     going : (e : Leaves) → (plan_at ps n).exit ≡ e → image.is_stop (exit_of (source_of width ps n) e) ≡ false → stops I n ≡ false

@@ -5,7 +5,7 @@ use Rattle.std.proofs.lemmas.Nat.{mul-le}
 use Rattle.std.proofs.Math.Nat.{mul-add}
 use Rattle.ws_words.specs.Outside.{Outside}
 use Rattle.ws_isa.specs.Image.{Image, is_first, stops, target, IsBlock}
-use Rattle.wave_gen.specs.Waits.{Names, Code, count, names_at, chosen, Place, pass, places}
+use Rattle.wave_gen.specs.Waits.{Names, Code, count, names_at, chosen, RunPlace, pass, places}
 use Rattle.wave_gen.proofs.WalkShape.{WalkShape}
 
 -- n blocks, m of them passed, f instructions fired before block b
@@ -23,10 +23,10 @@ module _ (image : Image) (c : Code) (shape : WalkShape image) (busy : (b : ℕ) 
   N = length image.blocks
 
   -- the instructions fired, and one more where a wave begins
-  abbrev begun : Place → ℕ
+  abbrev begun : RunPlace → ℕ
   begun p = p.fired + cond (is_first image p.block) 1 0
 
-  record Grown (m : ℕ) (p : Place) : Type 0 where
+  record Grown (m : ℕ) (p : RunPlace) : Type 0 where
     pub there : IsBlock image p.block
     pub long : m + suc (length image.blocks) ≤ length image.blocks * (p.fired + cond (is_first image p.block) 1 0) + p.block
 
@@ -34,10 +34,10 @@ module _ (image : Image) (c : Code) (shape : WalkShape image) (busy : (b : ℕ) 
   unfolding is_first
   begins out = record { there = shape.has_block; long = omega arith }
 
-  passes : (m : ℕ) (p : Place) → Grown m p → (pass image c p).over ≡ false → Grown (suc m) (pass image c p)
+  passes : (m : ℕ) (p : RunPlace) → Grown m p → (pass image c p).over ≡ false → Grown (suc m) (pass image c p)
   unfolding pass
   passes m p g o = elim (cases_Bool (stops image p.block)) [
-    | inl h ↦ absurd (both_ways (pass image c p).over o (ap (λ (q : Place). q.over) (cond-true (stops image p.block) stopped gone h)))
+    | inl h ↦ absurd (both_ways (pass image c p).over o (ap (λ (q : RunPlace). q.over) (cond-true (stops image p.block) stopped gone h)))
     | inr h ↦ subst (Grown (suc m)) (sym (cond-false (stops image p.block) stopped gone h)) (record {
       there = (shape.edges p.block g.there).there r h;
       long = elim (cases_Bool (is_first image (target image p.block r))) [
@@ -55,10 +55,10 @@ module _ (image : Image) (c : Code) (shape : WalkShape image) (busy : (b : ℕ) 
       r : ℕ
       r = chosen image c p.block (names_at c p).env
 
-      stopped : Place
+      stopped : RunPlace
       stopped = record { over = true; block = p.block; env = (names_at c p).env; out = (names_at c p).out; fired = p.fired + count (c.steps p.block) }
 
-      gone : Place
+      gone : RunPlace
       gone = record { over = false; block = target image p.block r; env = c.next p.block r (names_at c p).env; out = (names_at c p).out; fired = p.fired + count (c.steps p.block) }
 
       enough : p.fired + cond (is_first image p.block) 1 0 ≤ p.fired + count (c.steps p.block)
@@ -71,10 +71,10 @@ module _ (image : Image) (c : Code) (shape : WalkShape image) (busy : (b : ℕ) 
   grown out zero o = begins out
   grown out (suc m) o = go (places image c out m) (λ h. grown out m h) o
     where
-      go : (p : Place) → (p.over ≡ false → Grown m p) → (cond p.over p (pass image c p)).over ≡ false → Grown (suc m) (cond p.over p (pass image c p))
+      go : (p : RunPlace) → (p.over ≡ false → Grown m p) → (cond p.over p (pass image c p)).over ≡ false → Grown (suc m) (cond p.over p (pass image c p))
       go p ih q = elim (cases_Bool p.over) [
-        | inl h ↦ absurd (both_ways p.over (ap (λ (x : Place). x.over) (sym (cond-true p.over p (pass image c p) h)) ∙ q) h)
-        | inr h ↦ subst (Grown (suc m)) (sym (cond-false p.over p (pass image c p) h)) (passes m p (ih h) (ap (λ (x : Place). x.over) (sym (cond-false p.over p (pass image c p) h)) ∙ q))
+        | inl h ↦ absurd (both_ways p.over (ap (λ (x : RunPlace). x.over) (sym (cond-true p.over p (pass image c p) h)) ∙ q) h)
+        | inr h ↦ subst (Grown (suc m)) (sym (cond-false p.over p (pass image c p) h)) (passes m p (ih h) (ap (λ (x : RunPlace). x.over) (sym (cond-false p.over p (pass image c p) h)) ∙ q))
       ]
 
   -- where it isn't over after m blocks, so many instructions have fired
@@ -87,5 +87,5 @@ module _ (image : Image) (c : Code) (shape : WalkShape image) (busy : (b : ℕ) 
       let l : p.block ≤ N = g.there.1 in
       omega (arith, h, i, l)
     where
-      bound : (p : Place) → p.fired + cond (is_first image p.block) 1 0 ≤ suc p.fired
+      bound : (p : RunPlace) → p.fired + cond (is_first image p.block) 1 0 ≤ suc p.fired
       bound p = elim (cases_Bool (is_first image p.block)) [ inl f ↦ rw f (omega arith) | inr f ↦ rw f (omega arith) ]

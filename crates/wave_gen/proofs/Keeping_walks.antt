@@ -12,7 +12,7 @@ use Rattle.cfg_core.specs.Graph as graph
 use Rattle.cfg_core.specs.Graph.{Graph, Spot, spots, spot_at, block_at, no_spot, no_proc, proc_at, entry_of}
 use Rattle.cfg_core.specs.Rules.{IsGraph, ProcNumbers}
 use Rattle.cfg_core.specs.Walk.{Config, At, Over, Going, Frame, leave, passed, step, walk, opening}
-use Rattle.wave_gen.specs.Waits.{Code, Place, count, places}
+use Rattle.wave_gen.specs.Waits.{Code, RunPlace, count, places}
 use Rattle.wave_gen.specs.Wire.{Made}
 use Rattle.wave_gen.proofs.Planned.{PlansAre}
 use Rattle.wave_gen.specs.Plans.{Plan, pulse, body_made, renew, plan_at, made_at, starts_at, begins, draft_of, code_of}
@@ -118,7 +118,7 @@ module _ (g : Graph) (arrays : List Array) (width : ℕ) (ps : List Plan) (live 
       omega (arith, e, l)
 
   module _ (world : World) (turns : ℕ) (fine : WalkFine g (opening g world turns)) where
-    abbrev S : ℕ → Place
+    abbrev S : ℕ → RunPlace
     S m = places I C (opening_memory I world) m
 
     ties : (m : ℕ) → Tied arrays width ps (λ b x. live b x ≡ true) d.plans g d.rules place zeroed d.drawn (S m) (walk g m (opening g world turns))
@@ -126,18 +126,18 @@ module _ (g : Graph) (arrays : List Array) (width : ℕ) (ps : List Plan) (live 
         let e = main_entry g d.rules in
         let b = begins_so arrays width ps (λ b x. live b x ≡ true) d.plans g d.rules place zeroed d.drawn world turns d.cells e.0 e.1 in
         let f = follows arrays width ps (λ b x. live b x ≡ true) d.plans g d.rules place zeroed d.drawn m (S 0) (opening g world turns) b fine in
-        subst (λ (p : Place). Tied arrays width ps (λ b x. live b x ≡ true) d.plans g d.rules place zeroed d.drawn p (walk g m (opening g world turns)))
+        subst (λ (p : RunPlace). Tied arrays width ps (λ b x. live b x ≡ true) d.plans g d.rules place zeroed d.drawn p (walk g m (opening g world turns)))
         (next_place arrays width ps (λ b x. live b x ≡ true) d.plans g d.rules place zeroed d.drawn (opening_memory I world) 0 m ∙ ap S (let z : 0 + m ≡ m = omega arith in z)) f
 
     timed : (j : ℕ) → (t : ℕ) × Same I world C (shape arrays width ps (λ b x. live b x ≡ true) d.plans) (waits arrays width ps (λ b x. live b x ≡ true) d.plans) j t
     timed j = forth I world C (shape arrays width ps (λ b x. live b x ≡ true) d.plans) (waits arrays width ps (λ b x. live b x ≡ true) d.plans) j
 
-    end_case : (p : Place) (c : Config) → Tied arrays width ps (λ b x. live b x ≡ true) d.plans g d.rules place zeroed d.drawn p c → (o : Outside) (left : ℕ) → c ≡ Over o left → (p.over ≡ true) × (p.out ≡ o)
+    end_case : (p : RunPlace) (c : Config) → Tied arrays width ps (λ b x. live b x ≡ true) d.plans g d.rules place zeroed d.drawn p c → (o : Outside) (left : ℕ) → c ≡ Over o left → (p.over ≡ true) × (p.out ≡ o)
     end_case p c (at_block b st k a) o left e = absurd (let z : At b st [] k ≡ Over o left = e in cc)
     end_case p c (at_end o' k x y) o left e = let z : Over o' k ≡ Over o left = e in let q : o' ≡ o = cc in (x, y ∙ q)
     end_case p c (out_of_turns o') o left e = absurd (let z : Going o' ≡ Over o left = e in cc)
 
-    block_case : (p : Place) (c : Config) → Tied arrays width ps (λ b x. live b x ≡ true) d.plans g d.rules place zeroed d.drawn p c → (b : ℕ) (st : State) (frames : List Frame) (left : ℕ) → c ≡ At b st frames left → (p.over ≡ false) × (p.out ≡ st.out)
+    block_case : (p : RunPlace) (c : Config) → Tied arrays width ps (λ b x. live b x ≡ true) d.plans g d.rules place zeroed d.drawn p c → (b : ℕ) (st : State) (frames : List Frame) (left : ℕ) → c ≡ At b st frames left → (p.over ≡ false) × (p.out ≡ st.out)
     block_case p c (at_block b' st' k a) b st frames left e = let z : At b' st' [] k ≡ At b st frames left = e in let q : st' ≡ st = cc in (a.stands.over, a.stands.state.out ∙ ap (λ (s : State). s.out) q)
     block_case p c (at_end o' k x y) b st frames left e = absurd (let z : Over o' k ≡ At b st frames left = e in cc)
     block_case p c (out_of_turns o') b st frames left e = absurd (let z : Going o' ≡ At b st frames left = e in cc)
@@ -165,14 +165,14 @@ module _ (g : Graph) (arrays : List Array) (width : ℕ) (ps : List Plan) (live 
         (t.0, t.1.over ∙ q.0, t.1.out ∙ q.1, omega (arith, f, w))
 
     -- what the walk has done before it is out of turns
-    tied_block : (p : Place) (c : Config) → Tied arrays width ps (λ b x. live b x ≡ true) d.plans g d.rules place zeroed d.drawn p c → (b : ℕ) (st : State) (frames : List Frame) (left : ℕ) → c ≡ At b st frames left → AtBlock arrays width ps (λ b x. live b x ≡ true) d.plans g d.rules place zeroed d.drawn b st p
+    tied_block : (p : RunPlace) (c : Config) → Tied arrays width ps (λ b x. live b x ≡ true) d.plans g d.rules place zeroed d.drawn p c → (b : ℕ) (st : State) (frames : List Frame) (left : ℕ) → c ≡ At b st frames left → AtBlock arrays width ps (λ b x. live b x ≡ true) d.plans g d.rules place zeroed d.drawn b st p
     tied_block p c (at_block b' st' k a) b st frames left e =
         let z : At b' st' [] k ≡ At b st frames left = e in let q : st' ≡ st = cc in let r : b' ≡ b = cc in
         subst (λ n. AtBlock arrays width ps (λ b x. live b x ≡ true) d.plans g d.rules place zeroed d.drawn n st p) r (subst (λ s. AtBlock arrays width ps (λ b x. live b x ≡ true) d.plans g d.rules place zeroed d.drawn b' s p) q a)
     tied_block p c (at_end o' k x y) b st frames left e = absurd (let z : Over o' k ≡ At b st frames left = e in cc)
     tied_block p c (out_of_turns o') b st frames left e = absurd (let z : Going o' ≡ At b st frames left = e in cc)
 
-    left_out : (p : Place) (c : Config) (k : ℕ) → Tied arrays width ps (λ b x. live b x ≡ true) d.plans g d.rules place zeroed d.drawn p c → Leaves c k → p.out ≡ outside c
+    left_out : (p : RunPlace) (c : Config) (k : ℕ) → Tied arrays width ps (λ b x. live b x ≡ true) d.plans g d.rules place zeroed d.drawn p c → Leaves c k → p.out ≡ outside c
     left_out p c k t (inl (b, st, frames, e)) = (block_case p c t b st frames k e).1 ∙ ap outside (sym e)
     left_out p c k t (inr (o, e)) = (end_case p c t o k e).1 ∙ ap outside (sym e)
 

@@ -12,16 +12,16 @@ use Rattle.wave_gen.specs.Plans.{Plan, pulse, has_front, renew, advances, gives,
 use Rattle.wave_gen.specs.Tables.{listed, line_of, Stands, begun}
 
 code_push : (ls : List Line) (l : Line) → reverse (map line_of (ls ++ l ∷ [])) ≡ line_of l ∷ reverse (map line_of ls)
-code_push ls l = ap (λ (ks : List plain.Line). reverse ks) (map_push line_of ls l) ∙ reverse-append (map line_of ls) (line_of l ∷ [])
+code_push ls l = ap (λ (ks : List plain.WiredInstr). reverse ks) (map_push line_of ls l) ∙ reverse-append (map line_of ls) (line_of l ∷ [])
 
 code_length : (b : ℕ) (m : Maker) (s : Made) → Stands b m s → length m.code.items ≡ length s.code
-code_length b m s st = sym (length-map m.code.items line_of) ∙ sym (length-reverse (map line_of m.code.items)) ∙ ap (λ (ls : List plain.Line). length ls) st.code
+code_length b m s st = sym (length-map m.code.items line_of) ∙ sym (length-reverse (map line_of m.code.items)) ∙ ap (λ (ls : List plain.WiredInstr). length ls) st.code
 
 pub rest_stands : (b : ℕ) (m n : Maker) (s : Made) (l : Line) (back : ℕ) (from : List ℕ) → n.block ≡ m.block → n.code.items ≡ m.code.items ++ l ∷ [] → back ≡ length m.code.items
     → ◌≡◌ {A = Wants} (listed n.wants.lists.items) (with_uses m.block back 0 from (listed m.wants.lists.items)) → Stands b m s → Stands b n (rest b (line_of l) from s)
 rest_stands b m n s l back from eb ec ek ew st = record {
   block = eb ∙ st.block;
-  code = ap (λ (ls : List Line). reverse (map line_of ls)) ec ∙ code_push m.code.items l ∙ ap (λ (ls : List plain.Line). line_of l ∷ ls) st.code;
+  code = ap (λ (ls : List Line). reverse (map line_of ls)) ec ∙ code_push m.code.items l ∙ ap (λ (ls : List plain.WiredInstr). line_of l ∷ ls) st.code;
   wants = ew
       ∙ ap (λ (w : Wants). with_uses m.block back 0 from w) st.wants
       ∙ ap (λ c. with_uses c back 0 from s.wants) st.block
@@ -44,7 +44,7 @@ emit_stands b x op from m k n s l eb ec ew eo ed eq step st =
     let end = step (emptied x s) mid in
     let same : line_of l ≡ record { op = op; dests = s.wants x; others = [] } =
     λ i. record { op = eo i; dests = (ed ∙ ap (λ (w : Wants). w x) st.wants) i; others = eq i } in
-    record { block = end.block; code = end.code ∙ ap (λ (z : plain.Line). z ∷ s.code) same; wants = end.wants }
+    record { block = end.block; code = end.code ∙ ap (λ (z : plain.WiredInstr). z ∷ s.code) same; wants = end.wants }
 
 full_is : (b n x : ℕ) (m : Maker) (s : Made) (r : Bool) → r ≡ ltb most (length (listed m.wants.lists.items x) + n) → Stands b m s → r ≡ ltb most (length (s.wants x) + n)
 full_is b n x m s r e st = e ∙ ap (λ (w : Wants). ltb most (length (w x) + n)) st.wants
@@ -104,7 +104,7 @@ begun_first b p n s e st = subst (λ z. Stands b n (cond z (advances b p.entries
 pub begun_other : (b : ℕ) (p : Plan) (m n : Maker) (s : Made) (r : Bool) → p.first ≡ false → r ≡ (p.joined && not (gives (reverse (map line_of m.code.items)))) → Stands b m s
     → Stands b n (cond r (emit b pulse Merge (pulse ∷ []) s) s) → Stands b n (begun b p s)
 begun_other b p m n s r e er st end =
-    let is : r ≡ merges p s = er ∙ ap (λ (ls : List plain.Line). p.joined && not (gives ls)) st.code in
+    let is : r ≡ merges p s = er ∙ ap (λ (ls : List plain.WiredInstr). p.joined && not (gives ls)) st.code in
     subst (λ z. Stands b n (cond z (advances b p.entries (renew b p.entries s)) (cond (merges p s) (emit b pulse Merge (pulse ∷ []) s) s))) (sym e)
     (subst (λ z. Stands b n (cond z (emit b pulse Merge (pulse ∷ []) s) s)) is end)
 

@@ -6,7 +6,7 @@ use Rattle.cfg_core.specs.Graph as graph
 use Rattle.cfg_core.specs.Graph.{Block, Graph, Spot, no_spot, nth, or_else, spots, spot_at, block_at}
 use Rattle.cfg_core.specs.View as view
 use Rattle.cfg_core.specs.Shows.{TableIs, spot_in_code, spot_in_graph}
-use Rattle.cfg_core.specs.declared.table.Table.{Table}
+use Rattle.cfg_core.specs.declared.table.GraphTable.{GraphTable}
 use Rattle.wave_gen.specs.Plans.{is_among}
 use Rattle.wave_gen.specs.Listing.{in_some, most_vars}
 use Rattle.wave_gen.specs.Placed.{flag}

@@ -8,7 +8,7 @@ use Rattle.ws_isa.specs.Image.{Image, Instr, Block, Pad, Array, In, nth, instr_a
 use Rattle.ws_isa.specs.Formed.{WavesInOrder, WavesFrom}
 use Rattle.image_walk.specs.Sound.{HasDest, HasPad, IsAhead}
 use Rattle.wave_gen.specs.Waits.{Code}
-use Rattle.wave_gen.specs.Wire.{Item, Make, Act, Same, Wants, dests_of, Line}
+use Rattle.wave_gen.specs.Wire.{Item, Make, Act, Same, Wants, dests_of, WiredInstr}
 use Rattle.wave_gen.specs.Plans.{Tail, Leaves, Onto, Either, Lands, Halts, Plan, pulse, fronts, plan_at, starts_at, begins, pads_of, blocks_of, draft_of, code_of, exit_of, source_of, chooses, operands_needed, exit_made, tails_of, sends, made_at, selected, end_wants}
 use Rattle.wave_gen.proofs.Planned.{ItemsAre, is_act_op, AllIn, PadsFit, PlansAre, EdgesAre, Outer}
 use Rattle.wave_gen.proofs.More.{ItemsGive, SourceGives, PlansGive}
@@ -228,11 +228,11 @@ module _ (arrays : List Array) (width : ℕ) (ps : List Plan) (Live : ℕ → �
       go Halts q = stops_is arrays width ps Live plans b h ∙ ap (λ (l : Leaves). image.is_stop (exit_of (source_of width ps b) l)) q
 
   -- the halt is the last line of a block that stops
-  abbrev halt_line : Line
+  abbrev halt_line : WiredInstr
   halt_line = record { op = Halt; dests = []; others = [] }
 
   record LastHalt (b : ℕ) : Type 0 where
-    front : List Line
+    front : List WiredInstr
     split : (made_at width ps b).code ≡ front ++ (halt_line ∷ [])
     none : Lines NoHalt front
 
@@ -243,7 +243,7 @@ module _ (arrays : List Array) (width : ℕ) (ps : List Plan) (Live : ℕ → �
   last_halt : (b : ℕ) → Is b → (plan_at ps b).exit ≡ Halts → LastHalt b
   last_halt b h q =
       let m = made_past arrays width ps Live plans.each b h NoHalt refl refl (items_no_halt (plan_at ps b).items (plans.each b h).items (gives.items b h)) in
-      record { front = m.front; split = m.split ∙ ap (λ (c : List Line). m.front ++ c) (stop_code b q); none = m.kind }
+      record { front = m.front; split = m.split ∙ ap (λ (c : List WiredInstr). m.front ++ c) (stop_code b q); none = m.kind }
 
   halts_exit : (b : ℕ) → Is b → stops I b ≡ true → (plan_at ps b).exit ≡ Halts
   halts_exit b h e = go (plan_at ps b).exit refl
@@ -257,7 +257,7 @@ module _ (arrays : List Array) (width : ℕ) (ps : List Plan) (Live : ℕ → �
       go (Lands op from values ls) q = absurd (bad (Lands op from values ls) q refl)
       go Halts q = q
 
-  count_last : (xs : List Line) (x : Line) → length (xs ++ (x ∷ [])) ≡ suc (length xs)
+  count_last : (xs : List WiredInstr) (x : WiredInstr) → length (xs ++ (x ∷ [])) ≡ suc (length xs)
   count_last [] x = refl
   count_last (y ∷ xs) x = ap suc (count_last xs x)
 
@@ -272,7 +272,7 @@ module _ (arrays : List Array) (width : ℕ) (ps : List Plan) (Live : ℕ → �
         begins width ps b + (length l.front + 0),
         (omega arith, omega arith),
         ap (λ (i : Instr). i.op) (instr_is arrays width ps b (length l.front + 0) halt_line h
-            (ap (λ (c : List Line). nth c (length l.front + 0)) l.split ∙ nth_append_right l.front (halt_line ∷ []) 0)),
+            (ap (λ (c : List WiredInstr). nth c (length l.front + 0)) l.split ∙ nth_append_right l.front (halt_line ∷ []) 0)),
       )
 
   pub more_halt_last : (b j k : ℕ) → IsBlock I b → IsIn I b k → (instr_at I k).op ≡ Halt → IsIn I b j → is_memory I j ≡ true → j ≤ k
@@ -289,7 +289,7 @@ module _ (arrays : List Array) (width : ℕ) (ps : List Plan) (Live : ℕ → �
 
       go : (at.place < length l.front) ⊎ (length l.front ≤ at.place) → j ≤ k
       go (inl u) = absurd (both_ways (is_halt_op at.line.op)
-          (line_at NoHalt l.front at.place at.line l.none (sym (nth_append_left l.front (halt_line ∷ []) at.place u) ∙ ap (λ (c : List Line). nth c at.place) (sym l.split) ∙ at.found))
+          (line_at NoHalt l.front at.place at.line l.none (sym (nth_append_left l.front (halt_line ∷ []) at.place u) ∙ ap (λ (c : List WiredInstr). nth c at.place) (sym l.split) ∙ at.found))
           (ap (λ (n : Instr). is_halt_op n.op) (sym at.is) ∙ ap is_halt_op e))
       go (inr u) =
           let n : length (made_at width ps b).code ≡ suc (length l.front) = ap length l.split ∙ count_last l.front halt_line in

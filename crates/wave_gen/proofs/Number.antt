@@ -1,7 +1,7 @@
 -- The numbers of the blocks and instructions of a draft.
 use Rattle.std.proofs.Common.{ℕ, zero, suc, ◌+◌, ◌-◌, ◌≡◌, ◌<◌, ◌≤◌, List, [], ◌∷◌, ◌++◌, length, map, Some, None, refl, sym, ap, ◌∙◌, arith}
 use Rattle.ws_isa.specs.Image.{Image, Instr, Block, Array, nth, or_else, flat, first_of, first_number, instr_at, block_at, IsBlock}
-use Rattle.wave_gen.specs.Wire.{Line, Made}
+use Rattle.wave_gen.specs.Wire.{WiredInstr, Made}
 use Rattle.wave_gen.specs.Plans.{Plan, no_made, mades, made_at, blocks_from, numbers, begins, instr_of, block_of, blocks_of, draft_of}
 use Rattle.image_walk.proofs.Steps.{first_of_pos}
 use Rattle.ws_words.proofs.Lists.{length_map}
@@ -101,7 +101,7 @@ module _ (arrays : List Array) (width : ℕ) (ps : List Plan) where
   instr_shown (suc k) m n l e f = let z : m - 1 ≡ k = omega arith in let g : nth (flat I.blocks) k ≡ Some n = rw z at f in rw g refl
 
   -- the instruction for a line
-  pub instr_is : (b i : ℕ) (line : Line) → Is b → nth (made_at width ps b).code i ≡ Some line → instr_at I (begins width ps b + i) ≡ instr_of (begins width ps) line
+  pub instr_is : (b i : ℕ) (line : WiredInstr) → Is b → nth (made_at width ps b).code i ≡ Some line → instr_at I (begins width ps b + i) ≡ instr_of (begins width ps) line
   instr_is zero i line h e = absurd (omega (arith, h.0))
   instr_is (suc b) i line h e = rw (sym (number_is (suc b))) (go (first_number I (suc b) + i) refl)
     where

@@ -41,7 +41,7 @@ module _ (width : ℕ) (ps : List Plan) where
       subst (λ n. IsKept width ps n x (or_else (nth ss i) no_made)) z (kept_is (suc b) ks ss i x h.1 (omega arith) e)
 
   code_length : (b : ℕ) (k : Kept) (s : Made) → IsKept width ps b k s → length k.code.items ≡ length s.code
-  code_length b k s h = sym (length-map k.code.items line_of) ∙ sym (length-reverse (map line_of k.code.items)) ∙ ap (λ (ls : List plain.Line). length ls) h.code
+  code_length b k s h = sym (length-map k.code.items line_of) ∙ sym (length-reverse (map line_of k.code.items)) ∙ ap (λ (ls : List plain.WiredInstr). length ls) h.code
 
   numbers_long : (n : ℕ) (ks : List Kept) → 1 ≤ length (numbers_from n ks)
   numbers_long n [] = omega arith
@@ -69,7 +69,7 @@ module _ (width : ℕ) (ps : List Plan) where
   begins_at ks (suc x) h = omega (arith, number_from 1 1 ks (mades width ps) x (min (suc x) (length (numbers_from 1 ks))) h refl)
 
   -- a block by its parts
-  abbrev Form : (ℕ → ℕ) → Plan → List plain.Line → ℕ → ℕ → image.Block
+  abbrev Form : (ℕ → ℕ) → Plan → List plain.WiredInstr → ℕ → ℕ → image.Block
   Form f p ls h b = record { wave = p.wave; pads = pads_of f b 0 p.entries p.pads; instrs = map (instr_of f) ls; exit = exit_of (f (suc b) - suc h) p.exit }
 
   form_is : (b : ℕ) → Form (begins width ps) (plan_at ps b) (made_at width ps b).code (behind_at width ps b) b ≡ block_of width ps b

@@ -7,7 +7,7 @@ use Rattle.ws_isa.specs.Image as image
 use Rattle.ws_isa.specs.Image.{Image, Instr, Block, Array, In, nth, flat, block_at, first_number, is_giving, is_giving_op, edges_of, IsBlock}
 use Rattle.ws_isa.specs.Formed.{NoNotes}
 use Rattle.image_walk.specs.Open.{OnlyEdge, IsArm, HasGiver, EnteredBySteer}
-use Rattle.wave_gen.specs.Wire.{Line, Made, emit}
+use Rattle.wave_gen.specs.Wire.{WiredInstr, Made, emit}
 use Rattle.wave_gen.specs.Plans.{gives, merges, differing, Leaves, Onto, Either, Lands, Halts, Plan, pulse, steer_of, tails_of, body_made, renew, plan_at, made_at, starts_at, begins, instr_of, blocks_of, draft_of, exit_of, source_of}
 use Rattle.wave_gen.proofs.SteeredNames.{or_first}
 use Rattle.wave_gen.proofs.Planned.{PlansAre, EdgesAre, Inner}
@@ -22,7 +22,7 @@ use Rattle.wave_gen.proofs.Number.{number_is, block_at_is, is_block, block_is}
 use Rattle.ws_words.proofs.Lists.{all_append}
 use Rattle.ws_isa.proofs.Images.{nth_short as nth_inside}
 
-no_notes_in : (first : ℕ → ℕ) (ls : List Line) → AllByRecursion (λ i. i.note ≡ None) (map (instr_of first) ls)
+no_notes_in : (first : ℕ → ℕ) (ls : List WiredInstr) → AllByRecursion (λ i. i.note ≡ None) (map (instr_of first) ls)
 no_notes_in first [] = tt
 no_notes_in first (l ∷ ls) = (refl, no_notes_in first ls)
 
@@ -34,13 +34,13 @@ pub draft_bare : (arrays : List Array) (width : ℕ) (ps : List Plan) → NoNote
 unfolding draft_of
 draft_bare arrays width ps = no_notes_from width ps 1 (length ps)
 
-record GiverIn (ls : List Line) : Type 0 where
+record GiverIn (ls : List WiredInstr) : Type 0 where
   pub place : ℕ
-  pub line : Line
+  pub line : WiredInstr
   pub at : nth ls place ≡ Some line
   pub giving : is_giving_op line.op ≡ true
 
-giver_in : (ls : List Line) → gives ls ≡ true → GiverIn ls
+giver_in : (ls : List WiredInstr) → gives ls ≡ true → GiverIn ls
 giver_in [] e = absurd (false≢true e)
 giver_in (l ∷ ls) e = elim (cases_Bool (is_giving_op l.op)) [
   | inl t ↦ record { place = 0; line = l; at = refl; giving = t }
@@ -97,7 +97,7 @@ module _ (arrays : List Array) (width : ℕ) (ps : List Plan) (Live : ℕ → �
           (subst (λ (z : ℕ). IsArm I b 0 z) ex (arm_is b 0 c h g.0 o.0), subst (λ (z : ℕ). IsArm I b 1 z) ey (arm_is b 1 d h g.1 o.1))
 
   -- the first instruction of a block
-  giver_at : (b : ℕ) → Is b → 1 ≤ length (made_at width ps b).code → ((l : Line) → nth (made_at width ps b).code 0 ≡ Some l → is_giving_op l.op ≡ true) → HasGiver I b
+  giver_at : (b : ℕ) → Is b → 1 ≤ length (made_at width ps b).code → ((l : WiredInstr) → nth (made_at width ps b).code 0 ≡ Some l → is_giving_op l.op ≡ true) → HasGiver I b
   unfolding is_giving
   giver_at b h some gives =
       let n : begins width ps (suc b) ≡ begins width ps b + length (made_at width ps b).code = begins_next width ps b h in
@@ -112,7 +112,7 @@ module _ (arrays : List Array) (width : ℕ) (ps : List Plan) (Live : ℕ → �
       }
 
   -- an instruction of a block
-  giver_from : (b : ℕ) → Is b → (i : ℕ) (x : Line) → nth (made_at width ps b).code i ≡ Some x → is_giving_op x.op ≡ true → HasGiver I b
+  giver_from : (b : ℕ) → Is b → (i : ℕ) (x : WiredInstr) → nth (made_at width ps b).code i ≡ Some x → is_giving_op x.op ≡ true → HasGiver I b
   unfolding is_giving
   giver_from b h i x e gives =
       let n : begins width ps (suc b) ≡ begins width ps b + length (made_at width ps b).code = begins_next width ps b h in
@@ -126,7 +126,7 @@ module _ (arrays : List Array) (width : ℕ) (ps : List Plan) (Live : ℕ → �
       record {
         instr = begins width ps b + i;
         inside = (omega arith, omega arith);
-        gives = ap (λ (k : Instr). is_giving_op k.op) l.is ∙ ap (λ (k : Line). is_giving_op k.op) same ∙ gives;
+        gives = ap (λ (k : Instr). is_giving_op k.op) l.is ∙ ap (λ (k : WiredInstr). is_giving_op k.op) same ∙ gives;
       }
 
   some_entry : (xs : List ℕ) (x : ℕ) → In x xs → 1 ≤ length xs
@@ -147,8 +147,8 @@ module _ (arrays : List Array) (width : ℕ) (ps : List Plan) (Live : ℕ → �
           inl (giver_at b h (omega arith) (λ l e. ap is_giving_op (front_line arrays width ps Live plans.each b h f 0 l s e)))
       go (inr f) (inl j) = inl (elim (cases_Bool (gives (body_made width (starts_at width ps) b (plan_at ps b)).code)) [ inl g ↦ given g | inr g ↦ merged g ])
         where
-          merge_gives : (l : Line) → Some (record { op = Merge; dests = (body_made width (starts_at width ps) b (plan_at ps b)).wants pulse; others = [] }) ≡ Some l → is_giving_op l.op ≡ true
-          merge_gives l e = let g : record { op = Merge; dests = (body_made width (starts_at width ps) b (plan_at ps b)).wants pulse; others = [] } ≡ l = cc in ap (λ (x : Line). is_giving_op x.op) (sym g)
+          merge_gives : (l : WiredInstr) → Some (record { op = Merge; dests = (body_made width (starts_at width ps) b (plan_at ps b)).wants pulse; others = [] }) ≡ Some l → is_giving_op l.op ≡ true
+          merge_gives l e = let g : record { op = Merge; dests = (body_made width (starts_at width ps) b (plan_at ps b)).wants pulse; others = [] } ≡ l = cc in ap (λ (x : WiredInstr). is_giving_op x.op) (sym g)
 
           given : gives (body_made width (starts_at width ps) b (plan_at ps b)).code ≡ true → HasGiver I b
           given g =

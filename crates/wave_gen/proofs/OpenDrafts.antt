@@ -10,7 +10,7 @@ use Rattle.ws_isa.specs.Formed.{DestsIn, OpIn, ExitIn, References, DestsSuit, Ot
 use Rattle.image_walk.specs.Sound.{HasDest, HasPad, BlockShape, ShapeRules}
 use Rattle.image_walk.specs.Open.{OpenToNotes}
 use Rattle.wave_gen.specs.Waits.{Code}
-use Rattle.wave_gen.specs.Wire.{Line, Wants, dests_of}
+use Rattle.wave_gen.specs.Wire.{WiredInstr, Wants, dests_of}
 use Rattle.wave_gen.specs.Plans.{Leaves, Onto, Either, Lands, Halts, Plan, fronts, plan_at, made_at, begins, instr_of, draft_of, code_of, exit_of, source_of}
 use Rattle.wave_gen.proofs.Planned.{AllIn, PadsFit, PlansAre, EdgesAre, Outer}
 use Rattle.wave_gen.proofs.More.{PlansGive}
@@ -43,7 +43,7 @@ record InstrSuits (n : Instr) : Type 0 where
   pub dests : is_giving_op n.op ≡ false → is_steer_op n.op ≡ false → n.dests ≡ []
   pub others : is_steer_op n.op ≡ false → n.others ≡ []
 
-instr_suits : (first : ℕ → ℕ) (l : Line) → Suits l → InstrSuits (instr_of first l)
+instr_suits : (first : ℕ → ℕ) (l : WiredInstr) → Suits l → InstrSuits (instr_of first l)
 instr_suits first l s = record { dests = λ g t. ap (dests_of first) (s.dests g t); others = λ t. ap (dests_of first) (s.others t) }
 
 suit_dests : (op : Op) (ds : List Dest) → (is_giving_op op ≡ false → is_steer_op op ≡ false → ds ≡ []) → DestsSuit op ds

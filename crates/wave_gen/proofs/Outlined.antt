@@ -4,7 +4,7 @@ use Rattle.cfg_core.specs.Graph.{Block, spots, spot_at, block_at}
 use Rattle.cfg_core.specs.View as view
 use Rattle.cfg_core.specs.Shows.{SpotIs, TableIs}
 use Rattle.cfg_core.specs.declared.table.Spot as code
-use Rattle.cfg_core.specs.declared.table.Table.{Table}
+use Rattle.cfg_core.specs.declared.table.GraphTable.{GraphTable}
 use Rattle.cfg_core.proofs.Tables.{spot_in}
 use Rattle.live_vars.specs.Marks.{has}
 use Rattle.wave_cut.specs.Cut.{is_first}
@@ -37,7 +37,7 @@ entries_next f x vars old new whole l e h =
 pub plan_is : (p : Plan) (q : plans.Plan) → p.wave ≡ q.wave → p.first ≡ q.first → p.joined ≡ q.joined → p.entries.items ≡ q.entries → p.pads.items ≡ q.pads → map shown.item p.items.items ≡ q.items → shown.leaves p.exit ≡ q.exit → p.test ≡ q.test → shown.plan p ≡ q
 plan_is p q w f j e d i x t = λ k. record { wave = w k; first = f k; joined = j k; entries = e k; pads = d k; items = i k; exit = x k; test = t k }
 
-pub spot_of : (t : Table) → TableIs t → (b : ℕ) (x : code.Spot) → b < length t.spots.items → x ≡ get_or t.spots.items b x → SpotIs (spot_at (view.graph t.graph.now) b) x
+pub spot_of : (t : GraphTable) → TableIs t → (b : ℕ) (x : code.Spot) → b < length t.spots.items → x ≡ get_or t.spots.items b x → SpotIs (spot_at (view.graph t.graph.now) b) x
 unfolding spot_at
 spot_of t h b x l e = spot_in t.spots.items (spots (view.graph t.graph.now)) b x h.spots l e
 

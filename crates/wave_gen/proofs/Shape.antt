@@ -5,9 +5,9 @@ use Rattle.ws_isa.specs.declared.instr.Op.{Op}
 use Rattle.ws_isa.specs.declared.instr.Op.TheVariants.{Steer, Send}
 use Rattle.ws_isa.specs.Image as image
 use Rattle.ws_isa.specs.Image.{Image, Instr, Array, In, nth, instr_at, block_at, first_number, is_first, is_advance, target, stops, IsIn, IsBlock}
-use Rattle.image_walk.specs.Sound.{Carries}
+use Rattle.image_walk.specs.Sound.{BringsResult}
 use Rattle.wave_gen.specs.Waits.{Owner, Step, Fires, Rests, Skips, Copies, count, Stands}
-use Rattle.wave_gen.specs.Wire.{Line, Wants, Made, with_rooms, make}
+use Rattle.wave_gen.specs.Wire.{WiredInstr, Wants, Made, with_rooms, make}
 use Rattle.wave_gen.specs.Plans.{Leaves, Onto, Either, Lands, Halts, Plan, Tail, TailAt, steers, sends, steered, hang, plan_at, made_at, starts_at, begins, owner_of, tails_of, end_wants, behind_source, exit_made, block_of, draft_of, code_of, exit_of, source_of, operands_needed, chooses, KeptOf, instr_of}
 use Rattle.wave_gen.proofs.Planned.{AllIn, PadsFit, PlansAre, EdgesAre, Inner, Outer}
 use Rattle.wave_gen.proofs.Turns.{stands_end}
@@ -34,7 +34,7 @@ count_app (Rests op from ∷ xs) ys = let e : count (xs ++ ys) ≡ count xs + co
 count_app (Skips x op from ∷ xs) ys = count_app xs ys
 count_app (Copies x y ∷ xs) ys = count_app xs ys
 
-length_app : (xs ys : List Line) → length (xs ++ ys) ≡ length xs + length ys
+length_app : (xs ys : List WiredInstr) → length (xs ++ ys) ≡ length xs + length ys
 length_app [] ys = omega arith
 length_app (x ∷ xs) ys = let e : length (xs ++ ys) ≡ length xs + length ys = length_app xs ys in omega arith
 
@@ -46,7 +46,7 @@ module _ (image : Image) (b : ℕ) (Kept : ℕ → ℕ → Type 0) (o : Owner) w
   stands_suffix k (Skips x op from ∷ xs) ss st = stands_suffix k xs ss st.2
   stands_suffix k (Copies x y ∷ xs) ss st = stands_suffix k xs ss st.1
 
-  find_carried : (s z n k : ℕ) (ss : List Step) → Stands image b Kept k ss o → Sel z n ss → Carried image b Kept o s k ss → (m : ℕ) → k ≤ m → m < k + count ss → is_tail_op (instr_at image m).op ≡ true → Carries image b s m (selector_port (instr_at image m).op)
+  find_carried : (s z n k : ℕ) (ss : List Step) → Stands image b Kept k ss o → Sel z n ss → Carried image b Kept o s k ss → (m : ℕ) → k ≤ m → m < k + count ss → is_tail_op (instr_at image m).op ≡ true → BringsResult image b s m (selector_port (instr_at image m).op)
   find_carried s z n k [] st sel c m l u t = absurd (omega arith)
   find_carried s z n k (Fires x op from ∷ ss) st sel c m l u t = elim (cases_eq m k) [
     | inl e ↦ absurd (both_ways false refl (ap is_tail_op (sym sel.0) ∙ ap is_tail_op (sym st.0.op_is) ∙ ap (λ (i : ℕ). is_tail_op (instr_at image i).op) (sym e) ∙ t))
@@ -144,7 +144,7 @@ module _ (arrays : List Array) (width : ℕ) (ps : List Plan) (Live : ℕ → �
     pub source_op : (instr_at I (source_of width ps b)).op ≡ op
     source_op = at_source.0.op_is
 
-    pub tail_carried : (m : ℕ) → IsIn I b m → is_tail_op (instr_at I m).op ≡ true → Carries I b (source_of width ps b) m (selector_port (instr_at I m).op)
+    pub tail_carried : (m : ℕ) → IsIn I b m → is_tail_op (instr_at I m).op ≡ true → BringsResult I b (source_of width ps b) m (selector_port (instr_at I m).op)
     tail_carried m i t =
         let a = is_tail arrays width ps Live plans.each b h m i t in
         let n : m + length (tails_of width S (plan_at ps b).exit) ≡ begins width ps (suc b) + a.place = a.number in
@@ -216,7 +216,7 @@ module _ (arrays : List Array) (width : ℕ) (ps : List Plan) (Live : ℕ → �
   -- tails hang on the choice
   record Hangs (b m : ℕ) : Type 0 where
     pub chose : chooses (plan_at ps b).exit ≡ true
-    pub carried : Carries I b (source_of width ps b) m (selector_port (instr_at I m).op)
+    pub carried : BringsResult I b (source_of width ps b) m (selector_port (instr_at I m).op)
 
   hangs : (b m : ℕ) → Is b → IsIn I b m → is_tail_op (instr_at I m).op ≡ true → Hangs b m
   hangs b m h i t = go (plan_at ps b).exit refl
@@ -234,7 +234,7 @@ module _ (arrays : List Array) (width : ℕ) (ps : List Plan) (Live : ℕ → �
       go (Lands op from values ls) q = record { chose = ap chooses q; carried = tail_carried b h op from (ap operands_needed q) (ap chooses q) (ap (exit_made width S b (plan_at ps b)) q) m i t }
 
   -- a steer stands where two edges are, a send where landings are
-  pub shape_steers : (b k : ℕ) → IsBlock I b → IsIn I b k → (instr_at I k).op ≡ Steer → (s x y : ℕ) × ((block_at I b).exit ≡ image.Branch s x y) × Carries I b s k 1
+  pub shape_steers : (b k : ℕ) → IsBlock I b → IsIn I b k → (instr_at I k).op ≡ Steer → (s x y : ℕ) × ((block_at I b).exit ≡ image.Branch s x y) × BringsResult I b s k 1
   shape_steers b k hb i e = go (plan_at ps b).exit refl
     where
       h : Is b
@@ -246,21 +246,21 @@ module _ (arrays : List Array) (width : ℕ) (ps : List Plan) (Live : ℕ → �
       a : IsTail arrays width ps Live plans.each b h k
       a = is_tail arrays width ps Live plans.each b h k i t
 
-      c : Carries I b (source_of width ps b) k 1
-      c = subst (λ (op : Op). Carries I b (source_of width ps b) k (selector_port op)) e (hangs b k h i t).carried
+      c : BringsResult I b (source_of width ps b) k 1
+      c = subst (λ (op : Op). BringsResult I b (source_of width ps b) k (selector_port op)) e (hangs b k h i t).carried
 
       no_send : (values : List ℕ) → tails_of width S (plan_at ps b).exit ≡ sends 0 values → ⊥
       no_send values n =
           let f : (instr_at I k).op ≡ Send (0 + a.place) = ap (λ (j : Instr). j.op) a.is ∙ send_only 0 values a.place a.tail (subst (λ (ts : List Tail). nth ts a.place ≡ Some a.tail) n a.at) in
           let z : Steer ≡ Send (0 + a.place) = sym e ∙ f in cc
 
-      go : (l : Leaves) → (plan_at ps b).exit ≡ l → (s x y : ℕ) × ((block_at I b).exit ≡ image.Branch s x y) × Carries I b s k 1
+      go : (l : Leaves) → (plan_at ps b).exit ≡ l → (s x y : ℕ) × ((block_at I b).exit ≡ image.Branch s x y) × BringsResult I b s k 1
       go (Onto d) q = absurd (both_ways (chooses (plan_at ps b).exit) (ap chooses q) (hangs b k h i t).chose)
       go Halts q = absurd (both_ways (chooses (plan_at ps b).exit) (ap chooses q) (hangs b k h i t).chose)
       go (Lands op from values ls) q = absurd (no_send values (ap (tails_of width S) q))
       go (Either op from x y) q = (source_of width ps b, x, y, exit_is arrays width ps Live plans b h ∙ ap (exit_of (source_of width ps b)) q, c)
 
-  pub shape_sends : (b k p : ℕ) → IsBlock I b → IsIn I b k → (instr_at I k).op ≡ Send p → (s : ℕ) × (ls : List ℕ) × ((block_at I b).exit ≡ image.Landings s ls) × Carries I b s k 0
+  pub shape_sends : (b k p : ℕ) → IsBlock I b → IsIn I b k → (instr_at I k).op ≡ Send p → (s : ℕ) × (ls : List ℕ) × ((block_at I b).exit ≡ image.Landings s ls) × BringsResult I b s k 0
   shape_sends b k p hb i e = go (plan_at ps b).exit refl
     where
       h : Is b
@@ -272,15 +272,15 @@ module _ (arrays : List Array) (width : ℕ) (ps : List Plan) (Live : ℕ → �
       a : IsTail arrays width ps Live plans.each b h k
       a = is_tail arrays width ps Live plans.each b h k i t
 
-      c : Carries I b (source_of width ps b) k 0
-      c = subst (λ (op : Op). Carries I b (source_of width ps b) k (selector_port op)) e (hangs b k h i t).carried
+      c : BringsResult I b (source_of width ps b) k 0
+      c = subst (λ (op : Op). BringsResult I b (source_of width ps b) k (selector_port op)) e (hangs b k h i t).carried
 
       no_steer : (w v : Wants) (xs : List ℕ) → tails_of width S (plan_at ps b).exit ≡ steers w v xs → ⊥
       no_steer w v xs n =
           let f : (instr_at I k).op ≡ Steer = ap (λ (j : Instr). j.op) a.is ∙ steer_only b w v xs a.place a.tail (subst (λ (ts : List Tail). nth ts a.place ≡ Some a.tail) n a.at) in
           let z : Send p ≡ Steer = sym e ∙ f in cc
 
-      go : (l : Leaves) → (plan_at ps b).exit ≡ l → (s : ℕ) × (ls : List ℕ) × ((block_at I b).exit ≡ image.Landings s ls) × Carries I b s k 0
+      go : (l : Leaves) → (plan_at ps b).exit ≡ l → (s : ℕ) × (ls : List ℕ) × ((block_at I b).exit ≡ image.Landings s ls) × BringsResult I b s k 0
       go (Onto d) q = absurd (both_ways (chooses (plan_at ps b).exit) (ap chooses q) (hangs b k h i t).chose)
       go Halts q = absurd (both_ways (chooses (plan_at ps b).exit) (ap chooses q) (hangs b k h i t).chose)
       go (Either op from x y) q = absurd (no_steer (S x) (S y) (steered width (S x) (S y)) (ap (tails_of width S) q))

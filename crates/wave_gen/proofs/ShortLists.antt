@@ -4,7 +4,7 @@ use Rattle.std.proofs.lemmas.Bool.{cases_Bool}
 use Rattle.ws_isa.specs.declared.instr.Op.TheVariants.{Merge, Halt}
 use Rattle.ws_isa.specs.Image as image
 use Rattle.ws_isa.specs.Image.{Image, Instr, Pad, Array, In, nth, instr_at, block_at, IsIn, IsBlock}
-use Rattle.wave_gen.specs.Wire.{Spot, dests_of, Line, Wants, no_wants, emit}
+use Rattle.wave_gen.specs.Wire.{Spot, dests_of, WiredInstr, Wants, no_wants, emit}
 use Rattle.wave_gen.specs.Plans.{merges, Leaves, Onto, Either, Lands, Halts, Plan, pulse, steers, sends, steered, past, hang, more, chain, selected, tails_of, end_wants, behind_source, exit_made, body_made, renew, advances, fronts, plan_at, made_at, starts_at, begins, pads_of, draft_of}
 use Rattle.wave_gen.proofs.Planned.{Apart, AllBelow, ValuesApart, PlansAre, EdgesAre, SourceIs, Inner, Outer}
 use Rattle.wave_gen.specs.Lists.{ListsFit}
@@ -136,7 +136,7 @@ module _ (arrays : List Array) (width : ℕ) (ps : List Plan) (Live : ℕ → �
     | inr f ↦ rw (ap (λ (w : Wants). w x) (starts_inner width ps c f)) ((few c h).wants x)
   ]
 
-  short_at : (ls : List Line) (i : ℕ) (l : Line) → Short ls → nth ls i ≡ Some l → (length l.dests ≤ 7) × (length l.others ≤ 7)
+  short_at : (ls : List WiredInstr) (i : ℕ) (l : WiredInstr) → Short ls → nth ls i ≡ Some l → (length l.dests ≤ 7) × (length l.others ≤ 7)
   short_at [] i l s e = absurd (let a : None ≡ Some l = e in cc)
   short_at (m ∷ ls) zero l s e = let g : m ≡ l = cc in rw (sym g) (s.0, s.1)
   short_at (m ∷ ls) (suc i) l s e = short_at ls i l s.2 e

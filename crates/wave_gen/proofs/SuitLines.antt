@@ -4,7 +4,7 @@ use Rattle.std.proofs.lemmas.Bool.{both_ways}
 use Rattle.ws_isa.specs.declared.instr.Op.{Op}
 use Rattle.ws_isa.specs.declared.instr.Op.TheVariants.{Merge, Advance, Steer, Send, Halt}
 use Rattle.ws_isa.specs.Image.{nth, is_memory_op, is_giving_op}
-use Rattle.wave_gen.specs.Wire.{Line, Wants, Made, emit, gather, with_room, with_rooms, Item, Make, Act, Same, is_nil, skip, make, alias, wire, most}
+use Rattle.wave_gen.specs.Wire.{WiredInstr, Wants, Made, emit, gather, with_room, with_rooms, Item, Make, Act, Same, is_nil, skip, make, alias, wire, most}
 use Rattle.wave_gen.specs.Plans.{merges, Tail, Leaves, Onto, Either, Lands, Halts, Plan, pulse, steers, sends, steered, hang, more, chain, tails_of, end_wants, behind_source, exit_made, body_made, renew, advances, has_front, plan_at, made_at, starts_at}
 use Rattle.wave_gen.proofs.Planned.{PlansAre}
 use Rattle.wave_gen.proofs.More.{ItemsGive, SourceGives, PlansGive}
@@ -12,15 +12,15 @@ use Rattle.wave_gen.proofs.Blocks.{made_is}
 use Rattle.wave_link.specs.Layout.{is_steer_op}
 
 -- an operation without a result and a send have no list, and a steer alone has two
-pub record Suits (l : Line) : Type 0 where
+pub record Suits (l : WiredInstr) : Type 0 where
   pub dests : is_giving_op l.op ≡ false → is_steer_op l.op ≡ false → l.dests ≡ []
   pub others : is_steer_op l.op ≡ false → l.others ≡ []
 
-abbrev pub SuitAll : List Line → Type 0
+abbrev pub SuitAll : List WiredInstr → Type 0
 SuitAll [] = Unit {0}
 SuitAll (l ∷ ls) = Suits l × SuitAll ls
 
-pub suits_at : (ls : List Line) (i : ℕ) (l : Line) → SuitAll ls → nth ls i ≡ Some l → Suits l
+pub suits_at : (ls : List WiredInstr) (i : ℕ) (l : WiredInstr) → SuitAll ls → nth ls i ≡ Some l → Suits l
 suits_at [] i l h e = absurd (let a : None ≡ Some l = e in cc)
 suits_at (m ∷ ls) zero l h e = let g : m ≡ l = cc in subst Suits g h.0
 suits_at (m ∷ ls) (suc i) l h e = suits_at ls i l h.1 e

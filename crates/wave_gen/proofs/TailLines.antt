@@ -5,7 +5,7 @@ use Rattle.ws_isa.specs.declared.instr.Op.{Op}
 use Rattle.ws_isa.specs.declared.instr.Op.TheVariants.{Merge, Halt, Advance, Steer, Send, Store, Output, Take}
 use Rattle.ws_isa.specs.declared.instr.Dest.{Dest}
 use Rattle.ws_isa.specs.Image.{Image, Instr, Array, nth, instr_at, now_of, first_number, IsIn}
-use Rattle.wave_gen.specs.Wire.{Line, Wants, Made, emit, Item, Make, Act, Same}
+use Rattle.wave_gen.specs.Wire.{WiredInstr, Wants, Made, emit, Item, Make, Act, Same}
 use Rattle.wave_gen.specs.Plans.{merges, Leaves, Onto, Either, Lands, Halts, Plan, pulse, Tail, TailAt, hang, tails_of, end_wants, behind_source, exit_made, body_made, renew, advances, plan_at, made_at, starts_at, begins, instr_of, draft_of}
 use Rattle.wave_gen.proofs.Planned.{is_act_op, ItemsAre, SourceIs, PlanIs}
 use Rattle.wave_gen.proofs.Keeping.{hang_count}
@@ -103,7 +103,7 @@ module _ (arrays : List Array) (width : ℕ) (ps : List Plan) (Live : ℕ → �
   ahead : ℕ
   ahead = length made_more.front
 
-  length_append : (xs ys : List Line) → length (xs ++ ys) ≡ length xs + length ys
+  length_append : (xs ys : List WiredInstr) → length (xs ++ ys) ≡ length xs + length ys
   length_append [] ys = omega arith
   length_append (x ∷ xs) ys = let e : length (xs ++ ys) ≡ length xs + length ys = length_append xs ys in omega arith
 
@@ -130,7 +130,7 @@ module _ (arrays : List Array) (width : ℕ) (ps : List Plan) (Live : ℕ → �
         instr = F b + (length made_more.front + i);
         inside = (omega arith, omega arith);
         is = instr_is arrays width ps b (length made_more.front + i) t.line h
-            (ap (λ (c : List Line). nth c (length made_more.front + i)) made_more.split ∙ nth_append_right made_more.front hung_made.code i
+            (ap (λ (c : List WiredInstr). nth c (length made_more.front + i)) made_more.split ∙ nth_append_right made_more.front hung_made.code i
             ∙ hang_nth b 6 (plan_at ps b).test (tails_of width S (plan_at ps b).exit) (end_wants width S (plan_at ps b).exit) i t e);
         number = omega arith;
       }
@@ -159,7 +159,7 @@ module _ (arrays : List Array) (width : ℕ) (ps : List Plan) (Live : ℕ → �
 
       go : (l.place < length made_more.front) ⊎ (length made_more.front ≤ l.place) → IsTail m
       go (inl u) = absurd (both_ways (is_tail_op l.line.op)
-          (line_at NoTail made_more.front l.place l.line made_more.kind (sym (nth_append_left made_more.front hung_made.code l.place u) ∙ ap (λ (c : List Line). nth c l.place) (sym made_more.split) ∙ l.found))
+          (line_at NoTail made_more.front l.place l.line made_more.kind (sym (nth_append_left made_more.front hung_made.code l.place u) ∙ ap (λ (c : List WiredInstr). nth c l.place) (sym made_more.split) ∙ l.found))
           (ap (λ (n : Instr). is_tail_op n.op) (sym l.is) ∙ e))
       go (inr u) =
           let z : F b + length made_more.front + length (tails_of width S (plan_at ps b).exit) ≡ F (suc b) = tails_end in

@@ -12,7 +12,7 @@ use Rattle.cfg_core.specs.Rules as rules
 use Rattle.cfg_core.specs.Rules.{IsGraph, BlockNumbers, TermIn, StaysIn, ExitIn, ChoosesBare}
 use Rattle.cfg_core.specs.Walk as walks
 use Rattle.cfg_core.specs.Walk.{Outcome, Done, Out, run_ops, Config, At, Over, Going, value, value_of, leave, passed, step, walk}
-use Rattle.wave_gen.specs.Waits.{Names, set, Code, Place, names_at, pass, places}
+use Rattle.wave_gen.specs.Waits.{Names, set, Code, RunPlace, names_at, pass, places}
 use Rattle.wave_gen.specs.Wire.{Item, Make, Same}
 use Rattle.wave_gen.specs.Plans.{Leaves, Onto, Either, Lands, Halts, Plan, plan_at, pulse, draft_of, code_of, filled}
 use Rattle.wave_gen.proofs.Planned.{PlansAre, Inner, Outer, EdgesAre}
@@ -173,15 +173,15 @@ module _ (arrays : List Array) (width : ℕ) (ps : List Plan) (Live : ℕ → �
   abbrev There : ℕ → Type 0
   There n = (1 ≤ n) × (n ≤ length ps)
 
-  abbrev pub next : Place → Place
+  abbrev pub next : RunPlace → RunPlace
   next p = cond p.over p (pass I C p)
 
-  abbrev pub nexts : ℕ → Place → Place
+  abbrev pub nexts : ℕ → RunPlace → RunPlace
   nexts zero p = p
   nexts (suc i) p = nexts i (next p)
 
   -- the draft stands at the start of the plan with this number, with the values of a state, some of which are 0
-  pub record Stands (n : ℕ) (zs : List ℕ) (st : State) (p : Place) : Type 0 where
+  pub record Stands (n : ℕ) (zs : List ℕ) (st : State) (p : RunPlace) : Type 0 where
     pub over : p.over ≡ false
     pub there : There n
     pub block : p.block ≡ n
@@ -190,7 +190,7 @@ module _ (arrays : List Array) (width : ℕ) (ps : List Plan) (Live : ℕ → �
     pub zero : (x : ℕ) → rules.In x zs → slice_index st.vars x ≡ 0
 
   -- and so at a block of the graph
-  pub record AtBlock (b : ℕ) (st : State) (p : Place) : Type 0 where
+  pub record AtBlock (b : ℕ) (st : State) (p : RunPlace) : Type 0 where
     pub there : b < length (spots g)
     pub vars : (spot_at g b).vars ≡ length st.vars
     pub stands : Stands (place b) (zeroed b) st p
@@ -198,11 +198,11 @@ module _ (arrays : List Array) (width : ℕ) (ps : List Plan) (Live : ℕ → �
   wide_test : (n : ℕ) → There n → width ≤ (plan_at ps n).test
   wide_test n h = (plans.each n h).test
 
-  one_next : (p : Place) → p.over ≡ false → next p ≡ pass I C p
+  one_next : (p : RunPlace) → p.over ≡ false → next p ≡ pass I C p
   one_next p o = cond-false p.over p (pass I C p) o
 
   -- a state that holds at a block's end holds behind the edge
-  state_on : (p : Place) (n : ℕ) (h : There n) (b : p.block ≡ n) (st : State) → IsState st (ending arrays width ps Live plans p n h b) → length st.vars < width →
+  state_on : (p : RunPlace) (n : ℕ) (h : There n) (b : p.block ≡ n) (st : State) → IsState st (ending arrays width ps Live plans p n h b) → length st.vars < width →
       ((x : ℕ) → (pass I C p).env x ≡ (names_at C p).env x) → (pass I C p).out ≡ (ending arrays width ps Live plans p n h b).out → IsState st (record { env = (pass I C p).env; out = (pass I C p).out })
   state_on p n h b st i w e o =
       let t : width ≤ (plan_at ps n).test = wide_test n h in
@@ -216,15 +216,15 @@ module _ (arrays : List Array) (width : ℕ) (ps : List Plan) (Live : ℕ → �
   target_of n c h e q = subst (λ (l : Leaves). EdgesAre ps n l) q (plans.each n h).edges
 
   -- the draft stands at the block
-  arrives : (n c : ℕ) (leads : Leads ps place zeroed n c) (st : State) (p : Place) → c < length (spots g) → (spot_at g c).vars ≡ length st.vars → Stands n (zeroed_at leads) st p → AtBlock c st p
+  arrives : (n c : ℕ) (leads : Leads ps place zeroed n c) (st : State) (p : RunPlace) → c < length (spots g) → (spot_at g c).vars ≡ length st.vars → Stands n (zeroed_at leads) st p → AtBlock c st p
   arrives n c (here e) st p l v s = record { there = l; vars = v; stands = subst (λ (m : ℕ). Stands m (zeroed c) st p) e s }
 
   -- an edge that keeps the variables
-  keeps_on : (n c : ℕ) → Keeps ps place zeroed n c → (st : State) (p : Place) → c < length (spots g) → (spot_at g c).vars ≡ length st.vars → p.over ≡ false → There n → p.block ≡ n → IsState st (record { env = p.env; out = p.out }) → length st.vars < width → AtBlock c st p
+  keeps_on : (n c : ℕ) → Keeps ps place zeroed n c → (st : State) (p : RunPlace) → c < length (spots g) → (spot_at g c).vars ≡ length st.vars → p.over ≡ false → There n → p.block ≡ n → IsState st (record { env = p.env; out = p.out }) → length st.vars < width → AtBlock c st p
   keeps_on n c k st p l v o h b s w = arrives n c k.leads st p l v (record { over = o; there = h; block = b; state = s; wide = w; zero = λ x y. absurd (subst (λ (ys : List ℕ). rules.In x ys) k.none y) })
 
   -- the draft's place says of the graph's walk
-  pub data Tied (p : Place) : Config → Type 0 where
+  pub data Tied (p : RunPlace) : Config → Type 0 where
     at_block : (b : ℕ) (st : State) (k : ℕ) → AtBlock b st p → Tied p (At b st [] k)
     at_end : (o : Outside) (k : ℕ) → p.over ≡ true → p.out ≡ o → Tied p (Over o k)
     out_of_turns : (o : Outside) → Tied p (Going o)
@@ -238,7 +238,7 @@ module _ (arrays : List Array) (width : ℕ) (ps : List Plan) (Live : ℕ → �
   lands_at c l = all_at (λ s. rules.Lands g s.block.exit) (spots g) no_spot c is_graph.landings l
 
   -- one block of the graph
-  module _ (b : ℕ) (st : State) (p : Place) (a : AtBlock b st p) (fine : BlockFine g b st) where
+  module _ (b : ℕ) (st : State) (p : RunPlace) (a : AtBlock b st p) (fine : BlockFine g b st) where
     spot : BlockNumbers g (spot_at g b)
     unfolding spot_at
     spot = all_at (BlockNumbers g) (spots g) no_spot b is_graph.numbers.blocks a.there
@@ -282,8 +282,8 @@ module _ (arrays : List Array) (width : ℕ) (ps : List Plan) (Live : ℕ → �
     More c = Tied (next p) c
 
     -- one more plan
-    after : (q : Place) → q ≡ pass I C p → (c : Config) → Tied q c → More c
-    after q e c t = subst (λ (x : Place). Tied x c) (e ∙ sym (one_next p a.stands.over)) t
+    after : (q : RunPlace) → q ≡ pass I C p → (c : Config) → Tied q c → More c
+    after q e c t = subst (λ (x : RunPlace). Tied x c) (e ∙ sym (one_next p a.stands.over)) t
 
     tie_at : (c : ℕ) (st' : State) (k : ℕ) → AtBlock c st' (pass I C p) → More (At c st' [] k)
     tie_at c st' k r = after (pass I C p) refl (At c st' [] k) (at_block c st' k r)
@@ -519,13 +519,13 @@ module _ (arrays : List Array) (width : ℕ) (ps : List Plan) (Live : ℕ → �
         go (Done st' l) e = leaves_so st' k l e (graph.block_at g b).exit refl
 
   -- one block
-  pub one_more : (p : Place) (c : Config) → Tied p c → WalkFine g c → Tied (next p) (step g c)
+  pub one_more : (p : RunPlace) (c : Config) → Tied p c → WalkFine g c → Tied (next p) (step g c)
   one_more p c (at_block b st k a) f = block_step b st p a (f 0 b st [] k refl) k
-  one_more p c (at_end o k x y) f = subst (λ (q : Place). Tied q (Over o k)) (sym (cond-true p.over p (pass I C p) x)) (at_end o k x y)
+  one_more p c (at_end o k x y) f = subst (λ (q : RunPlace). Tied q (Over o k)) (sym (cond-true p.over p (pass I C p) x)) (at_end o k x y)
   one_more p c (out_of_turns o) f = out_of_turns o
 
   -- after m blocks of the graph, as many plans
-  pub follows : (m : ℕ) (p : Place) (c : Config) → Tied p c → WalkFine g c → Tied (nexts m p) (walk g m c)
+  pub follows : (m : ℕ) (p : RunPlace) (c : Config) → Tied p c → WalkFine g c → Tied (nexts m p) (walk g m c)
   follows zero p c t f = t
   follows (suc m) p c t f = follows m (next p) (step g c) (one_more p c t f) (λ n b st fr k e. f (suc n) b st fr k e)
 

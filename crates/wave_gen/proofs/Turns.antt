@@ -3,7 +3,7 @@ use Rattle.std.proofs.Common.{ℕ, zero, suc, ◌+◌, ◌-◌, ◌≡◌, ◌<�
 use Rattle.std.proofs.lemmas.Bool.{cases_Bool, cases_eq, cases_lt, both_ways, cond-true, cond-false, lt-ltb, le-ltb}
 use Rattle.ws_isa.specs.declared.instr.Op.{Op}
 use Rattle.ws_isa.specs.Image.{Image, nth, ports, ports_of, is_advance, is_first, first_number, size_of, stops, target, now_dests, edge_dests, start_dests, IsIn, IsBlock}
-use Rattle.image_walk.specs.Sound.{Slots, HasDest, none_open, all_opened, Fresh, closed, opens_at, AdvancesOpen, SlotRules}
+use Rattle.image_walk.specs.Sound.{OpenSlots, HasDest, none_open, all_opened, Fresh, closed, opens_at, AdvancesOpen, SlotRules}
 use Rattle.image_walk.proofs.SlotCert.{Alike, SlotCert}
 use Rattle.wave_gen.specs.Waits.{Distinct, Owner, Step, Fires, Rests, Skips, Copies, is_name, without, with_ports, renamed, own, count, FiresAt, RestsAt, Stands, Code, starts, went_past, was_sent, Waits}
 use Rattle.wave_gen.proofs.Slots.{has_or_not, distinct_fresh}
@@ -229,7 +229,7 @@ module _ (image : Image) (c : Code) (shape : WalkShape image) (waits : Waits ima
       go (inl l) (inl m) = (l, omega arith)
       go (inl l) (inr m) = absurd (both_ways false refl (sym (cond-true (ltb 0 b) (ltb b (suc (length image.blocks))) false (lt-ltb 0 b l) ∙ le-ltb b (suc (length image.blocks)) m) ∙ e))
 
-  open_at : ℕ → ℕ → Slots
+  open_at : ℕ → ℕ → OpenSlots
   open_at b k j q = is_some (at (first_number image b) (c.steps b) (c.ends b) k j q)
 
   open_start : (b j q : ℕ) → open_at b (first_number image b) j q ≡ is_some (starts image c b j q)
@@ -291,7 +291,7 @@ module _ (image : Image) (c : Code) (shape : WalkShape image) (waits : Waits ima
       let u : first_number image b ≤ first_number image (suc b) = first_up image b in
       edge_all_has image b r (first_number image b) (first_number image (suc b) - first_number image b) m j q i.0 (omega (arith, i.0, i.1)) h
 
-  pub edge_fresh : (b r : ℕ) (o : Slots) → IsBlock image b → stops image b ≡ false → ((j q : ℕ) → o j q ≡ is_some (c.ends b j q)) → Fresh (opens_at image b r) o
+  pub edge_fresh : (b r : ℕ) (o : OpenSlots) → IsBlock image b → stops image b ≡ false → ((j q : ℕ) → o j q ≡ is_some (c.ends b j q)) → Fresh (opens_at image b r) o
   edge_fresh b r o h s a = distinct_fresh (opens_at image b r) o (waits.once b r h s)
       (λ j q d. (let e = opener b r j q d in a j q ∙ ap is_some (waits.sent_on b r e.source j q h s e.inside e.has).0))
 

@@ -3,7 +3,7 @@ use Rattle.std.proofs.Common.{ℕ, zero, suc, ◌+◌, ◌≡◌, ◌<◌, ◌�
 use Rattle.std.proofs.lemmas.Bool.{cases_eq, cases_lt, lt-ltb, le-ltb}
 use Rattle.ws_isa.specs.declared.instr.Op.{Op}
 use Rattle.ws_isa.specs.Image.{is_memory_op}
-use Rattle.wave_gen.specs.Wire.{Spot, Back, Line, Wants, Made, with_wants, with_uses, moved, emit, rest, skip, copy, gather, with_room, with_rooms, Item, Make, Act, Same, is_nil, make, alias, wire_item, wire, most}
+use Rattle.wave_gen.specs.Wire.{Spot, Back, WiredInstr, Wants, Made, with_wants, with_uses, moved, emit, rest, skip, copy, gather, with_room, with_rooms, Item, Make, Act, Same, is_nil, make, alias, wire_item, wire, most}
 use Rattle.wave_gen.proofs.Planned.{AllBelow}
 use Rattle.wave_gen.proofs.Weights.{total, charge, weights, ItemsBelow}
 
@@ -46,7 +46,7 @@ emit_charge n b x op from s =
     let h : total (with_uses b (length s.code) 0 from (with_wants s.wants x [])) n ≤ total (with_wants s.wants x []) n + length from = uses_total b (length s.code) 0 from (with_wants s.wants x []) n in
     let g : total (with_wants s.wants x []) n ≤ total s.wants n = empty_total s.wants x n in omega arith
 
-pub rest_charge : (n b : ℕ) (line : Line) (from : List ℕ) (s : Made) → charge n (rest b line from s) ≤ charge n s + (4 + length from)
+pub rest_charge : (n b : ℕ) (line : WiredInstr) (from : List ℕ) (s : Made) → charge n (rest b line from s) ≤ charge n s + (4 + length from)
 rest_charge n b line from s = let h : total (with_uses b (length s.code) 0 from s.wants) n ≤ total s.wants n + length from = uses_total b (length s.code) 0 from s.wants n in omega arith
 
 -- a merge takes what it gathers

@@ -18,7 +18,7 @@ listed [] x = []
 listed (v ∷ vs) zero = v.items
 listed (v ∷ vs) (suc x) = listed vs x
 
-abbrev pub line_of : Line → plain.Line
+abbrev pub line_of : Line → plain.WiredInstr
 line_of l = record { op = l.op; dests = l.dests.items; others = l.others.items }
 
 -- what a maker has made of block b is s, without its steps

@@ -8,7 +8,7 @@ ghost use Rattle.wave_gen.specs.Plans.{is_among};
 ghost use Rattle.wave_gen.specs.Listing.{landings_of, arms_of, in_some, width_of};
 ghost use Rattle.wave_gen.specs.Placed.{flag};
 
-use cfg_core::{Leave, Table};
+use cfg_core::{GraphTable, Leave};
 use std::alloc::Global;
 use ws_words::NoMemory;
 
@@ -62,7 +62,7 @@ fn mark_arms(flags: &mut Vec<bool>, exit: &Leave)
 }
 
 // Marks the blocks where the exit of a block lands.
-fn mark_landings_at(table: &Table<'_>, flags: &mut Vec<bool>, i: usize)
+fn mark_landings_at(table: &GraphTable<'_>, flags: &mut Vec<bool>, i: usize)
     requires { TableIs table.now }
     ensures count { length flags.new.items ≡ length flags.old.items }
     ensures marked { (c : ℕ) → c < length flags.old.items → flag flags.new.items c ≡
@@ -76,7 +76,7 @@ fn mark_landings_at(table: &Table<'_>, flags: &mut Vec<bool>, i: usize)
 }
 
 // Marks the arms of the exit of a block.
-fn mark_arms_at(table: &Table<'_>, flags: &mut Vec<bool>, i: usize)
+fn mark_arms_at(table: &GraphTable<'_>, flags: &mut Vec<bool>, i: usize)
     requires { TableIs table.now }
     ensures count { length flags.new.items ≡ length flags.old.items }
     ensures marked { (c : ℕ) → c < length flags.old.items → flag flags.new.items c ≡
@@ -90,7 +90,7 @@ fn mark_arms_at(table: &Table<'_>, flags: &mut Vec<bool>, i: usize)
 }
 
 /// For each block whether a Send lands there.
-pub(crate) fn landed(alloc: Global, table: &Table<'_>) -> Result<Vec<bool>, NoMemory>
+pub(crate) fn landed(alloc: Global, table: &GraphTable<'_>) -> Result<Vec<bool>, NoMemory>
     requires { TableIs table.now }
     ensures { let all = spots (view.graph table.now.graph.now) in
         IfOk result (λ flags. (b : ℕ) → b < length all →
@@ -104,7 +104,7 @@ pub(crate) fn landed(alloc: Global, table: &Table<'_>) -> Result<Vec<bool>, NoMe
 }
 
 /// For each block whether it is an arm of a branch.
-pub(crate) fn arms(alloc: Global, table: &Table<'_>) -> Result<Vec<bool>, NoMemory>
+pub(crate) fn arms(alloc: Global, table: &GraphTable<'_>) -> Result<Vec<bool>, NoMemory>
     requires { TableIs table.now }
     ensures { let all = spots (view.graph table.now.graph.now) in
         IfOk result (λ flags. (b : ℕ) → b < length all →
@@ -117,7 +117,7 @@ pub(crate) fn arms(alloc: Global, table: &Table<'_>) -> Result<Vec<bool>, NoMemo
     Ok(flags)
 }
 
-fn vars_at(table: &Table<'_>, i: usize) -> u32
+fn vars_at(table: &GraphTable<'_>, i: usize) -> u32
     requires { TableIs table.now }
     ensures { result ≡ (spot_at (view.graph table.now.graph.now) i).vars }
 {
@@ -128,7 +128,7 @@ fn vars_at(table: &Table<'_>, i: usize) -> u32
 }
 
 /// How many names there are for the pulse and the variables.
-pub(crate) fn width(table: &Table<'_>) -> usize
+pub(crate) fn width(table: &GraphTable<'_>) -> usize
     requires { TableIs table.now }
     ensures { result ≡ width_of (view.graph table.now.graph.now) }
 {

@@ -21,7 +21,7 @@ use crate::order::{Order, turned};
 use crate::plan::{Items, Leaves, Names, Plan, Plans};
 use crate::share::share_constants;
 use crate::values::{PULSE, name_of};
-use cfg_core::{Graph, GraphBlock, Table};
+use cfg_core::{Graph, GraphBlock, GraphTable};
 use live_vars::LiveSets;
 use std::alloc::Global;
 use wave_cut::Waves;
@@ -32,7 +32,7 @@ use ws_words::NoMemory;
 /// and how many names there are for the pulse and the variables.
 #[derive(Drop)]
 pub(crate) struct Outline<'a> {
-    pub(crate) table: Table<'a>,
+    pub(crate) table: GraphTable<'a>,
     pub(crate) live: &'a LiveSets,
     pub(crate) waves: &'a Waves,
     pub(crate) order: Order,
@@ -65,7 +65,7 @@ impl<'a> Outline<'a> {
         ensures waves { IfOk result (λ made. made.waves.now ≡ waves.now) }
         ensures outline { IfOk result (λ made. OutlineIs made) }
     {
-        let table = Table::of(alloc, graph)?;
+        let table = GraphTable::of(alloc, graph)?;
         let start = small(table.room(graph.procs.len().saturating_sub(1)).entry)?;
         let count = small(table.spots.len())?;
         let order = Order::of(alloc, &table, waves, start, count)?;

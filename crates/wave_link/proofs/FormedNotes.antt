@@ -9,7 +9,7 @@ use Rattle.wave_link.specs.declared.outline.Way.{Way}
 use Rattle.wave_link.specs.declared.outline.Way.TheVariants.{Out, On, Fork}
 use Rattle.wave_link.specs.declared.outline.Outline.{Outline}
 use Rattle.wave_link.specs.declared.links.Behind.{Behind}
-use Rattle.wave_link.specs.declared.links.Place.{Place}
+use Rattle.wave_link.specs.declared.links.Passage.{Passage}
 use Rattle.wave_link.specs.Notes.{both, low_at, lows_from, head_at, out_link, head_link, heads_from, joined, begin, behind_in, behind_out, hand_on, hand_way, hand_all, unreached, places_from, lows_of, heads_of, places_of, writer_next}
 use Rattle.wave_link.specs.Outlines.{one_more_op, ops_from, writer_from, outline_of, outlines_from, outlines_of, with_nop, with_nops_from, with_nops}
 use Rattle.wave_link.specs.Grown.{seq_next, no_place, added_in}
@@ -153,7 +153,7 @@ all_up t x low (Some y) table l w h g = way_up t x.way (behind_out x low y) tabl
 
 -- Places.
 
-pub record PlaceUpTo (t : ℕ) (p : Place) : Type 0 where
+pub record PlaceUpTo (t : ℕ) (p : Passage) : Type 0 where
   pub low : p.low ≤ t
   pub pred : UpTo t p.pred
   pub succ : UpTo t p.succ
@@ -230,7 +230,7 @@ nops_ops : (xs : List Outline) (b : ℕ) (added : List Bool) → total_ops (with
 nops_ops [] b added = omega arith
 nops_ops (x ∷ xs) b added = omega (arith, (more_ops (get_or added b false) x.ops).1, nops_ops xs (b + 1) added)
 
-place_more : (t u : ℕ) (p : Place) → t ≤ u → PlaceUpTo t p → PlaceUpTo u p
+place_more : (t u : ℕ) (p : Passage) → t ≤ u → PlaceUpTo t p → PlaceUpTo u p
 place_more t u p l h = record { low = omega (arith, h.low); pred = link_more p.pred h.pred; succ = link_more p.succ h.succ; writer = omega (arith, h.writer) }
   where
     link_more : (k : Link) → UpTo t k → UpTo u k

@@ -14,7 +14,7 @@ use Rattle.image_walk.specs.Open.{OpenToNotes}
 use Rattle.image_walk.proofs.Blocks.{number_last}
 use Rattle.image_walk.proofs.Slots.{has_append_cases}
 use Rattle.image_walk.proofs.There.{There, there, dests_there, others_there}
-use Rattle.wave_link.specs.declared.links.Place.{Place}
+use Rattle.wave_link.specs.declared.links.Passage.{Passage}
 use Rattle.wave_link.specs.Layout.{Tables, is_steer_op}
 use Rattle.wave_link.specs.Notes.{note_at}
 use Rattle.wave_link.specs.Grown.{number_in, renamed, extra_dest, note_for, nop_instr, grown_exit, grown_pad, annotated}
@@ -145,11 +145,11 @@ cond_number : (v : Bool) (a b t : ℕ) → a < t → b < t → cond v a b < t
 cond_number true a b t h g = h
 cond_number false a b t h g = g
 
-note_fits : (t : ℕ) (p : Place) (op : Op) (s w : ℕ) → PlaceUpTo t p → t < sequence_limit → s + 1 < sequence_limit → w < sequence_limit → NoteWithin (Some (note_at p op s w))
+note_fits : (t : ℕ) (p : Passage) (op : Op) (s w : ℕ) → PlaceUpTo t p → t < sequence_limit → s + 1 < sequence_limit → w < sequence_limit → NoteWithin (Some (note_at p op s w))
 note_fits t p op s w h a b c =
     (cond_link (eqb s (p.low + 1)) p.pred (Is (s - 1)) (link_fits t p.pred a h.pred) (omega arith), omega arith, cond_link (eqb s p.high) p.succ (Is (s + 1)) (link_fits t p.succ a h.succ) b, cond_number (is_writing_op op) s w sequence_limit (omega arith) c)
 
-for_fits : (t : ℕ) (p : Place) (op : Op) (s w : ℕ) → PlaceUpTo t p → t < sequence_limit → s + 1 < sequence_limit → w < sequence_limit → NoteWithin (note_for p op s w)
+for_fits : (t : ℕ) (p : Passage) (op : Op) (s w : ℕ) → PlaceUpTo t p → t < sequence_limit → s + 1 < sequence_limit → w < sequence_limit → NoteWithin (note_for p op s w)
 for_fits t p op s w h a b c = go (is_memory_op op)
   where
     go : (v : Bool) → NoteWithin (cond v (Some (note_at p op s w)) None)
@@ -426,7 +426,7 @@ module _ (draft : Image) (ok : OpenToNotes draft) where
     note_old : (b k : ℕ) → IsBlock draft b → IsIn draft b k → NoteWithin (note_in draft b k)
     unfolding note_in
     note_old b k h i =
-        let p : Place = place_of draft b in
+        let p : Passage = place_of draft b in
         let u : PlaceUpTo (most_ops draft) p = place_up draft b in
         let m = most in
         let l = within_block b k h i in
@@ -439,7 +439,7 @@ module _ (draft : Image) (ok : OpenToNotes draft) where
 
     note_nop : (b : ℕ) → NoteWithin (Some (note_at (place_of draft b) Nop ((place_of draft b).low + 1) (place_of draft b).writer))
     note_nop b =
-        let p : Place = place_of draft b in
+        let p : Passage = place_of draft b in
         let u : PlaceUpTo (most_ops draft) p = place_up draft b in
         let m = most in
         note_fits (most_ops draft) p Nop (p.low + 1) p.writer u (omega arith) (omega (arith, u.low)) (omega (arith, u.writer))

@@ -4,14 +4,14 @@ use Rattle.std.proofs.Common.{ℕ, zero, suc, ◌+◌, ◌≡◌, ◌<◌, ◌�
 use Rattle.std.proofs.lemmas.Bool.{cases_Bool, cases_eq, eqb-true}
 use Rattle.ws_isa.specs.declared.instr.Dest.{Dest}
 use Rattle.ws_isa.specs.Image.{Image, edge_dests}
-use Rattle.image_walk.specs.Sound.{Slots, opened, all_opened, Fresh, edge_all}
+use Rattle.image_walk.specs.Sound.{OpenSlots, opened, all_opened, Fresh, edge_all}
 use Rattle.image_walk.proofs.Slots.{all_opened_keeps, all_opened_append, fresh_left, fresh_right}
 use Rattle.wave_link.proofs.GrownForm.{renamed}
 use Rattle.wave_link.proofs.SlotsKept.{swap, all_swap, fresh_append}
 use Rattle.image_walk.proofs.Opened.{opened_here}
 use Rattle.ws_words.proofs.Bools.{and_parts as and_both}
 
-lists_swap : (xs ys : List Dest) (o : Slots) → all_opened xs (all_opened ys o) ≡ all_opened ys (all_opened xs o)
+lists_swap : (xs ys : List Dest) (o : OpenSlots) → all_opened xs (all_opened ys o) ≡ all_opened ys (all_opened xs o)
 lists_swap xs [] o = refl
 lists_swap xs (y ∷ ys) o = lists_swap xs ys (opened y o) ∙ ap (all_opened ys) (all_swap xs y o)
 
@@ -23,11 +23,11 @@ clash : (v : Bool) → v ≡ true → v ≡ false → ⊥
 clash v e f = cc
 
 -- what isn't open after a list is opened wasn't before
-shut_before : (ds : List Dest) (o : Slots) (j q : ℕ) → all_opened ds o j q ≡ false → o j q ≡ false
+shut_before : (ds : List Dest) (o : OpenSlots) (j q : ℕ) → all_opened ds o j q ≡ false → o j q ≡ false
 shut_before ds o j q h = not_true (o j q) (λ e. clash (all_opened ds o j q) (all_opened_keeps ds o j q e) h)
 
 -- a slot that a fresh list leaves shut may be opened first
-fresh_opened : (bs : List Dest) (d : Dest) (o : Slots) → Fresh bs o → all_opened bs o d.instr d.port ≡ false → Fresh bs (opened d o)
+fresh_opened : (bs : List Dest) (d : Dest) (o : OpenSlots) → Fresh bs o → all_opened bs o d.instr d.port ≡ false → Fresh bs (opened d o)
 fresh_opened [] d o f h = tt
 fresh_opened (b ∷ bs) d o f h = (
   not_true (opened d o b.instr b.port) (λ e. there e (cases_Bool (eqb d.instr b.instr && eqb d.port b.port))),
@@ -46,7 +46,7 @@ append_nil [] = refl
 append_nil (x ∷ xs) = ap (λ (l : List _). x ∷ l) (append_nil xs)
 
 -- two lists may be opened in either order
-fresh_swap : (bs cs : List Dest) (o : Slots) → Fresh (bs ++ cs) o → Fresh (cs ++ bs) o
+fresh_swap : (bs cs : List Dest) (o : OpenSlots) → Fresh (bs ++ cs) o → Fresh (cs ++ bs) o
 fresh_swap bs [] o f = fresh_left bs [] o f
 fresh_swap bs (c ∷ cs) o f =
     let l : Fresh bs o = fresh_left bs (c ∷ cs) o f in
@@ -87,7 +87,7 @@ module _ (draft image : Image) (new : ℕ → ℕ) (b r sh lo hi : ℕ) (X : ℕ
       sum : (k s : ℕ) → suc (k + s) ≡ suc k + s
       sum k s = omega arith
 
-  pub all_alike : (k n : ℕ) (o : Slots) → lo ≤ k → k + n ≤ hi →
+  pub all_alike : (k n : ℕ) (o : OpenSlots) → lo ≤ k → k + n ≤ hi →
       all_opened (edge_all image b r (k + sh) n) o ≡ all_opened (renamed new (edge_all draft b r k n) ++ gather X k n) o
   all_alike k zero o l h = refl
   all_alike k (suc n) o l h =
@@ -96,7 +96,7 @@ module _ (draft image : Image) (new : ℕ → ℕ) (b r sh lo hi : ℕ) (X : ℕ
       let E : List Dest = edge_all image b r (suc k + sh) n in
       let D : List Dest = renamed new (edge_all draft b r (suc k) n) in
       let G : List Dest = gather X (suc k) n in
-      let p : Slots = all_opened A o in
+      let p : OpenSlots = all_opened A o in
       let ih : all_opened E (all_opened x p) ≡ all_opened (D ++ G) (all_opened x p) = all_alike (suc k) n (all_opened x p) (omega arith) (omega arith) in
       ap₂ (λ (u v : List Dest). all_opened (u ++ v) o) (each k l (omega arith)) (next_number k n)
       ∙ (all_opened_append (A ++ x) E o
@@ -106,7 +106,7 @@ module _ (draft image : Image) (new : ℕ → ℕ) (b r sh lo hi : ℕ) (X : ℕ
       ∙ sym (ap (λ (u : List Dest). all_opened (u ++ (x ++ G)) o) (renamed_append new (edge_dests draft b r k) (edge_all draft b r (suc k) n))
       ∙ (all_opened_append (A ++ D) (x ++ G) o ∙ (ap (all_opened (x ++ G)) (all_opened_append A D o) ∙ all_opened_append x G (all_opened D p)))))))))
 
-  pub fresh_alike : (k n : ℕ) (o : Slots) → lo ≤ k → k + n ≤ hi →
+  pub fresh_alike : (k n : ℕ) (o : OpenSlots) → lo ≤ k → k + n ≤ hi →
       Fresh (renamed new (edge_all draft b r k n) ++ gather X k n) o → Fresh (edge_all image b r (k + sh) n) o
   fresh_alike k zero o l h f = tt
   fresh_alike k (suc n) o l h f =
@@ -115,7 +115,7 @@ module _ (draft image : Image) (new : ℕ → ℕ) (b r sh lo hi : ℕ) (X : ℕ
       let E : List Dest = edge_all image b r (suc k + sh) n in
       let D : List Dest = renamed new (edge_all draft b r (suc k) n) in
       let G : List Dest = gather X (suc k) n in
-      let p : Slots = all_opened A o in
+      let p : OpenSlots = all_opened A o in
       let f1 : Fresh ((A ++ D) ++ (x ++ G)) o = subst (λ (u : List Dest). Fresh (u ++ (x ++ G)) o) (renamed_append new (edge_dests draft b r k) (edge_all draft b r (suc k) n)) f in
       let fAD : Fresh (A ++ D) o = fresh_left (A ++ D) (x ++ G) o f1 in
       let fxG : Fresh (x ++ G) (all_opened D p) = subst (Fresh (x ++ G)) (all_opened_append A D o) (fresh_right (A ++ D) (x ++ G) o f1) in

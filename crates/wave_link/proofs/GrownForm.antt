@@ -2,7 +2,7 @@
 use Rattle.std.proofs.Common.{ℕ, suc, ◌+◌, ◌≡◌, Bool, true, false, cond, List, [], ◌∷◌, ◌++◌, Option, Some, None, ltb, eqb}
 use Rattle.ws_isa.specs.declared.instr.Dest.{Dest}
 use Rattle.ws_isa.specs.Image.{Image, first_number, ports, is_advance, stops, target, now_dests, is_first, start_dests, IsIn, IsBlock}
-use Rattle.image_walk.specs.Sound.{Slots, HasDest, all_opened, Fresh, opens_at}
+use Rattle.image_walk.specs.Sound.{OpenSlots, HasDest, all_opened, Fresh, opens_at}
 
 -- what triggers a block's no-op: nothing, if it has none; an instruction of the block; a steer of the block before
 pub data Trigger : Type 0 where
@@ -37,11 +37,11 @@ is_pending (Own t) k = ltb t k
 is_pending Before k = true
 
 -- the draft's slots at the image's numbers
-abbrev pub at_origin : Option ℕ → Slots → ℕ → Bool
+abbrev pub at_origin : Option ℕ → OpenSlots → ℕ → Bool
 at_origin None o q = false
 at_origin (Some k) o q = o k q
 
-abbrev pub lift : (ℕ → Option ℕ) → Slots → Slots
+abbrev pub lift : (ℕ → Option ℕ) → OpenSlots → OpenSlots
 lift origin o m q = at_origin (origin m) o q
 
 pub record Grown (draft image : Image) : Type 0 where
@@ -79,7 +79,7 @@ pub record Grown (draft image : Image) : Type 0 where
   pub targets_are : (b r : ℕ) → target image b r ≡ target draft b r
   pub firsts_are : (b : ℕ) → is_first image b ≡ is_first draft b
   pub edge_real : (b r j q : ℕ) → IsBlock draft b → HasDest (opens_at draft b r) j q → origin (new j) ≡ Some j
-  pub edge_opens : (b r : ℕ) (o : Slots) → IsBlock draft b → stops draft b ≡ false →
+  pub edge_opens : (b r : ℕ) (o : OpenSlots) → IsBlock draft b → stops draft b ≡ false →
       all_opened (opens_at image b r) o ≡ all_opened (renamed new (opens_at draft b r) ++ before_slot (trigger (target draft b r)) (nop (target draft b r))) o
-  pub edge_fresh : (b r : ℕ) (o : Slots) → IsBlock draft b → stops draft b ≡ false →
+  pub edge_fresh : (b r : ℕ) (o : OpenSlots) → IsBlock draft b → stops draft b ≡ false →
       Fresh (renamed new (opens_at draft b r) ++ before_slot (trigger (target draft b r)) (nop (target draft b r))) o → Fresh (opens_at image b r) o

@@ -7,7 +7,7 @@ use Rattle.ws_isa.specs.declared.instr.Op.TheVariants.{Steer, Nop, Halt}
 use Rattle.ws_isa.specs.declared.instr.Dest.{Dest}
 use Rattle.ws_isa.specs.Image.{Instr, Exit, Goto, Branch, Landings, Stop, Image, nth, instr_at, block_at, first_number, size_of, ports, ports_of, is_memory, is_memory_op, is_advance, is_advance_op, is_giving, stops, is_stop, target, is_first, edges_of, leave_to, now_of, now_dests, edge_of, edge_dests, IsIn, IsBlock, IsInstr}
 use Rattle.ws_isa.specs.Formed.{References}
-use Rattle.image_walk.specs.Sound.{Slots, HasDest, all_opened, Fresh, edge_all, opens_at, ShapeRules}
+use Rattle.image_walk.specs.Sound.{OpenSlots, HasDest, all_opened, Fresh, edge_all, opens_at, ShapeRules}
 use Rattle.image_walk.specs.Open.{EnteredBySteer, OpenToNotes}
 use Rattle.image_walk.specs.Walk.{choice_of, opening_memory}
 use Rattle.image_walk.proofs.Steps.{first_le}
@@ -204,7 +204,7 @@ module _ (draft : Image) (ok : OpenToNotes draft) where
       edge_dests (annotated draft) b r (k + shift draft b) ≡ renamed (new draft) (edge_dests draft b r k) ++ extras_at draft r k
   each_edge b r h k p q = edge_grown draft b r k h (p, q)
 
-  edge_opens : (b r : ℕ) (o : Slots) → IsBlock draft b → stops draft b ≡ false →
+  edge_opens : (b r : ℕ) (o : OpenSlots) → IsBlock draft b → stops draft b ≡ false →
       all_opened (opens_at (annotated draft) b r) o ≡ all_opened (renamed (new draft) (opens_at draft b r) ++ before_slot (trigger draft (target draft b r)) (nop draft (target draft b r))) o
   edge_opens b r o h s =
       ap (λ (ds : List Dest). all_opened ds o) (opens_same draft b r h)
@@ -212,7 +212,7 @@ module _ (draft : Image) (ok : OpenToNotes draft) where
       (omega (arith, end_of draft b (first_le draft b (suc b) (omega arith))))
       ∙ ap₂ (λ (u v : List Dest). all_opened (renamed (new draft) u ++ v) o) (sym (opens_draft draft b r)) (gathered b r h s))
 
-  edge_fresh : (b r : ℕ) (o : Slots) → IsBlock draft b → stops draft b ≡ false →
+  edge_fresh : (b r : ℕ) (o : OpenSlots) → IsBlock draft b → stops draft b ≡ false →
       Fresh (renamed (new draft) (opens_at draft b r) ++ before_slot (trigger draft (target draft b r)) (nop draft (target draft b r))) o → Fresh (opens_at (annotated draft) b r) o
   edge_fresh b r o h s f =
       subst (λ (ds : List Dest). Fresh ds o) (sym (opens_same draft b r h))

@@ -7,7 +7,7 @@ use Rattle.ws_isa.specs.declared.instr.Op.{Op}
 use Rattle.ws_isa.specs.declared.instr.Op.TheVariants.{Const, Alu, Merge, Advance, Steer, Phi, Send, Load, Store, Input, Output, Give, Take, Nop, Halt}
 use Rattle.ws_isa.specs.declared.instr.Dest.{Dest}
 use Rattle.ws_isa.specs.Image.{Instr, Exit, Goto, Branch, Landings, Stop, Pad, Block, Image, no_block, nth, or_else, instr_at, block_at, pad_of, is_giving_op, target, leave_to, now_of, now_dests, edge_of, edge_dests, start_dests, IsIn, IsBlock}
-use Rattle.wave_link.specs.declared.links.Place.{Place}
+use Rattle.wave_link.specs.declared.links.Passage.{Passage}
 use Rattle.wave_link.specs.Layout.{is_steer_op, Tables, Extras, steered, extras_step}
 use Rattle.wave_link.specs.Grown.{number_in, extra_dest, grown_instr, grown_pad, grown_from, annotated}
 use Rattle.wave_link.specs.Grown.{renamed as table_renamed}
@@ -238,7 +238,7 @@ now_grown draft b k h i = ap (λ (x : Instr). now_of x.op x.dests) (instr_is_gro
 
 -- Pads.
 
-pads_there : (t : Tables) (ps : List Place) (b k : ℕ) (xs : List Block) (n : ℕ) → (or_else (nth (grown_from t ps b k xs) n) no_block).pads ≡ map (grown_pad t) (or_else (nth xs n) no_block).pads
+pads_there : (t : Tables) (ps : List Passage) (b k : ℕ) (xs : List Block) (n : ℕ) → (or_else (nth (grown_from t ps b k xs) n) no_block).pads ≡ map (grown_pad t) (or_else (nth xs n) no_block).pads
 unfolding no_block
 pads_there t ps b k [] n = refl
 pads_there t ps b k (x ∷ xs) zero = refl

@@ -10,7 +10,7 @@ use Rattle.image_walk.specs.Open.{OpenToNotes}
 use Rattle.image_walk.proofs.Blocks.{block_is, instr_is, number_next}
 use Rattle.wave_link.specs.declared.outline.Way.TheVariants.{Out}
 use Rattle.wave_link.specs.declared.outline.Outline.{Outline}
-use Rattle.wave_link.specs.declared.links.Place.{Place}
+use Rattle.wave_link.specs.declared.links.Passage.{Passage}
 use Rattle.wave_link.specs.Outlines.{firsts_of, one_more_op, ops_from, writer_from, outline_of, with_nop}
 use Rattle.wave_link.specs.States.{reached, state_in, is_vain, needs_nop}
 use Rattle.wave_link.specs.Notes.{place_at, note_at, writer_next}
@@ -96,30 +96,30 @@ find_writer (i ∷ is) l n s w e = go (find_writer is l (one_more_op i n) (seq_n
 
 -- Notes along a list of instructions.
 
-abbrev pub Noted : Place → ℕ → ℕ → List Instr → Type 0
+abbrev pub Noted : Passage → ℕ → ℕ → List Instr → Type 0
 Noted p s w [] = Unit {0}
 Noted p s w (i ∷ is) = (is_memory_op i.op ≡ true → i.note ≡ Some (note_at p i.op s w)) × Noted p (seq_next i.op s) (writer_next i.op s w) is
 
-pub noted_at : (p : Place) (is : List Instr) (n s w : ℕ) → n < length is → Noted p s w is → is_memory_op (or_else (nth is n) no_instr).op ≡ true →
+pub noted_at : (p : Passage) (is : List Instr) (n s w : ℕ) → n < length is → Noted p s w is → is_memory_op (or_else (nth is n) no_instr).op ≡ true →
     (or_else (nth is n) no_instr).note ≡ Some (note_at p (or_else (nth is n) no_instr).op (seq_in is n s) (writer_in is n s w))
 noted_at p [] n s w l h m = absurd (omega arith)
 noted_at p (i ∷ is) zero s w l h m = h.0 m
 noted_at p (i ∷ is) (suc n) s w l h m = noted_at p is n (seq_next i.op s) (writer_next i.op s w) (omega arith) h.1 m
 
-noted_grown : (t : Tables) (p : Place) (k s w : ℕ) (is rest : List Instr) → Noted p (seq_in is (length is) s) (writer_in is (length is) s w) rest → Noted p s w (grown_instrs t p k s w is ++ rest)
+noted_grown : (t : Tables) (p : Passage) (k s w : ℕ) (is rest : List Instr) → Noted p (seq_in is (length is) s) (writer_in is (length is) s w) rest → Noted p s w (grown_instrs t p k s w is ++ rest)
 noted_grown t p k s w [] rest h = h
 noted_grown t p k s w (i ∷ is) rest h = (λ m. ap (λ (b : Bool). cond b (Some (note_at p i.op s w)) None) m, noted_grown t p (k + 1) (seq_next i.op s) (writer_next i.op s w) is rest h)
 
-ops_grown : (t : Tables) (p : Place) (k s w : ℕ) (is rest : List Instr) (n : ℕ) → ops_from (grown_instrs t p k s w is ++ rest) n ≡ ops_from rest (ops_from is n)
+ops_grown : (t : Tables) (p : Passage) (k s w : ℕ) (is rest : List Instr) (n : ℕ) → ops_from (grown_instrs t p k s w is ++ rest) n ≡ ops_from rest (ops_from is n)
 ops_grown t p k s w [] rest n = refl
 ops_grown t p k s w (i ∷ is) rest n = ops_grown t p (k + 1) (seq_next i.op s) (writer_next i.op s w) is rest (one_more_op i n)
 
-writer_grown : (t : Tables) (p : Place) (k s w : ℕ) (is rest : List Instr) (n v : ℕ) → writer_from (grown_instrs t p k s w is ++ rest) n v ≡ writer_from rest (ops_from is n) (writer_from is n v)
+writer_grown : (t : Tables) (p : Passage) (k s w : ℕ) (is rest : List Instr) (n v : ℕ) → writer_from (grown_instrs t p k s w is ++ rest) n v ≡ writer_from rest (ops_from is n) (writer_from is n v)
 writer_grown t p k s w [] rest n v = refl
 writer_grown t p k s w (i ∷ is) rest n v = writer_grown t p (k + 1) (seq_next i.op s) (writer_next i.op s w) is rest (one_more_op i n) (cond (is_writing_op i.op) (n + 1) v)
 
 -- with the no-op that is added to these
-with_or_without : (p : Place) (v : Bool) (m : ℕ) → 1 ≤ m → nop_at p (cond v m 0) ≡ cond v (nop_instr p ∷ []) []
+with_or_without : (p : Passage) (v : Bool) (m : ℕ) → 1 ≤ m → nop_at p (cond v m 0) ≡ cond v (nop_instr p ∷ []) []
 with_or_without p true m l = rw (ne_eqb m 0 (λ d. absurd (omega arith))) refl
 with_or_without p false m l = refl
 
@@ -144,7 +144,7 @@ module _ (draft : Image) where
       let z : y.ops ≡ 0 = eqb_zero y.ops (empty_needs (reached y (suc n) (ways_in draft)) (eqb y.ops 0) (not (is_vain y.way (ways_in draft) (state_in y (suc n) (ways_in draft) (states_at draft (suc n))))) need) in
       ap (λ (o : Outline). o.ops) (sym e) ∙ z
 
-  laid_by : (b : ℕ) (x : Block) (p : Place) (v : Bool) (m : ℕ) (g : Block) → 1 ≤ m → g.instrs ≡ grown_instrs (tables_in draft.blocks) p (first_number draft b) (p.low + 1) p.writer x.instrs ++ cond v (nop_instr p ∷ []) [] → (v ≡ true → ops_from x.instrs 0 ≡ 0) →
+  laid_by : (b : ℕ) (x : Block) (p : Passage) (v : Bool) (m : ℕ) (g : Block) → 1 ≤ m → g.instrs ≡ grown_instrs (tables_in draft.blocks) p (first_number draft b) (p.low + 1) p.writer x.instrs ++ cond v (nop_instr p ∷ []) [] → (v ≡ true → ops_from x.instrs 0 ≡ 0) →
       (ops_from g.instrs 0 ≡ cond v (ops_from x.instrs 0 + 1) (ops_from x.instrs 0)) × (writer_from g.instrs 0 0 ≡ writer_from x.instrs 0 0) × Noted p (p.low + 1) p.writer g.instrs
   laid_by b x p true m g l e z =
       let t : Tables = tables_in draft.blocks in
@@ -168,7 +168,7 @@ module _ (draft : Image) where
 
   pub laid : (b : ℕ) → IsBlock draft b → Laid b
   laid b h =
-      let p : Place = place_of draft b in
+      let p : Passage = place_of draft b in
       let g : block_at image b ≡ grown_block (tables_in draft.blocks) p b (first_number draft b) (block_at draft b) = block_is_grown draft b h in
       let e : (block_at image b).instrs ≡ grown_instrs (tables_in draft.blocks) p (first_number draft b) (p.low + 1) p.writer (block_at draft b).instrs ++ cond (adds draft b) (nop_instr p ∷ []) [] =
       ap (λ (x : Block). x.instrs) g ∙ ap (λ (is : List Instr). grown_instrs (tables_in draft.blocks) p (first_number draft b) (p.low + 1) p.writer (block_at draft b).instrs ++ is)
@@ -219,11 +219,11 @@ module _ (draft : Image) where
     abbrev low : ℕ → ℕ
     low b = low_of draft b
 
-    abbrev place : ℕ → Place
+    abbrev place : ℕ → Passage
     place b = place_at (outline_at draft b) b (low_of draft b) (heads_in draft) (behind_at draft b)
 
     noted_in : (b : ℕ) → IsBlock draft b → Noted (place b) (low b + 1) (place b).writer (block_at image b).instrs
-    noted_in b h = subst (λ (p : Place). Noted p (p.low + 1) p.writer (block_at image b).instrs) (place_is draft b h) (laid b h).noted
+    noted_in b h = subst (λ (p : Passage). Noted p (p.low + 1) p.writer (block_at image b).instrs) (place_is draft b h) (laid b h).noted
 
     note_is : (b k : ℕ) → IsBlock image b → IsIn image b k → is_memory image k ≡ true → note_of image k ≡ note_at (place b) (instr_at image k).op (sq b k) (wr b k)
     unfolding note_of is_memory

@@ -5,12 +5,12 @@ use Rattle.ws_isa.specs.declared.instr.Link.{Link}
 use Rattle.ws_isa.specs.declared.instr.Link.TheVariants.{Unknown, Nothing, Is}
 use Rattle.ws_isa.specs.declared.instr.Note.{Note}
 use Rattle.ws_isa.specs.Image.{Image, or_else, instr_at, block_at, first_number, is_memory, is_writing, note_of, stops, target, is_first, IsIn, IsBlock}
-use Rattle.image_walk.specs.Sound.{InWave, first, turn, edge, last_op, Follows, Ends, seq, IsAmong, LinkRules, RippleRules}
+use Rattle.image_walk.specs.Sound.{InWave, first, turn, edge, last_op, ComesNext, PathEnds, seq, IsAmong, LinkRules, RippleRules}
 use Rattle.wave_link.specs.declared.outline.Way.{Way}
 use Rattle.wave_link.specs.declared.outline.Way.TheVariants.{Out}
 use Rattle.wave_link.specs.declared.outline.Outline.{Outline}
 use Rattle.wave_link.specs.declared.links.Behind.{Behind}
-use Rattle.wave_link.specs.declared.links.Place.{Place}
+use Rattle.wave_link.specs.declared.links.Passage.{Passage}
 use Rattle.wave_link.specs.declared.states.Ways.{Ways}
 use Rattle.wave_link.specs.declared.states.State.{State}
 use Rattle.wave_link.specs.Notes.{head_at, out_link, unreached, place_at, note_at, writer_next}
@@ -41,7 +41,7 @@ pub record Marked (image : Image) (n : ℕ) (x : ℕ → Outline) (low : ℕ →
 
 module _ (image : Image) (n : ℕ) (x : ℕ → Outline) (low : ℕ → ℕ) (heads : List Link) (ways : ℕ → List Ways) (states : ℕ → List State) (behind : ℕ → List (Option Behind)) (sq wr : ℕ → ℕ → ℕ)
     (run : Run n x low heads ways states behind) (marked : Marked image n x low heads behind sq wr) where
-  abbrev pub place : ℕ → Place
+  abbrev pub place : ℕ → Passage
   place b = place_at (x b) b (low b) heads (behind b)
 
   abbrev Path : ℕ → ℕ → Type 0
@@ -308,10 +308,10 @@ module _ (image : Image) (n : ℕ) (x : ℕ → Outline) (low : ℕ → ℕ) (he
     pub pred : ((note_of image k).pred ≡ Unknown) ⊎ ((note_of image k).pred ≡ Is (seq image j))
     pub linked : ((note_of image j).succ ≡ Is (seq image k)) ⊎ ((note_of image k).pred ≡ Is (seq image j))
 
-  pub standing : (k : ℕ) (last : Option ℕ) (f : Follows image last k) → Stands f.block k f.done
+  pub standing : (k : ℕ) (last : Option ℕ) (f : ComesNext image last k) → Stands f.block k f.done
   standing k last f = stands f.block k f.done f.path
 
-  is_in : (k : ℕ) (last : Option ℕ) (f : Follows image last k) → IsIn image f.block k
+  is_in : (k : ℕ) (last : Option ℕ) (f : ComesNext image last k) → IsIn image f.block k
   is_in k last f = ((standing k last f).low_end, f.within)
 
   -- the successor of an operation that isn't the last of its block, and of one that is
@@ -366,7 +366,7 @@ module _ (image : Image) (n : ℕ) (x : ℕ → Outline) (low : ℕ → ℕ) (he
   some_same : (i j : ℕ) → Some i ≡ Some j → i ≡ j
   some_same i j e = cc
 
-  pub pair : (j k : ℕ) → Follows image (Some j) k → Pair j k
+  pub pair : (j k : ℕ) → ComesNext image (Some j) k → Pair j k
   pair j k f = go s.last
     where
       s : Stands f.block k f.done
@@ -380,7 +380,7 @@ module _ (image : Image) (n : ℕ) (x : ℕ → Outline) (low : ℕ → ℕ) (he
       go (entry_some m q u p g) = subst (λ (v : ℕ). Pair v k) (some_same m j (sym g ∙ f.last_is)) (pair_entry f.block s.a k m s.block i f.memory (known_at s.path) q u p)
       go (within m p q g) = subst (λ (v : ℕ). Pair v k) (some_same m j (sym g ∙ f.last_is)) (pair_within f.block k m s.block i f.memory p q)
 
-  pub begins : (k : ℕ) → Follows image None k → (note_of image k).pred ≡ Nothing
+  pub begins : (k : ℕ) → ComesNext image None k → (note_of image k).pred ≡ Nothing
   begins k f = go s.last
     where
       s : Stands f.block k f.done
@@ -400,7 +400,7 @@ module _ (image : Image) (n : ℕ) (x : ℕ → Outline) (low : ℕ → ℕ) (he
     pub last_is : last ≡ Some op
     pub none : (note_of image op).succ ≡ Nothing
 
-  pub finish : (last : Option ℕ) → Ends image last → Ended last
+  pub finish : (last : Option ℕ) → PathEnds image last → Ended last
   finish last f = go (cases_eq (x f.block).ops 0) s.last
     where
       s : Stands f.block f.next f.done

@@ -5,7 +5,7 @@ use Rattle.std.proofs.lemmas.List.{get_or_append_left, get_or-append_right}
 use Rattle.ws_isa.specs.declared.instr.Note.{Note}
 use Rattle.ws_isa.specs.Image.{Instr, Block, Image, no_instr, no_block, nth, or_else, instr_at, block_at, first_of, first_number, IsIn, IsBlock}
 use Rattle.image_walk.proofs.Blocks.{nth_append_left, nth_append_right, block_is, instr_is, number_next}
-use Rattle.wave_link.specs.declared.links.Place.{Place}
+use Rattle.wave_link.specs.declared.links.Passage.{Passage}
 use Rattle.wave_link.specs.Notes.{writer_next}
 use Rattle.wave_link.specs.Layout.{with_nop, nops_from, count_up, numbers_from, Tables}
 use Rattle.wave_link.specs.Grown.{number_in, note_for, seq_next, grown_instr, grown_instrs, nop_instr, nop_at, no_place, grown_block, grown_from, added_in, annotated}
@@ -104,7 +104,7 @@ number_there (x ∷ xs) b n (suc i) j p added l h e =
 
 -- Blocks.
 
-block_there : (t : Tables) (ps : List Place) (b k : ℕ) (xs : List Block) (n m j : ℕ) → n < length xs → m ≡ b + n → suc j ≡ k + first_of xs n →
+block_there : (t : Tables) (ps : List Passage) (b k : ℕ) (xs : List Block) (n m j : ℕ) → n < length xs → m ≡ b + n → suc j ≡ k + first_of xs n →
     nth (grown_from t ps b k xs) n ≡ Some (grown_block t (get_or ps m no_place) m j (or_else (nth xs n) no_block))
 block_there t ps b k [] n m j l e f = absurd (omega arith)
 block_there t ps b k (x ∷ xs) zero m j l e f =
@@ -113,7 +113,7 @@ block_there t ps b k (x ∷ xs) zero m j l e f =
     ap₂ (λ (p q : ℕ). Some (grown_block t (get_or ps p no_place) p q x)) g h
 block_there t ps b k (x ∷ xs) (suc n) m j l e f = block_there t ps (b + 1) (k + length x.instrs) xs n m j (omega arith) (omega arith) (omega arith)
 
-instrs_length : (t : Tables) (p : Place) (k s w : ℕ) (is : List Instr) → length (grown_instrs t p k s w is) ≡ length is
+instrs_length : (t : Tables) (p : Passage) (k s w : ℕ) (is : List Instr) → length (grown_instrs t p k s w is) ≡ length is
 instrs_length t p k s w [] = refl
 instrs_length t p k s w (i ∷ is) = ap suc (instrs_length t p (k + 1) (seq_next i.op s) (writer_next i.op s w) is)
 
@@ -121,18 +121,18 @@ instrs_length t p k s w (i ∷ is) = ap suc (instrs_length t p (k + 1) (seq_next
 abbrev pub extra_of : ℕ → ℕ
 extra_of n = cond (eqb n 0) 0 1
 
-nop_length : (p : Place) (n : ℕ) → length (nop_at p n) ≡ extra_of n
+nop_length : (p : Passage) (n : ℕ) → length (nop_at p n) ≡ extra_of n
 nop_length p n = go (eqb n 0)
   where
     go : (b : Bool) → length {A = Instr} (cond b [] (nop_instr p ∷ [])) ≡ cond b 0 1
     go true = refl
     go false = refl
 
-block_length : (t : Tables) (p : Place) (b k : ℕ) (x : Block) → length (grown_block t p b k x).instrs ≡ length x.instrs + extra_of (get_or t.nops b 0)
+block_length : (t : Tables) (p : Passage) (b k : ℕ) (x : Block) → length (grown_block t p b k x).instrs ≡ length x.instrs + extra_of (get_or t.nops b 0)
 block_length t p b k x = length-append (grown_instrs t p k (p.low + 1) p.writer x.instrs) (nop_at p (get_or t.nops b 0))
     ∙ ap₂ (λ (n m : ℕ). n + m) (instrs_length t p k (p.low + 1) p.writer x.instrs) (nop_length p (get_or t.nops b 0))
 
-first_there : (t : Tables) (ps : List Place) (added : List Bool) (b k c : ℕ) (xs : List Block) (n : ℕ) → n ≤ length xs →
+first_there : (t : Tables) (ps : List Passage) (added : List Bool) (b k c : ℕ) (xs : List Block) (n : ℕ) → n ≤ length xs →
     ((i j m : ℕ) → i < length xs → j ≡ b + i → m ≡ c + i → extra_of (get_or t.nops j 0) ≡ one_if (get_or added m false)) →
     first_of (grown_from t ps b k xs) n ≡ first_of xs n + count_from added c n
 first_there t ps added b k c xs zero l h = first_one (grown_from t ps b k xs) ∙ (sym (first_one xs) ∙ sum (first_of xs zero))
@@ -166,7 +166,7 @@ new draft k = number_in (tables_in draft.blocks) k
 unfoldable pub nop : Image → ℕ → ℕ
 nop draft b = first_number draft (suc b) + shift draft b
 
-unfoldable pub place_of : Image → ℕ → Place
+unfoldable pub place_of : Image → ℕ → Passage
 place_of draft b = get_or (places_in draft.blocks) b no_place
 
 pub shift_next : (draft : Image) (b : ℕ) → 1 ≤ b → shift draft (suc b) ≡ shift draft b + one_if (adds draft b)
@@ -272,7 +272,7 @@ writer_in [] i s w = w
 writer_in (x ∷ xs) zero s w = w
 writer_in (x ∷ xs) (suc i) s w = writer_in xs i (seq_next x.op s) (writer_next x.op s w)
 
-instr_there : (t : Tables) (p : Place) (k s w : ℕ) (is : List Instr) (i j : ℕ) → i < length is → j ≡ k + i →
+instr_there : (t : Tables) (p : Passage) (k s w : ℕ) (is : List Instr) (i j : ℕ) → i < length is → j ≡ k + i →
     nth (grown_instrs t p k s w is) i ≡ Some (grown_instr t j (note_for p (or_else (nth is i) no_instr).op (seq_in is i s) (writer_in is i s w)) (or_else (nth is i) no_instr))
 instr_there t p k s w [] i j l e = absurd (omega arith)
 instr_there t p k s w (x ∷ is) zero j l e = let f : k ≡ j = omega arith in ap (λ (q : ℕ). Some (grown_instr t q (note_for p x.op s w) x)) f
@@ -297,7 +297,7 @@ instr_is_grown draft (suc n) k h i =
     let l : n < length draft.blocks = omega (arith, h.1) in
     let x : Block = block_at draft (suc n) in
     let xe : x ≡ or_else (nth draft.blocks n) no_block = block_is draft n in
-    let p : Place = place_of draft (suc n) in
+    let p : Passage = place_of draft (suc n) in
     let f : ℕ = first_number draft (suc n) in
     let j : ℕ = k - f in
     let s : first_number draft (suc (suc n)) ≡ f + length x.instrs = number_next draft n l ∙ ap (λ (y : Block). f + length y.instrs) (sym xe) in
@@ -327,7 +327,7 @@ nop_is_there draft (suc n) h a =
     let l : n < length draft.blocks = omega (arith, h.1) in
     let x : Block = block_at draft (suc n) in
     let xe : x ≡ or_else (nth draft.blocks n) no_block = block_is draft n in
-    let p : Place = place_of draft (suc n) in
+    let p : Passage = place_of draft (suc n) in
     let f : ℕ = first_number draft (suc n) in
     let s : first_number draft (suc (suc n)) ≡ f + length x.instrs = number_next draft n l ∙ ap (λ (y : Block). f + length y.instrs) (sym xe) in
     let g : Block = grown_block (tables_in draft.blocks) p (suc n) f x in
@@ -344,5 +344,5 @@ nop_is_there draft (suc n) h a =
     let pl : length x.instrs ≡ length gi + 0 = omega arith in
     here ∙ (ap (λ (q : ℕ). or_else (nth (gi ++ nop_at p nn) q) no_instr) pl ∙ (ap (λ (o : Option Instr). or_else o no_instr) (nth_append_right gi (nop_at p nn) 0) ∙ ap (λ (z : List Instr). or_else (nth z 0) no_instr) ne))
   where
-    some_nop : (p : Place) (n : ℕ) → 1 ≤ n → nop_at p n ≡ nop_instr p ∷ []
+    some_nop : (p : Passage) (n : ℕ) → 1 ≤ n → nop_at p n ≡ nop_instr p ∷ []
     some_nop p n l = rw (ne_eqb n 0 (λ e. omega arith)) refl

@@ -6,12 +6,12 @@ use Rattle.ws_isa.specs.declared.instr.Op.TheVariants.{Steer, Send, Nop, Halt}
 use Rattle.ws_isa.specs.declared.instr.Dest.{Dest}
 use Rattle.ws_isa.specs.Image.{Instr, Exit, Goto, Branch, Landings, Stop, Pad, Block, Image, In, nth, instr_at, block_at, block_of, first_number, is_memory, is_memory_op, is_advance, is_giving, is_giving_op, stops, target, is_first, now_dests, IsIn, IsBlock, IsInstr}
 use Rattle.ws_isa.specs.Formed.{References, WavesFrom, WavesInOrder}
-use Rattle.image_walk.specs.Sound.{HasDest, HasPad, IsAhead, Carries, direct, through, EdgeShape, FrontShape, ExitShape, HangShape, HaltShape, DestShape, BlockShape, ShapeRules}
+use Rattle.image_walk.specs.Sound.{HasDest, HasPad, IsAhead, BringsResult, direct, through, EdgeShape, FrontShape, ExitShape, HangShape, HaltShape, DestShape, BlockShape, ShapeRules}
 use Rattle.image_walk.specs.Open.{OpenToNotes}
 use Rattle.image_walk.proofs.Steps.{first_le, block_of_is}
 use Rattle.image_walk.proofs.Slots.{has_append_cases}
 use Rattle.image_walk.proofs.There.{dests_there, others_there, There}
-use Rattle.wave_link.specs.declared.links.Place.{Place}
+use Rattle.wave_link.specs.declared.links.Passage.{Passage}
 use Rattle.wave_link.specs.Layout.{Tables}
 use Rattle.wave_link.specs.Grown.{extra_dest, number_in, grown_exit, grown_pad, grown_from, annotated}
 use Rattle.wave_link.specs.Adds.{adds}
@@ -96,11 +96,11 @@ old_op draft b k m op h i n e = sym (op_kept draft b k h i) ∙ (ap (λ (j : ℕ
 
 -- The waves.
 
-waves_from : (t : Tables) (ps : List Place) (b k w : ℕ) (xs : List Block) → WavesFrom w xs → WavesFrom w (grown_from t ps b k xs)
+waves_from : (t : Tables) (ps : List Passage) (b k w : ℕ) (xs : List Block) → WavesFrom w xs → WavesFrom w (grown_from t ps b k xs)
 waves_from t ps b k w [] h = tt
 waves_from t ps b k w (x ∷ xs) h = (h.0, waves_from t ps (b + 1) (k + length x.instrs) x.wave xs h.1)
 
-waves_there : (t : Tables) (ps : List Place) (b k : ℕ) (xs : List Block) → WavesInOrder xs → WavesInOrder (grown_from t ps b k xs)
+waves_there : (t : Tables) (ps : List Passage) (b k : ℕ) (xs : List Block) → WavesInOrder xs → WavesInOrder (grown_from t ps b k xs)
 waves_there t ps b k [] h = h
 waves_there t ps b k (x ∷ xs) h = (h.0, waves_from t ps (b + 1) (k + length x.instrs) 1 xs h.1)
 
@@ -134,7 +134,7 @@ nth_renamed new (x ∷ xs) ys zero d e = let f : x ≡ d = cc in ap (λ (z : Des
 nth_renamed new (x ∷ xs) ys (suc place) d e = nth_renamed new xs ys place d e
 
 -- The result of an instruction comes to where it comes in the draft.
-carried : (draft : Image) (b s k q : ℕ) → IsBlock draft b → IsIn draft b s → Carries draft b s k q → Carries (annotated draft) b (new draft s) (new draft k) q
+carried : (draft : Image) (b s k q : ℕ) → IsBlock draft b → IsIn draft b s → BringsResult draft b s k q → BringsResult (annotated draft) b (new draft s) (new draft k) q
 carried draft b s k q h i (direct place d e f g) =
     direct place (record { instr = new draft d.instr; port = d.port })
     (ap (λ (ds : List Dest). nth ds place) (ap (now_dests (annotated draft)) (new_is draft b s h i) ∙ now_grown draft b s h i)
@@ -318,7 +318,7 @@ module _ (draft : Image) (ok : OpenToNotes draft) where
       let x = advances_in b m h c e in
       ap (is_advance (annotated draft)) n ∙ (advance_kept draft b i h p ∙ (shape.blocks b h).front.front i x.0 x.1 x.3 p.0 (omega (arith, n, x.2, l)))
 
-  steers_in_image : (b m : ℕ) → IsBlock draft b → ImageCase draft b m → (instr_at (annotated draft) m).op ≡ Steer → (s x y : ℕ) × ((block_at (annotated draft) b).exit ≡ Branch s x y) × Carries (annotated draft) b s m 1
+  steers_in_image : (b m : ℕ) → IsBlock draft b → ImageCase draft b m → (instr_at (annotated draft) m).op ≡ Steer → (s x y : ℕ) × ((block_at (annotated draft) b).exit ≡ Branch s x y) × BringsResult (annotated draft) b s m 1
   steers_in_image b m h (no_op a n) e = let f : Nop ≡ Steer = nop_other draft b m Steer h a n e in absurd (cc)
   steers_in_image b m h (old k i n) e =
       let r = (shape.blocks b h).hang.steers k i (old_op draft b k m Steer h i n e) in (
@@ -326,17 +326,17 @@ module _ (draft : Image) (ok : OpenToNotes draft) where
         r.1,
         r.2,
         branch_on draft b r.0 r.1 r.2 r.3,
-        subst (λ (l : ℕ). Carries (annotated draft) b (new draft r.0) l 1) (new_is draft b k h i ∙ sym n) (carried draft b r.0 k 1 h ((shape.blocks b h).exit.source r.0 r.1 r.2 r.3) r.4),
+        subst (λ (l : ℕ). BringsResult (annotated draft) b (new draft r.0) l 1) (new_is draft b k h i ∙ sym n) (carried draft b r.0 k 1 h ((shape.blocks b h).exit.source r.0 r.1 r.2 r.3) r.4),
       )
 
-  sends_in_image : (b m p : ℕ) → IsBlock draft b → ImageCase draft b m → (instr_at (annotated draft) m).op ≡ Send p → (s : ℕ) × (ls : List ℕ) × ((block_at (annotated draft) b).exit ≡ Landings s ls) × Carries (annotated draft) b s m 0
+  sends_in_image : (b m p : ℕ) → IsBlock draft b → ImageCase draft b m → (instr_at (annotated draft) m).op ≡ Send p → (s : ℕ) × (ls : List ℕ) × ((block_at (annotated draft) b).exit ≡ Landings s ls) × BringsResult (annotated draft) b s m 0
   sends_in_image b m p h (no_op a n) e = let f : Nop ≡ Send p = nop_other draft b m (Send p) h a n e in absurd (cc)
   sends_in_image b m p h (old k i n) e =
       let r = (shape.blocks b h).hang.sends k p i (old_op draft b k m (Send p) h i n e) in (
         new draft r.0,
         r.1,
         landings_on draft b r.0 r.1 r.2,
-        subst (λ (l : ℕ). Carries (annotated draft) b (new draft r.0) l 0) (new_is draft b k h i ∙ sym n) (carried draft b r.0 k 0 h ((shape.blocks b h).exit.address r.0 r.1 r.2) r.3),
+        subst (λ (l : ℕ). BringsResult (annotated draft) b (new draft r.0) l 0) (new_is draft b k h i ∙ sym n) (carried draft b r.0 k 0 h ((shape.blocks b h).exit.address r.0 r.1 r.2) r.3),
       )
 
   landing_in : (b m p r : ℕ) → IsBlock draft b → ImageCase draft b m → (instr_at (annotated draft) m).op ≡ Send p → HasPad (block_at (annotated draft) (target (annotated draft) b r)).pads p

@@ -3,7 +3,7 @@ use Rattle.std.proofs.Common.{ℕ, zero, suc, ◌-◌, ◌≡◌, ◌<◌, ◌�
 use Rattle.ws_isa.specs.declared.instr.Dest.{Dest}
 use Rattle.ws_isa.specs.Image.{Exit, Pad, Image, In, nth, instr_at, block_at, block_of, first_number, size_of, ports, ports_of, is_memory, is_memory_op, is_advance, is_advance_op, is_giving, is_giving_op, stops, is_stop, target, leave_to, is_first, pad_of, now_of, now_dests, edge_of, edge_dests, start_dests, IsIn, IsBlock}
 use Rattle.ws_isa.specs.Formed.{WavesInOrder}
-use Rattle.image_walk.specs.Sound.{Slots, none_open, all_opened, Fresh, closed, HasDest, HasPad, edge_all, opens_at, Opens, begin, turn, edge, AdvancesOpen, TurnSlots, EndSlots, EdgeInto, SlotRules, IsAhead, Carries, direct, through, BlockShape, ShapeRules}
+use Rattle.image_walk.specs.Sound.{OpenSlots, none_open, all_opened, Fresh, closed, HasDest, HasPad, edge_all, opens_at, Opens, begin, turn, edge, AdvancesOpen, TurnSlots, EndSlots, EdgeInto, SlotRules, IsAhead, BringsResult, direct, through, BlockShape, ShapeRules}
 use Rattle.image_walk.proofs.Along.{path_end}
 use Rattle.wave_link.proofs.GrownTriggers.{OpCase, steers, sends, plain, op_case}
 
@@ -90,11 +90,11 @@ module _ (image new : Image) (same : SameShape image new) where
   opens_same b r = all_same b r (first_number new b) (first_number new (suc b) - first_number new b)
       ∙ ap₂ (λ (k m : ℕ). edge_all image b r k (m - k)) (same.numbers b) (same.numbers (suc b))
 
-  moved : (b c k l : ℕ) (o p : Slots) → b ≡ c → k ≡ l → o ≡ p → Opens image b k o → Opens image c l p
+  moved : (b c k l : ℕ) (o p : OpenSlots) → b ≡ c → k ≡ l → o ≡ p → Opens image b k o → Opens image c l p
   moved b c k l o p e f g h = subst (λ (x : ℕ). Opens image x l p) e (subst (λ (x : ℕ). Opens image b x p) f (subst (Opens image b k) g h))
 
   -- a path of the one is a path of the other
-  back : (b k : ℕ) (o : Slots) → Opens new b k o → Opens image b k o
+  back : (b k : ℕ) (o : OpenSlots) → Opens new b k o → Opens image b k o
   back b k o begin = moved 1 1 (first_number image 1) (first_number new 1) (all_opened (start_dests image) none_open) (all_opened (start_dests new) none_open) refl (sym (same.numbers 1)) (ap (λ (ds : List Dest). all_opened ds none_open) (sym start_same)) begin
   back b k o (turn {b = c} {k = l} {o = p} path w) =
       moved c c (suc l) (suc l) (all_opened (now_dests image l) (closed l p)) (all_opened (now_dests new l) (closed l p)) refl refl (ap (λ (ds : List Dest). all_opened ds (closed l p)) (sym (now_same l)))
@@ -104,17 +104,17 @@ module _ (image new : Image) (same : SameShape image new) where
       (sym (target_same c r)) (ap (first_number image) (sym (target_same c r)) ∙ sym (same.numbers (target new c r))) (ap (λ (ds : List Dest). all_opened ds p) (sym (opens_same c r)))
       (edge (back c l p path) (e ∙ same.numbers (suc c)) (sym (stops_same c) ∙ s) r)
 
-  advances_on : (b : ℕ) (o : Slots) → AdvancesOpen image b o → AdvancesOpen new b o
+  advances_on : (b : ℕ) (o : OpenSlots) → AdvancesOpen image b o → AdvancesOpen new b o
   advances_on b o a j q = (
     (λ e. (let x = (a j q).0 e in (in_on b j x.0, advance_same j ∙ x.1, x.2))),
     (λ x. (a j q).1 (in_back b j x.0, sym (advance_same j) ∙ x.1, x.2)),
   )
 
-  path_back : (b : ℕ) (o : Slots) → Opens new b (first_number new (suc b)) o → Opens image b (first_number image (suc b)) o
+  path_back : (b : ℕ) (o : OpenSlots) → Opens new b (first_number new (suc b)) o → Opens image b (first_number image (suc b)) o
   path_back b o path = path_end (back b (first_number new (suc b)) o path) (same.numbers (suc b))
 
   -- an edge of the one is an edge of the other
-  edge_back : (c b : ℕ) (o : Slots) → EdgeInto new c b o → EdgeInto image c b o
+  edge_back : (c b : ℕ) (o : OpenSlots) → EdgeInto new c b o → EdgeInto image c b o
   edge_back c b o e = record {
     before = e.before;
     path = path_back c e.before e.path;
@@ -125,14 +125,14 @@ module _ (image new : Image) (same : SameShape image new) where
   }
 
   module _ (rules : SlotRules image) where
-    turn_on : (b k : ℕ) (o : Slots) → Opens new b k o → k < first_number new (suc b) → TurnSlots new k o
+    turn_on : (b k : ℕ) (o : OpenSlots) → Opens new b k o → k < first_number new (suc b) → TurnSlots new k o
     turn_on b k o path w = let t : TurnSlots image k o = rules.turns b k o (back b k o path) (subst (λ (n : ℕ). k < n) (same.numbers (suc b)) w) in
         record {
           has_all = λ q l. t.has_all q (subst (λ (n : ℕ). q < n) (ports_same k) l);
           fresh = subst (λ (ds : List Dest). Fresh ds (closed k o)) (sym (now_same k)) t.fresh;
         }
 
-    end_on : (b : ℕ) (o : Slots) → Opens new b (first_number new (suc b)) o → EndSlots new b o
+    end_on : (b : ℕ) (o : OpenSlots) → Opens new b (first_number new (suc b)) o → EndSlots new b o
     end_on b o path = let t : EndSlots image b o = rules.ends b o (path_back b o path) in
         record {
           edges = λ s r. subst (λ (ds : List Dest). Fresh ds o) (sym (opens_same b r)) (t.edges (sym (stops_same b) ∙ s) r);
@@ -149,7 +149,7 @@ module _ (image new : Image) (same : SameShape image new) where
       pending = λ c d b o p e f i j q. rules.pending c d b o p (edge_back c b o e) (edge_back d b p f) (sym (first_same b) ∙ i) j q;
     }
 
-  carried : (b s k q : ℕ) → Carries image b s k q → Carries new b s k q
+  carried : (b s k q : ℕ) → BringsResult image b s k q → BringsResult new b s k q
   carried b s k q (direct place d e f g) = direct place d (ap (λ (ds : List Dest). nth ds place) (now_same s) ∙ e) f g
   carried b s k q (through place d e f inside merge rest) =
       through place d (ap (λ (ds : List Dest). nth ds place) (now_same s) ∙ e) f (in_on b d.instr inside) (same.ops d.instr ∙ merge) (carried b d.instr k q rest)

@@ -3,7 +3,7 @@ use Rattle.std.specs.Prelude.{ℕ, suc, ◌+◌, ◌-◌, ◌≡◌, cond, List,
 use Rattle.ws_isa.specs.declared.instr.Op.TheVariants.{Nop}
 use Rattle.ws_isa.specs.declared.instr.Dest.{Dest}
 use Rattle.ws_isa.specs.Image.{Instr, Exit, Goto, Branch, Landings, Stop, Pad, Block, Image, instr_at, block_at, IsBlock}
-use Rattle.image_walk.specs.Sound.{Follows, Ends, wave_at}
+use Rattle.image_walk.specs.Sound.{ComesNext, PathEnds, wave_at}
 use Rattle.wave_link.specs.Triggers.{IsAdded}
 
 -- The image without instruction x and without the destinations that name it. Those behind x move
@@ -59,12 +59,12 @@ without image x = record { arrays = image.arrays; blocks = blocks_but x 1 image.
 
 -- on a path in wave w operation k comes right after this one, or first
 pub record FollowsIn (image : Image) (w : ℕ) (last : Option ℕ) (k : ℕ) : Type 0 where
-  pub follows : Follows image last k
+  pub follows : ComesNext image last k
   pub wave_is : wave_at follows ≡ w
 
 -- a path in wave w ends after this operation, or has none
 pub record EndsIn (image : Image) (w : ℕ) (last : Option ℕ) : Type 0 where
-  pub ends : Ends image last
+  pub ends : PathEnds image last
   pub wave_is : (block_at image ends.block).wave ≡ w
 
 -- on some path through operation j another operation than k follows it, or none

@@ -18,7 +18,7 @@ use Rattle.wsc_top.specs.declared.task.AssemblyTask.{AssemblyTask}
 use Rattle.wsc_top.specs.Tasks.{IsLine, IsNoLine}
 use Rattle.wsc_top.specs.Generated.{IsGeneratedJob}
 use Rattle.wsc_top.specs.Answers.{TellWords, EndsSo, AssemblyEndsSo, BenchEndsSo, IsToldJob, IsToldAssembly, Answers}
-use Rattle.wsc_top.specs.Jobs.{Program}
+use Rattle.wsc_top.specs.Jobs.{ProgramAndInput}
 use Rattle.wsc_top.specs.Threads.{Replies, Falls, AreToldJobs, MultiEndsSo}
 use Rattle.wsc_top.specs.Codes.{code_of}
 use Rattle.wsc_top.specs.Calls.{Reading, Writing, CallEnds, EndsWithCode, in_first}
@@ -34,7 +34,7 @@ pub record Decided : Type 0 where
       → Answers words left after faults counted handed status out again back → (told : IsToldAssembly words left task image input) → (status ≡ ReadFault → ⊥) → AssemblyEndsSo task told.text image input handed status
   pub bench : (words : List (List ℕ)) (left after : Option (List ℕ)) (faults counted : ℕ) (handed back : List (Option Told)) (status : Status) (out : List ℕ) (image : Option Image) (options : BenchOptions) (parts : List Part)
       → Answers words left after faults counted handed status out image back → IsLine words (Bench options) → IsGeneratedJob options.number parts → TellWords handed → BenchEndsSo options parts handed status
-  pub threads : (words : List (List ℕ)) (left after : Option (List ℕ)) (faults counted : ℕ) (handed back : List (Option Told)) (status : Status) (out : List ℕ) (image : Option Image) (images : List Image) (options : RunOptions) (jobs : List Program)
+  pub threads : (words : List (List ℕ)) (left after : Option (List ℕ)) (faults counted : ℕ) (handed back : List (Option Told)) (status : Status) (out : List ℕ) (image : Option Image) (images : List Image) (options : RunOptions) (jobs : List ProgramAndInput)
       → Replies words left after faults counted handed status out image images back → AreToldJobs words left options jobs → TellWords handed → (status ≡ ReadFault → ⊥) → MultiEndsSo options jobs handed status
 
 -- what an answer that there is none says
@@ -77,7 +77,7 @@ module _ (words : List (List ℕ)) (reads : Reading) (writes : Writing) (handed 
     job_ends task parts input told_job source =
         law.job words reads.left reads.after reads.faults reads.counted handed back status text image task parts input (job_of task told_job.line) told_job told (well_read source)
 
-    jobs_end : (options : RunOptions) (jobs : List Program) → AreToldJobs words reads.left options jobs → (Rose reads.faults reads.counted → ⊥) → MultiEndsSo options jobs handed status
+    jobs_end : (options : RunOptions) (jobs : List ProgramAndInput) → AreToldJobs words reads.left options jobs → (Rose reads.faults reads.counted → ⊥) → MultiEndsSo options jobs handed status
     jobs_end options jobs told_jobs source =
         law.threads words reads.left reads.after reads.faults reads.counted handed back status text image images options jobs r told_jobs told (well_read source)
 

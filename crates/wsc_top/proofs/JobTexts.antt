@@ -13,7 +13,7 @@ use Rattle.wsc_top.specs.declared.batch.JobsRefusal.TheVariants as refusal
 use Rattle.wsc_top.specs.Sections.{is_line, after_line, rest_of}
 use Rattle.wsc_top.specs.Job.{IsJob, Refuses}
 use Rattle.wsc_top.specs.Answers.{IsCompiled}
-use Rattle.wsc_top.specs.Jobs.{separator, most_jobs, Piece, IsLast, first_job, behind, place_behind, JobsFrom, last, next, Jobs, Program, EachIsJob, IsCrowded, RefusesJobs, faulty, IsJobsFault}
+use Rattle.wsc_top.specs.Jobs.{separator, most_jobs, Piece, IsLast, first_job, behind, place_behind, JobsFrom, last, next, Jobs, ProgramAndInput, EachIsJob, IsCrowded, RefusesJobs, faulty, IsJobsFault}
 use Rattle.wsc_top.specs.Threads.{Thread, HasJob, AreThreads, pieces_of, images_of, inputs_of}
 use Rattle.wsc_top.specs.Running.{IsRead, IsPieceFault, AreRead}
 
@@ -145,7 +145,7 @@ pub count_pieces : (xs : List Thread) → length (pieces_of xs) ≡ length xs
 count_pieces [] = refl
 count_pieces (x ∷ xs) = ap suc (count_pieces xs)
 
-abbrev pub programs_of : List Thread → List Program
+abbrev pub programs_of : List Thread → List ProgramAndInput
 programs_of xs = map (λ x. (x.parts, x.input)) xs
 
 pub each_of : (xs : List Thread) → AllByRecursion HasJob xs → EachIsJob (pieces_of xs) (programs_of xs)

@@ -8,7 +8,7 @@ use Rattle.src_ast.specs.Once.{ExactlyOne}
 use Rattle.wsc_top.specs.declared.batch.JobsRefusal.{JobsRefusal}
 use Rattle.wsc_top.specs.declared.batch.JobsRefusal.TheVariants.{Threads, OfJob}
 use Rattle.wsc_top.specs.Job.{IsJob, Refuses, IsTextAnswer}
-use Rattle.wsc_top.specs.Jobs.{most_jobs, Piece, JobsFrom, Jobs, Program, EachIsJob, AreJobs, IsCrowded, RefusesJobs, crowded, faulty, IsJobsAnswer}
+use Rattle.wsc_top.specs.Jobs.{most_jobs, Piece, JobsFrom, Jobs, ProgramAndInput, EachIsJob, AreJobs, IsCrowded, RefusesJobs, crowded, faulty, IsJobsAnswer}
 use Rattle.wsc_top.proofs.JobTexts.{jobs_exist, jobs_once}
 use Rattle.wsc_top.proofs.RunsAlike.{one_refusal, refused_job, one_job}
 
@@ -40,7 +40,7 @@ one_line text line other c d =
     c.line_is ∙ ap (λ (p : Piece). (after p.at p.text).line) same ∙ sym d.line_is
 
 module _ (once : (text : List ℕ) → ExactlyOne (IsTextAnswer text)) where
-  pub one_each : (ps : List Piece) (js ks : List Program) → EachIsJob ps js → EachIsJob ps ks → js ≡ ks
+  pub one_each : (ps : List Piece) (js ks : List ProgramAndInput) → EachIsJob ps js → EachIsJob ps ks → js ≡ ks
   one_each [] [] [] h k = refl
   one_each [] [] (x ∷ ks) h k = absurd k
   one_each [] (j ∷ js) ks h k = absurd h
@@ -48,15 +48,15 @@ module _ (once : (text : List ℕ) → ExactlyOne (IsTextAnswer text)) where
   one_each (p ∷ ps) (j ∷ js) [] h k = absurd k
   one_each (p ∷ ps) (j ∷ js) (x ∷ ks) h k =
       let here : j ≡ x = one_job p.text (once p.text) j.0 x.0 j.1 x.1 h.0 k.0 in
-      ap (λ (l : List Program). j ∷ l) (one_each ps js ks h.1 k.1) ∙ ap (λ (y : Program). y ∷ ks) here
+      ap (λ (l : List ProgramAndInput). j ∷ l) (one_each ps js ks h.1 k.1) ∙ ap (λ (y : ProgramAndInput). y ∷ ks) here
 
-  job_within : (before : List Piece) (p : Piece) (further : List Piece) (js : List Program) (r : Refusal) → EachIsJob (before ++ p ∷ further) js → Refuses p.text r → ⊥
+  job_within : (before : List Piece) (p : Piece) (further : List Piece) (js : List ProgramAndInput) (r : Refusal) → EachIsJob (before ++ p ∷ further) js → Refuses p.text r → ⊥
   job_within [] p further [] r h q = absurd h
   job_within [] p further (j ∷ js) r h q = refused_job p.text (once p.text) r j.0 j.1 q h.0
   job_within (b ∷ before) p further [] r h q = absurd h
   job_within (b ∷ before) p further (j ∷ js) r h q = job_within before p further js r h.1 q
 
-  one_fault : (xs ys : List Piece) (p q : Piece) (ps qs : List Piece) (js ks : List Program) (r s : Refusal) → xs ++ p ∷ ps ≡ ys ++ q ∷ qs
+  one_fault : (xs ys : List Piece) (p q : Piece) (ps qs : List Piece) (js ks : List ProgramAndInput) (r s : Refusal) → xs ++ p ∷ ps ≡ ys ++ q ∷ qs
       → EachIsJob xs js → EachIsJob ys ks → Refuses p.text r → Refuses q.text s → OfJob p.at r ≡ OfJob q.at s
   one_fault [] [] p q ps qs js ks r s e h k a b =
       let same = same_first p q ps qs e in
@@ -73,12 +73,12 @@ module _ (once : (text : List ℕ) → ExactlyOne (IsTextAnswer text)) where
   one_fault (x ∷ xs) (y ∷ ys) p q ps qs (j ∷ js) (i ∷ ks) r s e h k a b =
       one_fault xs ys p q ps qs js ks r s (same_rest x y (xs ++ p ∷ ps) (ys ++ q ∷ qs) e) h.1 k.1 a b
 
-  pub never_both : (text : List ℕ) (js : List Program) (r : JobsRefusal) → AreJobs text js → RefusesJobs text r → ⊥
+  pub never_both : (text : List ℕ) (js : List ProgramAndInput) (r : JobsRefusal) → AreJobs text js → RefusesJobs text r → ⊥
   never_both text js r a (crowded line c) = crowd_count text line c a.pieces a.split a.few
   never_both text js r a (faulty before p further ks q split few each h) =
       job_within before p further js q (subst (λ (ps : List Piece). EachIsJob ps js) (jobs_once start text a.pieces (before ++ p ∷ further) a.split split) a.each) h
 
-  pub one_jobs : (text : List ℕ) (js ks : List Program) → AreJobs text js → AreJobs text ks → js ≡ ks
+  pub one_jobs : (text : List ℕ) (js ks : List ProgramAndInput) → AreJobs text js → AreJobs text ks → js ≡ ks
   one_jobs text js ks a b = one_each b.pieces js ks (subst (λ (ps : List Piece). EachIsJob ps js) (jobs_once start text a.pieces b.pieces a.split b.split) a.each) b.each
 
   pub one_jobs_refusal : (text : List ℕ) (r s : JobsRefusal) → RefusesJobs text r → RefusesJobs text s → r ≡ s
@@ -88,7 +88,7 @@ module _ (once : (text : List ℕ) → ExactlyOne (IsTextAnswer text)) where
   one_jobs_refusal text r s (faulty xs p ps js q split few each h) (faulty ys x qs ks z divide less all k) =
       one_fault xs ys p x ps qs js ks q z (jobs_once start text _ _ split divide) each all h k
 
-  pub alike : (text : List ℕ) (x y : Result (List Program) JobsRefusal) → IsJobsAnswer text x → IsJobsAnswer text y → x ≡ y
+  pub alike : (text : List ℕ) (x y : Result (List ProgramAndInput) JobsRefusal) → IsJobsAnswer text x → IsJobsAnswer text y → x ≡ y
   alike text (Ok js) (Ok ks) h k = ap Ok (one_jobs text js ks h k)
   alike text (Ok js) (Err s) h k = absurd (never_both text js s h k)
   alike text (Err r) (Ok ks) h k = absurd (never_both text ks r k h)
@@ -99,17 +99,17 @@ module _ (once : (text : List ℕ) → ExactlyOne (IsTextAnswer text)) where
     before : List Piece
     piece : Piece
     further : List Piece
-    jobs : List Program
+    jobs : List ProgramAndInput
     refusal : Refusal
     whole : ps ≡ before ++ piece ∷ further
     each : EachIsJob before jobs
     refuses : Refuses piece.text refusal
 
-  decide : (ps : List Piece) → ((js : List Program) × EachIsJob ps js) ⊎ FirstFault ps
+  decide : (ps : List Piece) → ((js : List ProgramAndInput) × EachIsJob ps js) ⊎ FirstFault ps
   decide [] = inl ([], tt)
   decide (p ∷ ps) = go (once p.text).answer (once p.text).holds (decide ps)
     where
-      go : (x : Result (List Part × List ℕ) Refusal) → IsTextAnswer p.text x → ((js : List Program) × EachIsJob ps js) ⊎ FirstFault ps → ((js : List Program) × EachIsJob (p ∷ ps) js) ⊎ FirstFault (p ∷ ps)
+      go : (x : Result (List Part × List ℕ) Refusal) → IsTextAnswer p.text x → ((js : List ProgramAndInput) × EachIsJob ps js) ⊎ FirstFault ps → ((js : List ProgramAndInput) × EachIsJob (p ∷ ps) js) ⊎ FirstFault (p ∷ ps)
       go (Ok (parts, input)) h (inl js) = inl ((parts, input) ∷ js.0, (h, js.1))
       go (Ok (parts, input)) h (inr f) = inr (record {
         before = p ∷ f.before;
@@ -123,17 +123,17 @@ module _ (once : (text : List ℕ) → ExactlyOne (IsTextAnswer text)) where
       })
       go (Err r) h found = inr (record { before = []; piece = p; further = ps; jobs = []; refusal = r; whole = refl; each = tt; refuses = h })
 
-  few_answer : (text : List ℕ) (ps : List Piece) → Jobs text ps → length ps ≤ most_jobs → (x : Result (List Program) JobsRefusal) × IsJobsAnswer text x
+  few_answer : (text : List ℕ) (ps : List Piece) → Jobs text ps → length ps ≤ most_jobs → (x : Result (List ProgramAndInput) JobsRefusal) × IsJobsAnswer text x
   few_answer text ps split few = go (decide ps)
     where
-      go : ((js : List Program) × EachIsJob ps js) ⊎ FirstFault ps → (x : Result (List Program) JobsRefusal) × IsJobsAnswer text x
+      go : ((js : List ProgramAndInput) × EachIsJob ps js) ⊎ FirstFault ps → (x : Result (List ProgramAndInput) JobsRefusal) × IsJobsAnswer text x
       go (inl js) = (Ok js.0, record { pieces = ps; split = split; few = few; each = js.1 })
       go (inr f) = (
         Err (OfJob f.piece.at f.refusal),
         faulty f.before f.piece f.further f.jobs f.refusal (subst (Jobs text) f.whole split) (subst (λ (l : List Piece). length l ≤ most_jobs) f.whole few) f.each f.refuses,
       )
 
-  answer : (text : List ℕ) (ps : List Piece) → Jobs text ps → (x : Result (List Program) JobsRefusal) × IsJobsAnswer text x
+  answer : (text : List ℕ) (ps : List Piece) → Jobs text ps → (x : Result (List ProgramAndInput) JobsRefusal) × IsJobsAnswer text x
   answer text [] split = few_answer text [] split (omega arith)
   answer text (a ∷ []) split = few_answer text (a ∷ []) split (omega arith)
   answer text (a ∷ b ∷ []) split = few_answer text (a ∷ b ∷ []) split (omega arith)

@@ -2,13 +2,13 @@
 use Rattle.std.specs.Prelude.{◌≡◌, ℕ, List, Option, Some, None, IfSome, IfNone}
 use Rattle.std.proofs.Common.{sym, ap, ◌∙◌, subst}
 use Rattle.wsc_words.specs.Lines as lines
-use Rattle.wsc_words.specs.declared.line.Line.{Line}
+use Rattle.wsc_words.specs.declared.line.Invocation.{Invocation}
 use Rattle.wsc_top.specs.declared.task.Task.{Task}
 use Rattle.wsc_top.specs.Tasks.{task_of, IsLine, IsNoLine}
 
 -- words are one line at most
 abbrev pub OneLine : Type 0
-OneLine = (words : List (List ℕ)) (l m : Line) → lines.IsLine words l → lines.IsLine words m → l ≡ m
+OneLine = (words : List (List ℕ)) (l m : Invocation) → lines.IsLine words l → lines.IsLine words m → l ≡ m
 
 -- so they ask for one task
 pub same_task_by : OneLine → (words : List (List ℕ)) (c d : Task) → IsLine words c → IsLine words d → c ≡ d
@@ -18,14 +18,14 @@ same_task_by one words c d (l, h, e) (m, k, f) =
     cc
 
 -- a line that asks for nothing that is built
-pub not_built : OneLine → (words : List (List ℕ)) (l : Line) → lines.IsLine words l → task_of l ≡ None → IsNoLine words
+pub not_built : OneLine → (words : List (List ℕ)) (l : Invocation) → lines.IsLine words l → task_of l ≡ None → IsNoLine words
 not_built one words l h e task (m, k, f) =
     let same : l ≡ m = one words l m h k in
     let bad : None ≡ Some task = sym e ∙ ap task_of same ∙ f in
     absurd cc
 
 -- what a line asks for, where something is found
-pub no_task : OneLine → (words : List (List ℕ)) (l : Line) (found : Option Task) → lines.IsLine words l → found ≡ task_of l
+pub no_task : OneLine → (words : List (List ℕ)) (l : Invocation) (found : Option Task) → lines.IsLine words l → found ≡ task_of l
     → IfNone found (IsNoLine words)
 no_task one words l None h e = not_built one words l h (sym e)
 no_task one words l (Some t) h e = tt

@@ -28,7 +28,7 @@ use Rattle.wsc_top.specs.declared.task.RunOptions.{RunOptions}
 use Rattle.wsc_top.specs.declared.batch.JobsRefusal.{JobsRefusal}
 use Rattle.wsc_top.specs.Tasks.{IsLine, IsNoLine}
 use Rattle.wsc_top.specs.Job.{job_limit, IsJob, IsTextAnswer}
-use Rattle.wsc_top.specs.Jobs.{most_jobs, Piece, JobsFrom, last, next, Jobs, Program, AreJobs, RefusesJobs, IsJobsAnswer, jobs_refusal_text}
+use Rattle.wsc_top.specs.Jobs.{most_jobs, Piece, JobsFrom, last, next, Jobs, ProgramAndInput, AreJobs, RefusesJobs, IsJobsAnswer, jobs_refusal_text}
 use Rattle.wsc_top.specs.Executions.{Executes, rested, spent, stopped, failed, PortsAre, IsFailed, OrFailed}
 use Rattle.wsc_top.specs.Answers.{TellWords, IsCompiled, Yields, ran, EndsSo, IsFree, Answered, done, IsReader, limit_of, Answers, Starves, usage, generated, benched, unread, long, read, assembled}
 use Rattle.wsc_top.specs.Threads.{no_ports, thread_line, ThreadsDo, none, more, status_of, Thread, pieces_of, images_of, inputs_of, HaveBegun, Falls, HasJob, AreThreads, RunsAlone, ExecutesAlone, MultiAnswered, Replies, alone, together, AreDue, AreToldJobs, AreToldNoJobs, OthersEndSo, EachEndsSo, MultiEndsSo, ComeToTheirEnd, IsFreeAnswer}
@@ -183,7 +183,7 @@ no_pieces text ps (next further js) e = cc
 pub are_jobs : (text : List ℕ) (xs : List Thread) → AreThreads text xs → AreJobs text (programs_of xs)
 are_jobs text xs a = record { pieces = pieces_of xs; split = a.split; few = subst (λ (n : ℕ). n ≤ most_jobs) (sym (count_pieces xs)) a.few; each = each_of xs a.each }
 
-module _ (once : (text : List ℕ) → ExactlyOne (IsTextAnswer text)) (options : RunOptions) (text : List ℕ) (jobs : List Program) (handed : List (Option Told)) (told : TellWords handed) (are : AreJobs text jobs) where
+module _ (once : (text : List ℕ) → ExactlyOne (IsTextAnswer text)) (options : RunOptions) (text : List ℕ) (jobs : List ProgramAndInput) (handed : List (Option Told)) (told : TellWords handed) (are : AreJobs text jobs) where
   all_end : (xs : List Thread) (statuses : List Status) (out : List ℕ) (back : List (Option Told)) → AreThreads text xs → ThreadsDo (RunsAlone options) 1 xs handed statuses out back → EachEndsSo options (programs_of xs) handed statuses
   all_end [] statuses out back a acts = absurd (no_pieces text _ a.split refl)
   all_end (x ∷ xs) statuses out back a acts = threads_end options 1 x xs handed statuses out back a.each told acts
@@ -192,12 +192,12 @@ module _ (once : (text : List ℕ) → ExactlyOne (IsTextAnswer text)) (options 
   multi_so statuses out images back (threads.MultiAnswered.refused r h) = absurd (never_both once text jobs r are h)
   multi_so statuses out images back (threads.MultiAnswered.done xs a acts) = (
     statuses,
-    subst (λ (js : List Program). EachEndsSo options js handed statuses) (one_jobs once text (programs_of xs) jobs (are_jobs text xs a) are) (all_end xs statuses out back a acts),
+    subst (λ (js : List ProgramAndInput). EachEndsSo options js handed statuses) (one_jobs once text (programs_of xs) jobs (are_jobs text xs a) are) (all_end xs statuses out back a acts),
     refl,
   )
 
 -- where each comes to its end
-others_done : (options : RunOptions) (jobs : List Program) (statuses : List Status) → OthersEndSo options jobs statuses → ComeToTheirEnd options jobs no_ports → status_of statuses ≡ Done
+others_done : (options : RunOptions) (jobs : List ProgramAndInput) (statuses : List Status) → OthersEndSo options jobs statuses → ComeToTheirEnd options jobs no_ports → status_of statuses ≡ Done
 others_done options [] [] h c = refl
 others_done options [] (s ∷ ss) h c = absurd h
 others_done options (job ∷ jobs) [] h c = absurd h
@@ -207,7 +207,7 @@ others_done options (job ∷ jobs) (s ∷ ss) h c = go (others_done options jobs
     go rest (inl e) = ap (λ (x : Status). status_of (x ∷ ss)) e ∙ rest
     go rest (inr f) = absurd (h.1 f)
 
-each_done : (options : RunOptions) (jobs : List Program) (handed : List (Option Told)) (statuses : List Status) → EachEndsSo options jobs handed statuses → ComeToTheirEnd options jobs handed → OrFailed (status_of statuses) Done
+each_done : (options : RunOptions) (jobs : List ProgramAndInput) (handed : List (Option Told)) (statuses : List Status) → EachEndsSo options jobs handed statuses → ComeToTheirEnd options jobs handed → OrFailed (status_of statuses) Done
 each_done options [] handed ss h c = absurd h
 each_done options (job ∷ jobs) handed [] h c = absurd h
 each_done options (job ∷ jobs) handed (s ∷ ss) h c = go (h.0.done c.0)
@@ -216,7 +216,7 @@ each_done options (job ∷ jobs) handed (s ∷ ss) h c = go (h.0.done c.0)
     go (inl e) = inl (ap (λ (x : Status). status_of (x ∷ ss)) e ∙ others_done options jobs ss h.1 c.1)
     go (inr f) = inr (f.0, ap (λ (x : Status). status_of (x ∷ ss)) f.1)
 
-pub ends_done : (options : RunOptions) (jobs : List Program) (handed : List (Option Told)) (status : Status) → MultiEndsSo options jobs handed status → ComeToTheirEnd options jobs handed → OrFailed status Done
+pub ends_done : (options : RunOptions) (jobs : List ProgramAndInput) (handed : List (Option Told)) (status : Status) → MultiEndsSo options jobs handed status → ComeToTheirEnd options jobs handed → OrFailed status Done
 ends_done options jobs handed status h c = subst (λ (x : Status). OrFailed x Done) (sym h.2) (each_done options jobs handed h.0 h.1 c)
 
 -- The replies of a call.
@@ -260,7 +260,7 @@ pub reply_told : {E : Type 0} (words : List (List ℕ)) (left after : Option (Li
 reply_told words left after m n handed image images back answer status out is h = subst (λ r. IfOk r (λ a. Replies words left after m n handed a.0 a.1 image images back)) is h
 
 module _ (one : OneLine) (words : List (List ℕ)) (left after : Option (List ℕ)) (m n : ℕ) (handed : List (Option Told)) where
-  pub jobs_answer_so : ((text : List ℕ) → ExactlyOne (IsTextAnswer text)) → (options : RunOptions) (jobs : List Program) → TellWords handed → AreToldJobs words left options jobs
+  pub jobs_answer_so : ((text : List ℕ) → ExactlyOne (IsTextAnswer text)) → (options : RunOptions) (jobs : List ProgramAndInput) → TellWords handed → AreToldJobs words left options jobs
       → (status : Status) (out : List ℕ) (image : Option Image) (images : List Image) (back : List (Option Told)) → Replies words left after m n handed status out image images back
       → (status ≡ ReadFault → ⊥) → MultiEndsSo options jobs handed status
   jobs_answer_so once options jobs told t status out image images back (alone (usage h e)) f = absurd (h (Multi options) t.line)

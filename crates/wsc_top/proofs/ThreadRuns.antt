@@ -15,7 +15,7 @@ use Rattle.wsc_top.specs.declared.task.RunOptions.{RunOptions}
 use Rattle.wsc_top.specs.Answers.{TellWords}
 use Rattle.wsc_top.specs.Jobs.{most_jobs}
 use Rattle.wsc_top.specs.Threads.{no_ports, thread_line, ThreadsDo, none, more, status_of, Thread, images_of, inputs_of, ExecutesAlone, HaveBegun}
-use Rattle.wsc_top.specs.Running.{alone_with, alone_at, Reply, ThreadTold, BeforeSo, Ends, AllTold}
+use Rattle.wsc_top.specs.Running.{alone_with, alone_at, Reply, ThreadTold, BeforeSo, RunEnds, AllTold}
 use Rattle.wsc_top.proofs.Runs.{run_executes, run_begun}
 
 -- Slots without ports.
@@ -144,15 +144,15 @@ module _ {P : Type 0} (tells : P → Told) (options : RunOptions) where
   fits_first t x xs handed end es told ends is =
       let r = fits_all (suc t) xs no_ports es is.0 ends.1 is.2 in fits_one t x xs handed r.0 end is.0 told ends.0 is.1 r.1
 
-  abbrev list_of : Ends P → List (Option (RunEnd P))
+  abbrev list_of : RunEnds P → List (Option (RunEnd P))
   list_of ends = ends.first ∷ ends.second ∷ ends.third ∷ ends.fourth ∷ []
 
   -- each end is that of its thread
-  abbrev pub EachEnds : List Image → List (List ℕ) → List (Option Told) → Ends P → Type 0
+  abbrev pub EachEnds : List Image → List (List ℕ) → List (Option Told) → RunEnds P → Type 0
   EachEnds images inputs handed ends = EndSo tells (alone_at options.budget handed images inputs 0) ends.first × EndSo tells (alone_at options.budget no_ports images inputs 1) ends.second
       × EndSo tells (alone_at options.budget no_ports images inputs 2) ends.third × EndSo tells (alone_at options.budget no_ports images inputs 3) ends.fourth
 
-  ends_of : (xs : List Thread) (handed : List (Option Told)) (ends : Ends P) → 1 ≤ length xs → length xs ≤ most_jobs → EachEnds (images_of xs) (inputs_of xs) handed ends → EndsOf xs handed (list_of ends)
+  ends_of : (xs : List Thread) (handed : List (Option Told)) (ends : RunEnds P) → 1 ≤ length xs → length xs ≤ most_jobs → EachEnds (images_of xs) (inputs_of xs) handed ends → EndsOf xs handed (list_of ends)
   ends_of [] handed ends some few h = absurd (omega (arith, some))
   ends_of (a ∷ []) handed ends some few h = (h.0, (h.1, (h.2, (h.3, tt))))
   ends_of (a ∷ b ∷ []) handed ends some few h = (h.0, (h.1, (h.2, (h.3, tt))))
@@ -160,7 +160,7 @@ module _ {P : Type 0} (tells : P → Told) (options : RunOptions) where
   ends_of (a ∷ b ∷ c ∷ d ∷ []) handed ends some few h = (h.0, (h.1, (h.2, (h.3, tt))))
   ends_of (a ∷ b ∷ c ∷ d ∷ e ∷ xs) handed ends some few h = absurd (omega (arith, few))
 
-  told_of : (xs : List Thread) (ends : Ends P) (told : Reply) → 1 ≤ length xs → length xs ≤ most_jobs → AllTold options (images_of xs) ends told → ToldOf 1 xs (list_of ends) told
+  told_of : (xs : List Thread) (ends : RunEnds P) (told : Reply) → 1 ≤ length xs → length xs ≤ most_jobs → AllTold options (images_of xs) ends told → ToldOf 1 xs (list_of ends) told
   told_of [] ends told some few h = absurd (omega (arith, some))
   told_of (a ∷ []) ends told some few h = (h.second, h.first_is, (h.third, h.second_is, (h.fourth, h.third_is, ((Done, []), h.fourth_is, refl))))
   told_of (a ∷ b ∷ []) ends told some few h = (h.second, h.first_is, (h.third, h.second_is, (h.fourth, h.third_is, ((Done, []), h.fourth_is, refl))))
@@ -176,7 +176,7 @@ module _ {P : Type 0} (tells : P → Told) (options : RunOptions) where
       (subst (λ (f : Option (RunEnd P)). EndsOf (x ∷ xs) handed (f ∷ es)) e ends) (subst (λ (f : Option (RunEnd P)). ToldOf 1 (x ∷ xs) (f ∷ es) told) e is)
 
   -- where all is told, it is what the threads do
-  pub all_executed : (xs : List Thread) (handed : List (Option Told)) (ends : Ends P) (end : RunEnd P) (told : Reply) → ends.first ≡ Some end → 1 ≤ length xs → length xs ≤ most_jobs
+  pub all_executed : (xs : List Thread) (handed : List (Option Told)) (ends : RunEnds P) (end : RunEnd P) (told : Reply) → ends.first ≡ Some end → 1 ≤ length xs → length xs ≤ most_jobs
       → EachEnds (images_of xs) (inputs_of xs) handed ends → AllTold options (images_of xs) ends told
       → (statuses : List Status) × ThreadsDo (ExecutesAlone options) 1 xs handed statuses told.1 (contents tells end.ports) × (told.0 ≡ status_of statuses)
   all_executed xs handed ends end told e some few h is =
@@ -228,7 +228,7 @@ count_inputs (x ∷ xs) = ap suc (count_inputs xs)
 
 -- The run of all, from what its pieces say.
 module _ {P : Type 0} (tells : P → Told) (options : RunOptions) (images : List Image) (inputs : List (List ℕ)) (handed : List (Option Told)) (some : 1 ≤ length inputs) (few : length inputs ≤ most_jobs)
-    (ends : Ends P) (ports : Slots P) (ports_are : IfSome ends.first (λ e. ports ≡ e.ports)) (each : EachEnds tells options images inputs handed ends) where
+    (ends : RunEnds P) (ports : Slots P) (ports_are : IfSome ends.first (λ e. ports ≡ e.ports)) (each : EachEnds tells options images inputs handed ends) where
   pub told_runs : (told : Reply) → AllTold options images ends told → (xs : List Thread) → images_of xs ≡ images → inputs_of xs ≡ inputs
       → (statuses : List Status) × ThreadsDo (ExecutesAlone options) 1 xs handed statuses told.1 (contents tells ports) × (told.0 ≡ status_of statuses)
   told_runs told is xs i w = go ends.first refl ports_are
@@ -273,7 +273,7 @@ module _ {P : Type 0} (tells : P → Told) (options : RunOptions) (images : List
 
 -- What is told of all, and the end of each, from the calls one after another.
 
-pub all_told : {P E : Type 0} (options : RunOptions) (images : List Image) (ends : Ends P) (answer : Result Reply E) (b c d : Reply) (empty : List ℕ) (i0 i1 i2 i3 : Option Image) → i0 ≡ slice_get images 0 → i1 ≡ slice_get images 1 → i2 ≡ slice_get images 2
+pub all_told : {P E : Type 0} (options : RunOptions) (images : List Image) (ends : RunEnds P) (answer : Result Reply E) (b c d : Reply) (empty : List ℕ) (i0 i1 i2 i3 : Option Image) → i0 ≡ slice_get images 0 → i1 ≡ slice_get images 1 → i2 ≡ slice_get images 2
     → i3 ≡ slice_get images 3 → empty ≡ [] → BeforeSo options 4 i3 ends.fourth (Done, empty) d → BeforeSo options 3 i2 ends.third d c → BeforeSo options 2 i1 ends.second c b → IfOk answer (BeforeSo options 1 i0 ends.first b)
     → IfOk answer (AllTold options images ends)
 all_told options images ends (Err x) b c d empty i0 i1 i2 i3 e0 e1 e2 e3 e h3 h2 h1 h0 = tt
@@ -287,7 +287,7 @@ all_told options images ends (Ok y) b c d empty i0 i1 i2 i3 e0 e1 e2 e3 e h3 h2 
   first_is = subst (λ (i : Option Image). BeforeSo options 1 i ends.first b y) e0 h0;
 }
 
-pub each_end : {P : Type 0} (tells : P → Told) (options : RunOptions) (images seen : List Image) (inputs : List (List ℕ)) (handed : List (Option Told)) (ends : Ends P) (p0 p1 p2 p3 : Option Alone) → seen ≡ images
+pub each_end : {P : Type 0} (tells : P → Told) (options : RunOptions) (images seen : List Image) (inputs : List (List ℕ)) (handed : List (Option Told)) (ends : RunEnds P) (p0 p1 p2 p3 : Option Alone) → seen ≡ images
     → p0 ≡ alone_at options.budget handed seen inputs 0 → p1 ≡ alone_at options.budget no_ports seen inputs 1 → p2 ≡ alone_at options.budget no_ports seen inputs 2 → p3 ≡ alone_at options.budget no_ports seen inputs 3
     → EndSo tells p0 ends.first → EndSo tells p1 ends.second → EndSo tells p2 ends.third → EndSo tells p3 ends.fourth → EachEnds tells options images inputs handed ends
 each_end tells options images seen inputs handed ends p0 p1 p2 p3 same e0 e1 e2 e3 h0 h1 h2 h3 =

@@ -17,7 +17,7 @@ use Rattle.wsc_top.specs.Codes.{code_of}
 use Rattle.wsc_top.specs.Tasks.{IsLine, IsNoLine}
 use Rattle.wsc_top.specs.Generated.{IsGeneratedJob}
 use Rattle.wsc_top.specs.Answers.{SomeRose, ComesToItsEnd, MeetsFault, WantsTurns, AssemblyEndsSo, BenchEndsSo, IsToldJob, IsToldOther, IsToldAssembly, IsToldNoAssembly, OrNoMemory}
-use Rattle.wsc_top.specs.Jobs.{Program}
+use Rattle.wsc_top.specs.Jobs.{ProgramAndInput}
 use Rattle.wsc_top.specs.Threads.{Replies, Falls, AreToldJobs, AreToldNoJobs, MultiEndsSo, ComeToTheirEnd}
 
 -- a source before and after a call: the bytes that it has left, where it tells them, and its faults
@@ -117,10 +117,10 @@ pub record CallEnds (words : List (List ℕ)) (reads : Reading) (writes : Writin
       → AssemblyEndsSo task told.text image input handed status ⊎ (status ≡ NoMemory)
   pub unassembled : (task : AssemblyTask) → IsToldNoAssembly words reads.left task
       → ReadsWell reads → WritesWell writes → OrNoMemory status Refused
-  pub multiplied : (options : RunOptions) (jobs : List Program)
+  pub multiplied : (options : RunOptions) (jobs : List ProgramAndInput)
       → AreToldJobs words reads.left options jobs → ReadsWell reads → WritesWell writes
       → MultiEndsSo options jobs handed status ⊎ (status ≡ NoMemory)
-  pub multiplied_done : (options : RunOptions) (jobs : List Program)
+  pub multiplied_done : (options : RunOptions) (jobs : List ProgramAndInput)
       → AreToldJobs words reads.left options jobs → ComeToTheirEnd options jobs handed
       → ReadsWell reads → WritesWell writes → ¬ SomeRose handed back → OrNoMemory status Done
   pub unmultiplied : (options : RunOptions) → AreToldNoJobs words reads.left options

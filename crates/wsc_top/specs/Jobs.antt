@@ -54,11 +54,11 @@ abbrev pub Jobs : List ℕ → List Piece → Type 0
 Jobs text pieces = JobsFrom start text pieces
 
 -- a program and the words that it reads
-abbrev pub Program : Type 0
-Program = List Part × List ℕ
+abbrev pub ProgramAndInput : Type 0
+ProgramAndInput = List Part × List ℕ
 
 -- each of these is a job: this program and these words
-abbrev pub EachIsJob : List Piece → List Program → Type 0
+abbrev pub EachIsJob : List Piece → List ProgramAndInput → Type 0
 EachIsJob [] [] = Unit {0}
 EachIsJob [] (job ∷ jobs) = ⊥
 EachIsJob (piece ∷ pieces) [] = ⊥
@@ -66,7 +66,7 @@ EachIsJob (piece ∷ pieces) (job ∷ jobs) =
     IsJob piece.text job.0 job.1 × EachIsJob pieces jobs
 
 -- the text is these jobs, and no more than may be
-pub record AreJobs (text : List ℕ) (jobs : List Program) : Type 0 where
+pub record AreJobs (text : List ℕ) (jobs : List ProgramAndInput) : Type 0 where
   pub pieces : List Piece
   pub split : Jobs text pieces
   pub few : length pieces ≤ most_jobs
@@ -86,13 +86,13 @@ pub record IsCrowded (text : List ℕ) (line : ℕ) : Type 0 where
 -- none.
 pub data RefusesJobs (text : List ℕ) : JobsRefusal → Type 0 where
   crowded : (line : ℕ) → IsCrowded text line → RefusesJobs text (Threads line)
-  faulty : (before : List Piece) (piece : Piece) (further : List Piece) (jobs : List Program)
+  faulty : (before : List Piece) (piece : Piece) (further : List Piece) (jobs : List ProgramAndInput)
       (r : Refusal) → Jobs text (before ++ piece ∷ further)
       → length (before ++ piece ∷ further) ≤ most_jobs → EachIsJob before jobs
       → Refuses piece.text r → RefusesJobs text (OfJob piece.at r)
 
 -- what a text comes to: its jobs, or why it is refused
-abbrev pub IsJobsAnswer : List ℕ → Result (List Program) JobsRefusal → Type 0
+abbrev pub IsJobsAnswer : List ℕ → Result (List ProgramAndInput) JobsRefusal → Type 0
 IsJobsAnswer text (Ok jobs) = AreJobs text jobs
 IsJobsAnswer text (Err refusal) = RefusesJobs text refusal
 

@@ -69,11 +69,11 @@ BeforeSo options number (Some image) (Some end) further told =
     ThreadTold options number image end.finish further told
 BeforeSo options number _ _ further told = told ≡ further
 
-abbrev pub Ends : Type 0 → Type 0
-Ends P = Each (Option (RunEnd P)) (Option (RunEnd P)) (Option (RunEnd P)) (Option (RunEnd P))
+abbrev pub RunEnds : Type 0 → Type 0
+RunEnds P = Each (Option (RunEnd P)) (Option (RunEnd P)) (Option (RunEnd P)) (Option (RunEnd P))
 
 -- what is told of all of them
-pub record AllTold {P : Type 0} (options : RunOptions) (images : List Image) (ends : Ends P)
+pub record AllTold {P : Type 0} (options : RunOptions) (images : List Image) (ends : RunEnds P)
     (told : Reply) : Type 0 where
   pub second : Reply
   pub third : Reply

@@ -1,7 +1,7 @@
 -- What the program does for a line of the command line, of what is built so far.
 use Rattle.std.specs.Prelude.{◌≡◌, ℕ, true, false, List, Option, Some}
 use Rattle.wsc_words.specs.Lines as lines
-use Rattle.wsc_words.specs.declared.line.Line.{Line}
+use Rattle.wsc_words.specs.declared.line.Invocation.{Invocation}
 use Rattle.wsc_words.specs.declared.command.Command.{Command}
 use Rattle.wsc_words.specs.declared.command.Command.TheVariants as command
 use Rattle.wsc_top.specs.declared.task.Task.{Task}
@@ -14,7 +14,7 @@ use Rattle.wsc_top.specs.declared.task.JobTask.TheVariants.{Run, Format, Compile
 use Rattle.wsc_top.specs.declared.task.AssemblyTask.TheVariants as assembly
 
 -- how a line asks for a run of which this is told
-abbrev pub options_of : Line → Report → RunOptions
+abbrev pub options_of : Invocation → Report → RunOptions
 options_of line report = record {
   workers = line.workers;
   decoupled = false;
@@ -23,7 +23,7 @@ options_of line report = record {
 }
 
 -- how a line asks for a run with decoupled stores
-abbrev pub decoupled_options : Line → RunOptions
+abbrev pub decoupled_options : Invocation → RunOptions
 decoupled_options line = record {
   workers = 1;
   decoupled = true;
@@ -32,7 +32,7 @@ decoupled_options line = record {
 }
 
 -- how a line asks for a run on a grid
-abbrev pub grid_options : Line → GridOptions
+abbrev pub grid_options : Invocation → GridOptions
 grid_options line = record {
   elements = line.elements;
   waves = line.waves;
@@ -41,7 +41,7 @@ grid_options line = record {
   stats = line.stats;
 }
 
-abbrev pub task_by : Command → Line → Option Task
+abbrev pub task_by : Command → Invocation → Option Task
 task_by command.Run line = Some (Job (Run (options_of line (Full line.memory line.stats))))
 task_by command.Plain line = Some (Job (Plain (record {
   turns = line.turns;
@@ -64,12 +64,12 @@ task_by command.Multi line = Some (Multi (options_of line (Full line.memory line
 task_by command.Decouple line = Some (Assembly (assembly.Exec (decoupled_options line)))
 
 -- what a line asks for, where that is built
-abbrev pub task_of : Line → Option Task
+abbrev pub task_of : Invocation → Option Task
 task_of line = task_by line.command line
 
 -- these words are a line that asks for this
 abbrev pub IsLine : List (List ℕ) → Task → Type 0
-IsLine words task = (line : Line) × lines.IsLine words line × (task_of line ≡ Some task)
+IsLine words task = (line : Invocation) × lines.IsLine words line × (task_of line ≡ Some task)
 
 -- these words are no line, or none that is built
 abbrev pub IsNoLine : List (List ℕ) → Type 0

@@ -14,7 +14,7 @@ use Rattle.wsc_top.specs.declared.task.JobTask.TheVariants.{Run}
 use Rattle.wsc_top.specs.declared.task.Task.TheVariants.{Multi}
 use Rattle.wsc_top.specs.Tasks.{IsLine}
 use Rattle.wsc_top.specs.Job.{job_limit, IsJob}
-use Rattle.wsc_top.specs.Jobs.{Piece, Program, Jobs, most_jobs, AreJobs, RefusesJobs, jobs_refusal_text}
+use Rattle.wsc_top.specs.Jobs.{Piece, ProgramAndInput, Jobs, most_jobs, AreJobs, RefusesJobs, jobs_refusal_text}
 use Rattle.wsc_top.specs.Executions.{Executes, HasBegun, IsFailed}
 use Rattle.wsc_top.specs.Answers.{IsCompiled, Yields, ComesToItsEnd, EndsSo, IsFree, Answers, Starves}
 
@@ -138,7 +138,7 @@ pub data Falls (words : List (List ℕ)) (left after : Option (List ℕ)) (hande
 
 -- all that the source has left is told, and it is these jobs
 pub record AreToldJobs (words : List (List ℕ)) (left : Option (List ℕ)) (options : RunOptions)
-    (jobs : List Program) : Type 0 where
+    (jobs : List ProgramAndInput) : Type 0 where
   pub text : List ℕ
   pub line : IsLine words (Multi options)
   pub told : left ≡ Some text
@@ -151,10 +151,10 @@ pub record AreToldNoJobs (words : List (List ℕ)) (left : Option (List ℕ)) (o
   pub text : List ℕ
   pub line : IsLine words (Multi options)
   pub told : left ≡ Some text
-  pub other : length text ≤ job_limit → (jobs : List Program) → AreJobs text jobs → ⊥
+  pub other : length text ≤ job_limit → (jobs : List ProgramAndInput) → AreJobs text jobs → ⊥
 
 -- threads without ports have statuses as `run` has them for their jobs, and none of a port
-abbrev pub OthersEndSo : RunOptions → List Program → List Status → Type 0
+abbrev pub OthersEndSo : RunOptions → List ProgramAndInput → List Status → Type 0
 OthersEndSo options [] [] = Unit {0}
 OthersEndSo options [] (status ∷ statuses) = ⊥
 OthersEndSo options (job ∷ jobs) [] = ⊥
@@ -163,21 +163,21 @@ OthersEndSo options (job ∷ jobs) (status ∷ statuses) =
     × OthersEndSo options jobs statuses
 
 -- thread 1 has a status as `run` has it for its job and the ports, and so do the others without ports
-abbrev pub EachEndsSo : RunOptions → List Program → List (Option Told) → List Status → Type 0
+abbrev pub EachEndsSo : RunOptions → List ProgramAndInput → List (Option Told) → List Status → Type 0
 EachEndsSo options [] handed statuses = ⊥
 EachEndsSo options (job ∷ jobs) handed [] = ⊥
 EachEndsSo options (job ∷ jobs) handed (status ∷ statuses) =
     EndsSo (Run options) job.0 job.1 handed status × OthersEndSo options jobs statuses
 
 -- the status of `multi`: that of the first thread that isn't Done
-abbrev pub MultiEndsSo : RunOptions → List Program → List (Option Told) → Status → Type 0
+abbrev pub MultiEndsSo : RunOptions → List ProgramAndInput → List (Option Told) → Status → Type 0
 MultiEndsSo options jobs handed status =
     (statuses : List Status) × EachEndsSo options jobs handed statuses
     × (status ≡ status_of statuses)
 
 -- the run of each comes to its end, as that of `run` does: of the first with these ports, of the others
 -- with none
-abbrev pub ComeToTheirEnd : RunOptions → List Program → List (Option Told) → Type 0
+abbrev pub ComeToTheirEnd : RunOptions → List ProgramAndInput → List (Option Told) → Type 0
 ComeToTheirEnd options [] handed = Unit {0}
 ComeToTheirEnd options (job ∷ jobs) handed =
     ComesToItsEnd (Run options) job.0 job.1 handed × ComeToTheirEnd options jobs no_ports

@@ -6,7 +6,7 @@ ghost use Rattle.src_ast.specs.Once.{ExactlyOne};
 ghost use Rattle.ws_isa.specs.Image.{Image};
 ghost use Rattle.wsc_top.specs.declared.status.Status.{Status};
 ghost use Rattle.wsc_top.specs.declared.task.RunOptions.{RunOptions};
-ghost use Rattle.wsc_top.specs.Jobs.{Program, IsJobsAnswer};
+ghost use Rattle.wsc_top.specs.Jobs.{ProgramAndInput, IsJobsAnswer};
 ghost use Rattle.wsc_top.specs.Answers.{TellWords};
 ghost use Rattle.wsc_top.specs.Threads.{ThreadsDo, ExecutesAlone, status_of, Thread, images_of, Replies, AreDue, AreToldJobs, MultiEndsSo, IsFreeAnswer};
 
@@ -54,7 +54,7 @@ pub fn what_threads_do_is_answered()
 pub fn each_answer_of_threads_has_its_status()
     ensures { (words : List (List ℕ)) (left after : Option (List ℕ)) (faults counted : ℕ)
         (handed back : List (Option Told)) (status : Status) (out : List ℕ) (image : Option Image)
-        (images : List Image) (options : RunOptions) (jobs : List Program)
+        (images : List Image) (options : RunOptions) (jobs : List ProgramAndInput)
         → Replies words left after faults counted handed status out image images back
         → AreToldJobs words left options jobs → TellWords handed
         → (status ≡ Status.ReadFault → ⊥) → MultiEndsSo options jobs handed status }

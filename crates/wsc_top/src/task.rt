@@ -7,7 +7,7 @@ ghost use Rattle.wsc_top.specs.declared.task.Report.TheVariants.{Full};
 
 use std::alloc::Global;
 use ws_words::NoMemory;
-use wsc_words::{Command, Line, WordsFault, read_words, words_are_one_line};
+use wsc_words::{Command, Invocation, WordsFault, read_words, words_are_one_line};
 
 /// How the sequential run is asked for.
 #[derive(Clone, Copy, Debug, PartialEq, Eq)]
@@ -117,7 +117,7 @@ pub enum Task {
 }
 
 // How a line asks for a run of which this is told.
-fn options_of(line: &Line, report: Report) -> RunOptions
+fn options_of(line: &Invocation, report: Report) -> RunOptions
     ensures { result ≡ options_of line.now report }
 {
     RunOptions {
@@ -129,7 +129,7 @@ fn options_of(line: &Line, report: Report) -> RunOptions
 }
 
 // How a line asks for a run with decoupled stores.
-fn decoupled_options(line: &Line) -> RunOptions
+fn decoupled_options(line: &Invocation) -> RunOptions
     ensures { result ≡ decoupled_options line.now }
 {
     RunOptions {
@@ -141,7 +141,7 @@ fn decoupled_options(line: &Line) -> RunOptions
 }
 
 // What is told in full, as far as a line asks for it.
-fn full(line: &Line) -> Report
+fn full(line: &Invocation) -> Report
     ensures { result ≡ Full line.now.memory line.now.stats }
 {
     Report::Full {
@@ -151,7 +151,7 @@ fn full(line: &Line) -> Report
 }
 
 // How a line asks for a run on a grid.
-fn grid_options(line: &Line) -> GridOptions
+fn grid_options(line: &Invocation) -> GridOptions
     ensures { result ≡ grid_options line.now }
 {
     GridOptions {
@@ -164,7 +164,7 @@ fn grid_options(line: &Line) -> GridOptions
 }
 
 // What a line asks for, where that is built.
-fn task_of(line: &Line) -> Option<Task>
+fn task_of(line: &Invocation) -> Option<Task>
     ensures { result ≡ task_of line.now }
 {
     match line.command {

@@ -1,11 +1,11 @@
 use Rattle.std.proofs.Common.{◌≤◌, ◌+◌, ◌-◌, ◌*◌}
 use Rattle.core_run.specs.Places.{image_of}
-use Rattle.core_run.specs.Flows.{Follows, Room, weight}
+use Rattle.core_run.specs.Flows.{RunsOn, Room, weight}
 use Rattle.core_run.proofs.drive.run.Given as goal
 
 abbrev pub invariant-loop-flow : goal.invariant-loop-flow
 invariant-loop-flow l = record {
-  follows : Follows (image_of l.program) l.fn.flow l.flow;
+  follows : RunsOn (image_of l.program) l.fn.flow l.flow;
   room : Room l.flow 0 (l.budget - l.flow.fired);
   within : l.flow.fired ≤ l.budget;
 }

@@ -1,13 +1,13 @@
 use Rattle.std.proofs.Common.{◌≡◌, ℕ, ◌+◌, true, Some, sym, ◌∙◌, subst, arith}
 use Rattle.image_walk.specs.Walk.{Ports}
 use Rattle.core_law.specs.Core.{is_full, with_at}
-use Rattle.core_run.specs.declared.slots.Slots.{Slots}
+use Rattle.core_run.specs.declared.slots.MatchStore.{MatchStore}
 use Rattle.core_run.specs.declared.token.Token.{Token}
 use Rattle.core_run.specs.Partial.{partial_of}
 use Rattle.core_run.proofs.Quietly.{full_more, not_full}
 use Rattle.core_run.proofs.quiet.is_filled.Goals as goal
 
-abbrev with_token : Slots → Token → Ports
+abbrev with_token : MatchStore → Token → Ports
 with_token slots t = with_at t.wave t.instr t.port (Some t.value) (partial_of slots.slots.items slots.spill)
 
 pub loop-port-preserved : goal.loop-port-preserved

@@ -6,7 +6,7 @@ use Rattle.src_ast.specs.View as ast
 use Rattle.seq_run.specs.Tables.{IsTable}
 use Rattle.seq_run.specs.View as view
 use Rattle.seq_run.specs.declared.names.Names.{Names}
-use Rattle.seq_run.specs.declared.table.Table.{Table}
+use Rattle.seq_run.specs.declared.table.NameNumbers.{NameNumbers}
 use Rattle.seq_run.specs.declared.tree.Proc.{Proc}
 use Rattle.seq_run.proofs.Declares.{array_procs_same, procs_more, moved, few_at}
 use Rattle.seq_run.proofs.programs.procs.Goals as goal
@@ -25,7 +25,7 @@ loop-item-preserved c =
         procs = ap (λ (n : Names). n.procs) w.names-is ∙ w.proc.ensures.procs ∙ c.loop-item.invariant.procs;
         list = λ arrays procs ia ip. ap (λ (v : Vec Proc Global). view.procs v.items) w.list-is ∙ procs_more c.args.items.now c.loop-item.item-index c.item-item.result c.loop-item-test.true c.item-item.is (record { name = w.in-Proc.name; params = w.in-Proc.params.items; vars = w.in-Proc.vars.items; body = ast.statements w.in-Proc.body.items; ending = ast.maybe_last w.in-Proc.ending }) (ap ast.part w.in-Proc.is) arrays procs c.loop-item.list.items w.push.new.self.items w.in_ok-proc-in-Proc.field-0 (c.loop-item.invariant.list arrays procs ia ip) w.in_ok-push-in-Proc.ensures.items
             (moved arrays procs w.in-Proc.name (ast.maybe_last w.in-Proc.ending) (view.proc w.in_ok-proc-in-Proc.field-0) w.deref.result.now w.in-Proc.params.items w.deref-in-Proc.result.now w.in-Proc.vars.items w.deref-in-Proc-2.result.now w.in-Proc.body.items w.deref.ensures.value w.deref-in-Proc.ensures.value w.deref-in-Proc-2.ensures.value
-            (w.in_ok-proc-in-Proc.ensures.resolves arrays procs w.in-Proc.name (subst (λ (t : Table). IsTable 1 arrays t) (sym c.loop-item.invariant.arrays) ia) (subst (λ (t : Table). IsTable 0 procs t) (sym c.loop-item.invariant.procs) ip)));
+            (w.in_ok-proc-in-Proc.ensures.resolves arrays procs w.in-Proc.name (subst (λ (t : NameNumbers). IsTable 1 arrays t) (sym c.loop-item.invariant.arrays) ia) (subst (λ (t : NameNumbers). IsTable 0 procs t) (sym c.loop-item.invariant.procs) ip)));
       }
     ]
 

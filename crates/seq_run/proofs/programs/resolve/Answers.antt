@@ -3,7 +3,7 @@ use Rattle.src_ast.specs.View as ast
 use Rattle.std.specs.List.{AllByRecursion}
 use Rattle.src_ast.specs.declared.tree.Item.{Item}
 use Rattle.src_ast.specs.Meaning.{procs_of}
-use Rattle.seq_run.specs.Resolved.{Program}
+use Rattle.seq_run.specs.Resolved.{ResolvedProgram}
 use Rattle.seq_run.specs.Resolving as resolving
 use Rattle.seq_run.specs.InRange.{ProgramIn}
 use Rattle.seq_run.specs.Tables.{FewVars}
@@ -15,7 +15,7 @@ use Rattle.seq_run.proofs.programs.resolve.Goals as goal
 pub returns-clause-in_range : goal.returns-clause-in_range
 returns-clause-in_range c =
     let program = c.program.result.now in
-    subst (λ (p : Program). ProgramIn p)
+    subst (λ (p : ResolvedProgram). ProgramIn p)
     (sym (c.in_ok-resolved.ensures ∙ ap (λ (items : List Item). resolving.program (ast.parts items)) c.deref.ensures.value))
     (accepted_in (ast.parts program.items.items) program.finish c.program.ensures.accepted)
 

@@ -1,6 +1,6 @@
 use Rattle.std.proofs.Common.{List, ◌∷◌, map, ap, ap₂, ◌∙◌}
 use Rattle.ws_isa.specs.View as view
-use Rattle.wave_link.specs.declared.links.Place.{Place}
+use Rattle.wave_link.specs.declared.links.Passage.{Passage}
 use Rattle.wave_link.specs.States.{nops_of}
 use Rattle.wave_link.specs.Notes.{places_of}
 use Rattle.wave_link.specs.Outlines.{with_nops}
@@ -20,6 +20,6 @@ returns c =
     (c.in_ok-added.ensures ∙ ap nops_of c.deref.ensures.value)
     (c.in_ok-more.ensures ∙ ap₂ with_nops c.deref-2.ensures.value c.deref-3.ensures.value)
     (c.in_ok-places.ensures ∙ ap places_of c.deref-4.ensures.value)
-    (c.in_ok-table.ensures ∙ ap (λ (ps : List Place). no_place ∷ ps) c.deref-5.ensures.value)
+    (c.in_ok-table.ensures ∙ ap (λ (ps : List Passage). no_place ∷ ps) c.deref-5.ensures.value)
     (c.in_ok-tables.ensures ∙ ap (tables_of (map view.block c.as_slice-blocks.result.now)) c.deref-6.ensures.value)
-    (c.in_ok-blocks.ensures ∙ ap (λ (ts : List Place). grown_from (view_tables c.in_ok-tables.tables) ts 1 1 (map view.block c.as_slice-blocks.result.now)) c.deref-7.ensures.value)
+    (c.in_ok-blocks.ensures ∙ ap (λ (ts : List Passage). grown_from (view_tables c.in_ok-tables.tables) ts 1 1 (map view.block c.as_slice-blocks.result.now)) c.deref-7.ensures.value)

@@ -1,13 +1,13 @@
 use Rattle.std.specs.Prelude.{◌≡◌, ℕ, List, Option, Some, None, IfSome}
 use Rattle.std.proofs.Common.{sym}
 use Rattle.wsc_words.specs.Lines as lines
-use Rattle.wsc_words.specs.declared.line.Line.{Line}
+use Rattle.wsc_words.specs.declared.line.Invocation.{Invocation}
 use Rattle.wsc_top.specs.declared.task.Task.{Task}
 use Rattle.wsc_top.specs.Tasks.{task_of, IsLine}
 use Rattle.wsc_top.proofs.Tasks.{no_task}
 use Rattle.wsc_top.proofs.task.read_task.Goals as goal
 
-some_task : (words : List (List ℕ)) (l : Line) (found : Option Task) → lines.IsLine words l → found ≡ task_of l
+some_task : (words : List (List ℕ)) (l : Invocation) (found : Option Task) → lines.IsLine words l → found ≡ task_of l
     → IfSome found (λ task. IsLine words task)
 some_task words l None h e = tt
 some_task words l (Some t) h e = (l, h, sym e)

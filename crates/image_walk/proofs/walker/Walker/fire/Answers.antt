@@ -2,7 +2,7 @@ use Rattle.std.proofs.Common.{ℕ, ◌≡◌, ◌+◌, ◌*◌, [], ◌∷◌, �
 use Rattle.ws_isa.specs.Image.{now_of}
 use Rattle.ws_isa.specs.View as view
 use Rattle.ws_words.specs.declared.memory.Memory.{Memory}
-use Rattle.image_walk.specs.declared.table.Table.{Table}
+use Rattle.image_walk.specs.declared.table.PortValues.{PortValues}
 use Rattle.ws_words.specs.Memory.{OutIs}
 use Rattle.image_walk.specs.Shows.{Resulted, looked, delivered, image_of}
 use Rattle.image_walk.proofs.Firing.{fired_at, third_unread}
@@ -20,8 +20,8 @@ returns-clause-walk c = λ world t b at l is.
     let m = c.value.new.self.memory in
     let table : c.value.new.self.table ≡ w.table = c.in_ok-word.ensures.table ∙ c.look.ensures.table in
     fired_at image world c.requires.walks t b c.args.k word i w _ at l is (record {
-      operands = c.send.ensures.operands ∙ ap (λ (x : Table). delivered (now_of i.op i.dests) word x.operands) table;
-      results = c.send.ensures.results ∙ ap (λ (x : Table). slice_set x.results c.args.k word) table;
+      operands = c.send.ensures.operands ∙ ap (λ (x : PortValues). delivered (now_of i.op i.dests) word x.operands) table;
+      results = c.send.ensures.results ∙ ap (λ (x : PortValues). slice_set x.results c.args.k word) table;
       outcome = λ o h.
           (let r = c.in_ok-word.ensures.result o (subst (λ (x : Memory). OutIs o x) (sym c.look.ensures.memory) h) in
           let r1 = subst (λ (n : ℕ). Resulted i.op (n ∷ c.word-second.result ∷ c.third-third.result ∷ []) o word m) c.word-first.ensures r in

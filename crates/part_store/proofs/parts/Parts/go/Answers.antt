@@ -9,7 +9,7 @@ use Rattle.df_job.specs.Rights.{tokens_of}
 use Rattle.store_buf.specs.declared.fault.Silent.{Silent}
 use Rattle.store_buf.specs.declared.fault.Silent.TheVariants.{Failed, NoMemory}
 use Rattle.store_buf.specs.declared.kept.Kept.{Kept}
-use Rattle.store_buf.specs.Outdoors.{PortIn, Answers, SilentAt, port_of}
+use Rattle.store_buf.specs.Outdoors.{PortIn, Performed, SilentAt, port_of}
 use Rattle.store_buf.specs.Contents.{PortWaits}
 use Rattle.store_buf.specs.Outers.{holding}
 use Rattle.store_buf.specs.Ordering.{OrderOk, kept_at, near_at, ready_flag}
@@ -143,6 +143,6 @@ returns-clause-leads g c =
           ∙ N.sent image m word (G.is_memory_now image world formed sound began old c.requires.ok calm c.requires.going c.args.at c.requires.goes whole) in
           subst (λ (ts : List Token). Moves image (content_of old) ts (content_of n) × Calm image world began n) (sym told)
           (G.issues_now image world formed sound began old c.requires.ok calm c.requires.going c.args.at c.requires.goes n word within c.issue.ensures.kept c.issue.ensures.passed refl refl refl whole held
-          (λ b o h. subst (λ (x : Kept). Answers b (instr_at image x.instr).op (x.first ∷ x.second ∷ 0 ∷ []) o word (holding c.run.new.self)) c.request-kept.ensures
-          (subst (λ (op : Op). Answers b op (k.first ∷ k.second ∷ 0 ∷ []) o word (holding c.run.new.self)) c.op-op.ensures (c.in_ok-word.ensures.answer b o 0 h)))),
+          (λ b o h. subst (λ (x : Kept). Performed b (instr_at image x.instr).op (x.first ∷ x.second ∷ 0 ∷ []) o word (holding c.run.new.self)) c.request-kept.ensures
+          (subst (λ (op : Op). Performed b op (k.first ∷ k.second ∷ 0 ∷ []) o word (holding c.run.new.self)) c.op-op.ensures (c.in_ok-word.ensures.answer b o 0 h)))),
     )

@@ -13,7 +13,7 @@ use Rattle.store_buf.specs.declared.fault.Silent.{Silent}
 use Rattle.store_buf.specs.declared.fault.Silent.TheVariants.{Failed, NoMemory}
 use Rattle.store_buf.specs.declared.kept.Kept.{Kept}
 use Rattle.store_buf.specs.declared.store.Store.{Store}
-use Rattle.store_buf.specs.Outdoors.{PortIn, Answers, SilentAt, port_of}
+use Rattle.store_buf.specs.Outdoors.{PortIn, Performed, SilentAt, port_of}
 use Rattle.store_buf.specs.Contents.{FaultIs, RightTokens, PortWaits}
 use Rattle.store_buf.specs.Stores.{SilentSo}
 use Rattle.store_buf.specs.Outers.{holding}
@@ -89,9 +89,9 @@ returns-clause-leads g c = (
       let within : is_past_op image.arrays (instr_at image (near_at o c.args.at).instr).op ((near_at o c.args.at).first ∷ []) ≡ false =
       subst (λ x. is_past_op image.arrays (instr_at image x.instr).op (x.first ∷ []) ≡ false) k
       (subst (λ op. is_past_op image.arrays op (c.request-kept.result.first ∷ []) ≡ false) c.op-op.ensures (sym c.is_past.ensures ∙ c.if-is_past.false)) in
-      let answers : Answers began (instr_at image (near_at o c.args.at).instr).op ((near_at o c.args.at).first ∷ (near_at o c.args.at).second ∷ 0 ∷ []) m c.in_ok-word.word (holding c.run.new.self) =
-      subst (λ x. Answers began (instr_at image x.instr).op (x.first ∷ x.second ∷ 0 ∷ []) m c.in_ok-word.word (holding c.run.new.self)) k
-      (subst (λ op. Answers began op (c.request-kept.result.first ∷ c.request-kept.result.second ∷ 0 ∷ []) m c.in_ok-word.word (holding c.run.new.self)) c.op-op.ensures (c.in_ok-word.ensures.answer began m 0 stands.outside)) in
+      let answers : Performed began (instr_at image (near_at o c.args.at).instr).op ((near_at o c.args.at).first ∷ (near_at o c.args.at).second ∷ 0 ∷ []) m c.in_ok-word.word (holding c.run.new.self) =
+      subst (λ x. Performed began (instr_at image x.instr).op (x.first ∷ x.second ∷ 0 ∷ []) m c.in_ok-word.word (holding c.run.new.self)) k
+      (subst (λ op. Performed began op (c.request-kept.result.first ∷ c.request-kept.result.second ∷ 0 ∷ []) m c.in_ok-word.word (holding c.run.new.self)) c.op-op.ensures (c.in_ok-word.ensures.answer began m 0 stands.outside)) in
       let hold : Holds image world began o false (holding c.args.self.now.outer) m = subst (λ f. Holds image world began o (has f) (holding c.args.self.now.outer) m) c.requires.going stands in
       let r = S.issues image world formed sound began o (holding c.args.self.now.outer) m hold c.requires.ok.order p c.requires.may.place c.requires.may.ready within c.in_ok-word.word c.issue.new.self (holding c.run.new.self) answers c.issue.ensures.kept c.issue.ensures.passed in
       let xs = operands_of (ports image (near_at o c.args.at).instr) (near_at o c.args.at).first (near_at o c.args.at).second in
