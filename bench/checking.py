@@ -12,7 +12,7 @@ import tempfile
 
 from assembly import RUNS, build, once
 
-USES = "ws_words ws_io ws_isa image_walk asm_text annot_check"
+USES = "ws_words ws_io ws_isa asm_text annot_check"
 
 MAIN = """//! Reads an assembly, and checks it.
 #![tactic(auto)]

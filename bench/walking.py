@@ -11,7 +11,7 @@ import tempfile
 
 from assembly import RUNS, build, once
 
-USES = "ws_words ws_io ws_isa image_walk asm_text annot_check"
+USES = "ws_words ws_io ws_isa asm_text annot_check"
 
 MAIN = """//! Reads an assembly, checks it, and walks it.
 #![tactic(auto)]
@@ -20,7 +20,7 @@ ghost use Rattle.std.specs.Prelude.{◌<◌, ◌^◌, ◌-◌, length};
 
 use annot_check::check_image;
 use asm_text::read_asm;
-use image_walk::walk_image;
+use ws_isa::walk_image;
 use std::alloc::{AllocError, Global};
 use std::env;
 use std::env::Env;

@@ -2,7 +2,7 @@
 use Rattle.std.proofs.Common.{ℕ, ◌≡◌, ◌⊎◌, true, List, [], ◌∷◌, ◌++◌, inl, inr, subst}
 use Rattle.ws_isa.specs.Image.{Image}
 use Rattle.ws_isa.specs.Formed.{WavesInOrder}
-use Rattle.image_walk.specs.Sound.{ShapeRules, SlotRules}
+use Rattle.ws_isa.specs.Sound.{ShapeRules, SlotRules}
 use Rattle.annot_check.specs.declared.worklist.Waves.{Waves}
 use Rattle.annot_check.specs.Done.{Begun, CameTo, WaveDone}
 use Rattle.annot_check.specs.Open.{bit}

@@ -1,7 +1,7 @@
 -- Tables of the slots with which the blocks of a wave are come into, closed under edges.
 use Rattle.std.specs.Prelude.{ℕ, ◌≡◌, ◌⊎◌, Bool, true, false, Option, Some}
 use Rattle.ws_isa.specs.Image.{Image, block_at, first_number, stops, target, is_first, start_dests, IsBlock}
-use Rattle.image_walk.specs.Sound.{OpenSlots, none_open, all_opened, Fresh, opens_at, Opens, AdvancesOpen}
+use Rattle.ws_isa.specs.Sound.{OpenSlots, none_open, all_opened, Fresh, opens_at, Opens, AdvancesOpen}
 use Rattle.annot_check.specs.Runs.{run, GoodRun}
 
 -- the table says with which slots a path comes into the edge's block

@@ -3,7 +3,7 @@
 use Rattle.std.specs.Prelude.{ℕ, suc, ◌≡◌, ◌<◌, ◌≤◌, true, false, List, Option, Some, None}
 use Rattle.ws_isa.specs.declared.instr.Link.TheVariants.{Nothing, Is}
 use Rattle.ws_isa.specs.Image.{Image, first_number, is_memory, is_writing, note_of}
-use Rattle.image_walk.specs.Sound.{InWave, IsAmong, ComesNext, PathEnds, seq, wave_at}
+use Rattle.ws_isa.specs.Sound.{InWave, IsAmong, ComesNext, PathEnds, seq, wave_at}
 
 -- operation k follows operation j, and their notes don't allow it
 pub data Disagree (image : Image) (j k : ℕ) : Type 0 where

@@ -2,7 +2,7 @@
 
 ghost use Rattle.std.specs.Prelude.{◌≡◌, ◌+◌, ◌*◌, ◌<◌, ◌≤◌, length, map, IfOk, OnOk};
 ghost use Rattle.ws_isa.specs.View as view;
-ghost use Rattle.image_walk.specs.Sound.{none_open, all_opened};
+ghost use Rattle.ws_isa.specs.Sound.{none_open, all_opened};
 ghost use Rattle.annot_check.specs.Runs.{advance_list};
 ghost use Rattle.annot_check.specs.Open.{look, slots_in, nodes_of, OpenOk, Moved};
 

@@ -4,7 +4,7 @@ ghost use Rattle.std.specs.Prelude.{◌≡◌, ◌+◌, ◌<◌, ◌≤◌, ℕ,
 ghost use Rattle.ws_isa.specs.Image.{instr_at, first_number, block_at, IsBlock, IsIn, In, Pad as PlainPad};
 ghost use Rattle.ws_isa.specs.Formed.{Formed};
 ghost use Rattle.ws_isa.specs.View as view;
-ghost use Rattle.image_walk.specs.Sound.{HasDest, IsAhead, FrontShape, DestShape};
+ghost use Rattle.ws_isa.specs.Sound.{HasDest, IsAhead, FrontShape, DestShape};
 ghost use Rattle.annot_check.specs.Facts.{TableOf};
 ghost use Rattle.annot_check.specs.Open.{bit};
 

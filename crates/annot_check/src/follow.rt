@@ -6,7 +6,7 @@
 ghost use Rattle.std.specs.Prelude.{◌≡◌, ◌+◌, ◌*◌, ◌<◌, ◌⊎◌, ℕ, [], length, IfOk, OnOk, IfErr, true, false, Some, None};
 ghost use Rattle.ws_isa.specs.Image.{is_first, IsBlock};
 ghost use Rattle.ws_isa.specs.View as view;
-ghost use Rattle.image_walk.specs.Sound.{none_open, ShapeRules, SlotRules};
+ghost use Rattle.ws_isa.specs.Sound.{none_open, ShapeRules, SlotRules};
 ghost use Rattle.ws_isa.specs.Formed.{Formed};
 ghost use Rattle.annot_check.specs.declared.trace.Entry.{Entry};
 ghost use Rattle.annot_check.specs.Open.{look, bit};

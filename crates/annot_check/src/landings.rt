@@ -4,7 +4,7 @@ ghost use Rattle.std.specs.Prelude.{◌≡◌, ◌<◌, ◌≤◌, ℕ, List, su
 ghost use Rattle.ws_isa.specs.Image.{instr_at, first_number, block_at, is_first, stops, target, IsBlock, IsIn, Landings};
 ghost use Rattle.ws_isa.specs.Formed.{Formed};
 ghost use Rattle.ws_isa.specs.View as view;
-ghost use Rattle.image_walk.specs.Sound.{HasPad, HangShape};
+ghost use Rattle.ws_isa.specs.Sound.{HasPad, HangShape};
 ghost use Rattle.annot_check.specs.Spread.{SendAt, op_of};
 ghost use Rattle.ws_isa.specs.declared.instr.Op.TheVariants.{Send};
 ghost use Rattle.annot_check.specs.Facts.{TableOf};

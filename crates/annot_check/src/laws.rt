@@ -2,7 +2,7 @@
 
 ghost use Rattle.std.specs.Prelude.{ℕ, Option};
 ghost use Rattle.ws_isa.specs.Image.{Image};
-ghost use Rattle.image_walk.specs.Sound.{ShapeRules, LinkRules, RippleRules, Sound};
+ghost use Rattle.ws_isa.specs.Sound.{ShapeRules, LinkRules, RippleRules, Sound};
 ghost use Rattle.annot_check.specs.declared.fault.Bad.{Bad};
 ghost use Rattle.annot_check.specs.declared.lasts.Lasts.{Lasts};
 ghost use Rattle.annot_check.specs.Breach.{BadBreach};

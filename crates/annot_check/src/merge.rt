@@ -6,7 +6,7 @@ ghost use Rattle.annot_check.specs.Seen.{OrderBreach};
 ghost use Rattle.annot_check.specs.declared.fault.Bad.{Bad};
 ghost use Rattle.annot_check.specs.declared.fault.CheckFault.TheVariants.{Refused};
 ghost use Rattle.ws_isa.specs.Image.{Image as PlainImage};
-ghost use Rattle.image_walk.specs.Sound.{ShapeRules};
+ghost use Rattle.ws_isa.specs.Sound.{ShapeRules};
 ghost use Rattle.annot_check.specs.declared.fault.Bad.TheVariants.{Link as LinkBad};
 
 use crate::fault::Bad;

@@ -4,7 +4,7 @@ ghost use Rattle.std.specs.Prelude.{◌≡◌, ◌+◌, ◌<◌, ℕ, suc, cond,
 ghost use Rattle.ws_isa.specs.Image.{is_memory_op, is_writing_op, first_number, block_at, IsBlock};
 ghost use Rattle.ws_isa.specs.Formed.{Formed};
 ghost use Rattle.ws_isa.specs.View as view;
-ghost use Rattle.image_walk.specs.Sound.{ShapeRules};
+ghost use Rattle.ws_isa.specs.Sound.{ShapeRules};
 ghost use Rattle.annot_check.specs.declared.lasts.Lasts.{Lasts};
 ghost use Rattle.annot_check.specs.Order.{no_mark, LastsOk, PassOk};
 ghost use Rattle.annot_check.specs.Seen.{op_with, mark_of, stepped, StepBad, StepSeen, CameAll, PassState, OrderBreach};

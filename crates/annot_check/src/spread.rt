@@ -5,7 +5,7 @@
 ghost use Rattle.std.specs.Prelude.{◌≡◌, ◌⊎◌, ◌+◌, ◌<◌, ◌≤◌, ℕ, List, suc, length, true, false, slice_index_or};
 ghost use Rattle.ws_isa.specs.Image.{instr_at, first_number, block_at, is_first, stops, target, IsBlock, IsIn, Landings};
 ghost use Rattle.ws_isa.specs.View as view;
-ghost use Rattle.image_walk.specs.Sound.{HasPad, BringsResult, ExitShape, HangShape, DestShape};
+ghost use Rattle.ws_isa.specs.Sound.{HasPad, BringsResult, ExitShape, HangShape, DestShape};
 ghost use Rattle.annot_check.specs.Spread.{Reached, SpreadState, Hangs, op_of};
 ghost use Rattle.ws_isa.specs.declared.instr.Op.TheVariants.{Send, Halt, Merge};
 ghost use Rattle.annot_check.specs.Facts.{TableOf};

@@ -4,7 +4,7 @@ ghost use Rattle.std.specs.Prelude.{◌≡◌, ◌<◌, ℕ, map, true, false};
 ghost use Rattle.ws_isa.specs.Image.{block_at, is_first, stops, target, IsBlock};
 ghost use Rattle.ws_isa.specs.Formed.{Formed};
 ghost use Rattle.ws_isa.specs.View as view;
-ghost use Rattle.image_walk.specs.Sound.{HasPad, IsLater, EdgeShape};
+ghost use Rattle.ws_isa.specs.Sound.{HasPad, IsLater, EdgeShape};
 ghost use Rattle.annot_check.specs.Spread.{pad_in};
 ghost use Rattle.annot_check.specs.Table.{choices_of};
 

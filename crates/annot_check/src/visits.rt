@@ -3,7 +3,7 @@
 ghost use Rattle.std.specs.Prelude.{◌≡◌, ◌+◌, ◌<◌, ℕ, suc, length, map, OnOk, IfErr, false, not, Some, None};
 ghost use Rattle.ws_isa.specs.Image.{block_at, stops, first_number, IsBlock};
 ghost use Rattle.ws_isa.specs.View as view;
-ghost use Rattle.image_walk.specs.Sound.{Opens};
+ghost use Rattle.ws_isa.specs.Sound.{Opens};
 ghost use Rattle.annot_check.specs.declared.trace.Entry.{Entry};
 ghost use Rattle.annot_check.specs.Runs.{SameEdges};
 ghost use Rattle.annot_check.specs.Open.{look};

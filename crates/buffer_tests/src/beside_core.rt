@@ -1,17 +1,17 @@
 //! A buffer beside the core.
 
 ghost use Rattle.std.specs.Prelude.{◌≤◌};
-ghost use Rattle.core_run.specs.Cores.{Runs};
+ghost use Rattle.df_core.specs.Cores.{Runs};
 
 use crate::compiled::compiled;
 use crate::runs::{Past, let_go};
 use crate::tapes::past_with;
-use core_run::{Core, Event};
-use image_walk::Checked;
+use df_core::{Core, Event};
 use port_set::TapePort;
 use std::alloc::Global;
 use std::test::Fail;
 use store_buf::BufFault;
+use ws_isa::Checked;
 use ws_words::{Cells, NoMemory, Words, World};
 
 // How often each program is run.

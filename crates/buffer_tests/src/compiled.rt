@@ -1,12 +1,12 @@
 //! Images of programs.
 
-use image_walk::Checked;
 use src_ast::read_is_written;
 use src_check::check;
 use src_lex::lex;
 use src_parse::parse;
 use std::alloc::Global;
 use wave_build::compile;
+use ws_isa::Checked;
 use ws_words::NoMemory;
 
 pub fn compiled(alloc: Global, text: &str) -> Result<Checked, NoMemory> {

@@ -3,11 +3,11 @@
 use crate::compiled::compiled;
 use crate::runs::{Answer, Past, let_go, past_of};
 use crate::tapes::past_with;
-use image_walk::Checked;
 use port_set::{Port, PortError, Slots, TapePort};
 use std::alloc::Global;
 use std::test::Fail;
 use store_buf::BufFault;
+use ws_isa::Checked;
 use ws_words::{NoMemory, Words};
 
 // How often each program is run.

@@ -4,13 +4,13 @@ ghost use Rattle.std.specs.Prelude.{◌≡◌};
 ghost use Rattle.port_set.specs.Slots.{AllOpen, contents};
 ghost use Rattle.store_buf.specs.Outdoors.{AllTell, began_of, world_with};
 
-use df_job::{Code, Job, Request, Token, TokenList, start};
-use image_walk::Checked;
+use df_core::{Code, Job, Request, Token, TokenList, start};
 use match_table::{Accept, Table};
 use port_set::{Port, Slots};
 use std::alloc::Global;
 use std::marker::Brand;
 use store_buf::{BufFault, Buffer, BufferEnd, told_ports_begin};
+use ws_isa::Checked;
 use ws_words::{NoMemory, Words};
 
 // The most tokens of a run.

@@ -1,9 +1,8 @@
 //! What a worker does once a table has had a token.
 
 use crate::hand::{Hand, Wrap, put_all};
-use crew_tables::Offer;
-use df_job::{Code, Job, Request, Token, TokenList};
-use match_table::Took;
+use df_core::{Code, Job, Request, Token, TokenList};
+use match_table::{Offer, Took};
 use port_set::Port;
 use ready_pool::Seat;
 use std::sync::{Mutex, Wait};

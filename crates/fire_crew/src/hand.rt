@@ -1,6 +1,6 @@
 //! What a worker has in hand, and how tokens go into a seat.
 
-use df_job::{Job, Sent, Token, TokenList};
+use df_core::{Job, Sent, Token, TokenList};
 use match_table::Results;
 use ready_pool::Seat;
 

@@ -1,14 +1,14 @@
 //! One phase of a run.
 
 ghost use Rattle.std.specs.Prelude.{◌≡◌, length};
-ghost use Rattle.crew_tables.specs.Growth.{AllGrow};
-ghost use Rattle.crew_tables.specs.Rows.{Fits, contents};
+ghost use Rattle.match_table.specs.Growth.{AllGrow};
+ghost use Rattle.match_table.specs.Rows.{Fits, contents};
 
 use crate::gate::Gate;
 use crate::pouring::pour;
 use crate::work::{Worked, work};
-use crew_tables::{Quotas, Row, Tables};
-use df_job::{Code, Job, Token, TokenList};
+use df_core::{Code, Job, Token, TokenList};
+use match_table::{Quotas, Row, Tables};
 use port_set::Port;
 use ready_pool::{Seat, SeatList};
 use std::alloc::Global;

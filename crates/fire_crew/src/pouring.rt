@@ -1,6 +1,6 @@
 //! Tokens that are put behind others.
 
-use df_job::{Job, Sent, TokenList};
+use df_core::{Job, Sent, TokenList};
 
 // As far as there is memory.
 pub fn pour<J: Job>(from: TokenList<J>, to: &mut TokenList<J>) {

@@ -2,10 +2,10 @@
 use Rattle.std.proofs.Common.{ℕ, suc, ◌≡◌, ◌<◌, ◌≤◌, ◌⊎◌, ◌==◌, nat_lt, List, [], ◌∷◌, ◌++◌, map, refl, sym, ap, ◌∙◌, subst, inl, inr, eq-eqb, ne_eqb, append-nil, arith}
 use Rattle.std.proofs.lemmas.Bool.{cases_eq, lt-ltb, le-ltb, cond-true, cond-false}
 use Rattle.ws_words.specs.Outside.{World}
-use Rattle.core_law.specs.Core as law
-use Rattle.core_law.specs.Core.{State, Run, core_opening}
-use Rattle.core_run.specs.declared.engine.Event.{Event as Made}
-use Rattle.core_run.specs.Cores.{event_of}
+use Rattle.df_core.specs.Core as law
+use Rattle.df_core.specs.Core.{State, Run, core_opening}
+use Rattle.df_core.specs.declared.engine.Event.{Event as Made}
+use Rattle.df_core.specs.Cores.{event_of}
 use Rattle.grid_clock.specs.declared.timed.Timed.{Timed}
 use Rattle.grid_clock.specs.Clocks.{last_cycle}
 use Rattle.grid_clock.specs.Schedule.{Grid, Cycle, Stopping, Cycles, blocked, stops, goes, Schedule, in_cycle}

@@ -8,22 +8,22 @@ use Rattle.ws_isa.specs.declared.instr.Note.{Note}
 use Rattle.ws_isa.specs.Image as plain
 use Rattle.ws_isa.specs.Image.{Image, ports, is_memory, note_of}
 use Rattle.ws_isa.specs.Formed.{Formed}
-use Rattle.image_walk.specs.Walk.{Inst, fires, pos}
-use Rattle.image_walk.specs.Sound.{Sound, LinkRules, ComesNext, last_op, seq}
-use Rattle.core_law.specs.Core.{Chain, State, Issuable, IsNext, pass, pass_by, position_after}
-use Rattle.core_law.specs.Fit.{RightRequest, Fit, chain_at}
-use Rattle.core_law.proofs.Facts.{WalkFacts}
-use Rattle.core_law.proofs.FromSound.{facts_of}
-use Rattle.core_law.proofs.PortsThere.{ports_there}
-use Rattle.core_law.proofs.Steps.{turn_at}
-use Rattle.core_law.proofs.Ops as O
-use Rattle.core_run.specs.declared.flow.Flow.{Flow}
-use Rattle.core_run.specs.Chains.{chain_of, next_flag, may_flag}
-use Rattle.core_run.specs.Flows.{Holds, GoingBeside, MayAt, NoneMay, asked_at}
-use Rattle.core_run.specs.Partial.{listed}
-use Rattle.core_run.proofs.Driving.{has_at, flagged}
-use Rattle.core_run.proofs.Bounds.{has_asked}
-use Rattle.core_run.proofs.Nexts.{next_is}
+use Rattle.ws_isa.specs.Walk.{Inst, fires, pos}
+use Rattle.ws_isa.specs.Sound.{Sound, LinkRules, ComesNext, last_op, seq}
+use Rattle.df_core.specs.Core.{Chain, State, Issuable, IsNext, pass, pass_by, position_after}
+use Rattle.df_core.specs.Fit.{RightRequest, Fit, chain_at}
+use Rattle.df_core.proofs.Facts.{WalkFacts}
+use Rattle.df_core.proofs.FromSound.{facts_of}
+use Rattle.df_core.proofs.PortsThere.{ports_there}
+use Rattle.df_core.proofs.Steps.{turn_at}
+use Rattle.df_core.proofs.Ops as O
+use Rattle.df_core.specs.declared.flow.Flow.{Flow}
+use Rattle.df_core.specs.Chains.{chain_of, next_flag, may_flag}
+use Rattle.df_core.specs.Flows.{Holds, GoingBeside, MayAt, NoneMay, asked_at}
+use Rattle.df_core.specs.Partial.{listed}
+use Rattle.df_core.proofs.Driving.{has_at, flagged}
+use Rattle.df_core.proofs.Bounds.{has_asked}
+use Rattle.df_core.proofs.Nexts.{next_is}
 use Rattle.grid_clock.specs.Schedule.{FirstIssue}
 use Rattle.grid_clock.specs.During.{IsFirst, Least}
 

@@ -4,27 +4,27 @@ use Rattle.std.proofs.lemmas.Bool.{both_ways, cases_eq, cases_lt}
 use Rattle.ws_words.specs.Outside.{World, printed_words}
 use Rattle.ws_isa.specs.Image.{Image, ports, array_at}
 use Rattle.ws_isa.specs.Formed.{Formed}
-use Rattle.image_walk.specs.Operations.{FaultsAt, past}
-use Rattle.image_walk.specs.Sound.{Sound, seq}
-use Rattle.image_walk.specs.Walk.{Inst, fires}
-use Rattle.core_law.specs.Core.{State, Event, Match, Issue, Step, Enabled, with_at, core_opening}
-use Rattle.core_law.specs.Fit.{RightToken, Fit}
-use Rattle.core_law.proofs.Facts.{WalkFacts}
-use Rattle.core_law.proofs.FromSound.{facts_of}
-use Rattle.core_law.proofs.PortsThere.{ports_there}
-use Rattle.core_law.proofs.Law.{step_kept}
-use Rattle.core_law.proofs.Making.{alone}
-use Rattle.core_law.proofs.Ports.{with_at_cases, full_all}
-use Rattle.core_law.proofs.Reached.{reached}
-use Rattle.core_run.specs.declared.engine.Event.{Event as Made}
-use Rattle.core_run.specs.declared.engine.Event.TheVariants as made
-use Rattle.core_run.specs.declared.answer.Done.{Done}
-use Rattle.core_run.specs.declared.drive.Finish.{Finish}
-use Rattle.core_run.specs.declared.drive.Finish.TheVariants as finish
-use Rattle.core_run.specs.Answer.{RunSo}
-use Rattle.core_run.specs.Cores.{event_of}
-use Rattle.core_run.specs.Finishes.{is_fault}
-use Rattle.core_run.specs.Told.{run_from}
+use Rattle.ws_isa.specs.Operations.{FaultsAt, past}
+use Rattle.ws_isa.specs.Sound.{Sound, seq}
+use Rattle.ws_isa.specs.Walk.{Inst, fires}
+use Rattle.df_core.specs.Core.{State, Event, Match, Issue, Step, Enabled, with_at, core_opening}
+use Rattle.df_core.specs.Fit.{RightToken, Fit}
+use Rattle.df_core.proofs.Facts.{WalkFacts}
+use Rattle.df_core.proofs.FromSound.{facts_of}
+use Rattle.df_core.proofs.PortsThere.{ports_there}
+use Rattle.df_core.proofs.Reachable.{step_kept}
+use Rattle.df_core.proofs.Making.{alone}
+use Rattle.df_core.proofs.Ports.{with_at_cases, full_all}
+use Rattle.df_core.proofs.Reached.{reached}
+use Rattle.df_core.specs.declared.engine.Event.{Event as Made}
+use Rattle.df_core.specs.declared.engine.Event.TheVariants as made
+use Rattle.df_core.specs.declared.answer.Done.{Done}
+use Rattle.df_core.specs.declared.drive.Finish.{Finish}
+use Rattle.df_core.specs.declared.drive.Finish.TheVariants as finish
+use Rattle.df_core.specs.Answer.{RunSo}
+use Rattle.df_core.specs.Cores.{event_of}
+use Rattle.df_core.specs.Finishes.{is_fault}
+use Rattle.df_core.specs.Told.{run_from}
 use Rattle.grid_clock.specs.declared.run.Clocked.{Clocked}
 use Rattle.grid_clock.specs.Clocks.{Clocks, last_cycle}
 use Rattle.grid_clock.specs.declared.timed.Timed.{Timed}
@@ -32,7 +32,7 @@ use Rattle.grid_clock.specs.Schedule.{Grid, Fires, FiresNothing, IsOld, NoIssue,
 use Rattle.grid_clock.proofs.Firsts.{same_op}
 use Rattle.grid_clock.proofs.Listing.{same_refl}
 use Rattle.ws_isa.proofs.Images.{nth_below}
-use Rattle.core_law.proofs.States.{same_is}
+use Rattle.df_core.proofs.States.{same_is}
 
 -- of numbers in order
 not_after_both : (w i a j : ℕ) → NotAfter w i a j → NotAfter a j w i → (w ≡ a) × (i ≡ j)

@@ -1,17 +1,16 @@
 //! Sixteen tables of a phase, each within its quota.
 
 ghost use Rattle.std.specs.Prelude.{◌≡◌, length};
-ghost use Rattle.crew_tables.specs.Rows.{Fits, contents};
+ghost use Rattle.match_table.specs.Rows.{Fits, contents};
 
 use crate::tables::{DOUBLES, image_of, take_all};
-use crew_tables::{Offer, Quotas, Row, Tables};
-use df_job::{Code, Job, Token, start};
-use image_walk::Checked;
-use match_table::{Results, Took};
+use df_core::{Code, Job, Token, start};
+use match_table::{Offer, Quotas, Results, Row, Tables, Took};
 use std::alloc::Global;
 use std::marker::Brand;
 use std::sync::Wait;
 use std::test::*;
+use ws_isa::Checked;
 use ws_words::NoMemory;
 
 // How many instances have fired, and how many tokens were let go.

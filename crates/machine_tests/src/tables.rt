@@ -4,12 +4,12 @@ ghost use Rattle.std.specs.Prelude.{◌≡◌};
 
 use annot_check::check_image;
 use asm_text::read_asm;
-use df_job::{Code, Job, Token, TokenList, start};
-use image_walk::Checked;
+use df_core::{Code, Job, Token, TokenList, start};
 use match_table::{Accept, AcceptFault, Fired, Operands, Table};
 use std::alloc::Global;
 use std::marker::Brand;
 use std::test::*;
+use ws_isa::Checked;
 use ws_words::NoMemory;
 
 // A loop that doubles a number in each of its waves.

@@ -5,17 +5,17 @@ use Rattle.ws_isa.specs.declared.instr.Op.{Op}
 use Rattle.ws_isa.specs.declared.instr.Op.TheVariants.{Load, Store, Input, Output, Give, Take, Nop, Halt}
 use Rattle.ws_isa.specs.Image.{Image, Token, ports, ports_of, instr_at, is_memory, is_memory_op, is_advance_op, selector_of, result_of, result_of_op, sends, tokens_to}
 use Rattle.ws_isa.specs.declared.instr.Dest.{Dest}
-use Rattle.core_run.specs.Places.{destinations}
+use Rattle.df_core.specs.Places.{destinations}
 use Rattle.ws_isa.specs.Formed.{Formed}
-use Rattle.image_walk.specs.Sound.{Sound}
-use Rattle.image_walk.specs.Walk.{gather}
-use Rattle.core_law.specs.Core.{IsSent, has, is_full, with_at, same_key, operands_in}
-use Rattle.core_law.specs.Fit.{RightToken, RightRequest}
-use Rattle.core_law.proofs.Facts.{WalkFacts}
-use Rattle.core_law.proofs.FromSound.{facts_of}
-use Rattle.core_law.proofs.PortsThere.{ports_there}
-use Rattle.core_run.proofs.Arriving.{ports_is_op, memory_is_op, sends_are}
-use Rattle.df_job.specs.Rights.{IsRight, operands_of}
+use Rattle.ws_isa.specs.Sound.{Sound}
+use Rattle.ws_isa.specs.Walk.{gather}
+use Rattle.df_core.specs.Core.{IsSent, has, is_full, with_at, same_key, operands_in}
+use Rattle.df_core.specs.Fit.{RightToken, RightRequest}
+use Rattle.df_core.proofs.Facts.{WalkFacts}
+use Rattle.df_core.proofs.FromSound.{facts_of}
+use Rattle.df_core.proofs.PortsThere.{ports_there}
+use Rattle.df_core.proofs.Arriving.{ports_is_op, memory_is_op, sends_are}
+use Rattle.df_core.specs.Rights.{IsRight, operands_of}
 use Rattle.match_table.specs.declared.entry.Arrived.{Arrived}
 use Rattle.match_table.specs.declared.entry.Entry.{Entry}
 use Rattle.match_table.specs.declared.meeting.Operands.{Operands}

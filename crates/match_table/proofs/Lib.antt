@@ -8,3 +8,5 @@ pub mod Listed
 pub mod Kept
 pub mod Answered
 pub mod Events
+pub mod Growth
+pub mod Served

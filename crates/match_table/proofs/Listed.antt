@@ -5,8 +5,8 @@ use Rattle.std.proofs.lemmas.List.{get_or-map, length-map}
 use Rattle.std.proofs.lemmas.List.Elements.{All-head, All-tail}
 use Rattle.ws_words.specs.Outside.{World}
 use Rattle.ws_isa.specs.Image.{Image, ports, is_memory}
-use Rattle.image_walk.specs.Walk.{gather}
-use Rattle.core_law.specs.Core.{Key, HasFired, Once, is_full, operands_in}
+use Rattle.ws_isa.specs.Walk.{gather}
+use Rattle.df_core.specs.Core.{Key, HasFired, Once, is_full, operands_in}
 use Rattle.match_table.specs.declared.entry.Arrived.{Arrived}
 use Rattle.match_table.specs.declared.entry.Entry.{Entry}
 use Rattle.match_table.specs.Pages.{IsUnder, arrived_in, instance_of, instance_under}

@@ -1,8 +1,8 @@
 -- What a table answers to a token.
 use Rattle.std.specs.Prelude.{◌≡◌, ℕ, Bool, true, false, not, ◌&&◌, List, [], ◌∷◌, ◌++◌, slice_index, Some, None}
 use Rattle.ws_isa.specs.Image.{Image, Token, ports, is_memory, result_of, sends}
-use Rattle.core_law.specs.Core.{State, arrived, matched, has, is_full, with_at, operands_in}
-use Rattle.df_job.specs.Rights.{Asked, operands_of}
+use Rattle.df_core.specs.Core.{State, arrived, matched, has, is_full, with_at, operands_in}
+use Rattle.df_core.specs.Rights.{Asked, operands_of}
 use Rattle.match_table.specs.declared.table.Accept.{Accept}
 use Rattle.match_table.specs.declared.table.Accept.TheVariants.{Waits, Fires, Asks}
 use Rattle.match_table.specs.declared.table.Took.{Took}

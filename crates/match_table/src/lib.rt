@@ -1,4 +1,4 @@
-//! Where tokens meet: tables of the tokens that have come to instances.
+//! Where tokens meet: tables of the tokens that have come to instances, and the 16 tables of a phase.
 //!
 //! `accept` is the core's match on the part of the state that the table holds: for a port that had no token,
 //! Waits exactly where the instance isn't full afterwards, Fires with exactly its result tokens, or Asks with
@@ -13,16 +13,30 @@
 //! page for each wave number and 256 instruction numbers, as facts of its type: the numbers of pages rise,
 //! each has the key of its page's first entry, and each entry stands in its page's chain, once. What it holds
 //! is right, and an instance fires once, exactly when it is full (`facts`).
+//!
+//! `Limited` is a table that serves the instances whose wave number plus instruction is K modulo 16, lists no
+//! more that fired than its quota, and has grown from what it was when the phase began (`Grows`), as facts of
+//! its type; `offer` answers as `accept_into` does, or Spent, exactly where the token would fire its instance
+//! and the list of those that fired is full, and then nothing changes. `Row` is 16 of them, each behind a
+//! lock: `offer` takes a token at the table that serves it, of which no clause says more, and `gather` gives
+//! the tables back, each serving its own within its quota, and grown from what it was. `Tables::new` gives 16
+//! to which no token has come.
 #![tactic(auto)]
 
 pub mod entry;
 pub mod laws;
+pub mod limit;
 pub mod meeting;
 mod ops;
 mod pages;
 mod places;
+pub mod rank;
+pub mod row;
 pub mod table;
 
 pub use entry::Arrived;
+pub use limit::{Limited, Offer, Quotas};
 pub use meeting::Operands;
+pub use rank::Rank;
+pub use row::{Row, Tables, table_of};
 pub use table::{Accept, AcceptFault, Fired, Results, Table, Took};

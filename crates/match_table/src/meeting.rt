@@ -1,8 +1,8 @@
 //! A value comes to a port of an instance.
 
 ghost use Rattle.std.specs.Prelude.{◌≡◌, ◌<◌, ◌≤◌, ℕ, Some, None, true, false, MatchOption};
-ghost use Rattle.image_walk.specs.Walk.{gather};
-ghost use Rattle.core_law.specs.Core.{is_full};
+ghost use Rattle.ws_isa.specs.Walk.{gather};
+ghost use Rattle.df_core.specs.Core.{is_full};
 ghost use Rattle.match_table.specs.Ports.{listed, is_taken, with_port, alone, SeenSo};
 
 use crate::entry::{Arrived, Had};

@@ -2,12 +2,12 @@
 
 ghost use Rattle.multi_wave.specs.Parts.{Ready, alone};
 
-use image_walk::Checked;
 use multi_wave::{Each, Part, ThreadEnd, ThreadFinish, ThreadGate, multi_run};
 use port_set::{Port, PortError, Slots};
 use std::alloc::Global;
 use std::sync::Wait;
 use std::thread::Threads;
+use ws_isa::Checked;
 use ws_words::Words;
 
 // A port of which each call fails.

@@ -4,12 +4,12 @@ use Rattle.std.proofs.lemmas.Bool.{both_ways}
 use Rattle.ws_words.specs.Outside.{World}
 use Rattle.ws_isa.specs.Image.{Image, Token, instr_at, nth}
 use Rattle.ws_isa.specs.Formed.{Formed}
-use Rattle.image_walk.specs.Sound.{Sound}
-use Rattle.core_law.specs.Core.{Chain}
-use Rattle.core_law.proofs.Sent.{nth_slice}
-use Rattle.core_run.specs.Chains.{chain_of}
-use Rattle.df_job.specs.Began.{Began}
-use Rattle.df_job.specs.Rights.{IsAsked, IsRight}
+use Rattle.ws_isa.specs.Sound.{Sound}
+use Rattle.df_core.specs.Core.{Chain}
+use Rattle.df_core.proofs.SentTokens.{nth_slice}
+use Rattle.df_core.specs.Chains.{chain_of}
+use Rattle.df_core.specs.Began.{Began}
+use Rattle.df_core.specs.Rights.{IsAsked, IsRight}
 use Rattle.store_buf.specs.declared.fault.BufFault.{BufFault}
 use Rattle.store_buf.specs.declared.fault.BufFault.TheVariants as fault
 use Rattle.store_buf.specs.declared.kept.Kept.{Kept}

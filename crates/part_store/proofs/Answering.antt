@@ -3,8 +3,8 @@ use Rattle.std.proofs.Common.{ℕ, zero, suc, ◌≡◌, ◌<◌, ◌==◌, ◌&
 use Rattle.std.specs.Prelude.{is_some}
 use Rattle.std.proofs.lemmas.Bool.{both_ways, cases_eq, and_parts}
 use Rattle.ws_isa.specs.Image.{In}
-use Rattle.core_law.specs.Core.{with_key}
-use Rattle.core_law.proofs.Ports.{with_key_cases}
+use Rattle.df_core.specs.Core.{with_key}
+use Rattle.df_core.proofs.Ports.{with_key_cases}
 use Rattle.store_buf.proofs.Alike.{entry_set, once_of}
 use Rattle.store_buf.specs.declared.kept.Kept.{Kept}
 use Rattle.store_buf.specs.declared.order.Order.{Order}

@@ -3,10 +3,10 @@ use Rattle.std.proofs.Common.{ℕ, ◌≡◌, ◌≤◌, Bool, true, false, cond
 use Rattle.std.proofs.lemmas.Bool.{both_ways}
 use Rattle.ws_words.specs.Outside.{World, row}
 use Rattle.ws_isa.specs.Image.{Image, In}
-use Rattle.core_law.specs.Core.{Chain, has}
-use Rattle.core_law.specs.Fit.{Legal}
-use Rattle.core_law.proofs.Ports.{SameKey, with_key_cases}
-use Rattle.df_job.specs.Began.{Began}
+use Rattle.df_core.specs.Core.{Chain, has}
+use Rattle.df_core.specs.Fit.{Legal}
+use Rattle.df_core.proofs.Ports.{SameKey, with_key_cases}
+use Rattle.df_core.specs.Began.{Began}
 use Rattle.store_buf.specs.declared.kept.Kept.{Kept}
 use Rattle.store_buf.specs.Requests.{entry_of, issued_in}
 use Rattle.store_buf.specs.Outdoors.{Holding, OutIs}

@@ -3,12 +3,12 @@ use Rattle.std.proofs.Common.{ℕ, ◌≡◌, Bool, true, false, cond, List, Opt
 use Rattle.std.proofs.lemmas.Bool.{both_ways, cases_Bool}
 use Rattle.ws_words.specs.Outside.{World}
 use Rattle.ws_isa.specs.Image.{Image, Token, ports, sends}
-use Rattle.image_walk.specs.Walk.{Ports}
-use Rattle.core_law.specs.Core.{same_key, with_key}
-use Rattle.core_law.specs.Shown.{Tables}
-use Rattle.core_law.proofs.Ports.{SameKey, with_key_cases}
-use Rattle.df_job.specs.Began.{Began}
-use Rattle.df_job.specs.Rights.{operands_of}
+use Rattle.ws_isa.specs.Walk.{Ports}
+use Rattle.df_core.specs.Core.{same_key, with_key}
+use Rattle.df_core.specs.Shown.{Tables}
+use Rattle.df_core.proofs.Ports.{SameKey, with_key_cases}
+use Rattle.df_core.specs.Began.{Began}
+use Rattle.df_core.specs.Rights.{operands_of}
 use Rattle.store_buf.specs.declared.fault.BufFault.{BufFault}
 use Rattle.store_buf.specs.declared.fault.BufFault.TheVariants as fault
 use Rattle.store_buf.specs.declared.kept.Kept.{Kept}
@@ -26,7 +26,7 @@ use Rattle.part_store.proofs.Keys.{key_cases}
 use Rattle.part_store.proofs.Ops as O
 use Rattle.part_store.proofs.Reaching as R
 use Rattle.part_store.proofs.Paying as P
-use Rattle.core_law.proofs.Owing.{nothing}
+use Rattle.df_core.proofs.Owing.{nothing}
 
 pub both_ok : {A E : Type 0} {X Y Z : Type 0} (r : Result A E) → (X → Y → Z) → OnOk r X → OnOk r Y → OnOk r Z
 both_ok (Ok a) f x y = f x y

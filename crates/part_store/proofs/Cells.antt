@@ -5,10 +5,10 @@ use Rattle.ws_words.specs.Outside.{Outside, World, row, with_row}
 use Rattle.ws_isa.specs.declared.instr.Op.{Op}
 use Rattle.ws_isa.specs.declared.instr.Op.TheVariants.{Load, Store, Input, Output, Give, Take}
 use Rattle.ws_isa.specs.Image.{Image, instr_at, is_memory, after_op, after}
-use Rattle.image_walk.specs.Walk.{Inst, fires}
-use Rattle.core_law.specs.Effect.{effect_at, effect_after}
-use Rattle.core_law.proofs.Facts.{WalkFacts}
-use Rattle.core_law.proofs.Quiet.{cases_fires}
+use Rattle.ws_isa.specs.Walk.{Inst, fires}
+use Rattle.df_core.specs.Effect.{effect_at, effect_after}
+use Rattle.df_core.proofs.Facts.{WalkFacts}
+use Rattle.df_core.proofs.Pauses.{cases_fires}
 use Rattle.part_store.specs.Contents.{cell, is_on_row}
 use Rattle.part_store.specs.Parted.{is_store_op}
 use Rattle.ws_words.proofs.Held.{set_length}

@@ -4,13 +4,13 @@ use Rattle.std.proofs.lemmas.Bool.{both_ways, cases_Bool}
 use Rattle.ws_words.specs.Outside.{World}
 use Rattle.ws_isa.specs.Image.{Image, Token}
 use Rattle.ws_isa.specs.Formed.{Formed}
-use Rattle.image_walk.specs.Sound.{Sound}
-use Rattle.core_law.specs.Core.{same_key}
-use Rattle.core_law.proofs.Ports.{with_key_same, with_key_cases}
-use Rattle.df_job.specs.Began.{Began}
-use Rattle.core_run.specs.declared.chain.Chain as code
-use Rattle.core_run.specs.Chains.{chain_of, may_flag}
-use Rattle.core_run.specs.Stands.{HasEarly}
+use Rattle.ws_isa.specs.Sound.{Sound}
+use Rattle.df_core.specs.Core.{same_key}
+use Rattle.df_core.proofs.Ports.{with_key_same, with_key_cases}
+use Rattle.df_core.specs.Began.{Began}
+use Rattle.df_core.specs.declared.chain.Chain as code
+use Rattle.df_core.specs.Chains.{chain_of, may_flag}
+use Rattle.df_core.specs.Stands.{HasEarly}
 use Rattle.store_buf.specs.declared.fault.BufFault.{BufFault}
 use Rattle.store_buf.specs.declared.fault.BufFault.TheVariants as fault
 use Rattle.store_buf.specs.declared.kept.Kept.{Kept}

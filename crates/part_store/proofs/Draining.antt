@@ -4,12 +4,12 @@ use Rattle.std.proofs.lemmas.Bool.{both_ways, cases_eq}
 use Rattle.ws_words.specs.Outside.{World}
 use Rattle.ws_isa.specs.Image.{Image, Token}
 use Rattle.ws_isa.specs.Formed.{Formed}
-use Rattle.image_walk.specs.Sound.{Sound}
-use Rattle.core_run.specs.declared.chain.Chain as code
-use Rattle.core_run.specs.Chains.{chain_of}
-use Rattle.core_run.specs.Stands.{HasEarly}
-use Rattle.df_job.specs.Began.{Began}
-use Rattle.df_job.specs.Rights.{IsAsked}
+use Rattle.ws_isa.specs.Sound.{Sound}
+use Rattle.df_core.specs.declared.chain.Chain as code
+use Rattle.df_core.specs.Chains.{chain_of}
+use Rattle.df_core.specs.Stands.{HasEarly}
+use Rattle.df_core.specs.Began.{Began}
+use Rattle.df_core.specs.Rights.{IsAsked}
 use Rattle.store_buf.specs.declared.fault.BufFault.{BufFault}
 use Rattle.store_buf.specs.declared.fault.BufFault.TheVariants as fault
 use Rattle.store_buf.specs.declared.kept.Kept.{Kept}

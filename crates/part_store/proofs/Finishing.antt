@@ -4,14 +4,14 @@ use Rattle.std.proofs.lemmas.List.{append-nil}
 use Rattle.ws_words.specs.Outside.{World, row, with_row}
 use Rattle.ws_isa.specs.Image.{Image, Token, In, instr_at, is_memory, sends, tokens_to}
 use Rattle.ws_isa.specs.Formed.{Formed}
-use Rattle.image_walk.specs.Sound.{Sound}
-use Rattle.core_law.specs.Core.{has, with_key}
-use Rattle.core_law.proofs.Ports.{with_key_cases}
-use Rattle.core_run.specs.declared.chain.Chain as code
-use Rattle.core_run.specs.Chains.{chain_of}
-use Rattle.core_run.specs.Places.{destinations}
-use Rattle.core_run.specs.Stands.{HasEarly}
-use Rattle.df_job.specs.Began.{Began}
+use Rattle.ws_isa.specs.Sound.{Sound}
+use Rattle.df_core.specs.Core.{has, with_key}
+use Rattle.df_core.proofs.Ports.{with_key_cases}
+use Rattle.df_core.specs.declared.chain.Chain as code
+use Rattle.df_core.specs.Chains.{chain_of}
+use Rattle.df_core.specs.Places.{destinations}
+use Rattle.df_core.specs.Stands.{HasEarly}
+use Rattle.df_core.specs.Began.{Began}
 use Rattle.store_buf.specs.declared.kept.Kept.{Kept}
 use Rattle.store_buf.specs.Requests.{entry_of, issued_in, answer_if}
 use Rattle.store_buf.specs.Orders.{EarlyIssued}

@@ -4,9 +4,9 @@ use Rattle.std.proofs.lemmas.List.{append_assoc, append-nil}
 use Rattle.ws_words.specs.Outside.{World}
 use Rattle.ws_isa.specs.Image.{Image, Token, In}
 use Rattle.ws_isa.specs.Formed.{Formed}
-use Rattle.image_walk.specs.Sound.{Sound}
-use Rattle.core_law.proofs.Ports.{SameKey}
-use Rattle.df_job.specs.Began.{Began}
+use Rattle.ws_isa.specs.Sound.{Sound}
+use Rattle.df_core.proofs.Ports.{SameKey}
+use Rattle.df_core.specs.Began.{Began}
 use Rattle.part_store.specs.declared.entry.Entry.{Entry}
 use Rattle.part_store.specs.declared.parts.Parts.{Parts}
 use Rattle.part_store.specs.Bares.{is_in}

@@ -4,16 +4,16 @@ use Rattle.std.proofs.lemmas.Bool.{both_ways, cases_Bool, cases_lt, cond-true, c
 use Rattle.ws_words.specs.Outside.{Outside, World, row}
 use Rattle.ws_isa.specs.Image.{Image, Token, In, instr_at, is_memory, sends}
 use Rattle.ws_isa.specs.Formed.{Formed}
-use Rattle.image_walk.specs.Sound.{Sound}
-use Rattle.image_walk.specs.Walk.{Inst}
-use Rattle.core_law.specs.Effect.{effect_at}
-use Rattle.core_law.specs.Core.{has, IsSent}
-use Rattle.core_law.specs.Fit.{FiresAt, Legal, RightRequest}
-use Rattle.core_law.proofs.Facts.{WalkFacts}
-use Rattle.core_law.proofs.Passing.{same_fired}
-use Rattle.core_law.proofs.Ports.{SameKey, with_key_cases}
-use Rattle.core_run.proofs.Settling.{one_time}
-use Rattle.df_job.specs.Began.{Began}
+use Rattle.ws_isa.specs.Sound.{Sound}
+use Rattle.ws_isa.specs.Walk.{Inst}
+use Rattle.df_core.specs.Effect.{effect_at}
+use Rattle.df_core.specs.Core.{has, IsSent}
+use Rattle.df_core.specs.Fit.{FiresAt, Legal, RightRequest}
+use Rattle.df_core.proofs.Facts.{WalkFacts}
+use Rattle.df_core.proofs.Passing.{same_fired}
+use Rattle.df_core.proofs.Ports.{SameKey, with_key_cases}
+use Rattle.df_core.proofs.Settling.{one_time}
+use Rattle.df_core.specs.Began.{Began}
 use Rattle.store_buf.specs.declared.kept.Kept.{Kept}
 use Rattle.store_buf.specs.Requests.{entry_of, issued_in, answer_if}
 use Rattle.port_set.specs.Ports.{Told}

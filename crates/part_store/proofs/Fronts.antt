@@ -2,7 +2,7 @@
 use Rattle.std.proofs.Common.{ℕ, ◌≡◌, ◌⊎◌, Bool, true, false, cond, List, [], ◌∷◌, Some, None, refl, sym, ap, ◌∙◌, subst, inl, inr}
 use Rattle.std.proofs.lemmas.Bool.{both_ways, cases_Bool}
 use Rattle.ws_isa.specs.Image.{Image, In}
-use Rattle.core_law.proofs.Ports.{SameKey}
+use Rattle.df_core.proofs.Ports.{SameKey}
 use Rattle.part_store.specs.declared.entry.Entry.{Entry}
 use Rattle.part_store.specs.Queues.{front, is_queued, all_later, joined, without}
 use Rattle.part_store.proofs.Keys.{IsOn, key_cases, cell_cases, same_cell_is}

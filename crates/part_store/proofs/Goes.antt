@@ -5,12 +5,12 @@ use Rattle.std.proofs.lemmas.List.{append-nil}
 use Rattle.ws_words.specs.Outside.{Outside, World, row}
 use Rattle.ws_isa.specs.Image.{Image, Token, instr_at, array_at, answer, is_load, is_memory, is_past, note_of, sends}
 use Rattle.ws_isa.specs.Formed.{Formed}
-use Rattle.image_walk.specs.Sound.{Sound}
-use Rattle.core_law.specs.Core.{IsNext, Issuable, position_after, has, issued_with, with_key}
-use Rattle.core_law.specs.Fit.{Legal, RightRequest}
-use Rattle.core_law.proofs.Ports.{with_key_cases}
-use Rattle.core_run.specs.Chains.{chain_of, PassedOn}
-use Rattle.df_job.specs.Began.{Began}
+use Rattle.ws_isa.specs.Sound.{Sound}
+use Rattle.df_core.specs.Core.{IsNext, Issuable, position_after, has, issued_with, with_key}
+use Rattle.df_core.specs.Fit.{Legal, RightRequest}
+use Rattle.df_core.proofs.Ports.{with_key_cases}
+use Rattle.df_core.specs.Chains.{chain_of, PassedOn}
+use Rattle.df_core.specs.Began.{Began}
 use Rattle.store_buf.specs.declared.kept.Kept.{Kept}
 use Rattle.store_buf.specs.Requests.{entry_of, issued_in, answer_if}
 use Rattle.store_buf.specs.Ordering.{kept_at}

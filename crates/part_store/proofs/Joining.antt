@@ -4,13 +4,13 @@ use Rattle.std.proofs.lemmas.Bool.{both_ways, cases_Bool, cases_lt}
 use Rattle.ws_words.specs.Outside.{Outside, World, row}
 use Rattle.ws_isa.specs.Image.{Image, In, instr_at, array_at, answer}
 use Rattle.ws_isa.specs.Formed.{Formed}
-use Rattle.image_walk.specs.Sound.{Sound}
-use Rattle.core_law.specs.Effect.{effect_at, effect_after}
-use Rattle.core_law.specs.Core.{Issuable, has, issued_with}
-use Rattle.core_law.specs.Fit.{Legal, RightRequest}
-use Rattle.core_law.proofs.Facts.{WalkFacts}
-use Rattle.core_law.proofs.Ports.{SameKey, with_key_cases}
-use Rattle.df_job.specs.Began.{Began}
+use Rattle.ws_isa.specs.Sound.{Sound}
+use Rattle.df_core.specs.Effect.{effect_at, effect_after}
+use Rattle.df_core.specs.Core.{Issuable, has, issued_with}
+use Rattle.df_core.specs.Fit.{Legal, RightRequest}
+use Rattle.df_core.proofs.Facts.{WalkFacts}
+use Rattle.df_core.proofs.Ports.{SameKey, with_key_cases}
+use Rattle.df_core.specs.Began.{Began}
 use Rattle.store_buf.specs.declared.kept.Kept.{Kept}
 use Rattle.store_buf.specs.Requests.{entry_of, issued_in, answer_if}
 use Rattle.store_buf.specs.Outdoors.{Holding, OutIs}

@@ -4,15 +4,15 @@ use Rattle.std.proofs.lemmas.Bool.{both_ways, cases_lt}
 use Rattle.ws_words.specs.Outside.{Outside, World}
 use Rattle.ws_isa.specs.Image.{Image, Token, instr_at, array_at, is_past, note_of, sends}
 use Rattle.ws_isa.specs.Formed.{Formed}
-use Rattle.image_walk.specs.Sound.{Sound}
-use Rattle.core_law.specs.Effect.{effect_after}
-use Rattle.core_law.specs.Core.{Chain, Issuable, IsNext, IsSent, has, issued_with}
-use Rattle.core_law.specs.Fit.{Legal, RightRequest}
-use Rattle.core_law.specs.Shown.{waits_if}
-use Rattle.core_law.proofs.Facts.{WalkFacts}
-use Rattle.core_law.proofs.BufferKept as B
-use Rattle.core_law.proofs.Quiet.{mem_same, no_op_no_write}
-use Rattle.df_job.specs.Began.{Began}
+use Rattle.ws_isa.specs.Sound.{Sound}
+use Rattle.df_core.specs.Effect.{effect_after}
+use Rattle.df_core.specs.Core.{Chain, Issuable, IsNext, IsSent, has, issued_with}
+use Rattle.df_core.specs.Fit.{Legal, RightRequest}
+use Rattle.df_core.specs.Shown.{waits_if}
+use Rattle.df_core.proofs.Facts.{WalkFacts}
+use Rattle.df_core.proofs.BufferKept as B
+use Rattle.df_core.proofs.Pauses.{mem_same, no_op_no_write}
+use Rattle.df_core.specs.Began.{Began}
 use Rattle.store_buf.specs.declared.kept.Kept.{Kept}
 use Rattle.store_buf.specs.Requests.{entry_of, issued_in, answer_if, operands_if, kept_in}
 use Rattle.store_buf.specs.Outdoors.{Holding, OutIs, Performed}
@@ -31,7 +31,7 @@ use Rattle.part_store.proofs.Standing as S
 use Rattle.part_store.proofs.Joining as J
 use Rattle.part_store.proofs.Following as W
 use Rattle.part_store.proofs.Issuing as I
-use Rattle.core_law.proofs.Ports.{has_some}
+use Rattle.df_core.proofs.Ports.{has_some}
 
 module _ (image : Image) (world : World) (formed : Formed image) (sound : Sound image) (began : List (Option Began)) where
   abbrev facts : WalkFacts image world

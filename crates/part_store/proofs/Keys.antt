@@ -1,8 +1,8 @@
 -- Cases of keys and cells.
 use Rattle.std.proofs.Common.{ℕ, ◌≡◌, ◌⊎◌, true, false, Option, Some, refl, ap, inl, inr, eq-eqb, ne_eqb}
 use Rattle.std.proofs.lemmas.Bool.{cases_eq}
-use Rattle.core_law.specs.Core.{has, same_key}
-use Rattle.core_law.proofs.Ports.{SameKey}
+use Rattle.df_core.specs.Core.{has, same_key}
+use Rattle.df_core.proofs.Ports.{SameKey}
 use Rattle.part_store.specs.declared.entry.Entry.{Entry}
 use Rattle.part_store.specs.Queues.{same_cell}
 

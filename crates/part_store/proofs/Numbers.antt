@@ -2,13 +2,13 @@
 use Rattle.std.proofs.Common.{ℕ, ◌≡◌, ◌<◌, ◌≤◌, true, Option, Some, None, sym, ◌∙◌, arith}
 use Rattle.ws_words.specs.Outside.{World}
 use Rattle.ws_isa.specs.Image.{Image, note_of, is_memory}
-use Rattle.image_walk.specs.Walk.{Inst, pos, fires}
-use Rattle.image_walk.specs.Sound.{last_op, ComesNext, seq, ShapeRules, LinkRules}
-use Rattle.core_law.specs.Core.{Chain, pass, position_after}
-use Rattle.core_law.specs.Fit.{chain_at}
-use Rattle.core_law.proofs.Ops as O
-use Rattle.core_law.proofs.Steps.{Turn, turn_at}
-use Rattle.core_law.proofs.Ops.{pass_goes_op}
+use Rattle.ws_isa.specs.Walk.{Inst, pos, fires}
+use Rattle.ws_isa.specs.Sound.{last_op, ComesNext, seq, ShapeRules, LinkRules}
+use Rattle.df_core.specs.Core.{Chain, pass, position_after}
+use Rattle.df_core.specs.Fit.{chain_at}
+use Rattle.df_core.proofs.Ops as O
+use Rattle.df_core.proofs.Steps.{Turn, turn_at}
+use Rattle.df_core.proofs.Ops.{pass_goes_op}
 
 abbrev chain_of : Image → ℕ → Option ℕ → Chain
 chain_of image w None = record { wave = w; last = None }

@@ -2,8 +2,8 @@
 use Rattle.std.proofs.Common.{ℕ, suc, ◌≡◌, ◌≤◌, Bool, true, false, cond, List, [], ◌∷◌, refl, sym, ap, ◌∙◌, subst, inl, inr, arith}
 use Rattle.std.proofs.lemmas.Bool.{both_ways, cases_Bool}
 use Rattle.ws_isa.specs.Image.{Image, In}
-use Rattle.core_law.specs.Core.{has}
-use Rattle.core_law.proofs.Ports.{SameKey}
+use Rattle.df_core.specs.Core.{has}
+use Rattle.df_core.proofs.Ports.{SameKey}
 use Rattle.part_store.specs.declared.entry.Entry.{Entry}
 use Rattle.part_store.specs.Queues.{holds, is_queued, all_later, joined, open_queues, without}
 use Rattle.part_store.proofs.Keys.{IsOn, key_cases, cell_cases}

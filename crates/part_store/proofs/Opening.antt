@@ -2,11 +2,11 @@
 use Rattle.std.proofs.Common.{◌≡◌, List, [], Option, Some, None, refl, sym, ap, ◌∙◌, subst, arith}
 use Rattle.ws_words.specs.Outside.{World}
 use Rattle.ws_isa.specs.Image.{Image, In}
-use Rattle.image_walk.specs.Walk.{opening_memory}
-use Rattle.core_law.specs.Core.{State, Reach, Once}
-use Rattle.core_law.specs.Fit.{Fit, Grounded}
+use Rattle.ws_isa.specs.Walk.{opening_memory}
+use Rattle.df_core.specs.Core.{State, Reach, Once}
+use Rattle.df_core.specs.Fit.{Fit, Grounded}
 use Rattle.port_set.specs.Ports.{Told}
-use Rattle.df_job.specs.Began.{Began}
+use Rattle.df_core.specs.Began.{Began}
 use Rattle.store_buf.specs.Requests.{issued_in}
 use Rattle.store_buf.specs.Outdoors.{AllBegan}
 use Rattle.store_buf.proofs.Opening as O

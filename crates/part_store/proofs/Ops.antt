@@ -6,14 +6,14 @@ use Rattle.ws_words.specs.Plain.{took_words}
 use Rattle.ws_isa.specs.declared.instr.Op.{Op}
 use Rattle.ws_isa.specs.declared.instr.Op.TheVariants.{Load, Store, Input, Output, Give, Take}
 use Rattle.ws_isa.specs.Image.{Array, Image, instr_at, array_at, array_of_op, ports, ports_of, is_load, is_load_op, is_writing, is_writing_op, is_past, is_past_op, after, after_op, answer, answer_op}
-use Rattle.image_walk.specs.Operations.{effect_of, without_loads}
-use Rattle.core_law.specs.Effect.{effect_after}
-use Rattle.core_law.specs.Core.{Chain, NoneNext, Passes, stays, passes, has}
-use Rattle.core_law.proofs.Ports.{SameKey, with_key_cases}
+use Rattle.ws_isa.specs.Operations.{effect_of, without_loads}
+use Rattle.df_core.specs.Effect.{effect_after}
+use Rattle.df_core.specs.Core.{Chain, NoneNext, Passes, stays, passes, has}
+use Rattle.df_core.proofs.Ports.{SameKey, with_key_cases}
 use Rattle.port_set.specs.Slots.{port_at}
-use Rattle.df_job.specs.Began.{Began}
-use Rattle.df_job.specs.Rights.{operands_of}
-use Rattle.core_run.proofs.Issuing.{printed_alike, took_alike}
+use Rattle.df_core.specs.Began.{Began}
+use Rattle.df_core.specs.Rights.{operands_of}
+use Rattle.df_core.proofs.Issuing.{printed_alike, took_alike}
 use Rattle.store_buf.specs.declared.kept.Kept.{Kept}
 use Rattle.store_buf.specs.Requests.{entry_of, answer_if}
 use Rattle.store_buf.specs.Outdoors.{Holding, OutIs, SlotIs}

@@ -3,13 +3,13 @@ use Rattle.std.proofs.Common.{ℕ, ◌≡◌, true, false, List, [], ◌∷◌, 
 use Rattle.ws_words.specs.Outside.{World}
 use Rattle.ws_isa.specs.Image.{Image, Token, ports, is_memory, result_of, sends}
 use Rattle.ws_isa.specs.Formed.{Formed}
-use Rattle.image_walk.specs.Walk.{Ports, start_tokens}
-use Rattle.image_walk.specs.Sound.{Sound}
-use Rattle.core_law.specs.Core.{Key, HasFired, operands_in}
-use Rattle.core_law.specs.Shown.{Tables, TablesOk}
-use Rattle.core_law.proofs.Facts.{WalkFacts}
-use Rattle.core_law.proofs.Ports.{with_at_cases}
-use Rattle.df_job.specs.Rights.{IsRight}
+use Rattle.ws_isa.specs.Walk.{Ports, start_tokens}
+use Rattle.ws_isa.specs.Sound.{Sound}
+use Rattle.df_core.specs.Core.{Key, HasFired, operands_in}
+use Rattle.df_core.specs.Shown.{Tables, TablesOk}
+use Rattle.df_core.proofs.Facts.{WalkFacts}
+use Rattle.df_core.proofs.Ports.{with_at_cases}
+use Rattle.df_core.specs.Rights.{IsRight}
 use Rattle.match_table.specs.Tables as table
 use Rattle.match_table.specs.Tables.{held, part}
 use Rattle.match_table.specs.Matching.{Arrives, Full}
@@ -21,7 +21,7 @@ use Rattle.part_store.specs.Contents.{Content}
 use Rattle.part_store.specs.Runs.{AllReach, Covers, IsWhole, Paid}
 use Rattle.part_store.proofs.Reaching as R
 use Rattle.part_store.proofs.Times as T
-use Rattle.core_law.proofs.Owing.{nothing}
+use Rattle.df_core.proofs.Owing.{nothing}
 use Rattle.ws_isa.proofs.Images.{nth_below}
 
 -- an instance to which a token hasn't come hasn't fired

@@ -5,12 +5,12 @@ use Rattle.std.proofs.lemmas.Bool.{both_ways}
 use Rattle.ws_words.specs.Outside.{Outside, World}
 use Rattle.ws_isa.specs.Image.{Image, Token}
 use Rattle.ws_isa.specs.Formed.{Formed}
-use Rattle.image_walk.specs.Sound.{Sound}
-use Rattle.core_law.specs.Core.{Chain, has}
-use Rattle.core_law.specs.Fit.{Legal}
-use Rattle.core_law.proofs.Ports.{with_key_cases}
-use Rattle.df_job.specs.Began.{Began}
-use Rattle.df_job.specs.Rights.{Asked, IsAsked}
+use Rattle.ws_isa.specs.Sound.{Sound}
+use Rattle.df_core.specs.Core.{Chain, has}
+use Rattle.df_core.specs.Fit.{Legal}
+use Rattle.df_core.proofs.Ports.{with_key_cases}
+use Rattle.df_core.specs.Began.{Began}
+use Rattle.df_core.specs.Rights.{Asked, IsAsked}
 use Rattle.store_buf.specs.declared.fault.BufFault.{BufFault}
 use Rattle.store_buf.specs.declared.fault.BufFault.TheVariants as fault
 use Rattle.store_buf.specs.declared.kept.Kept.{Kept}

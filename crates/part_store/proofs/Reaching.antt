@@ -1,10 +1,10 @@
 -- Tokens that have come or are on the way.
 use Rattle.std.proofs.Common.{ℕ, ◌≡◌, ◌⊎◌, List, [], ◌∷◌, ◌++◌, Some, None, Result, Ok, Err, refl, sym, ap, ◌∙◌, subst, inl, inr}
 use Rattle.ws_isa.specs.Image.{Token}
-use Rattle.image_walk.specs.Walk.{Ports}
-use Rattle.core_law.specs.Core.{IsSent}
-use Rattle.core_law.proofs.Ports.{with_at_cases}
-use Rattle.core_law.proofs.Slots.{is_sent_append_left, is_sent_append_right, is_sent_append_cases}
+use Rattle.ws_isa.specs.Walk.{Ports}
+use Rattle.df_core.specs.Core.{IsSent}
+use Rattle.df_core.proofs.Ports.{with_at_cases}
+use Rattle.df_core.proofs.SlotLists.{is_sent_append_left, is_sent_append_right, is_sent_append_cases}
 use Rattle.match_table.specs.Tables as table
 use Rattle.match_table.specs.Tables.{held}
 use Rattle.match_table.specs.Matching.{Arrives}

@@ -3,9 +3,9 @@ use Rattle.std.proofs.Common.{ℕ, ◌≡◌, Bool, cond, List, Option, None, sy
 use Rattle.std.specs.List.{list_any}
 use Rattle.ws_words.specs.Outside.{World}
 use Rattle.ws_isa.specs.Image.{Image}
-use Rattle.core_law.specs.Core.{has}
-use Rattle.core_law.specs.Fit.{Legal}
-use Rattle.df_job.specs.Began.{Began}
+use Rattle.df_core.specs.Core.{has}
+use Rattle.df_core.specs.Fit.{Legal}
+use Rattle.df_core.specs.Began.{Began}
 use Rattle.store_buf.specs.Finding.{pair_eq}
 use Rattle.store_buf.specs.Holds.{waiting_in}
 use Rattle.part_store.specs.Contents.{Content, asking, is_bare}

@@ -3,9 +3,9 @@ use Rattle.std.proofs.Common.{ℕ, ◌≡◌, ◌<◌, ◌≤◌, ◌⊎◌, Boo
 use Rattle.std.specs.Prelude.{is_none}
 use Rattle.std.proofs.lemmas.Bool.{and_from, both_ways, le-leb}
 use Rattle.ws_isa.specs.Image.{Image, instr_at, is_load, is_load_op, is_past, is_past_op, note_of}
-use Rattle.core_law.specs.Core.{Chain, IsNext, Issuable, position_after}
-use Rattle.core_run.specs.Chains.{chain_of, may_flag, next_flag}
-use Rattle.core_run.proofs.Nexts.{is_next_flag}
+use Rattle.df_core.specs.Core.{Chain, IsNext, Issuable, position_after}
+use Rattle.df_core.specs.Chains.{chain_of, may_flag, next_flag}
+use Rattle.df_core.proofs.Nexts.{is_next_flag}
 use Rattle.store_buf.specs.declared.kept.Kept.{Kept}
 use Rattle.store_buf.specs.Requests.{entry_of, issued_in, answer_if}
 use Rattle.store_buf.specs.Ordering.{kept_at, ready_flag}
@@ -22,7 +22,7 @@ use Rattle.part_store.specs.Calls.{SameAs}
 use Rattle.part_store.specs.Parts.{NoneGo, content_of, go_flag, rule_flag}
 use Rattle.part_store.proofs.Keys.{key_cases}
 use Rattle.ws_words.proofs.Bools.{or_left, or_right}
-use Rattle.core_run.proofs.Driving.{false_not}
+use Rattle.df_core.proofs.Driving.{false_not}
 
 none_long : (es : List Entry) → es ≡ [] → nat_eq (length es) 0 ≡ true
 none_long es e = ap (λ (xs : List Entry). nat_eq (length xs) 0) e

@@ -1,9 +1,9 @@
 -- The code's tokens are the result tokens.
 use Rattle.std.proofs.Common.{ℕ, suc, ◌≡◌, true, cond, sym, ap, ◌∙◌}
 use Rattle.ws_isa.specs.Image.{Image, instr_at, is_memory, is_memory_op, is_advance_op, selector_of, sends, tokens_to}
-use Rattle.core_run.specs.Places.{destinations}
-use Rattle.core_run.proofs.Issuing.{no_advance}
-use Rattle.core_run.proofs.Arriving.{memory_is_op, sends_are}
+use Rattle.df_core.specs.Places.{destinations}
+use Rattle.df_core.proofs.Issuing.{no_advance}
+use Rattle.df_core.proofs.Arriving.{memory_is_op, sends_are}
 use Rattle.store_buf.specs.declared.kept.Kept.{Kept}
 use Rattle.part_store.specs.Rules.{operands_at}
 use Rattle.store_buf.proofs.Stepping.{no_selector}

@@ -4,12 +4,12 @@ use Rattle.std.proofs.lemmas.Bool.{both_ways}
 use Rattle.ws_words.specs.Outside.{Outside, World}
 use Rattle.ws_isa.specs.Image.{Image, instr_at, is_load, is_memory, note_of}
 use Rattle.ws_isa.specs.Formed.{Formed}
-use Rattle.image_walk.specs.Sound.{Sound}
-use Rattle.core_law.specs.Core.{Chain, Issuable, IsNext}
-use Rattle.core_law.specs.Fit.{IssuedOp, Legal, RightRequest, NoOp, chain_at}
-use Rattle.core_law.proofs.Facts.{WalkFacts}
-use Rattle.core_law.proofs.BufferKept as B
-use Rattle.core_run.proofs.Settling.{one_time}
+use Rattle.ws_isa.specs.Sound.{Sound}
+use Rattle.df_core.specs.Core.{Chain, Issuable, IsNext}
+use Rattle.df_core.specs.Fit.{IssuedOp, Legal, RightRequest, NoOp, chain_at}
+use Rattle.df_core.proofs.Facts.{WalkFacts}
+use Rattle.df_core.proofs.BufferKept as B
+use Rattle.df_core.proofs.Settling.{one_time}
 use Rattle.store_buf.specs.declared.kept.Kept.{Kept}
 use Rattle.part_store.specs.Parted.{OnCell, IsKept, IsAddressed, is_store_op}
 use Rattle.part_store.specs.Rules.{operands_at}

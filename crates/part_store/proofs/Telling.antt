@@ -6,22 +6,22 @@ use Rattle.ws_isa.specs.declared.instr.Op.{Op}
 use Rattle.ws_isa.specs.declared.instr.Op.TheVariants.{Store}
 use Rattle.ws_isa.specs.Image.{Image, Token, is_memory, instr_at, note_of}
 use Rattle.ws_isa.specs.Formed.{Formed}
-use Rattle.image_walk.specs.Walk.{Inst, fires, mem, walk, CostAtMost}
-use Rattle.image_walk.specs.Sound.{Sound}
-use Rattle.core_law.specs.Effect.{effect_at}
-use Rattle.core_law.specs.Core.{Chain, Key, HasFired, IsNext, Once, has}
-use Rattle.core_law.specs.Fit.{FiresAt, NoOp, RightToken, StoppedAt, chain_at}
-use Rattle.core_law.specs.Ends.{FirstWithin}
-use Rattle.core_law.specs.Shown.{Tables, TablesOk}
-use Rattle.core_law.proofs.Counting.{keys_of, once_length, walk_has, walk_from, walk_once, count_within}
-use Rattle.core_law.proofs.Effects.{effect_is}
-use Rattle.core_law.proofs.Ends.{one_fault}
-use Rattle.core_law.proofs.Facts.{WalkFacts}
-use Rattle.core_law.proofs.Past.{past_is, plain_within}
-use Rattle.core_law.proofs.Quiet.{no_op_no_write, mem_same}
-use Rattle.core_run.proofs.Firings.{none_fires}
-use Rattle.df_job.specs.Began.{Began}
-use Rattle.df_job.specs.Rights.{IsRight}
+use Rattle.ws_isa.specs.Walk.{Inst, fires, mem, walk, CostAtMost}
+use Rattle.ws_isa.specs.Sound.{Sound}
+use Rattle.df_core.specs.Effect.{effect_at}
+use Rattle.df_core.specs.Core.{Chain, Key, HasFired, IsNext, Once, has}
+use Rattle.df_core.specs.Fit.{FiresAt, NoOp, RightToken, StoppedAt, chain_at}
+use Rattle.df_core.specs.Ends.{FirstWithin}
+use Rattle.df_core.specs.Shown.{Tables, TablesOk}
+use Rattle.df_core.proofs.Counting.{keys_of, once_length, walk_has, walk_from, walk_once, count_within}
+use Rattle.df_core.proofs.Effects.{effect_is}
+use Rattle.df_core.proofs.Ends.{one_fault}
+use Rattle.df_core.proofs.Facts.{WalkFacts}
+use Rattle.df_core.proofs.Past.{past_is, plain_within}
+use Rattle.df_core.proofs.Pauses.{no_op_no_write, mem_same}
+use Rattle.df_core.proofs.Firings.{none_fires}
+use Rattle.df_core.specs.Began.{Began}
+use Rattle.df_core.specs.Rights.{IsRight}
 use Rattle.port_set.specs.Ports.{Told}
 use Rattle.store_buf.specs.Requests.{issued_in, answer_if}
 use Rattle.store_buf.specs.Outdoors.{OutIs, RoseAt, SlotsAre, began_of, port_of}

@@ -6,15 +6,15 @@ use Rattle.ws_isa.specs.declared.instr.Op.{Op}
 use Rattle.ws_isa.specs.declared.instr.Op.TheVariants.{Load, Store}
 use Rattle.ws_isa.specs.Image.{Image, In, instr_at, is_memory, is_memory_op, note_of}
 use Rattle.ws_isa.specs.Formed.{Formed}
-use Rattle.image_walk.specs.Walk.{Inst}
-use Rattle.image_walk.specs.Sound.{Sound}
-use Rattle.core_law.specs.Fit.{chain_at}
-use Rattle.core_law.proofs.Facts.{WalkFacts}
-use Rattle.core_law.proofs.FromSound.{facts_of}
-use Rattle.core_law.proofs.PortsThere.{ports_there}
-use Rattle.core_law.proofs.Passing.{same_fired}
-use Rattle.core_law.proofs.Ports.{SameKey}
-use Rattle.core_run.proofs.Settling.{one_time}
+use Rattle.ws_isa.specs.Walk.{Inst}
+use Rattle.ws_isa.specs.Sound.{Sound}
+use Rattle.df_core.specs.Fit.{chain_at}
+use Rattle.df_core.proofs.Facts.{WalkFacts}
+use Rattle.df_core.proofs.FromSound.{facts_of}
+use Rattle.df_core.proofs.PortsThere.{ports_there}
+use Rattle.df_core.proofs.Passing.{same_fired}
+use Rattle.df_core.proofs.Ports.{SameKey}
+use Rattle.df_core.proofs.Settling.{one_time}
 use Rattle.part_store.specs.declared.entry.Entry.{Entry}
 use Rattle.part_store.specs.Queues.{all_later, front, is_later, joined, without}
 use Rattle.part_store.specs.Contents.{is_on_row}

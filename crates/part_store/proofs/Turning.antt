@@ -4,17 +4,17 @@ use Rattle.std.proofs.lemmas.Bool.{and_parts}
 use Rattle.ws_words.specs.Outside.{Outside, World}
 use Rattle.ws_isa.specs.Image.{Image, In, instr_at, is_load, is_load_op, is_past, is_past_op, note_of}
 use Rattle.ws_isa.specs.Formed.{Formed}
-use Rattle.image_walk.specs.Sound.{Sound}
-use Rattle.core_law.specs.Effect.{effect_after}
-use Rattle.core_law.specs.Core as law
-use Rattle.core_law.specs.Core.{IsNext, Issuable, Passes, has, issued_with, position_after, with_key}
-use Rattle.core_law.specs.Fit.{Legal, RightRequest}
-use Rattle.core_law.proofs.Facts.{WalkFacts}
-use Rattle.core_law.proofs.Ports.{with_key_cases}
-use Rattle.core_run.specs.Chains.{chain_of, may_flag, next_flag, PassedOn}
-use Rattle.core_run.specs.Stands.{HasEarly}
-use Rattle.core_run.proofs.Nexts.{next_is}
-use Rattle.core_run.proofs.Issuing.{in_end, end_in}
+use Rattle.ws_isa.specs.Sound.{Sound}
+use Rattle.df_core.specs.Effect.{effect_after}
+use Rattle.df_core.specs.Core as law
+use Rattle.df_core.specs.Core.{IsNext, Issuable, Passes, has, issued_with, position_after, with_key}
+use Rattle.df_core.specs.Fit.{Legal, RightRequest}
+use Rattle.df_core.proofs.Facts.{WalkFacts}
+use Rattle.df_core.proofs.Ports.{with_key_cases}
+use Rattle.df_core.specs.Chains.{chain_of, may_flag, next_flag, PassedOn}
+use Rattle.df_core.specs.Stands.{HasEarly}
+use Rattle.df_core.proofs.Nexts.{next_is}
+use Rattle.df_core.proofs.Issuing.{in_end, end_in}
 use Rattle.store_buf.specs.declared.kept.Kept.{Kept}
 use Rattle.store_buf.specs.declared.order.Order.{Order}
 use Rattle.store_buf.specs.Requests.{entry_of, issued_in}

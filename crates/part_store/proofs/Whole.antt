@@ -4,22 +4,22 @@ use Rattle.std.proofs.lemmas.Bool.{both_ways, cases_Bool, cases_lt}
 use Rattle.ws_words.specs.Outside.{World}
 use Rattle.ws_isa.specs.Image.{Image, In, Token, nth, ports, is_memory, is_load, is_writing, note_of, result_of, sends}
 use Rattle.ws_isa.specs.Formed.{Formed}
-use Rattle.image_walk.specs.Walk.{Inst, fires}
-use Rattle.image_walk.specs.Operations.{NoFault}
-use Rattle.image_walk.specs.Sound.{Sound}
-use Rattle.core_law.specs.Core.{Chain, HasFired, IsNext, IsSent, operands_in}
-use Rattle.core_law.specs.Fit.{FiresAt, IsEarly, IssuedOp, NoOp, NoWrite, chain_at}
-use Rattle.core_law.specs.Shown.{Tables, TablesOk}
-use Rattle.core_law.proofs.Facts.{WalkFacts}
-use Rattle.core_law.proofs.MatchKept.{right_operands, same_inst}
-use Rattle.core_law.proofs.Past.{past_is, plain_within}
-use Rattle.core_law.proofs.Quiet.{chain_same, load_quiet, writing_memory}
-use Rattle.df_job.specs.Began.{Began}
-use Rattle.df_job.specs.Rights.{IsAsked, operands_of}
+use Rattle.ws_isa.specs.Walk.{Inst, fires}
+use Rattle.ws_isa.specs.Operations.{NoFault}
+use Rattle.ws_isa.specs.Sound.{Sound}
+use Rattle.df_core.specs.Core.{Chain, HasFired, IsNext, IsSent, operands_in}
+use Rattle.df_core.specs.Fit.{FiresAt, IsEarly, IssuedOp, NoOp, NoWrite, chain_at}
+use Rattle.df_core.specs.Shown.{Tables, TablesOk}
+use Rattle.df_core.proofs.Facts.{WalkFacts}
+use Rattle.df_core.proofs.MatchKept.{right_operands, same_inst}
+use Rattle.df_core.proofs.Past.{past_is, plain_within}
+use Rattle.df_core.proofs.Pauses.{chain_same, load_quiet, writing_memory}
+use Rattle.df_core.specs.Began.{Began}
+use Rattle.df_core.specs.Rights.{IsAsked, operands_of}
 use Rattle.store_buf.specs.declared.kept.Kept.{Kept}
 use Rattle.store_buf.specs.Requests.{entry_of, issued_in, answer_if}
 use Rattle.store_buf.specs.Stores.{asked_of}
-use Rattle.core_run.proofs.Settling.{one_time}
+use Rattle.df_core.proofs.Settling.{one_time}
 use Rattle.part_store.specs.declared.entry.Entry.{Entry}
 use Rattle.part_store.specs.Queues.{front, is_queued}
 use Rattle.part_store.specs.Contents.{Content, is_bare}
@@ -29,7 +29,7 @@ use Rattle.part_store.specs.Runs.{AllReach, Paid}
 use Rattle.part_store.proofs.Fronts as F
 use Rattle.part_store.proofs.Ops as O
 use Rattle.part_store.proofs.Times as T
-use Rattle.core_law.proofs.Owing.{nothing}
+use Rattle.df_core.proofs.Owing.{nothing}
 use Rattle.ws_isa.proofs.Images.{nth_within}
 
 none_in : (es : List Entry) → ((e : Entry) → In e es → ⊥) → es ≡ []

@@ -6,16 +6,16 @@ use Rattle.ws_isa.specs.declared.instr.Op.{Op}
 use Rattle.ws_isa.specs.declared.instr.Op.TheVariants.{Load, Store}
 use Rattle.ws_isa.specs.Image.{Image, In, Token, after, after_op, answer, instr_at, is_past, sends}
 use Rattle.ws_isa.specs.Formed.{Formed}
-use Rattle.image_walk.specs.Sound.{Sound}
-use Rattle.core_law.specs.Effect.{effect_after}
-use Rattle.core_law.specs.Core.{HasFired, Issuable, Passes, has, issued_with}
-use Rattle.core_law.specs.Fit.{Legal, RightRequest}
-use Rattle.core_law.specs.Shown.{waits_if}
-use Rattle.core_law.proofs.BufferKept as B
-use Rattle.core_law.proofs.Facts.{WalkFacts}
-use Rattle.core_law.proofs.Ports.{SameKey, with_key_cases}
-use Rattle.df_job.specs.Began.{Began}
-use Rattle.df_job.specs.Rights.{IsAsked}
+use Rattle.ws_isa.specs.Sound.{Sound}
+use Rattle.df_core.specs.Effect.{effect_after}
+use Rattle.df_core.specs.Core.{HasFired, Issuable, Passes, has, issued_with}
+use Rattle.df_core.specs.Fit.{Legal, RightRequest}
+use Rattle.df_core.specs.Shown.{waits_if}
+use Rattle.df_core.proofs.BufferKept as B
+use Rattle.df_core.proofs.Facts.{WalkFacts}
+use Rattle.df_core.proofs.Ports.{SameKey, with_key_cases}
+use Rattle.df_core.specs.Began.{Began}
+use Rattle.df_core.specs.Rights.{IsAsked}
 use Rattle.store_buf.specs.declared.kept.Kept.{Kept}
 use Rattle.store_buf.specs.Requests.{entry_of, issued_in, issued_keys, key_if, kept_in, operands_if, answer_if}
 use Rattle.store_buf.specs.Ordering.{no_request}

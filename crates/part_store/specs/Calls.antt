@@ -8,8 +8,8 @@ use Rattle.store_buf.specs.declared.kept.Kept.{Kept}
 use Rattle.store_buf.specs.Requests.{entry_of}
 use Rattle.store_buf.specs.Outdoors.{RoseAt, RoseSince}
 use Rattle.store_buf.specs.Contents.{PortWaits}
-use Rattle.df_job.specs.Rights.{Asked}
-use Rattle.df_job.specs.Began.{Began}
+use Rattle.df_core.specs.Rights.{Asked}
+use Rattle.df_core.specs.Began.{Began}
 use Rattle.part_store.specs.Contents.{Content, is_bare}
 use Rattle.part_store.specs.Rules.{Comes, Fills, MovesTo, NoRule}
 

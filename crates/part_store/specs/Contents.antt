@@ -6,7 +6,7 @@ use Rattle.ws_words.specs.Outside.{World, row}
 use Rattle.ws_isa.specs.declared.instr.Op.{Op}
 use Rattle.ws_isa.specs.declared.instr.Op.TheVariants.{Load, Store}
 use Rattle.ws_isa.specs.Image.{Image, instr_at, cells_of}
-use Rattle.core_law.specs.Core.{Chain}
+use Rattle.df_core.specs.Core.{Chain}
 use Rattle.port_set.specs.Ports.{Told}
 use Rattle.store_buf.specs.declared.kept.Kept.{Kept}
 use Rattle.store_buf.specs.Requests.{issued_in}

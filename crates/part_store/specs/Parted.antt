@@ -5,12 +5,12 @@ use Rattle.ws_words.specs.Outside.{Outside, World, row}
 use Rattle.ws_isa.specs.declared.instr.Op.{Op}
 use Rattle.ws_isa.specs.declared.instr.Op.TheVariants.{Store}
 use Rattle.ws_isa.specs.Image.{Image, In, instr_at}
-use Rattle.image_walk.specs.Walk.{Inst}
-use Rattle.core_law.specs.Effect.{effect_at}
-use Rattle.core_law.specs.Core.{has}
-use Rattle.core_law.specs.Fit.{FiresAt, Legal}
-use Rattle.df_job.specs.Began.{Began}
-use Rattle.df_job.specs.Rights.{IsAsked}
+use Rattle.ws_isa.specs.Walk.{Inst}
+use Rattle.df_core.specs.Effect.{effect_at}
+use Rattle.df_core.specs.Core.{has}
+use Rattle.df_core.specs.Fit.{FiresAt, Legal}
+use Rattle.df_core.specs.Began.{Began}
+use Rattle.df_core.specs.Rights.{IsAsked}
 use Rattle.store_buf.specs.declared.kept.Kept.{Kept}
 use Rattle.store_buf.specs.Requests.{entry_of, issued_in}
 use Rattle.store_buf.specs.Outdoors.{OutIs}

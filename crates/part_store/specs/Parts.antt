@@ -7,13 +7,13 @@ use Rattle.std.specs.VecDeque.{deque_len, deque_capacity}
 use Rattle.ws_words.specs.Outside.{World}
 use Rattle.ws_isa.specs.Image.{Image, Token, instr_at}
 use Rattle.ws_isa.specs.Formed.{Formed}
-use Rattle.image_walk.specs.Sound.{Sound}
-use Rattle.core_law.specs.Core.{has}
-use Rattle.df_job.specs.Began.{Began}
-use Rattle.df_job.specs.Rights.{IsAsked}
+use Rattle.ws_isa.specs.Sound.{Sound}
+use Rattle.df_core.specs.Core.{has}
+use Rattle.df_core.specs.Began.{Began}
+use Rattle.df_core.specs.Rights.{IsAsked}
 use Rattle.store_buf.specs.Stores.{asked_of}
-use Rattle.core_run.specs.Chains.{chain_of}
-use Rattle.core_run.specs.Stands.{HasEarly}
+use Rattle.df_core.specs.Chains.{chain_of}
+use Rattle.df_core.specs.Stands.{HasEarly}
 use Rattle.store_buf.specs.declared.kept.Kept.{Kept}
 use Rattle.store_buf.specs.Requests.{entry_of, issued_in}
 use Rattle.store_buf.specs.Orders.{EarlyIssued}

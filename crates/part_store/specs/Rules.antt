@@ -3,9 +3,9 @@ use Rattle.std.specs.Prelude.{ℕ, ◌-◌, ◌≡◌, ◌<◌, ◌⊎◌, Bool,
 use Rattle.std.specs.Prelude.{Some, None, slice_set}
 use Rattle.ws_words.specs.Outside.{Outside, row, with_row}
 use Rattle.ws_isa.specs.Image.{Image, Token, ports, instr_at, note_of, is_past_op, sends, array_at}
-use Rattle.core_law.specs.Core.{IsNext, Issuable, Passes, same_key, with_key}
-use Rattle.df_job.specs.Began.{Began}
-use Rattle.df_job.specs.Rights.{operands_of}
+use Rattle.df_core.specs.Core.{IsNext, Issuable, Passes, same_key, with_key}
+use Rattle.df_core.specs.Began.{Began}
+use Rattle.df_core.specs.Rights.{operands_of}
 use Rattle.store_buf.specs.declared.kept.Kept.{Kept}
 use Rattle.store_buf.specs.Requests.{entry_of, issued_in}
 use Rattle.store_buf.specs.Outdoors.{Holding, OutIs, Performed}

@@ -2,10 +2,10 @@
 use Rattle.std.specs.Prelude.{ℕ, ◌≡◌, ◌⊎◌, true, false, List, [], Some, None, Result, Ok, Err, length}
 use Rattle.ws_words.specs.Outside.{World}
 use Rattle.ws_isa.specs.Image.{Image, Token, ports, is_memory, result_of, sends}
-use Rattle.image_walk.specs.Walk.{Ports, start_tokens}
-use Rattle.core_law.specs.Core.{HasFired, IsSent, operands_in}
-use Rattle.core_law.specs.Shown.{Tables}
-use Rattle.df_job.specs.Rights.{IsRight, operands_of}
+use Rattle.ws_isa.specs.Walk.{Ports, start_tokens}
+use Rattle.df_core.specs.Core.{HasFired, IsSent, operands_in}
+use Rattle.df_core.specs.Shown.{Tables}
+use Rattle.df_core.specs.Rights.{IsRight, operands_of}
 use Rattle.match_table.specs.Tables.{held, part}
 use Rattle.match_table.specs.Tables as table
 use Rattle.store_buf.specs.declared.fault.BufFault.{BufFault}

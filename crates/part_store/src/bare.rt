@@ -2,7 +2,7 @@
 
 ghost use Rattle.std.specs.Prelude.{◌≡◌, ◌≤◌, ℕ, [], true, false, cond, OnOk, OnErr};
 ghost use Rattle.std.specs.HashSet.{spare};
-ghost use Rattle.core_law.specs.Core.{same_key};
+ghost use Rattle.df_core.specs.Core.{same_key};
 ghost use Rattle.part_store.specs.Bares.{is_in};
 
 use std::alloc::Global;

@@ -2,7 +2,7 @@
 
 ghost use Rattle.std.specs.Prelude.{◌≡◌, List, [], None, Option, Some, length};
 ghost use Rattle.ws_isa.specs.Image.{Token as Plain};
-ghost use Rattle.df_job.specs.Rights.{IsRight};
+ghost use Rattle.df_core.specs.Rights.{IsRight};
 ghost use Rattle.match_table.specs.Tables.{held, part};
 ghost use Rattle.port_set.specs.Ports.{Told};
 ghost use Rattle.store_buf.specs.Outdoors.{began_of};
@@ -10,7 +10,7 @@ ghost use Rattle.store_buf.specs.Ended.{PortFailed, Rested, Spent, Starved, Trip
 ghost use Rattle.part_store.specs.Runs.{IsGoing, Paid};
 
 use crate::part::PartBuffer;
-use df_job::{Code, Job};
+use df_core::{Code, Job};
 use match_table::Table;
 use port_set::Port;
 use store_buf::told_ports_begin;

@@ -2,7 +2,7 @@
 
 ghost use Rattle.std.specs.Prelude.{◌≡◌, ◌≤◌, List, [], None, Option, length};
 ghost use Rattle.ws_isa.specs.Image.{Token as Plain};
-ghost use Rattle.df_job.specs.Rights.{IsRight};
+ghost use Rattle.df_core.specs.Rights.{IsRight};
 ghost use Rattle.match_table.specs.Tables.{held, part};
 ghost use Rattle.port_set.specs.Ports.{Told};
 ghost use Rattle.port_set.specs.Slots.{AllOpen, contents};
@@ -12,7 +12,7 @@ ghost use Rattle.part_store.specs.Runs.{EndingSo, IsGoing, Paid};
 
 use crate::ends::{fault_run, front_run, port_run, spent_run, whole_run};
 use crate::part::PartBuffer;
-use df_job::{Code, Job};
+use df_core::{Code, Job};
 use match_table::Table;
 use port_set::{Port, Slots};
 use store_buf::BufFault;

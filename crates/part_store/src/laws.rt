@@ -4,15 +4,15 @@ ghost use Rattle.std.specs.Prelude.{◌≡◌, ◌↔◌, ℕ, Bool, List, [], A
 ghost use Rattle.ws_words.specs.Outside.{Outside, World};
 ghost use Rattle.ws_isa.specs.Image.{Image, Token};
 ghost use Rattle.ws_isa.specs.Formed.{Formed};
-ghost use Rattle.image_walk.specs.Sound.{Sound};
-ghost use Rattle.df_job.specs.Began.{Began};
+ghost use Rattle.ws_isa.specs.Sound.{Sound};
+ghost use Rattle.df_core.specs.Began.{Began};
 ghost use Rattle.store_buf.specs.Contents.{IsBuffer, RightTokens};
 ghost use Rattle.store_buf.specs.Requests.{entry_of};
 ghost use Rattle.part_store.specs.Contents.{Content, NoBare, whole_of};
 ghost use Rattle.store_buf.specs.declared.kept.Kept.{Kept};
 ghost use Rattle.part_store.specs.Parted.{Fronts, IsKept, Parted, Parting};
 ghost use Rattle.part_store.specs.Rules.{Comes, Fills, Moves};
-ghost use Rattle.df_job.specs.Rights.{IsAsked};
+ghost use Rattle.df_core.specs.Rights.{IsAsked};
 ghost use Rattle.store_buf.specs.Stores.{asked_of};
 
 /// Moves by the rules keep what is true of a buffer with partial store queues, and what they tell is

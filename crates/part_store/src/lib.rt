@@ -18,7 +18,7 @@
 //! moves, arrivals and data keep what is true (`moves_keep`, `arrivals_keep`, `data_keeps`).
 //!
 //! `part_image` runs an image on one thread, over one table and one such buffer; `part_run` does so for a job
-//! that names the image. **They tell what `run_image` of crew_run tells** (`PartTells`, the five cases of
+//! that names the image. **They tell what `run_image` of fire_crew tells** (`PartTells`, the five cases of
 //! `CrewTells`): `Done` where no load or store of the walk is past the end, with the walk's count of firings,
 //! within the budget, and its printed words, arrays and ports; `Budget` where as many instances have fired as
 //! may and the walk has more; `Fault` at the walk's first load or store past the end, with its array and what

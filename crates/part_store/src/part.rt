@@ -3,7 +3,7 @@
 ghost use Rattle.std.specs.Prelude.{◌≡◌, ◌&&◌, not, is_some, true, All, Some, IfOk, IfErr};
 ghost use Rattle.ws_isa.specs.Image.{instr_at};
 ghost use Rattle.port_set.specs.Slots.{AllOpen, contents};
-ghost use Rattle.df_job.specs.Rights.{IsAsked};
+ghost use Rattle.df_core.specs.Rights.{IsAsked};
 ghost use Rattle.store_buf.specs.Stores.{asked_of};
 ghost use Rattle.store_buf.specs.Requests.{entry_of};
 ghost use Rattle.store_buf.specs.Outdoors.{AllBegan};
@@ -16,8 +16,7 @@ ghost use Rattle.part_store.specs.Calls.{AddressedSo, FailedSo, Idle, SubmittedS
 use crate::bare::Bare;
 use crate::parts::Parts;
 use crate::queues::Queues;
-use core_law::every_list_of_events;
-use df_job::{Code, Job, Request, Token, TokenList};
+use df_core::{Code, Job, Request, Token, TokenList, every_list_of_events};
 use port_set::{OpenSet, Port, Slots};
 use smallvec::SmallVec;
 use std::alloc::Global;

@@ -2,7 +2,7 @@
 
 ghost use Rattle.std.specs.Prelude.{◌≡◌, is_some, false, All, Some, None, IfOk, IfErr};
 ghost use Rattle.ws_words.specs.Outside.{Outside};
-ghost use Rattle.image_walk.specs.Walk.{opening_memory};
+ghost use Rattle.ws_isa.specs.Walk.{opening_memory};
 ghost use Rattle.port_set.specs.Slots.{AllOpen, contents};
 ghost use Rattle.store_buf.specs.Requests.{entry_of};
 ghost use Rattle.store_buf.specs.Outdoors.{AllBegan};
@@ -10,7 +10,7 @@ ghost use Rattle.store_buf.specs.Contents.{FailedSo, Idle, IsBuffer, SubmitSo, a
 ghost use Rattle.store_buf.specs.Contents.{opening_content, stop_of};
 
 use crate::part::PartBuffer;
-use df_job::{Code, Job, Request, TokenList};
+use df_core::{Code, Job, Request, TokenList};
 use port_set::{Port, Slots};
 use std::alloc::Global;
 use std::marker::Model;

@@ -5,7 +5,7 @@
 ghost use Rattle.std.specs.Prelude.{◌≡◌, ◌+◌, ◌≤◌, ◌++◌, ◌∷◌, List, [], Option, true, length};
 ghost use Rattle.std.specs.Prelude.{MatchOption, OnOk};
 ghost use Rattle.ws_isa.specs.Image.{Token as Plain, instr_at};
-ghost use Rattle.core_law.specs.Shown.{Tables};
+ghost use Rattle.df_core.specs.Shown.{Tables};
 ghost use Rattle.match_table.specs.Tables.{part};
 ghost use Rattle.port_set.specs.Ports.{Told};
 ghost use Rattle.port_set.specs.Slots.{AllOpen, contents};
@@ -18,14 +18,13 @@ ghost use Rattle.part_store.specs.Runs.{EndingSo, IsGoing, IsWhole, Paid, PaidWh
 use crate::finish::{Ending, PartEnd, PartFinish, finish};
 use crate::part::PartBuffer;
 use crate::way::{offer, take, take_all};
-use df_job::{Code, Job, Request, Token, TokenList, start};
-use image_walk::Checked;
+use df_core::{Code, Job, Request, Token, TokenList, start};
 use match_table::{Accept, AcceptFault, Table};
 use port_set::{Port, Slots};
 use std::alloc::Global;
 use std::marker::Brand;
 use store_buf::told_ports_begin;
-use ws_isa::Op;
+use ws_isa::{Checked, Op};
 use ws_words::{NoMemory, Words};
 
 // A table, a buffer, and the tokens on the way: those of this round, and what came of those that were

@@ -3,7 +3,7 @@
 ghost use Rattle.std.specs.Prelude.{◌≡◌, ◌++◌, ◌∷◌, [], MatchOption, OnOk};
 ghost use Rattle.part_store.specs.Runs.{Covers, IsOffered};
 
-use df_job::{Job, Token, TokenList};
+use df_core::{Job, Token, TokenList};
 use std::mem::swap;
 use store_buf::BufFault;
 use ws_words::NoMemory;

@@ -2,8 +2,8 @@
 
 use annot_check::check_image;
 use asm_text::read_asm;
-use image_walk::Checked;
 use std::alloc::Global;
+use ws_isa::Checked;
 use ws_words::NoMemory;
 
 /// Reads a word, stores 5 into cell 0 if the word isn't 0, and prints cells 0 and 1.

@@ -1,17 +1,17 @@
 //! Runs in many orders, beside one to which no address comes alone, and beside the core.
 
 ghost use Rattle.std.specs.Prelude.{◌≤◌};
-ghost use Rattle.core_run.specs.Cores.{Runs};
+ghost use Rattle.df_core.specs.Cores.{Runs};
 
 use crate::images::{CELLS, MIXED, PAST, PORTS, SEVENTEEN, image_of};
 use crate::runs::{Order, Past, let_go};
 use crate::tapes::{LEFT, past_with};
-use core_run::Core;
-use image_walk::Checked;
+use df_core::Core;
 use port_set::TapePort;
 use std::alloc::Global;
 use std::test::Fail;
 use store_buf::BufFault;
+use ws_isa::Checked;
 use ws_words::{Cells, NoMemory, Words, World};
 
 // How many orders each image is run in.

@@ -6,15 +6,14 @@ ghost use Rattle.port_set.specs.Slots.{AllOpen, contents};
 ghost use Rattle.store_buf.specs.Outdoors.{AllTell, began_of, world_with};
 ghost use Rattle.part_store.specs.Parted.{is_store_op};
 
-use df_job::{Code, Job, Request, Token, TokenList, start};
-use image_walk::Checked;
+use df_core::{Code, Job, Request, Token, TokenList, start};
 use match_table::{Accept, Table};
 use part_store::PartBuffer;
 use port_set::{Port, Slots};
 use std::alloc::Global;
 use std::marker::Brand;
 use store_buf::{BufFault, BufferEnd, told_ports_begin};
-use ws_isa::Op;
+use ws_isa::{Checked, Op};
 use ws_words::{NoMemory, Words};
 
 // The most tokens of a run.

@@ -6,9 +6,9 @@ ghost use Rattle.port_set.specs.Tape.{tape_tells};
 ghost use Rattle.store_buf.specs.Outdoors.{AllTell};
 
 use crate::runs::{Order, Past, past_of};
-use image_walk::Checked;
 use port_set::{Slots, TapePort};
 use std::alloc::Global;
+use ws_isa::Checked;
 use ws_words::{NoMemory, Words};
 
 /// The words that port 2 has left.

@@ -2,9 +2,9 @@
 
 use annot_check::check_image;
 use asm_text::read_asm;
-use image_walk::{Checked, walk_image};
 use std::alloc::Global;
 use std::test::Fail;
+use ws_isa::{Checked, walk_image};
 use ws_words::{Cells, NoMemory, Words, World};
 
 // Reads a word, stores 5 into cell 0 if the word isn't 0, and prints cell 0 and, between the two

@@ -6,7 +6,7 @@ ghost use Rattle.cfg_core.specs.Samples as samples;
 ghost use Rattle.cfg_core.specs.Shape.{ArmsAlone};
 ghost use Rattle.cfg_core.specs.View as view;
 ghost use Rattle.call_gen.specs.Keeps.{HasNoCall, NoneLiveAcross};
-ghost use Rattle.image_walk.specs.Open.{Walkable};
+ghost use Rattle.ws_isa.specs.Open.{Walkable};
 ghost use Rattle.pass_tests.specs.Samples.{doubles};
 ghost use Rattle.ws_isa.specs.View as image;
 
@@ -14,14 +14,13 @@ use call_gen::{reached, spell_calls};
 use cfg_core::{
     Graph, GraphBlock, GraphBlocks, GraphOp, GraphOps, GraphProc, Leave, Term, run_graph,
 };
-use image_walk::walk_draft;
 use live_vars::live;
 use phi_conv::join_short;
 use std::alloc::Global;
 use std::test::Fail;
 use wave_cut::cut;
 use wave_gen::generate;
-use ws_isa::Draft;
+use ws_isa::{Draft, walk_draft};
 use ws_words::{Alu, Cells, NoMemory, Plain, Words, World};
 
 fn block(alloc: Global, ops: GraphOps, exit: Leave) -> GraphBlock

@@ -3,9 +3,9 @@ use Rattle.std.proofs.Common.{ℕ, zero, suc, ◌≡◌, ◌<◌, Bool, List, []
 use Rattle.std.proofs.lemmas.Bool.{both_ways}
 use Rattle.ws_words.specs.Outside.{Outside, World}
 use Rattle.ws_isa.specs.Image.{Image, In}
-use Rattle.core_law.specs.Core.{Chain, with_key}
-use Rattle.core_law.specs.Fit.{Legal, Ordered, StoppedAt}
-use Rattle.core_law.proofs.Ports.{with_key_cases}
+use Rattle.df_core.specs.Core.{Chain, with_key}
+use Rattle.df_core.specs.Fit.{Legal, Ordered, StoppedAt}
+use Rattle.df_core.proofs.Ports.{with_key_cases}
 use Rattle.store_buf.specs.declared.kept.Kept.{Kept}
 use Rattle.store_buf.specs.Requests.{entry_of}
 use Rattle.store_buf.specs.Orders.{Going}

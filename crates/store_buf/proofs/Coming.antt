@@ -4,16 +4,16 @@ use Rattle.std.proofs.lemmas.Bool.{both_ways}
 use Rattle.ws_words.specs.Outside.{Outside, World}
 use Rattle.ws_isa.specs.Image.{Image, Token, instr_at, ports, is_load, is_past, note_of}
 use Rattle.ws_isa.specs.Formed.{Formed}
-use Rattle.image_walk.specs.Sound.{Sound}
-use Rattle.core_law.specs.Core.{HasFired, IsNext, Issuable, has, position_after, with_key}
-use Rattle.core_law.specs.Shown.{waits_if}
-use Rattle.core_law.specs.Fit.{RightRequest}
-use Rattle.core_law.proofs.Ports.{with_key_cases}
-use Rattle.df_job.specs.Began.{Began}
-use Rattle.df_job.specs.Rights.{Asked, IsAsked, operands_of}
-use Rattle.core_run.specs.declared.chain.Chain as code
-use Rattle.core_run.specs.Chains.{chain_of, may_flag}
-use Rattle.core_run.specs.Stands.{HasEarly}
+use Rattle.ws_isa.specs.Sound.{Sound}
+use Rattle.df_core.specs.Core.{HasFired, IsNext, Issuable, has, position_after, with_key}
+use Rattle.df_core.specs.Shown.{waits_if}
+use Rattle.df_core.specs.Fit.{RightRequest}
+use Rattle.df_core.proofs.Ports.{with_key_cases}
+use Rattle.df_core.specs.Began.{Began}
+use Rattle.df_core.specs.Rights.{Asked, IsAsked, operands_of}
+use Rattle.df_core.specs.declared.chain.Chain as code
+use Rattle.df_core.specs.Chains.{chain_of, may_flag}
+use Rattle.df_core.specs.Stands.{HasEarly}
 use Rattle.store_buf.specs.declared.fault.BufFault.{BufFault}
 use Rattle.store_buf.specs.declared.fault.BufFault.TheVariants as fault
 use Rattle.store_buf.specs.declared.kept.Kept.{Kept}

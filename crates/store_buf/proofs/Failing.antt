@@ -7,7 +7,7 @@ use Rattle.ws_isa.specs.declared.instr.Op.TheVariants.{Give, Take}
 use Rattle.ws_isa.specs.Image.{Image}
 use Rattle.port_set.specs.Ports.{Told}
 use Rattle.port_set.specs.Slots.{port_at}
-use Rattle.df_job.specs.Began.{Began}
+use Rattle.df_core.specs.Began.{Began}
 use Rattle.store_buf.specs.Outdoors.{Holding, OutIs, SlotIs, PortIn, RoseAt, RoseSince, BeganSo, AllBegan, TellsLeft, AllTell, began_at, began_of, left_at, lefts_of, words_or_none, failures, failed_before, port_of}
 use Rattle.store_buf.specs.Contents.{Content, FailedSo, PortWaits}
 

@@ -2,14 +2,14 @@
 use Rattle.std.proofs.Common.{ℕ, suc, ◌≡◌, ◌≤◌, ◌⊎◌, Bool, true, false, List, ◌∷◌, Option, Some, None, sym, ap, ◌∙◌, subst, inl, inr, arith}
 use Rattle.ws_words.specs.Outside.{Outside, World}
 use Rattle.ws_isa.specs.Image.{Image, is_load, is_past, note_of, answer}
-use Rattle.core_law.specs.Effect.{effect_after}
-use Rattle.core_law.specs.Core.{Chain, IsNext, Passes, stays, passes, pass, Issuable, issued_with}
-use Rattle.core_law.specs.Fit.{FiresAt, IssuedOp, Ordered, Legal, RightRequest}
-use Rattle.core_run.specs.Stands.{left_after, Settles}
-use Rattle.core_law.proofs.Facts.{WalkFacts}
-use Rattle.core_law.proofs.Ports.{SameKey, with_key_cases, with_key_same}
-use Rattle.core_law.proofs.BufferKept as B
-use Rattle.core_run.proofs.Settling.{EarlyAt, settle, early_any, one_time, pass_early, pass_issued}
+use Rattle.df_core.specs.Effect.{effect_after}
+use Rattle.df_core.specs.Core.{Chain, IsNext, Passes, stays, passes, pass, Issuable, issued_with}
+use Rattle.df_core.specs.Fit.{FiresAt, IssuedOp, Ordered, Legal, RightRequest}
+use Rattle.df_core.specs.Stands.{left_after, Settles}
+use Rattle.df_core.proofs.Facts.{WalkFacts}
+use Rattle.df_core.proofs.Ports.{SameKey, with_key_cases, with_key_same}
+use Rattle.df_core.proofs.BufferKept as B
+use Rattle.df_core.proofs.Settling.{EarlyAt, settle, early_any, one_time, pass_early, pass_issued}
 use Rattle.store_buf.specs.Orders.{Going}
 
 module _ (image : Image) (world : World) (facts : WalkFacts image world) (issued : ℕ → ℕ → Option ℕ) (waiting : ℕ → ℕ → Option (List ℕ)) (stopped : Bool) (chain : Chain) (memory : Outside) (early : List ℕ)

@@ -3,12 +3,12 @@ use Rattle.std.proofs.Common.{ℕ, ◌-◌, ◌≡◌, false, List, [], Option, 
 use Rattle.std.proofs.lemmas.List.{append-nil}
 use Rattle.ws_words.specs.Outside.{World, row}
 use Rattle.ws_isa.specs.Image.{Image, In}
-use Rattle.image_walk.specs.Walk.{opening_memory}
-use Rattle.core_law.specs.Core.{State, Reach, Once, core_opening}
-use Rattle.core_law.specs.Fit.{Fit, Grounded, Legal}
+use Rattle.ws_isa.specs.Walk.{opening_memory}
+use Rattle.df_core.specs.Core.{State, Reach, Once, core_opening}
+use Rattle.df_core.specs.Fit.{Fit, Grounded, Legal}
 use Rattle.port_set.specs.Ports.{Told}
 use Rattle.port_set.specs.Slots.{port_at}
-use Rattle.df_job.specs.Began.{Began}
+use Rattle.df_core.specs.Began.{Began}
 use Rattle.store_buf.specs.declared.store.Store.{Store}
 use Rattle.store_buf.specs.Outdoors.{more, SlotIs, BeganSo, AllBegan}
 use Rattle.store_buf.specs.Contents.{IsBuffer, FailedSo, Idle, Content, opening_content}

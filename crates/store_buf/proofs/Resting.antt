@@ -4,14 +4,14 @@ use Rattle.std.specs.Prelude.{is_none}
 use Rattle.std.proofs.lemmas.Bool.{and_from, both_ways}
 use Rattle.ws_words.specs.Outside.{Outside, World}
 use Rattle.ws_isa.specs.Image.{Image, instr_at, is_memory, ports}
-use Rattle.core_law.specs.Core.{Chain, Issuable}
-use Rattle.core_law.specs.Shown.{NoneIssuable, waits_if}
-use Rattle.df_job.specs.Began.{Began}
-use Rattle.df_job.specs.Rights.{operands_of}
-use Rattle.core_run.specs.Partial.{listed}
-use Rattle.core_run.specs.Chains.{chain_of, may_flag}
-use Rattle.core_run.proofs.Driving.{flagged}
-use Rattle.core_run.proofs.Arriving.{ports_is_op, memory_is_op}
+use Rattle.df_core.specs.Core.{Chain, Issuable}
+use Rattle.df_core.specs.Shown.{NoneIssuable, waits_if}
+use Rattle.df_core.specs.Began.{Began}
+use Rattle.df_core.specs.Rights.{operands_of}
+use Rattle.df_core.specs.Partial.{listed}
+use Rattle.df_core.specs.Chains.{chain_of, may_flag}
+use Rattle.df_core.proofs.Driving.{flagged}
+use Rattle.df_core.proofs.Arriving.{ports_is_op, memory_is_op}
 use Rattle.store_buf.specs.declared.kept.Kept.{Kept}
 use Rattle.store_buf.specs.declared.order.Order.{Order}
 use Rattle.store_buf.specs.Requests.{entry_of, kept_in, issued_in, answer_if, operands_if}

@@ -6,13 +6,13 @@ use Rattle.ws_io.specs.Streams.{Rose}
 use Rattle.ws_isa.specs.declared.instr.Op.{Op}
 use Rattle.ws_isa.specs.declared.instr.Op.TheVariants.{Give, Take}
 use Rattle.ws_isa.specs.Image.{Image, instr_at, note_of, is_load_op, is_past_op}
-use Rattle.core_law.specs.Core.{position_after}
+use Rattle.df_core.specs.Core.{position_after}
 use Rattle.port_set.specs.declared.port.PortError.{PortError}
 use Rattle.port_set.specs.declared.port.PortError.TheVariants as error
 use Rattle.port_set.specs.Ports.{Told, IfFailed}
 use Rattle.port_set.specs.Slots.{port_at, SlotGave, SlotTook}
-use Rattle.core_run.specs.Chains.{chain_of, may_flag, next_flag}
-use Rattle.core_run.proofs.Nexts.{next_is}
+use Rattle.df_core.specs.Chains.{chain_of, may_flag, next_flag}
+use Rattle.df_core.proofs.Nexts.{next_is}
 use Rattle.store_buf.specs.declared.order.Order.{Order}
 use Rattle.store_buf.specs.Finding.{place_in}
 use Rattle.store_buf.specs.Ordering.{OrderOk, kept_at, ready_flag}

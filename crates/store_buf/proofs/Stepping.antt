@@ -6,29 +6,29 @@ use Rattle.ws_isa.specs.declared.instr.Op.{Op}
 use Rattle.ws_isa.specs.declared.instr.Op.TheVariants.{Phi, Steer, Send}
 use Rattle.ws_isa.specs.Image.{Image, In, instr_at, is_memory_op, is_load, is_load_op, is_past, is_past_op, is_advance_op, note_of, ports, ports_of, answer, answer_op, after, after_op, selector_of, sends, tokens_to, array_of_op, array_at}
 use Rattle.ws_isa.specs.Formed.{Formed}
-use Rattle.image_walk.specs.Sound.{Sound}
-use Rattle.image_walk.specs.Operations.{effect_of}
-use Rattle.core_law.specs.Effect.{effect_after}
-use Rattle.core_law.specs.Core as law
-use Rattle.core_law.specs.Core.{IsNext, Issuable, Passes, issued_with, position_after, with_key}
-use Rattle.core_law.specs.Fit.{RightRequest}
-use Rattle.core_law.specs.Shown.{waits_if}
-use Rattle.core_law.specs.Core.{IsSent}
-use Rattle.core_law.proofs.BufferKept.{fault_here}
-use Rattle.core_law.proofs.Facts.{WalkFacts}
-use Rattle.core_law.proofs.FromSound.{facts_of}
-use Rattle.core_law.proofs.PortsThere.{ports_there}
-use Rattle.core_law.proofs.Ports.{with_key_cases}
+use Rattle.ws_isa.specs.Sound.{Sound}
+use Rattle.ws_isa.specs.Operations.{effect_of}
+use Rattle.df_core.specs.Effect.{effect_after}
+use Rattle.df_core.specs.Core as law
+use Rattle.df_core.specs.Core.{IsNext, Issuable, Passes, issued_with, position_after, with_key}
+use Rattle.df_core.specs.Fit.{RightRequest}
+use Rattle.df_core.specs.Shown.{waits_if}
+use Rattle.df_core.specs.Core.{IsSent}
+use Rattle.df_core.proofs.BufferKept.{fault_here}
+use Rattle.df_core.proofs.Facts.{WalkFacts}
+use Rattle.df_core.proofs.FromSound.{facts_of}
+use Rattle.df_core.proofs.PortsThere.{ports_there}
+use Rattle.df_core.proofs.Ports.{with_key_cases}
 use Rattle.port_set.specs.Slots.{port_at}
-use Rattle.df_job.specs.Began.{Began}
-use Rattle.df_job.specs.Rights.{operands_of}
-use Rattle.core_run.specs.declared.token.Operands.{Operands}
-use Rattle.core_run.specs.Partial.{listed}
-use Rattle.core_run.specs.Places.{destinations}
-use Rattle.core_run.specs.Chains.{chain_of, may_flag, next_flag, PassedOn}
-use Rattle.core_run.proofs.Nexts.{next_is}
-use Rattle.core_run.proofs.Issuing.{same_answer, same_after, same_past, no_advance, in_end, end_in, printed_alike, took_alike}
-use Rattle.core_run.proofs.Arriving.{ports_is_op, memory_is_op, sends_are}
+use Rattle.df_core.specs.Began.{Began}
+use Rattle.df_core.specs.Rights.{operands_of}
+use Rattle.df_core.specs.declared.plain.Operands.{Operands}
+use Rattle.df_core.specs.Partial.{listed}
+use Rattle.df_core.specs.Places.{destinations}
+use Rattle.df_core.specs.Chains.{chain_of, may_flag, next_flag, PassedOn}
+use Rattle.df_core.proofs.Nexts.{next_is}
+use Rattle.df_core.proofs.Issuing.{same_answer, same_after, same_past, no_advance, in_end, end_in, printed_alike, took_alike}
+use Rattle.df_core.proofs.Arriving.{ports_is_op, memory_is_op, sends_are}
 use Rattle.store_buf.specs.declared.kept.Kept.{Kept}
 use Rattle.store_buf.specs.declared.order.Order.{Order}
 use Rattle.store_buf.specs.Requests.{entry_of, kept_in, issued_in, answer_if, operands_if}

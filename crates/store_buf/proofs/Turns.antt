@@ -4,9 +4,9 @@ use Rattle.std.proofs.lemmas.List.{append_assoc, append-nil}
 use Rattle.ws_words.specs.Outside.{World}
 use Rattle.ws_isa.specs.Image.{Image, Token}
 use Rattle.ws_io.specs.Streams.{Rose}
-use Rattle.core_law.specs.Core.{has}
-use Rattle.core_law.specs.Shown.{Buffer}
-use Rattle.core_run.specs.Chains.{chain_of}
+use Rattle.df_core.specs.Core.{has}
+use Rattle.df_core.specs.Shown.{Buffer}
+use Rattle.df_core.specs.Chains.{chain_of}
 use Rattle.store_buf.specs.declared.fault.Silent.{Silent}
 use Rattle.store_buf.specs.declared.fault.Silent.TheVariants.{Failed, NoMemory}
 use Rattle.store_buf.specs.declared.order.Order.{Order}
@@ -15,7 +15,7 @@ use Rattle.store_buf.specs.Outdoors.{FaultsGrow}
 use Rattle.store_buf.specs.Contents.{FaultIs, RightTokens}
 use Rattle.store_buf.specs.Holds.{Issued, Stopped, Issues, stays, goes, stops, part}
 use Rattle.store_buf.specs.Stores.{buffer_of, IssueLeads, StaysSo, AllLead, SilentSo}
-use Rattle.core_law.proofs.Slots.{is_sent_append_cases as sent_either}
+use Rattle.df_core.proofs.SlotLists.{is_sent_append_cases as sent_either}
 
 pub issues_on : (image : Image) (a b c : Buffer) (xs ys : List Token) → Issues image a xs b → Issues image b ys c → Issues image a (xs ++ ys) c
 issues_on image a b c xs ys stays more = more

@@ -4,9 +4,9 @@ use Rattle.ws_isa.specs.declared.instr.Link.{Link}
 use Rattle.ws_isa.specs.declared.instr.Link.TheVariants.{Unknown, Nothing, Is}
 use Rattle.ws_isa.specs.declared.instr.Note.{Note}
 use Rattle.ws_isa.specs.Image.{Image, note_of}
-use Rattle.core_law.specs.Core.{Chain, pass, pass_by}
-use Rattle.core_run.specs.Stands.{left_by, left_after, Settles, done, goes}
-use Rattle.core_run.specs.Chains.{PassedOn}
+use Rattle.df_core.specs.Core.{Chain, pass, pass_by}
+use Rattle.df_core.specs.Stands.{left_by, left_after, Settles, done, goes}
+use Rattle.df_core.specs.Chains.{PassedOn}
 
 -- the wave stays, or it is over and nothing is left
 link_cases : (c : Chain) (n : Note) (l : Link) (early : List ℕ) → ((pass_by c n l).wave ≡ c.wave) ⊎ (((pass_by c n l).wave ≡ suc c.wave) × (left_by l early ≡ []))

@@ -4,13 +4,13 @@ use Rattle.ws_words.specs.Outside.{Outside, World}
 use Rattle.ws_isa.specs.declared.instr.Op.{Op}
 use Rattle.ws_isa.specs.declared.instr.Op.TheVariants.{Load, Input, Give}
 use Rattle.ws_isa.specs.Image.{Image, Token, instr_at, note_of, ports, array_at, cells_of}
-use Rattle.image_walk.specs.Operations.{FaultsAt}
-use Rattle.core_law.specs.Core.{Chain, IsNext, IsSent, has, with_key}
-use Rattle.core_law.specs.Fit.{RightToken}
-use Rattle.core_law.specs.Shown.{Buffer, BufferOk, NoneIssuable}
+use Rattle.ws_isa.specs.Operations.{FaultsAt}
+use Rattle.df_core.specs.Core.{Chain, IsNext, IsSent, has, with_key}
+use Rattle.df_core.specs.Fit.{RightToken}
+use Rattle.df_core.specs.Shown.{Buffer, BufferOk, NoneIssuable}
 use Rattle.port_set.specs.Ports.{Told}
-use Rattle.df_job.specs.Began.{Began}
-use Rattle.df_job.specs.Rights.{Asked, operands_of}
+use Rattle.df_core.specs.Began.{Began}
+use Rattle.df_core.specs.Rights.{Asked, operands_of}
 use Rattle.store_buf.specs.declared.fault.BufFault.{BufFault}
 use Rattle.store_buf.specs.declared.fault.BufFault.TheVariants.{Old, Port, Stopped, Index, Ended, NoMemory}
 use Rattle.store_buf.specs.declared.kept.Kept.{Kept}

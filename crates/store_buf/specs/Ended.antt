@@ -2,9 +2,9 @@
 use Rattle.std.specs.Prelude.{ℕ, ◌≡◌, ◌⊎◌, List, Option, Some, length}
 use Rattle.ws_words.specs.Outside.{World, printed_words}
 use Rattle.ws_isa.specs.Image.{Image, array_at, instr_at}
-use Rattle.image_walk.specs.Walk.{Inst, fires, mem, walk, CostAtMost}
-use Rattle.image_walk.specs.Operations.{FaultsAt, NoFault}
-use Rattle.core_law.specs.Ends.{FirstWithin}
+use Rattle.ws_isa.specs.Walk.{Inst, fires, mem, walk, CostAtMost}
+use Rattle.ws_isa.specs.Operations.{FaultsAt, NoFault}
+use Rattle.df_core.specs.Ends.{FirstWithin}
 use Rattle.port_set.specs.Ports.{Told}
 use Rattle.store_buf.specs.Outdoors.{SlotsAre, RoseAt, began_of, port_of}
 

@@ -2,12 +2,12 @@
 use Rattle.std.specs.Prelude.{ℕ, ◌≡◌, Bool, true, false, List, [], ◌++◌, Option, Some, None}
 use Rattle.ws_words.specs.Outside.{Outside, World}
 use Rattle.ws_isa.specs.Image.{Image, Token, is_past, answer, sends}
-use Rattle.core_law.specs.Effect.{effect_after}
-use Rattle.core_law.specs.Core.{Chain, Passes, Issuable, issued_with}
-use Rattle.core_law.specs.Fit.{RightRequest}
-use Rattle.core_law.specs.Shown.{Buffer, asking, waits_if}
-use Rattle.df_job.specs.Began.{Began}
-use Rattle.core_run.specs.Chains.{chain_of}
+use Rattle.df_core.specs.Effect.{effect_after}
+use Rattle.df_core.specs.Core.{Chain, Passes, Issuable, issued_with}
+use Rattle.df_core.specs.Fit.{RightRequest}
+use Rattle.df_core.specs.Shown.{Buffer, asking, waits_if}
+use Rattle.df_core.specs.Began.{Began}
+use Rattle.df_core.specs.Chains.{chain_of}
 use Rattle.store_buf.specs.declared.kept.Kept.{Kept}
 use Rattle.store_buf.specs.declared.order.Order.{Order}
 use Rattle.store_buf.specs.Requests.{kept_in, issued_in, issued_keys}

@@ -2,9 +2,9 @@
 use Rattle.std.specs.Prelude.{ℕ, ◌≡◌, Bool, List, Option, Some}
 use Rattle.ws_words.specs.Outside.{Outside, World}
 use Rattle.ws_isa.specs.Image.{Image, In}
-use Rattle.core_law.specs.Core.{Chain}
-use Rattle.core_law.specs.Fit.{Legal}
-use Rattle.core_run.specs.Stands.{HasEarly}
+use Rattle.df_core.specs.Core.{Chain}
+use Rattle.df_core.specs.Fit.{Legal}
+use Rattle.df_core.specs.Stands.{HasEarly}
 
 -- these are issued, in the current wave
 abbrev pub EarlyIssued : (ℕ → ℕ → Option ℕ) → Chain → List ℕ → Type 0

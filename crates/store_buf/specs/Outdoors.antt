@@ -12,7 +12,7 @@ use Rattle.port_set.specs.Ports.{Told}
 use Rattle.store_buf.specs.declared.fault.Silent.{Silent}
 use Rattle.store_buf.specs.declared.fault.Silent.TheVariants.{Failed, NoMemory}
 use Rattle.port_set.specs.Slots.{port_at}
-use Rattle.df_job.specs.Began.{Began}
+use Rattle.df_core.specs.Began.{Began}
 
 -- the words taken so far, where they are told
 abbrev pub more : Option (List ℕ) → List ℕ → Option (List ℕ)

@@ -3,13 +3,13 @@ use Rattle.std.specs.Prelude.{ℕ, ◌≡◌, cond, ◌+◌, ◌≤◌, ◌++◌
 use Rattle.ws_words.specs.Outside.{Outside, World}
 use Rattle.ws_isa.specs.Image.{Image, Token}
 use Rattle.ws_isa.specs.Formed.{Formed}
-use Rattle.image_walk.specs.Sound.{Sound}
-use Rattle.core_law.specs.Core.{has}
-use Rattle.core_law.specs.Shown.{Buffer}
-use Rattle.df_job.specs.Began.{Began}
-use Rattle.df_job.specs.Rights.{Asked, IsAsked}
-use Rattle.core_run.specs.Chains.{chain_of}
-use Rattle.core_run.specs.Stands.{HasEarly}
+use Rattle.ws_isa.specs.Sound.{Sound}
+use Rattle.df_core.specs.Core.{has}
+use Rattle.df_core.specs.Shown.{Buffer}
+use Rattle.df_core.specs.Began.{Began}
+use Rattle.df_core.specs.Rights.{Asked, IsAsked}
+use Rattle.df_core.specs.Chains.{chain_of}
+use Rattle.df_core.specs.Stands.{HasEarly}
 use Rattle.store_buf.specs.declared.fault.BufFault.{BufFault}
 use Rattle.store_buf.specs.declared.fault.BufFault.TheVariants as fault
 use Rattle.store_buf.specs.declared.fault.Silent.{Silent}

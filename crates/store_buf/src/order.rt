@@ -2,8 +2,8 @@
 
 ghost use Rattle.std.specs.Prelude.{◌≡◌, ◌∷◌, ◌++◌, [], ℕ, suc, ◌+◌, ◌<◌, ◌≤◌, ◌^◌, Bool, None, Some, true, false, length, slice_index_or, slice_set, vec_capacity, MatchOption, IfSome, IfNone, OnOk, OnErr};
 ghost use Rattle.ws_isa.specs.Image.{In, is_load_op};
-ghost use Rattle.core_run.specs.Places.{ProgramIs, image_of};
-ghost use Rattle.core_run.specs.Chains.{chain_of, may_flag, PassedOn};
+ghost use Rattle.df_core.specs.Places.{ProgramIs, image_of};
+ghost use Rattle.df_core.specs.Chains.{chain_of, may_flag, PassedOn};
 ghost use Rattle.store_buf.specs.Requests.{entry_of, unissued};
 ghost use Rattle.store_buf.specs.Finding.{place_in};
 ghost use Rattle.store_buf.specs.Ordering.{OrderOk, Room, MayAt, NoneMay, near_at, kept_at, ready_flag};
@@ -11,9 +11,9 @@ ghost use Rattle.store_buf.specs.Ordering.{OrderOk, Room, MayAt, NoneMay, near_a
 use crate::index::Index;
 use crate::kept::Kept;
 use crate::later::Later;
-use core_run::chain::Chain;
-use core_run::order::pass_on;
-use core_run::program::Program;
+use df_core::chain::Chain;
+use df_core::order::pass_on;
+use df_core::program::Program;
 use std::alloc::Global;
 use ws_isa::Op;
 use ws_words::NoMemory;

@@ -5,7 +5,7 @@ ghost use Rattle.ws_words.specs.Outside.{Outside, head_or_zero, rest_of};
 ghost use Rattle.ws_isa.specs.Image.{cells_of};
 ghost use Rattle.ws_isa.specs.View as view;
 ghost use Rattle.port_set.specs.Slots.{AllOpen, contents};
-ghost use Rattle.df_job.specs.Began.{Began};
+ghost use Rattle.df_core.specs.Began.{Began};
 ghost use Rattle.store_buf.specs.Outdoors.{OutIs, Performed, PortIn, SilentAt, FaultsGrow, silent_of};
 ghost use Rattle.store_buf.specs.Outers.{holding};
 

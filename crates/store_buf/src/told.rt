@@ -3,7 +3,7 @@
 ghost use Rattle.std.specs.Prelude.{◌≡◌, ◌+◌, ◌++◌, length};
 ghost use Rattle.smallvec.specs.SmallVec.{HasRoomFor, small_vec_len};
 ghost use Rattle.ws_isa.specs.Image.{tokens_to};
-ghost use Rattle.df_job.specs.Rights.{tokens_of};
+ghost use Rattle.df_core.specs.Rights.{tokens_of};
 
 use smallvec::SmallVec;
 use ws_isa::Dest;

@@ -3,18 +3,18 @@ use Rattle.std.proofs.Common.{◌≡◌, ℕ, ◌+◌, ◌<◌, ◌≤◌, ◌�
 use Rattle.std.proofs.lemmas.Bool.{true≢false}
 use Rattle.ws_words.specs.Outside.{World}
 use Rattle.ws_isa.specs.Image.{Image, is_memory, ports}
-use Rattle.image_walk.specs.Walk.{walk, CostAtMost}
-use Rattle.core_law.specs.Core.{State, Event, Match, Issue, Run, Step, Enabled, Rest, is_full, arrived, asks, tells, matched, issue, core_opening}
-use Rattle.core_law.specs.Ends.{Whole, AtFault}
-use Rattle.core_run.specs.declared.engine.Core.{Core}
-use Rattle.core_run.specs.declared.engine.Event.{Event as Made}
-use Rattle.core_run.specs.Cores.{IsAt, Makes, IsEnabled, IsAtRest, event_of}
-use Rattle.core_run.specs.Quiet.{IsQuiet, IsQuietly, OnlyFires}
+use Rattle.ws_isa.specs.Walk.{walk, CostAtMost}
+use Rattle.df_core.specs.Core.{State, Event, Match, Issue, Run, Step, Enabled, Rest, is_full, arrived, asks, tells, matched, issue, core_opening}
+use Rattle.df_core.specs.Ends.{Whole, AtFault}
+use Rattle.df_core.specs.declared.engine.Core.{Core}
+use Rattle.df_core.specs.declared.engine.Event.{Event as Made}
+use Rattle.df_core.specs.Cores.{IsAt, Makes, IsEnabled, IsAtRest, event_of}
+use Rattle.df_core.specs.Quiet.{IsQuiet, IsQuietly, OnlyFires}
 use Rattle.trace_check.specs.declared.recording.TraceEnd.{TraceEnd}
 use Rattle.trace_check.specs.declared.recording.TraceEnd.TheVariants as end
 use Rattle.trace_check.specs.Recorded.{OutOfBudget, EndIs, Traces, Led, MakesEvents, IsDone, IsNext}
 use Rattle.trace_check.proofs.Making.{same_refl}
-use Rattle.core_run.proofs.Saying.{no_fault_at as no_fault}
+use Rattle.df_core.proofs.Saying.{no_fault_at as no_fault}
 
 -- an event fires one instance at most, and an issue none
 fired_by : (image : Image) (s : State) (w i p v : ℕ) (a b : Bool) →

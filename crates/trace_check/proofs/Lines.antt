@@ -5,7 +5,7 @@ use Rattle.asm_text.specs.declared.fault.Stop as stops
 use Rattle.asm_text.specs.declared.fault.Stop.TheVariants as stop
 use Rattle.asm_text.specs.Building.{Makes}
 use Rattle.asm_text.specs.Reading.{lines_of, Cuts, Reads, Fault, fault_of}
-use Rattle.core_run.specs.declared.engine.Event.{Event}
+use Rattle.df_core.specs.declared.engine.Event.{Event}
 use Rattle.trace_check.specs.declared.events.Lined.{Lined}
 use Rattle.trace_check.specs.Traces.{said, at_line, events_from, behind}
 

@@ -2,9 +2,9 @@
 use Rattle.std.proofs.Common.{◌≡◌, ℕ, zero, suc, ◌<◌, ◌≤◌, List, [], ◌∷◌, ◌++◌, length, get_or, take, drop, refl, sym, ap, subst, append-nil, append_assoc, arith}
 use Rattle.ws_words.specs.Outside.{World}
 use Rattle.ws_isa.specs.Image.{Image}
-use Rattle.core_law.specs.Core.{State, Event, Run, Same}
-use Rattle.core_run.specs.declared.engine.Core.{Core}
-use Rattle.core_run.specs.Cores.{IsAt, Makes}
+use Rattle.df_core.specs.Core.{State, Event, Run, Same}
+use Rattle.df_core.specs.declared.engine.Core.{Core}
+use Rattle.df_core.specs.Cores.{IsAt, Makes}
 use Rattle.trace_check.specs.declared.events.Lined.{Lined}
 use Rattle.trace_check.specs.declared.replaying.ReplayFault.{ReplayFault}
 use Rattle.trace_check.specs.declared.replaying.ReplayFault.TheVariants.{Illegal, NoMemory}

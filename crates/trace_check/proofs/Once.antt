@@ -2,11 +2,11 @@
 use Rattle.std.proofs.Common.{◌≡◌, ℕ, List, [], ◌∷◌, ◌++◌, refl, sym, ap, ◌∙◌, subst, inl, inr}
 use Rattle.ws_words.specs.Outside.{World}
 use Rattle.ws_isa.specs.Image.{Image}
-use Rattle.core_law.specs.Core.{State, Event, Match, Issue, Same, Run, Step, Enabled}
-use Rattle.core_law.specs.Fit.{Fit}
+use Rattle.df_core.specs.Core.{State, Event, Match, Issue, Same, Run, Step, Enabled}
+use Rattle.df_core.specs.Fit.{Fit}
 use Rattle.trace_check.specs.declared.events.Lined.{Lined}
 use Rattle.trace_check.specs.Replays.{StopsAt, events_of, event_in}
-use Rattle.core_law.proofs.States.{same_is as one_state}
+use Rattle.df_core.proofs.States.{same_is as one_state}
 
 step_enabled : (image : Image) (s t : State) (e : Event) → Step image s e t → Enabled image s e
 step_enabled image s t (Match w i p) st = (st.value, st.on_way)

@@ -3,21 +3,21 @@ use Rattle.std.proofs.Common.{◌≡◌, ℕ, ◌+◌, ◌-◌, ◌≤◌, ◌�
 use Rattle.std.proofs.lemmas.Bool.{true≢false}
 use Rattle.ws_words.specs.Outside.{Outside, World, printed_words}
 use Rattle.ws_isa.specs.Image.{Image}
-use Rattle.image_walk.specs.Walk.{Inst, mem, walk}
-use Rattle.image_walk.specs.Operations.{ops, effect_of, Effect}
-use Rattle.core_law.specs.Effect.{effect_at}
-use Rattle.core_law.specs.Core.{State, Run, Rest, core_opening}
-use Rattle.core_law.specs.Fit.{Fit}
-use Rattle.core_law.specs.Ends.{Whole, AtFault}
-use Rattle.core_run.specs.declared.engine.Core.{Core}
-use Rattle.core_run.specs.declared.engine.Event.{Event}
-use Rattle.core_run.specs.Cores.{IsAt, IsAtRest, IsEnabled, event_of}
+use Rattle.ws_isa.specs.Walk.{Inst, mem, walk}
+use Rattle.ws_isa.specs.Operations.{ops, effect_of, Effect}
+use Rattle.df_core.specs.Effect.{effect_at}
+use Rattle.df_core.specs.Core.{State, Run, Rest, core_opening}
+use Rattle.df_core.specs.Fit.{Fit}
+use Rattle.df_core.specs.Ends.{Whole, AtFault}
+use Rattle.df_core.specs.declared.engine.Core.{Core}
+use Rattle.df_core.specs.declared.engine.Event.{Event}
+use Rattle.df_core.specs.Cores.{IsAt, IsAtRest, IsEnabled, event_of}
 use Rattle.trace_check.specs.declared.events.Lined.{Lined}
 use Rattle.trace_check.specs.declared.replaying.Replayed.{Replayed}
 use Rattle.trace_check.specs.declared.replaying.ReplayFault.{ReplayFault}
 use Rattle.trace_check.specs.declared.replaying.ReplayFault.TheVariants.{Illegal, NoMemory}
 use Rattle.trace_check.specs.Replays.{PrintsAll, PrintsToFault, Replays, StopsAt, IsReplayFault, IsFault, events_of}
-use Rattle.core_run.proofs.Issuing.{printed_alike}
+use Rattle.df_core.proofs.Issuing.{printed_alike}
 
 module _ (image : Image) (world : World) (s : State) (r : Replayed)
     (printed : printed_words s.memory.acts ≡ r.printed) where

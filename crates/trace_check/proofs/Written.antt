@@ -6,10 +6,10 @@ use Rattle.asm_text.specs.Lexing.{lexed, scan}
 use Rattle.asm_text.specs.Printed.{start, text_of, line_text}
 use Rattle.asm_text.specs.Spelled.{AreLexemes, AllLexemes, texts}
 use Rattle.asm_text.specs.Reading.{lines_of}
-use Rattle.core_law.specs.Core as law
-use Rattle.core_run.specs.declared.engine.Event.{Event}
-use Rattle.core_run.specs.declared.engine.Event.TheVariants.{Match, Issue}
-use Rattle.core_run.specs.Cores as cores
+use Rattle.df_core.specs.Core as law
+use Rattle.df_core.specs.declared.engine.Event.{Event}
+use Rattle.df_core.specs.declared.engine.Event.TheVariants.{Match, Issue}
+use Rattle.df_core.specs.Cores as cores
 use Rattle.trace_check.specs.Traces.{event_of, of_lexed, said, events_from, events_in, lexemes_of, event_line, events_text, numbered, Fits, AllFit}
 use Rattle.trace_check.specs.Replays.{events_of}
 

@@ -2,13 +2,13 @@
 use Rattle.std.specs.Prelude.{ℕ, ◌≡◌, ◌≤◌, ◌↔◌, ◌⊎◌, ◌++◌, true, false, List, length, map}
 use Rattle.ws_words.specs.Outside.{World}
 use Rattle.ws_isa.specs.Image.{Image}
-use Rattle.image_walk.specs.Walk.{CostAtMost}
-use Rattle.image_walk.specs.Operations.{FaultsAt, NoFault}
-use Rattle.core_law.specs.Core.{State, Event, Run, Step, Enabled, Rest, core_opening}
-use Rattle.core_run.specs.declared.engine.Core.{Core}
-use Rattle.core_run.specs.declared.engine.Event.{Event as Made}
-use Rattle.core_run.specs.Cores.{IsAt, event_of}
-use Rattle.core_run.specs.Quiet.{IsQuiet}
+use Rattle.ws_isa.specs.Walk.{CostAtMost}
+use Rattle.ws_isa.specs.Operations.{FaultsAt, NoFault}
+use Rattle.df_core.specs.Core.{State, Event, Run, Step, Enabled, Rest, core_opening}
+use Rattle.df_core.specs.declared.engine.Core.{Core}
+use Rattle.df_core.specs.declared.engine.Event.{Event as Made}
+use Rattle.df_core.specs.Cores.{IsAt, event_of}
+use Rattle.df_core.specs.Quiet.{IsQuiet}
 use Rattle.trace_check.specs.declared.recording.TraceEnd.{TraceEnd}
 use Rattle.trace_check.specs.declared.recording.TraceEnd.TheVariants as end
 

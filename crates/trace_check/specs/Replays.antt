@@ -2,12 +2,12 @@
 use Rattle.std.specs.Prelude.{ℕ, ◌≡◌, ◌≤◌, ◌↔◌, ◌⊎◌, true, List, [], ◌∷◌, ◌++◌, length, map}
 use Rattle.ws_words.specs.Outside.{World, printed_words}
 use Rattle.ws_isa.specs.Image.{Image}
-use Rattle.image_walk.specs.Walk.{mem, walk, CostAtMost}
-use Rattle.image_walk.specs.Operations.{FaultsAt, NoFault}
-use Rattle.core_law.specs.Core.{State, Event, Run, Enabled, Rest, core_opening}
-use Rattle.core_law.specs.Fit.{chain_at}
-use Rattle.core_run.specs.declared.engine.Core.{Core}
-use Rattle.core_run.specs.Cores.{IsAt, NotEnabled, event_of}
+use Rattle.ws_isa.specs.Walk.{mem, walk, CostAtMost}
+use Rattle.ws_isa.specs.Operations.{FaultsAt, NoFault}
+use Rattle.df_core.specs.Core.{State, Event, Run, Enabled, Rest, core_opening}
+use Rattle.df_core.specs.Fit.{chain_at}
+use Rattle.df_core.specs.declared.engine.Core.{Core}
+use Rattle.df_core.specs.Cores.{IsAt, NotEnabled, event_of}
 use Rattle.trace_check.specs.declared.events.Lined.{Lined}
 use Rattle.trace_check.specs.declared.replaying.Replayed.{Replayed}
 use Rattle.trace_check.specs.declared.replaying.ReplayFault.{ReplayFault}

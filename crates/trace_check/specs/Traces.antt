@@ -8,8 +8,8 @@ use Rattle.asm_text.specs.Lexing.{Lexed, lexed}
 use Rattle.asm_text.specs.Words.{is, in_byte, in_word}
 use Rattle.asm_text.specs.Printed.{line_text}
 use Rattle.asm_text.specs.Reading.{Fault, lines_of, on_line}
-use Rattle.core_run.specs.declared.engine.Event.{Event}
-use Rattle.core_run.specs.declared.engine.Event.TheVariants.{Match, Issue}
+use Rattle.df_core.specs.declared.engine.Event.{Event}
+use Rattle.df_core.specs.declared.engine.Event.TheVariants.{Match, Issue}
 use Rattle.trace_check.specs.declared.events.Lined.{Lined}
 
 -- The event that lexemes spell. A number too large for its field is kept as the field's largest

@@ -1,10 +1,10 @@
 //! Events with the numbers of their lines.
 
 ghost use Rattle.std.specs.Prelude.{◌≡◌, List, [], ◌∷◌, ◌++◌, OnOk};
-ghost use Rattle.core_run.specs.declared.engine.Event.{Event};
+ghost use Rattle.df_core.specs.declared.engine.Event.{Event};
 ghost use Rattle.trace_check.specs.declared.events.Lined.{Lined};
 
-use core_run::Event;
+use df_core::Event;
 use std::alloc::Global;
 use std::marker::Model;
 use ws_words::NoMemory;

@@ -4,9 +4,9 @@ ghost use Rattle.std.specs.Prelude.{◌≡◌, ℕ, List, Ok, true};
 ghost use Rattle.ws_words.specs.Outside.{World};
 ghost use Rattle.ws_isa.specs.Image.{Image};
 ghost use Rattle.ws_isa.specs.Formed.{Formed};
-ghost use Rattle.image_walk.specs.Sound.{Sound};
-ghost use Rattle.core_law.specs.Core.{State, Event, Run, core_opening};
-ghost use Rattle.core_run.specs.declared.engine.Event.{Event as Made};
+ghost use Rattle.ws_isa.specs.Sound.{Sound};
+ghost use Rattle.df_core.specs.Core.{State, Event, Run, core_opening};
+ghost use Rattle.df_core.specs.declared.engine.Event.{Event as Made};
 ghost use Rattle.trace_check.specs.declared.events.Lined.{Lined};
 ghost use Rattle.trace_check.specs.declared.recording.TraceEnd.{TraceEnd};
 ghost use Rattle.trace_check.specs.declared.recording.TraceEnd.TheVariants as end;
@@ -16,7 +16,7 @@ ghost use Rattle.trace_check.specs.Replays.{Replays, StopsAt, events_of};
 ghost use Rattle.trace_check.specs.Traces.{AllFit, events_in, events_text, numbered};
 
 use asm_text::printed_lexemes_are_lexed;
-use core_law::every_list_of_events;
+use df_core::every_list_of_events;
 
 /// Events lead to one state, and where each of a trace is enabled after those before it, none is the
 /// first that isn't.

@@ -8,7 +8,7 @@ ghost use Rattle.trace_check.specs.Traces as spec;
 
 use crate::events::{Lined, Trace};
 use asm_text::{AsmFault, AsmKind, Lexeme, Stop, cut, in_byte, in_word, lexed};
-use core_run::Event;
+use df_core::Event;
 use std::alloc::Global;
 
 // The event that lexemes spell.

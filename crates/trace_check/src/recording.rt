@@ -4,15 +4,14 @@ ghost use Rattle.std.specs.Prelude.{◌≡◌, ◌≤◌, length, IfOk, OnOk, Ma
 ghost use Rattle.ws_words.specs.Outside.{World as Given};
 ghost use Rattle.ws_words.specs.Plain.{world_of};
 ghost use Rattle.ws_isa.specs.Image.{Image};
-ghost use Rattle.core_law.specs.Core.{State};
-ghost use Rattle.core_run.specs.Cores.{IsAt, Runs, Makes, IsEnabled, event_of};
+ghost use Rattle.df_core.specs.Core.{State};
+ghost use Rattle.df_core.specs.Cores.{IsAt, Runs, Makes, IsEnabled, event_of};
 ghost use Rattle.trace_check.specs.Recorded.{Traces, MakesEvents, IsDone, IsNext, EndIs};
 
 use crate::events::Events;
-use core_law::{counts, every_list_of_events};
-use core_run::{Core, Event, StepFault};
-use image_walk::Checked;
+use df_core::{Core, Event, StepFault, counts, every_list_of_events};
 use std::alloc::Global;
+use ws_isa::Checked;
 use ws_words::{NoMemory, World};
 
 /// How a list of events ends: no event is enabled after them; as many instances have fired as may,

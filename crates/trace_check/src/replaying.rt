@@ -2,15 +2,14 @@
 
 ghost use Rattle.std.specs.Prelude.{◌≡◌, IfOk, IfErr, OnOk};
 ghost use Rattle.ws_words.specs.Plain.{world_of};
-ghost use Rattle.core_run.specs.Cores.{Runs, Makes};
+ghost use Rattle.df_core.specs.Cores.{Runs, Makes};
 ghost use Rattle.trace_check.specs.declared.replaying.ReplayFault.TheVariants.{NoMemory as of_memory};
 ghost use Rattle.trace_check.specs.Replays.{Replays, IsReplayFault, MakesAll, IsEventFault, IsFault, event_in};
 
 use crate::events::{Lined, Trace};
-use core_law::{counts, every_list_of_events};
-use core_run::{Core, StepFault};
-use image_walk::{Checked, effects_are_one, walks_go_on};
+use df_core::{Core, StepFault, counts, every_list_of_events};
 use std::alloc::Global;
+use ws_isa::{Checked, effects_are_one, walks_go_on};
 use ws_words::{NoMemory, Words, World};
 
 /// What is told of a trace that was replayed: the words that were printed, whether no event is

@@ -2,10 +2,10 @@
 
 ghost use Rattle.std.specs.Prelude.{◌≡◌, ◌∷◌, ◌++◌, decimal, OnOk};
 ghost use Rattle.asm_text.specs.Printed.{line_text};
-ghost use Rattle.core_run.specs.declared.engine.Event.TheVariants as of_event;
+ghost use Rattle.df_core.specs.declared.engine.Event.TheVariants as of_event;
 ghost use Rattle.trace_check.specs.Traces.{lexemes_of, event_line, events_text, Fits, AllFit};
 
-use core_run::Event;
+use df_core::Event;
 use ws_io::put_decimal;
 use ws_words::{Bytes, NoMemory};
 

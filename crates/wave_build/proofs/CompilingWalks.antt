@@ -10,10 +10,10 @@ use Rattle.src_ast.specs.Runs.{outside_of, acts_in}
 use Rattle.src_ast.specs.Turns.{CallEnd}
 use Rattle.ws_isa.specs.Image.{Array, Image}
 use Rattle.ws_isa.specs.Shown as image_shown
-use Rattle.image_walk.specs.Walk.{Pos, pos, step, mem, has_ended, CostAtMost}
-use Rattle.image_walk.specs.Walk.{walk as instances}
-use Rattle.image_walk.proofs.GoesOn.{acts_grow}
-use Rattle.image_walk.proofs.Ending.{walk_up, over_is_whole}
+use Rattle.ws_isa.specs.Walk.{Pos, pos, step, mem, has_ended, CostAtMost}
+use Rattle.ws_isa.specs.Walk.{walk as instances}
+use Rattle.ws_isa.proofs.GoesOn.{acts_grow}
+use Rattle.ws_isa.proofs.Ending.{walk_up, over_is_whole}
 use Rattle.cfg_core.specs.Graph.{Graph, GraphArray}
 use Rattle.cfg_core.specs.Rules.{IsGraph}
 use Rattle.cfg_core.specs.Walk.{Config, At, Over, walk, opening}

@@ -2,7 +2,7 @@
 use Rattle.std.specs.Prelude.{ℕ, suc, ◌*◌, List}
 use Rattle.ws_words.specs.Outside.{Outside, World}
 use Rattle.ws_isa.specs.Image.{Image}
-use Rattle.image_walk.specs.Walk.{CostAtMost}
+use Rattle.ws_isa.specs.Walk.{CostAtMost}
 use Rattle.src_ast.specs.Syntax.{Part}
 use Rattle.src_ast.specs.Bound.{bound}
 use Rattle.cfg_core.specs.Graph.{Graph}

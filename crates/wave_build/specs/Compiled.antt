@@ -7,8 +7,8 @@ use Rattle.src_ast.specs.Meaning.{Passes, Flows}
 use Rattle.src_ast.specs.Runs.{acts_in}
 use Rattle.ws_isa.specs.Image.{Array, Image}
 use Rattle.ws_isa.specs.Shown.{shown_arrays, shown_cells}
-use Rattle.image_walk.specs.Walk.{mem, has_ended, CostAtMost}
-use Rattle.image_walk.specs.Open.{OpenToNotes}
+use Rattle.ws_isa.specs.Walk.{mem, has_ended, CostAtMost}
+use Rattle.ws_isa.specs.Open.{OpenToNotes}
 use Rattle.cfg_core.specs.Graph.{GraphArray}
 use Rattle.cfg_core.specs.Shown.{shown_acts, AllInside}
 use Rattle.cfg_build.specs.Keeps as program

@@ -5,7 +5,7 @@ ghost use Rattle.ws_isa.specs.Formed.{Formed};
 ghost use Rattle.ws_isa.specs.View as image;
 ghost use Rattle.src_ast.specs.View as ast;
 ghost use Rattle.src_ast.specs.Written.{IsWritten};
-ghost use Rattle.image_walk.specs.Sound.{Sound};
+ghost use Rattle.ws_isa.specs.Sound.{Sound};
 ghost use Rattle.cfg_core.specs.View as view;
 ghost use Rattle.wave_link.specs.Numbered.{NumberedInOrder};
 ghost use Rattle.wave_link.specs.Ripples.{ExactRipples};
@@ -16,7 +16,6 @@ use crate::words::see_words;
 use call_gen::{reached, spell_calls};
 use cfg_build::lower;
 use cfg_core::{Graph, walks_answer};
-use image_walk::Checked;
 use live_vars::live;
 use phi_conv::join_short;
 use src_ast::{accepted_has_few_variables, written_is_narrow};
@@ -25,7 +24,7 @@ use std::alloc::Global;
 use wave_cut::cut;
 use wave_gen::generate;
 use wave_link::annotate;
-use ws_isa::Image;
+use ws_isa::{Checked, Image};
 use ws_words::NoMemory;
 
 // The graph with its short branches joined.

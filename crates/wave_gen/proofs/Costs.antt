@@ -5,8 +5,8 @@ use Rattle.std.specs.List.{sum_by}
 use Rattle.std.proofs.lemmas.List.Sums.{sum_by-cons}
 use Rattle.ws_words.specs.Outside.{Outside, State, World}
 use Rattle.ws_isa.specs.Image.{Image, Array, first_number, stops, target}
-use Rattle.image_walk.specs.Walk.{opening_memory, has_ended, CostAtMost}
-use Rattle.image_walk.proofs.Ending.{over_is_whole}
+use Rattle.ws_isa.specs.Walk.{opening_memory, has_ended, CostAtMost}
+use Rattle.ws_isa.proofs.Ending.{over_is_whole}
 use Rattle.wave_link.specs.Passed.{blocks_left}
 use Rattle.cfg_core.specs.Graph as graph
 use Rattle.cfg_core.specs.Graph.{Term, Graph, spots, spot_at, block_at}
@@ -182,7 +182,7 @@ module _ (g : Graph) (arrays : List Array) (width : ℕ) (ps : List Plan) (live 
         let w = over_at n o left (path_enough g m (opening g world turns) o left e) in
         let a = most_left I world r.0 (r.1.over ∙ w) t in
         let b = steps_many I world r.0 in
-        let c : length (Rattle.image_walk.specs.Walk.walk I world r.0) ≡ (places I C (opening_memory I world) n).fired = r.1.cost in
+        let c : length (Rattle.ws_isa.specs.Walk.walk I world r.0) ≡ (places I C (opening_memory I world) n).fired = r.1.cost in
         let f : r.0 ≤ n + (places I C (opening_memory I world) n).fired = r.1.short in
         omega (arith, a, b, c, f)
 
@@ -194,8 +194,8 @@ module _ (g : Graph) (arrays : List Array) (width : ℕ) (ps : List Plan) (live 
         let w : (places I C (opening_memory I world) m).over ≡ true = over_at m o left e in
         let r = forth I world C (shape arrays width ps (λ b x. live b x ≡ true) d.plans) (waits arrays width ps (λ b x. live b x ≡ true) d.plans) m in
         let f : (afters m (places I C (opening_memory I world) 0)).fired ≡ (places I C (opening_memory I world) m).fired = ap (λ (p : RunPlace). p.fired) (place_of_walk m) in
-        let x : length (Rattle.image_walk.specs.Walk.walk I world r.0) ≡ (places I C (opening_memory I world) m).fired = r.1.cost in
-        (length (Rattle.image_walk.specs.Walk.walk I world r.0), over_is_whole I world r.0 (r.1.over ∙ w), omega (arith, c, f, x), leaves_few m o left e)
+        let x : length (Rattle.ws_isa.specs.Walk.walk I world r.0) ≡ (places I C (opening_memory I world) m).fired = r.1.cost in
+        (length (Rattle.ws_isa.specs.Walk.walk I world r.0), over_is_whole I world r.0 (r.1.over ∙ w), omega (arith, c, f, x), leaves_few m o left e)
 
 -- the blocks of a graph
 names_count : (ts : List Term) (k : ℕ) → length (gen_terms k ts).names ≡ length ts

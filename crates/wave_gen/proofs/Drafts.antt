@@ -5,7 +5,7 @@ use Rattle.ws_isa.specs.declared.instr.Op.{Op}
 use Rattle.ws_isa.specs.declared.instr.Op.TheVariants.{Merge, Advance, Halt, Steer, Send}
 use Rattle.ws_isa.specs.declared.instr.Dest.{Dest}
 use Rattle.ws_isa.specs.Image.{Image, Instr, Array, nth, instr_at, first_number, now_dests, now_of, is_advance, is_advance_op, IsIn}
-use Rattle.image_walk.specs.Sound.{HasDest}
+use Rattle.ws_isa.specs.Sound.{HasDest}
 use Rattle.wave_gen.specs.Waits.{Distinct, Owner, Step, Fires, Rests, Skips, Copies, Stands}
 use Rattle.wave_gen.specs.Wire.{Spot, Back, Front, dest_of, dests_of, WiredInstr, Wants, Made, emit, rest, with_rooms, make, Item, Make, Act, Same}
 use Rattle.wave_gen.specs.Plans.{merges, Leaves, Onto, Either, Lands, Halts, Plan, pulse, Tail, TailAt, steers, sends, steered, hang, selected, tails_of, end_wants, behind_source, exit_made, body_made, renew, advances, plan_at, made_at, starts_at, begins, owner_of, instr_of, draft_of, source_of, operands_needed, chooses, KeptOf}

@@ -6,7 +6,7 @@ use Rattle.ws_isa.specs.declared.instr.Op.TheVariants.{Steer, Send}
 use Rattle.ws_isa.specs.declared.instr.Dest.{Dest}
 use Rattle.ws_isa.specs.Image as image
 use Rattle.ws_isa.specs.Image.{Image, Instr, Pad, Array, In, nth, or_else, instr_at, block_at, first_number, is_first, edge_of, edge_dests, pad_of, leave_to, landing_of, target, stops, IsIn, IsBlock}
-use Rattle.image_walk.specs.Sound.{HasDest, edge_all, opens_at}
+use Rattle.ws_isa.specs.Sound.{HasDest, edge_all, opens_at}
 use Rattle.wave_gen.specs.Waits.{Distinct, Code, starts, Arrives, went_past, was_sent}
 use Rattle.wave_gen.specs.Wire.{Spot, Back, Front, dests_of, WiredInstr, Wants}
 use Rattle.wave_gen.specs.Plans.{Leaves, Onto, Either, Lands, Plan, same_spot, same_spots, differing, steered, is_among, past, Tail, TailAt, steer_of, steers, sends, fronts, plan_at, starts_at, begins, tails_of, end_wants, pads_of, draft_of, code_of, exit_of, source_of, filled, next_of, instr_of}
@@ -21,9 +21,9 @@ use Rattle.wave_gen.proofs.TailLines.{is_tail_op, TailInstr, tail_instr, tail_at
 use Rattle.wave_gen.proofs.Number.{block_at_is}
 use Rattle.ws_words.proofs.Numbers.{eqb_is}
 use Rattle.ws_words.proofs.Bools.{and_parts as and_both, or_comes as or_cases}
-use Rattle.image_walk.proofs.Slots.{has_append_cases, has_append_left, has_append_right}
+use Rattle.ws_isa.proofs.Slots.{has_append_cases, has_append_left, has_append_right}
 use Rattle.ws_isa.proofs.Images.{nth_short as nth_lt}
-use Rattle.image_walk.proofs.Steps.{first_up as next_first}
+use Rattle.ws_isa.proofs.Steps.{first_up as next_first}
 
 edge_none : (image : Image) (b r : ℕ) (i : Instr) (op : Op) → is_tail_op op ≡ false → edge_of image b r i op ≡ []
 edge_none image b r i Steer e = absurd (both_ways true e refl)
@@ -50,7 +50,7 @@ edges_distinct image b r k (suc n) d s = distinct_append (edge_dests image b r k
     (λ j q g h. apart j q g h)
   where
     apart : (j q : ℕ) → HasDest (edge_dests image b r k) j q → HasDest (edge_all image b r (suc k) n) j q → ⊥
-    apart j q g h = let f = Rattle.image_walk.proofs.Slots.edge_all_from image b r (suc k) n j q h in
+    apart j q g h = let f = Rattle.ws_isa.proofs.Slots.edge_all_from image b r (suc k) n j q h in
         let lo : suc k ≤ f.source = f.low in let hi : f.source < suc k + n = f.high in
         let e : k ≡ f.source = s k f.source j q (omega arith) (omega arith) (omega arith) (omega arith) g f.has in omega arith
 

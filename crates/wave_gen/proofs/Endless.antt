@@ -4,7 +4,7 @@ use Rattle.std.proofs.lemmas.Bool.{cases_lt}
 use Rattle.std.proofs.lemmas.Nat.{mul-le}
 use Rattle.ws_words.specs.Outside.{World}
 use Rattle.ws_isa.specs.Image.{Image}
-use Rattle.image_walk.specs.Walk.{walk as instances}
+use Rattle.ws_isa.specs.Walk.{walk as instances}
 use Rattle.cfg_core.specs.Graph.{Graph, spots, entry_of}
 use Rattle.wave_gen.specs.Keeps.{KeepsWalk, EndlessWith}
 use Rattle.wave_gen.proofs.Paced.{spots_most, last_block}

@@ -4,7 +4,7 @@ use Rattle.std.proofs.lemmas.Bool.{cases_Bool, cases_eq, both_ways, cond-true, c
 use Rattle.ws_isa.specs.declared.instr.Op.TheVariants.{Merge, Halt}
 use Rattle.ws_isa.specs.declared.instr.Dest.{Dest}
 use Rattle.ws_isa.specs.Image.{In, ports_of, now_of}
-use Rattle.image_walk.specs.Sound.{HasDest}
+use Rattle.ws_isa.specs.Sound.{HasDest}
 use Rattle.wave_gen.specs.Waits.{Distinct, Owner}
 use Rattle.wave_gen.specs.Wire.{Spot, dests_of, Wants, Made, emit, gather, Item, Make, Act, Same}
 use Rattle.wave_gen.specs.Plans.{Leaves, Onto, Either, Lands, Halts, Plan, pulse, steered, Tail, steers, sends, operands_of, hang, more, chain, selected, tails_of, end_wants, behind_source, exit_made, body_made, has_front, renew, has_dest, owner_of}

@@ -2,7 +2,7 @@
 use Rattle.std.proofs.Common.{ℕ, zero, suc, ◌+◌, ◌-◌, ◌≡◌, ◌<◌, ◌≤◌, ◌⊎◌, ◌||◌, Bool, true, false, cond, eqb, List, [], ◌∷◌, length, Some, None, refl, sym, ap, ◌∙◌, subst, inl, inr, arith, eq-eqb, ne_eqb}
 use Rattle.std.proofs.lemmas.Bool.{cases_eq, both_ways}
 use Rattle.ws_isa.specs.Image.{In, nth}
-use Rattle.image_walk.specs.Sound.{HasDest}
+use Rattle.ws_isa.specs.Sound.{HasDest}
 use Rattle.wave_gen.specs.Wire.{Spot, Back, Front, dests_of, Made, gather}
 use Rattle.wave_gen.specs.Plans.{has_front, renew, advances, fronts}
 use Rattle.wave_gen.proofs.Planned.{Apart}

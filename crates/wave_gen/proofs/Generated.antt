@@ -2,7 +2,7 @@
 use Rattle.std.proofs.Common.{ℕ, ◌≡◌, Bool, true, false, List, refl, sym, subst}
 use Rattle.ws_words.specs.Outside.{World}
 use Rattle.ws_isa.specs.Image.{Image}
-use Rattle.image_walk.specs.Open.{OpenToNotes}
+use Rattle.ws_isa.specs.Open.{OpenToNotes}
 use Rattle.cfg_core.specs.Graph as graph
 use Rattle.cfg_core.specs.Graph.{Graph, block_at}
 use Rattle.cfg_core.specs.Rules as rules

@@ -5,7 +5,7 @@ use Rattle.ws_words.specs.Outside.{World, zeros}
 use Rattle.ws_isa.specs.declared.instr.Op.{Op}
 use Rattle.ws_isa.specs.Image.{Image, Array, cells_of}
 use Rattle.ws_isa.specs.Formed as formed
-use Rattle.image_walk.specs.Open.{OpenToNotes}
+use Rattle.ws_isa.specs.Open.{OpenToNotes}
 use Rattle.cfg_core.specs.Graph as graph
 use Rattle.cfg_core.specs.Graph.{Term, Number, Var, Cell, Flip, Not, Neg, Binary, GraphArray, Graph, spots, spot_at, block_at}
 use Rattle.cfg_core.specs.Rules.{TermIn, OpIn, ExitIn}

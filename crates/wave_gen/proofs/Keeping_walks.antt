@@ -4,10 +4,10 @@ use Rattle.std.proofs.lemmas.Bool.{cond-true}
 use Rattle.std.specs.List.{AllByRecursion}
 use Rattle.ws_words.specs.Outside.{Act, Outside, State, World}
 use Rattle.ws_isa.specs.Image.{Image, Array, In, first_number, is_first, IsBlock}
-use Rattle.image_walk.specs.Sound.{SlotRules}
-use Rattle.image_walk.specs.Walk.{opening_memory, mem, has_ended, CostAtMost}
-use Rattle.image_walk.specs.Walk.{walk as instances}
-use Rattle.image_walk.proofs.Ending.{over_is_whole}
+use Rattle.ws_isa.specs.Sound.{SlotRules}
+use Rattle.ws_isa.specs.Walk.{opening_memory, mem, has_ended, CostAtMost}
+use Rattle.ws_isa.specs.Walk.{walk as instances}
+use Rattle.ws_isa.proofs.Ending.{over_is_whole}
 use Rattle.cfg_core.specs.Graph as graph
 use Rattle.cfg_core.specs.Graph.{Graph, Spot, spots, spot_at, block_at, no_spot, no_proc, proc_at, entry_of}
 use Rattle.cfg_core.specs.Rules.{IsGraph, ProcNumbers}

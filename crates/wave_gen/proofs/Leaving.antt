@@ -3,7 +3,7 @@ use Rattle.std.proofs.Common.{ℕ, zero, suc, ◌+◌, ◌-◌, ◌≡◌, ◌�
 use Rattle.std.proofs.lemmas.Bool.{cases_order, cond-true}
 use Rattle.ws_words.specs.Outside.{Outside, World}
 use Rattle.ws_isa.specs.Image.{Image}
-use Rattle.image_walk.specs.Walk.{Inst, Pos, pos, step, walk, with_inst, inst_at, fires, fires_from, is_within}
+use Rattle.ws_isa.specs.Walk.{Inst, Pos, pos, step, walk, with_inst, inst_at, fires, fires_from, is_within}
 use Rattle.wave_link.specs.Passed.{where_left, blocks_left}
 use Rattle.cfg_core.specs.Graph.{Graph}
 use Rattle.cfg_core.specs.Walk as graph

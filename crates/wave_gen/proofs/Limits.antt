@@ -6,8 +6,8 @@ use Rattle.ws_isa.specs.declared.instr.Op.TheVariants.{Send}
 use Rattle.ws_isa.specs.Image as image
 use Rattle.ws_isa.specs.Image.{Image, Block, Pad, In, nth, flat, instr_at, is_stop, stops, target, IsIn, IsBlock}
 use Rattle.ws_isa.specs.Formed.{ConstWithin, RiseFrom, PadsRise}
-use Rattle.image_walk.specs.Sound.{HasPad}
-use Rattle.image_walk.specs.Open.{OpenToNotes}
+use Rattle.ws_isa.specs.Sound.{HasPad}
+use Rattle.ws_isa.specs.Open.{OpenToNotes}
 use Rattle.cfg_core.specs.Graph as graph
 use Rattle.cfg_core.specs.Graph.{Term, Number, Var, Cell, Flip, Not, Neg, Binary, Graph, Spot, no_spot, spots, spot_at, block_at}
 use Rattle.cfg_core.specs.Rules as rules

@@ -6,7 +6,7 @@ use Rattle.ws_isa.specs.declared.instr.Op.TheVariants.{Send, Halt, Advance}
 use Rattle.ws_isa.specs.Image as image
 use Rattle.ws_isa.specs.Image.{Image, Instr, Block, Pad, Array, In, nth, instr_at, block_at, first_number, is_first, is_advance, is_giving, is_giving_op, is_memory, stops, target, now_dests, now_of, edge_dests, edge_of, IsIn, IsBlock}
 use Rattle.ws_isa.specs.Formed.{WavesInOrder, WavesFrom}
-use Rattle.image_walk.specs.Sound.{HasDest, HasPad, IsAhead}
+use Rattle.ws_isa.specs.Sound.{HasDest, HasPad, IsAhead}
 use Rattle.wave_gen.specs.Waits.{Code}
 use Rattle.wave_gen.specs.Wire.{Item, Make, Act, Same, Wants, dests_of, WiredInstr}
 use Rattle.wave_gen.specs.Plans.{Tail, Leaves, Onto, Either, Lands, Halts, Plan, pulse, fronts, plan_at, starts_at, begins, pads_of, blocks_of, draft_of, code_of, exit_of, source_of, chooses, operands_needed, exit_made, tails_of, sends, made_at, selected, end_wants}
@@ -22,7 +22,7 @@ use Rattle.wave_gen.proofs.Number.{number_is, block_at_is, is_block, block_is, i
 use Rattle.wave_gen.proofs.Lines.{Items, Lines, line_at}
 use Rattle.wave_gen.proofs.Drafts.{Kind, LineOf, line_in, inner_line, outer_line, front_line}
 use Rattle.wave_gen.proofs.TailLines.{is_tail_op, is_tail, made_past}
-use Rattle.image_walk.proofs.Blocks.{nth_append_left, nth_append_right}
+use Rattle.ws_isa.proofs.Blocks.{nth_append_left, nth_append_right}
 use Rattle.ws_isa.proofs.Images.{nth_short as nth_lt}
 
 count_sends : (k : ℕ) (xs : List ℕ) → length (sends k xs) ≡ length xs

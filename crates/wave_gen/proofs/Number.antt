@@ -3,9 +3,9 @@ use Rattle.std.proofs.Common.{ℕ, zero, suc, ◌+◌, ◌-◌, ◌≡◌, ◌<�
 use Rattle.ws_isa.specs.Image.{Image, Instr, Block, Array, nth, or_else, flat, first_of, first_number, instr_at, block_at, IsBlock}
 use Rattle.wave_gen.specs.Wire.{WiredInstr, Made}
 use Rattle.wave_gen.specs.Plans.{Plan, no_made, mades, made_at, blocks_from, numbers, begins, instr_of, block_of, blocks_of, draft_of}
-use Rattle.image_walk.proofs.Steps.{first_of_pos}
+use Rattle.ws_isa.proofs.Steps.{first_of_pos}
 use Rattle.ws_words.proofs.Lists.{length_map}
-use Rattle.image_walk.proofs.Blocks.{nth_append_left, nth_append_right}
+use Rattle.ws_isa.proofs.Blocks.{nth_append_left, nth_append_right}
 use Rattle.ws_isa.proofs.Images.{nth_short as nth_lt}
 
 pub nth_map : {A B : Type 0} (f : A → B) (xs : List A) (i : ℕ) (x : A) → nth xs i ≡ Some x → nth (map f xs) i ≡ Some (f x)

@@ -6,7 +6,7 @@ use Rattle.ws_isa.specs.declared.instr.Op.TheVariants.{Merge}
 use Rattle.ws_isa.specs.Image as image
 use Rattle.ws_isa.specs.Image.{Image, Instr, Block, Array, In, nth, flat, block_at, first_number, is_giving, is_giving_op, edges_of, IsBlock}
 use Rattle.ws_isa.specs.Formed.{NoNotes}
-use Rattle.image_walk.specs.Open.{OnlyEdge, IsArm, HasGiver, EnteredBySteer}
+use Rattle.ws_isa.specs.Open.{OnlyEdge, IsArm, HasGiver, EnteredBySteer}
 use Rattle.wave_gen.specs.Wire.{WiredInstr, Made, emit}
 use Rattle.wave_gen.specs.Plans.{gives, merges, differing, Leaves, Onto, Either, Lands, Halts, Plan, pulse, steer_of, tails_of, body_made, renew, plan_at, made_at, starts_at, begins, instr_of, blocks_of, draft_of, exit_of, source_of}
 use Rattle.wave_gen.proofs.SteeredNames.{or_first}

@@ -7,8 +7,8 @@ use Rattle.ws_isa.specs.declared.instr.Op.TheVariants.{Merge, Advance, Steer, Se
 use Rattle.ws_isa.specs.declared.instr.Dest.{Dest}
 use Rattle.ws_isa.specs.Image.{Image, Instr, Block, Pad, Array, In, instr_at, block_at, first_number, ports, is_giving_op, is_stop, stops, now_of, now_dests, edge_of, edge_dests, IsIn, IsBlock, IsInstr}
 use Rattle.ws_isa.specs.Formed.{DestsIn, OpIn, ExitIn, References, DestsSuit, OthersSuit, SomeLanding, Suited}
-use Rattle.image_walk.specs.Sound.{HasDest, HasPad, BlockShape, ShapeRules}
-use Rattle.image_walk.specs.Open.{OpenToNotes}
+use Rattle.ws_isa.specs.Sound.{HasDest, HasPad, BlockShape, ShapeRules}
+use Rattle.ws_isa.specs.Open.{OpenToNotes}
 use Rattle.wave_gen.specs.Waits.{Code}
 use Rattle.wave_gen.specs.Wire.{WiredInstr, Wants, dests_of}
 use Rattle.wave_gen.specs.Plans.{Leaves, Onto, Either, Lands, Halts, Plan, fronts, plan_at, made_at, begins, instr_of, draft_of, code_of, exit_of, source_of}

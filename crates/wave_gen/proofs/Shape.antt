@@ -5,7 +5,7 @@ use Rattle.ws_isa.specs.declared.instr.Op.{Op}
 use Rattle.ws_isa.specs.declared.instr.Op.TheVariants.{Steer, Send}
 use Rattle.ws_isa.specs.Image as image
 use Rattle.ws_isa.specs.Image.{Image, Instr, Array, In, nth, instr_at, block_at, first_number, is_first, is_advance, target, stops, IsIn, IsBlock}
-use Rattle.image_walk.specs.Sound.{BringsResult}
+use Rattle.ws_isa.specs.Sound.{BringsResult}
 use Rattle.wave_gen.specs.Waits.{Owner, Step, Fires, Rests, Skips, Copies, count, Stands}
 use Rattle.wave_gen.specs.Wire.{WiredInstr, Wants, Made, with_rooms, make}
 use Rattle.wave_gen.specs.Plans.{Leaves, Onto, Either, Lands, Halts, Plan, Tail, TailAt, steers, sends, steered, hang, plan_at, made_at, starts_at, begins, owner_of, tails_of, end_wants, behind_source, exit_made, block_of, draft_of, code_of, exit_of, source_of, operands_needed, chooses, KeptOf, instr_of}

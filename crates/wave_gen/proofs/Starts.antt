@@ -4,7 +4,7 @@ use Rattle.std.proofs.lemmas.Bool.{cases_Bool, cond-true}
 use Rattle.ws_isa.specs.declared.instr.Dest.{Dest}
 use Rattle.ws_isa.specs.Image as image
 use Rattle.ws_isa.specs.Image.{Image, Instr, Pad, Array, In, nth, or_else, instr_at, block_at, first_number, is_advance, is_first, start_dests, pad_of, target, stops, IsIn, IsBlock}
-use Rattle.image_walk.specs.Sound.{HasDest}
+use Rattle.ws_isa.specs.Sound.{HasDest}
 use Rattle.wave_gen.specs.Waits.{Code, own, starts}
 use Rattle.wave_gen.specs.Wire.{Spot, Back, Front, dests_of, Wants, Made}
 use Rattle.wave_gen.specs.Plans.{Plan, advances, renew, body_made, plan_at, made_at, starts_at, begins, owner_of, end_wants, draft_of, code_of}

@@ -13,7 +13,7 @@ use Rattle.wave_gen.proofs.Lines.{line_at, Items, More, then_more, same_more, em
 use Rattle.wave_gen.proofs.Blocks.{begins_next, made_is}
 use Rattle.wave_gen.proofs.Drafts.{LineOf, line_in}
 use Rattle.wave_gen.proofs.Number.{number_is, instr_is}
-use Rattle.image_walk.proofs.Blocks.{nth_append_left, nth_append_right}
+use Rattle.ws_isa.proofs.Blocks.{nth_append_left, nth_append_right}
 use Rattle.ws_isa.proofs.Images.{nth_short as nth_lt}
 
 abbrev pub is_tail_op : Op → Bool

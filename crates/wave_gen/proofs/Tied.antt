@@ -28,7 +28,7 @@ use Rattle.wave_gen.proofs.Running.{Chained}
 use Rattle.wave_gen.proofs.Waiting.{target_there}
 use Rattle.wave_gen.proofs.Following.{ending, left, stopped, To, onto, either, lands}
 use Rattle.ws_words.proofs.Numbers.{zeros_count as zeros_length}
-use Rattle.image_walk.proofs.Opening.{zeros_index as zeros_at}
+use Rattle.ws_isa.proofs.Opening.{zeros_index as zeros_at}
 use Rattle.ws_words.proofs.Held.{set_length}
 use Rattle.cfg_core.proofs.Spots.{landed_count as landed_length}
 
@@ -541,8 +541,8 @@ module _ (arrays : List Array) (width : ℕ) (ps : List Plan) (Live : ℕ → �
     pub main_there : Type 0
     main_there = graph.entry_of g (length g.procs - 1) < length (spots g)
 
-    pub begins_so : graph.entry_of g (length g.procs - 1) < length (spots g) → (spot_at g (graph.entry_of g (length g.procs - 1))).vars ≡ (graph.proc_at g (length g.procs - 1)).vars → Tied (places I C (Rattle.image_walk.specs.Walk.opening_memory I world) 0) (walks.opening g world turns)
-    unfolding Rattle.image_walk.specs.Walk.opening_memory draft_of
+    pub begins_so : graph.entry_of g (length g.procs - 1) < length (spots g) → (spot_at g (graph.entry_of g (length g.procs - 1))).vars ≡ (graph.proc_at g (length g.procs - 1)).vars → Tied (places I C (Rattle.ws_isa.specs.Walk.opening_memory I world) 0) (walks.opening g world turns)
+    unfolding Rattle.ws_isa.specs.Walk.opening_memory draft_of
     begins_so l v =
         let w : (spot_at g (graph.entry_of g (length g.procs - 1))).vars < width = (drawn.blocks (graph.entry_of g (length g.procs - 1)) l).wide in
         let n : length (zeros (graph.proc_at g (length g.procs - 1)).vars) ≡ (graph.proc_at g (length g.procs - 1)).vars = zeros_length (graph.proc_at g (length g.procs - 1)).vars in

@@ -3,14 +3,14 @@ use Rattle.std.proofs.Common.{ℕ, zero, suc, ◌+◌, ◌-◌, ◌≡◌, ◌<�
 use Rattle.std.proofs.lemmas.Bool.{cases_Bool, cases_eq, cases_lt, both_ways, cond-true, cond-false, lt-ltb, le-ltb}
 use Rattle.ws_isa.specs.declared.instr.Op.{Op}
 use Rattle.ws_isa.specs.Image.{Image, nth, ports, ports_of, is_advance, is_first, first_number, size_of, stops, target, now_dests, edge_dests, start_dests, IsIn, IsBlock}
-use Rattle.image_walk.specs.Sound.{OpenSlots, HasDest, none_open, all_opened, Fresh, closed, opens_at, AdvancesOpen, SlotRules}
-use Rattle.image_walk.proofs.SlotCert.{Alike, SlotCert}
+use Rattle.ws_isa.specs.Sound.{OpenSlots, HasDest, none_open, all_opened, Fresh, closed, opens_at, AdvancesOpen, SlotRules}
+use Rattle.ws_isa.proofs.SlotCert.{Alike, SlotCert}
 use Rattle.wave_gen.specs.Waits.{Distinct, Owner, Step, Fires, Rests, Skips, Copies, is_name, without, with_ports, renamed, own, count, FiresAt, RestsAt, Stands, Code, starts, went_past, was_sent, Waits}
 use Rattle.wave_gen.proofs.Slots.{has_or_not, distinct_fresh}
-use Rattle.image_walk.proofs.Certified.{slot_rules}
+use Rattle.ws_isa.proofs.Certified.{slot_rules}
 use Rattle.wave_gen.proofs.WalkShape.{WalkShape}
-use Rattle.image_walk.proofs.Slots.{all_opened_from, all_opened_has, all_opened_keeps, closed_cases, edge_all_from, edge_all_has}
-use Rattle.image_walk.proofs.Steps.{first_up}
+use Rattle.ws_isa.proofs.Slots.{all_opened_from, all_opened_has, all_opened_keeps, closed_cases, edge_all_from, edge_all_has}
+use Rattle.ws_isa.proofs.Steps.{first_up}
 
 abbrev pub is_some : {A : Type 0} → Option A → Bool
 is_some None = false

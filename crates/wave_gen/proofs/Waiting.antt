@@ -4,12 +4,12 @@ use Rattle.std.proofs.lemmas.Bool.{both_ways}
 use Rattle.ws_isa.specs.declared.instr.Dest.{Dest}
 use Rattle.ws_isa.specs.Image as image
 use Rattle.ws_isa.specs.Image.{Image, Pad, Array, In, nth, block_at, first_number, is_first, is_stop, edge_dests, pad_of, start_dests, target, stops, IsIn, IsBlock}
-use Rattle.image_walk.specs.Sound.{HasDest, edge_all, opens_at}
+use Rattle.ws_isa.specs.Sound.{HasDest, edge_all, opens_at}
 use Rattle.wave_gen.specs.Waits.{Distinct, Code, starts, Stands, Arrives, Waits}
 use Rattle.wave_gen.specs.Wire.{Spot, dests_of, Wants}
 use Rattle.wave_gen.specs.Plans.{Leaves, Onto, Either, Lands, Halts, Plan, pulse, fronts, plan_at, starts_at, begins, end_wants, pads_of, draft_of, code_of, exit_of, source_of, KeptOf, operands_needed, chooses, exit_made}
 use Rattle.wave_gen.proofs.Planned.{PlansAre, EdgesAre, Inner, Outer}
-use Rattle.image_walk.proofs.Slots.{edge_all_from}
+use Rattle.ws_isa.proofs.Slots.{edge_all_from}
 use Rattle.wave_gen.proofs.Fronts.{front_is}
 use Rattle.wave_gen.proofs.Blocks.{starts_outer, facts}
 use Rattle.wave_gen.proofs.Drafts.{block_stands, source_in}

@@ -1,7 +1,7 @@
 -- What the walk of a draft needs of its shape.
 use Rattle.std.proofs.Common.{ℕ, ◌≡◌, true}
 use Rattle.ws_isa.specs.Image.{Image, is_advance, is_first, IsIn, IsBlock}
-use Rattle.image_walk.specs.Sound.{EdgeShape}
+use Rattle.ws_isa.specs.Sound.{EdgeShape}
 
 pub record WalkShape (image : Image) : Type 0 where
   pub has_block : IsBlock image 1

@@ -4,7 +4,7 @@ use Rattle.std.specs.Prelude.{ℕ, zero, suc, ◌+◌, ◌*◌, ◌≡◌, ◌�
 use Rattle.std.specs.List.{sum_by}
 use Rattle.ws_words.specs.Outside.{Outside, World}
 use Rattle.ws_isa.specs.Image.{Image}
-use Rattle.image_walk.specs.Walk.{CostAtMost}
+use Rattle.ws_isa.specs.Walk.{CostAtMost}
 use Rattle.cfg_core.specs.Graph.{Term, Number, Var, Cell, Flip, Not, Neg, Binary, Op, Assign, Store, Print, Read, Give, Take, Choose, Tick, TickBy, Exit, Goto, Branch, Return, Send, Graph, spot_at, block_at}
 use Rattle.cfg_core.specs.Walk.{Over, walk, opening}
 use Rattle.cfg_core.specs.Weights.{path}

@@ -2,8 +2,8 @@
 use Rattle.std.specs.Prelude.{ℕ, suc, ◌*◌, ◌≡◌, ◌<◌, true, false, List, ◌++◌, length}
 use Rattle.ws_words.specs.Outside.{Act, Outside, State, World}
 use Rattle.ws_isa.specs.Image.{Image}
-use Rattle.image_walk.specs.Walk.{mem, has_ended, CostAtMost}
-use Rattle.image_walk.specs.Walk.{walk as instances}
+use Rattle.ws_isa.specs.Walk.{mem, has_ended, CostAtMost}
+use Rattle.ws_isa.specs.Walk.{walk as instances}
 use Rattle.cfg_core.specs.Graph.{Graph}
 use Rattle.cfg_core.specs.Walk.{At, Over, Going, Frame, walk, opening, Goes}
 

@@ -3,7 +3,7 @@
 ghost use Rattle.std.specs.Prelude.{◌≡◌, ℕ, IfOk};
 ghost use Rattle.ws_words.specs.Outside.{World};
 ghost use Rattle.ws_isa.specs.View as image;
-ghost use Rattle.image_walk.specs.Open.{OpenToNotes};
+ghost use Rattle.ws_isa.specs.Open.{OpenToNotes};
 ghost use Rattle.cfg_core.specs.Rules.{IsGraph};
 ghost use Rattle.cfg_core.specs.View as view;
 ghost use Rattle.live_vars.specs.Marks.{AreLive, has};

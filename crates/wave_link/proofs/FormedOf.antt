@@ -9,11 +9,11 @@ use Rattle.ws_isa.specs.declared.instr.Link.TheVariants.{Unknown, Nothing, Is}
 use Rattle.ws_isa.specs.declared.instr.Dest.{Dest}
 use Rattle.ws_isa.specs.Image.{Instr, Exit, Goto, Branch, Landings, Stop, Pad, Block, Image, In, no_instr, no_block, nth, or_else, flat, instr_at, block_at, first_number, ports, is_memory_op, is_writing_op, is_giving_op, IsIn, IsBlock, IsInstr}
 use Rattle.ws_isa.specs.Formed.{SendWithin, ConstWithin, most_instrs, most_dests, most_pads, most_landings, sequence_limit, ArraysFormed, DestsIn, OpIn, ExitIn, References, DestsSuit, OthersSuit, ListsSuit, SomeLanding, PadsRise, RiseFrom, NoteSuits, LinkWithin, NoteWithin, ExitWithin, InstrWithin, BlockWithin, Suited, Formed}
-use Rattle.image_walk.specs.Sound.{HasDest, ShapeRules}
-use Rattle.image_walk.specs.Open.{OpenToNotes}
-use Rattle.image_walk.proofs.Blocks.{number_last}
-use Rattle.image_walk.proofs.Slots.{has_append_cases}
-use Rattle.image_walk.proofs.There.{There, there, dests_there, others_there}
+use Rattle.ws_isa.specs.Sound.{HasDest, ShapeRules}
+use Rattle.ws_isa.specs.Open.{OpenToNotes}
+use Rattle.ws_isa.proofs.Blocks.{number_last}
+use Rattle.ws_isa.proofs.Slots.{has_append_cases}
+use Rattle.ws_isa.proofs.There.{There, there, dests_there, others_there}
 use Rattle.wave_link.specs.declared.links.Passage.{Passage}
 use Rattle.wave_link.specs.Layout.{Tables, is_steer_op}
 use Rattle.wave_link.specs.Notes.{note_at}

@@ -4,11 +4,11 @@ use Rattle.std.proofs.Common.{ℕ, zero, suc, ◌+◌, ◌≡◌, ◌<◌, ◌�
 use Rattle.std.proofs.lemmas.Bool.{cases_Bool, cases_eq, eqb-true}
 use Rattle.ws_isa.specs.declared.instr.Dest.{Dest}
 use Rattle.ws_isa.specs.Image.{Image, edge_dests}
-use Rattle.image_walk.specs.Sound.{OpenSlots, opened, all_opened, Fresh, edge_all}
-use Rattle.image_walk.proofs.Slots.{all_opened_keeps, all_opened_append, fresh_left, fresh_right}
+use Rattle.ws_isa.specs.Sound.{OpenSlots, opened, all_opened, Fresh, edge_all}
+use Rattle.ws_isa.proofs.Slots.{all_opened_keeps, all_opened_append, fresh_left, fresh_right}
 use Rattle.wave_link.proofs.GrownForm.{renamed}
 use Rattle.wave_link.proofs.SlotsKept.{swap, all_swap, fresh_append}
-use Rattle.image_walk.proofs.Opened.{opened_here}
+use Rattle.ws_isa.proofs.Opened.{opened_here}
 use Rattle.ws_words.proofs.Bools.{and_parts as and_both}
 
 lists_swap : (xs ys : List Dest) (o : OpenSlots) → all_opened xs (all_opened ys o) ≡ all_opened ys (all_opened xs o)

@@ -2,7 +2,7 @@
 use Rattle.std.proofs.Common.{ℕ, suc, ◌+◌, ◌≡◌, Bool, true, false, cond, List, [], ◌∷◌, ◌++◌, Option, Some, None, ltb, eqb}
 use Rattle.ws_isa.specs.declared.instr.Dest.{Dest}
 use Rattle.ws_isa.specs.Image.{Image, first_number, ports, is_advance, stops, target, now_dests, is_first, start_dests, IsIn, IsBlock}
-use Rattle.image_walk.specs.Sound.{OpenSlots, HasDest, all_opened, Fresh, opens_at}
+use Rattle.ws_isa.specs.Sound.{OpenSlots, HasDest, all_opened, Fresh, opens_at}
 
 -- what triggers a block's no-op: nothing, if it has none; an instruction of the block; a steer of the block before
 pub data Trigger : Type 0 where

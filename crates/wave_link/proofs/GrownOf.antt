@@ -7,11 +7,11 @@ use Rattle.ws_isa.specs.declared.instr.Op.TheVariants.{Steer, Nop, Halt}
 use Rattle.ws_isa.specs.declared.instr.Dest.{Dest}
 use Rattle.ws_isa.specs.Image.{Instr, Exit, Goto, Branch, Landings, Stop, Image, nth, instr_at, block_at, first_number, size_of, ports, ports_of, is_memory, is_memory_op, is_advance, is_advance_op, is_giving, stops, is_stop, target, is_first, edges_of, leave_to, now_of, now_dests, edge_of, edge_dests, IsIn, IsBlock, IsInstr}
 use Rattle.ws_isa.specs.Formed.{References}
-use Rattle.image_walk.specs.Sound.{OpenSlots, HasDest, all_opened, Fresh, edge_all, opens_at, ShapeRules}
-use Rattle.image_walk.specs.Open.{EnteredBySteer, OpenToNotes}
-use Rattle.image_walk.specs.Walk.{choice_of, opening_memory}
-use Rattle.image_walk.proofs.Steps.{first_le}
-use Rattle.image_walk.proofs.There.{now_there, start_there, edge_there, edges_there}
+use Rattle.ws_isa.specs.Sound.{OpenSlots, HasDest, all_opened, Fresh, edge_all, opens_at, ShapeRules}
+use Rattle.ws_isa.specs.Open.{EnteredBySteer, OpenToNotes}
+use Rattle.ws_isa.specs.Walk.{choice_of, opening_memory}
+use Rattle.ws_isa.proofs.Steps.{first_le}
+use Rattle.ws_isa.proofs.There.{now_there, start_there, edge_there, edges_there}
 use Rattle.wave_link.specs.Layout.{is_steer_op}
 use Rattle.wave_link.specs.Grown.{grown_exit, annotated}
 use Rattle.wave_link.specs.Adds.{adds}

@@ -2,8 +2,8 @@
 use Rattle.std.proofs.Common.{ℕ, zero, suc, ◌≡◌, ◌<◌, ◌≤◌, ◌⊎◌, true, cond, eqb, length, Option, Some, None, refl, sym, ap, ◌∙◌, inl, inr, subst, arith, eq-eqb, ne_eqb}
 use Rattle.std.proofs.lemmas.Bool.{cases_eq, cases_lt}
 use Rattle.ws_isa.specs.Image.{Image, flat, first_number, IsIn, IsBlock, IsInstr}
-use Rattle.image_walk.proofs.Blocks.{number_last}
-use Rattle.image_walk.proofs.Steps.{first_le}
+use Rattle.ws_isa.proofs.Blocks.{number_last}
+use Rattle.ws_isa.proofs.Steps.{first_le}
 use Rattle.wave_link.specs.Grown.{annotated}
 use Rattle.wave_link.specs.Adds.{adds}
 use Rattle.wave_link.proofs.Numbers.{one_if, shift, new, nop, first_is, ends_are, new_is}

@@ -2,8 +2,8 @@
 use Rattle.std.proofs.Common.{ℕ, zero, suc, ◌+◌, ◌-◌, ◌≡◌, ◌<◌, ◌≤◌, ◌⊎◌, Bool, true, false, cond, not, eqb, ◌&&◌, List, [], ◌∷◌, length, length-append, get_or, Some, refl, sym, ap, ◌∙◌, inl, inr, subst, arith, ne_eqb}
 use Rattle.std.proofs.lemmas.Bool.{cases_Bool, cases_eq, cases_lt}
 use Rattle.ws_isa.specs.Image.{Instr, Block, Image, no_instr, no_block, nth, or_else, flat, instr_at, block_at, first_of, first_number, is_memory, is_memory_op, IsIn, IsBlock, IsInstr}
-use Rattle.image_walk.proofs.Blocks.{block_is, instr_is, number_next}
-use Rattle.image_walk.proofs.Steps.{first_le}
+use Rattle.ws_isa.proofs.Blocks.{block_is, instr_is, number_next}
+use Rattle.ws_isa.proofs.Steps.{first_le}
 use Rattle.wave_link.specs.declared.outline.Outline.{Outline}
 use Rattle.wave_link.specs.declared.states.Ways.{Ways}
 use Rattle.wave_link.specs.declared.states.State.{State}

@@ -6,10 +6,10 @@ use Rattle.ws_isa.specs.declared.instr.Op.TheVariants.{Steer}
 use Rattle.ws_isa.specs.declared.instr.Dest.{Dest}
 use Rattle.ws_isa.specs.Image.{Instr, Exit, Goto, Branch, Landings, Stop, Image, nth, or_else, no_instr, flat, instr_at, block_at, first_number, edges_of, is_giving_op, IsIn, IsBlock, IsInstr}
 use Rattle.ws_isa.specs.Formed.{References}
-use Rattle.image_walk.specs.Sound.{HasDest, ShapeRules}
-use Rattle.image_walk.specs.Open.{OnlyEdge, EnteredBySteer, OpenToNotes}
-use Rattle.image_walk.proofs.Slots.{has_append_cases, has_append_right}
-use Rattle.image_walk.proofs.There.{There, dests_there, others_there}
+use Rattle.ws_isa.specs.Sound.{HasDest, ShapeRules}
+use Rattle.ws_isa.specs.Open.{OnlyEdge, EnteredBySteer, OpenToNotes}
+use Rattle.ws_isa.proofs.Slots.{has_append_cases, has_append_right}
+use Rattle.ws_isa.proofs.There.{There, dests_there, others_there}
 use Rattle.wave_link.specs.Layout.{Tables, is_steer_op}
 use Rattle.wave_link.specs.Grown.{extra_dest, grown_exit, nop_instr, annotated}
 use Rattle.wave_link.specs.Adds.{adds}

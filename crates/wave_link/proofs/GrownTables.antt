@@ -5,8 +5,8 @@ use Rattle.std.proofs.lemmas.List.{get_or-set_other, get_or-replicate, length-re
 use Rattle.std.proofs.Math.ListN.{length-set}
 use Rattle.ws_isa.specs.declared.instr.Op.{Op}
 use Rattle.ws_isa.specs.Image.{Instr, Exit, Goto, Branch, Landings, Stop, Block, Image, no_instr, no_block, nth, or_else, flat, instr_at, block_at, first_of, first_number, is_giving_op, IsIn, IsBlock}
-use Rattle.image_walk.proofs.Blocks.{block_is}
-use Rattle.image_walk.proofs.Steps.{first_le}
+use Rattle.ws_isa.proofs.Blocks.{block_is}
+use Rattle.ws_isa.proofs.Steps.{first_le}
 use Rattle.wave_link.specs.Layout.{is_steer_op, giving_from, steer_from, givings_from, steers_from, numbers_from, count_up, with_nop, Extras, steered, extras_step, extras_from, givings_table, steers_table, nops_table, numbers_table, no_extras, extras_of}
 use Rattle.wave_link.specs.Grown.{added_in}
 use Rattle.wave_link.proofs.Parts.{tables_in}

@@ -3,8 +3,8 @@ use Rattle.std.proofs.Common.{ℕ, zero, suc, ◌+◌, ◌-◌, ◌≡◌, ◌<�
 use Rattle.std.proofs.lemmas.Bool.{cases_eq}
 use Rattle.ws_isa.specs.Image.{Exit, Goto, Branch, Landings, Stop, Block, Image, nth, or_else, no_block, block_at, leave_to, is_stop, stops, target, is_first, edges_of, IsBlock}
 use Rattle.ws_isa.specs.Formed.{WavesFrom, WavesInOrder}
-use Rattle.image_walk.specs.Sound.{ShapeRules}
-use Rattle.image_walk.specs.Open.{IsArm}
+use Rattle.ws_isa.specs.Sound.{ShapeRules}
+use Rattle.ws_isa.specs.Open.{IsArm}
 use Rattle.wave_link.specs.declared.outline.Way.{Way}
 use Rattle.wave_link.specs.declared.outline.Way.TheVariants.{Out, On, Fork}
 use Rattle.wave_link.specs.declared.outline.Outline.{Outline}

@@ -6,8 +6,8 @@ use Rattle.ws_isa.specs.declared.instr.Op.{Op}
 use Rattle.ws_isa.specs.declared.instr.Link.{Link}
 use Rattle.ws_isa.specs.declared.instr.Link.TheVariants.{Unknown}
 use Rattle.ws_isa.specs.Image.{Instr, Image, block_at, is_memory_op, is_writing_op, IsBlock}
-use Rattle.image_walk.specs.Sound.{ShapeRules}
-use Rattle.image_walk.specs.Open.{OpenToNotes}
+use Rattle.ws_isa.specs.Sound.{ShapeRules}
+use Rattle.ws_isa.specs.Open.{OpenToNotes}
 use Rattle.wave_link.specs.declared.outline.Outline.{Outline}
 use Rattle.wave_link.specs.declared.links.Behind.{Behind}
 use Rattle.wave_link.specs.declared.states.Ways.{Ways}

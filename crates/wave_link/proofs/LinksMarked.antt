@@ -5,9 +5,9 @@ use Rattle.ws_isa.specs.declared.instr.Op.{Op}
 use Rattle.ws_isa.specs.declared.instr.Op.TheVariants.{Nop}
 use Rattle.ws_isa.specs.declared.instr.Note.{Note}
 use Rattle.ws_isa.specs.Image.{Instr, Block, Image, nth, or_else, no_instr, no_note, instr_at, block_at, first_number, note_of, is_memory, is_writing, stops, target, is_first, is_memory_op, is_writing_op, IsIn, IsBlock}
-use Rattle.image_walk.specs.Sound.{LinkRules, RippleRules}
-use Rattle.image_walk.specs.Open.{OpenToNotes}
-use Rattle.image_walk.proofs.Blocks.{block_is, instr_is, number_next}
+use Rattle.ws_isa.specs.Sound.{LinkRules, RippleRules}
+use Rattle.ws_isa.specs.Open.{OpenToNotes}
+use Rattle.ws_isa.proofs.Blocks.{block_is, instr_is, number_next}
 use Rattle.wave_link.specs.declared.outline.Way.TheVariants.{Out}
 use Rattle.wave_link.specs.declared.outline.Outline.{Outline}
 use Rattle.wave_link.specs.declared.links.Passage.{Passage}

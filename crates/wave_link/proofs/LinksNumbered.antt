@@ -4,9 +4,9 @@ use Rattle.std.proofs.lemmas.Bool.{cases_eq, cases_Bool, cases_lt}
 use Rattle.ws_isa.specs.declared.instr.Note.{Note}
 use Rattle.ws_isa.specs.Image.{Block, Image, nth, or_else, no_block, instr_at, block_at, block_of, first_number, is_memory, is_memory_op, note_of, is_first, IsIn, IsBlock}
 use Rattle.ws_isa.specs.Formed.{WavesInOrder}
-use Rattle.image_walk.specs.Open.{OpenToNotes}
-use Rattle.image_walk.proofs.Blocks.{number_one}
-use Rattle.image_walk.proofs.Steps.{block_of_is}
+use Rattle.ws_isa.specs.Open.{OpenToNotes}
+use Rattle.ws_isa.proofs.Blocks.{number_one}
+use Rattle.ws_isa.proofs.Steps.{block_of_is}
 use Rattle.wave_link.specs.declared.outline.Outline.{Outline}
 use Rattle.wave_link.specs.Notes.{low_at, lows_from}
 use Rattle.wave_link.specs.Grown.{annotated}

@@ -5,7 +5,7 @@ use Rattle.ws_isa.specs.declared.instr.Link.{Link}
 use Rattle.ws_isa.specs.declared.instr.Link.TheVariants.{Unknown, Nothing, Is}
 use Rattle.ws_isa.specs.declared.instr.Note.{Note}
 use Rattle.ws_isa.specs.Image.{Image, or_else, instr_at, block_at, first_number, is_memory, is_writing, note_of, stops, target, is_first, IsIn, IsBlock}
-use Rattle.image_walk.specs.Sound.{InWave, first, turn, edge, last_op, ComesNext, PathEnds, seq, IsAmong, LinkRules, RippleRules}
+use Rattle.ws_isa.specs.Sound.{InWave, first, turn, edge, last_op, ComesNext, PathEnds, seq, IsAmong, LinkRules, RippleRules}
 use Rattle.wave_link.specs.declared.outline.Way.{Way}
 use Rattle.wave_link.specs.declared.outline.Way.TheVariants.{Out}
 use Rattle.wave_link.specs.declared.outline.Outline.{Outline}

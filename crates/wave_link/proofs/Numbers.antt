@@ -4,7 +4,7 @@ use Rattle.std.proofs.Common.{ℕ, zero, suc, ◌+◌, ◌-◌, ◌≡◌, ◌<�
 use Rattle.std.proofs.lemmas.List.{get_or_append_left, get_or-append_right}
 use Rattle.ws_isa.specs.declared.instr.Note.{Note}
 use Rattle.ws_isa.specs.Image.{Instr, Block, Image, no_instr, no_block, nth, or_else, instr_at, block_at, first_of, first_number, IsIn, IsBlock}
-use Rattle.image_walk.proofs.Blocks.{nth_append_left, nth_append_right, block_is, instr_is, number_next}
+use Rattle.ws_isa.proofs.Blocks.{nth_append_left, nth_append_right, block_is, instr_is, number_next}
 use Rattle.wave_link.specs.declared.links.Passage.{Passage}
 use Rattle.wave_link.specs.Notes.{writer_next}
 use Rattle.wave_link.specs.Layout.{with_nop, nops_from, count_up, numbers_from, Tables}
@@ -12,7 +12,7 @@ use Rattle.wave_link.specs.Grown.{number_in, note_for, seq_next, grown_instr, gr
 pub use Rattle.wave_link.specs.Adds.{adds}
 use Rattle.wave_link.proofs.Parts.{tables_in, places_in}
 use Rattle.wave_link.proofs.Edges.{count_kept}
-use Rattle.image_walk.proofs.Steps.{first_of_pos as first_positive}
+use Rattle.ws_isa.proofs.Steps.{first_of_pos as first_positive}
 use Rattle.ws_isa.proofs.Counting.{first_one}
 
 -- 1 where a no-op is added

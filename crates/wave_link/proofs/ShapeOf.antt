@@ -6,11 +6,11 @@ use Rattle.ws_isa.specs.declared.instr.Op.TheVariants.{Steer, Send, Nop, Halt}
 use Rattle.ws_isa.specs.declared.instr.Dest.{Dest}
 use Rattle.ws_isa.specs.Image.{Instr, Exit, Goto, Branch, Landings, Stop, Pad, Block, Image, In, nth, instr_at, block_at, block_of, first_number, is_memory, is_memory_op, is_advance, is_giving, is_giving_op, stops, target, is_first, now_dests, IsIn, IsBlock, IsInstr}
 use Rattle.ws_isa.specs.Formed.{References, WavesFrom, WavesInOrder}
-use Rattle.image_walk.specs.Sound.{HasDest, HasPad, IsAhead, BringsResult, direct, through, EdgeShape, FrontShape, ExitShape, HangShape, HaltShape, DestShape, BlockShape, ShapeRules}
-use Rattle.image_walk.specs.Open.{OpenToNotes}
-use Rattle.image_walk.proofs.Steps.{first_le, block_of_is}
-use Rattle.image_walk.proofs.Slots.{has_append_cases}
-use Rattle.image_walk.proofs.There.{dests_there, others_there, There}
+use Rattle.ws_isa.specs.Sound.{HasDest, HasPad, IsAhead, BringsResult, direct, through, EdgeShape, FrontShape, ExitShape, HangShape, HaltShape, DestShape, BlockShape, ShapeRules}
+use Rattle.ws_isa.specs.Open.{OpenToNotes}
+use Rattle.ws_isa.proofs.Steps.{first_le, block_of_is}
+use Rattle.ws_isa.proofs.Slots.{has_append_cases}
+use Rattle.ws_isa.proofs.There.{dests_there, others_there, There}
 use Rattle.wave_link.specs.declared.links.Passage.{Passage}
 use Rattle.wave_link.specs.Layout.{Tables}
 use Rattle.wave_link.specs.Grown.{extra_dest, number_in, grown_exit, grown_pad, grown_from, annotated}

@@ -4,11 +4,11 @@ use Rattle.std.proofs.Math.Path.{fun_ext}
 use Rattle.std.proofs.lemmas.Bool.{cases_eq, cases_lt, lt-ltb, le-ltb}
 use Rattle.ws_isa.specs.declared.instr.Dest.{Dest}
 use Rattle.ws_isa.specs.Image.{Image, first_number, ports, is_advance, stops, target, now_dests, is_first, start_dests, IsIn, IsBlock}
-use Rattle.image_walk.specs.Sound.{OpenSlots, none_open, opened, all_opened, Fresh, closed, HasDest, opens_at, Opens, begin, turn, edge, AdvancesOpen, EndSlots, EdgeInto, SlotRules}
+use Rattle.ws_isa.specs.Sound.{OpenSlots, none_open, opened, all_opened, Fresh, closed, HasDest, opens_at, Opens, begin, turn, edge, AdvancesOpen, EndSlots, EdgeInto, SlotRules}
 use Rattle.wave_link.proofs.GrownForm.{Trigger, Whole, Own, Before, renamed, nop_slot, own_slot, before_slot, extra, is_pending, lift, Grown}
-use Rattle.image_walk.proofs.Steps.{first_of_pos as first_positive, first_of_up as step_first}
-use Rattle.image_walk.proofs.Opened.{opened_here}
-use Rattle.image_walk.proofs.Slots.{all_opened_append as all_append}
+use Rattle.ws_isa.proofs.Steps.{first_of_pos as first_positive, first_of_up as step_first}
+use Rattle.ws_isa.proofs.Opened.{opened_here}
+use Rattle.ws_isa.proofs.Slots.{all_opened_append as all_append}
 
 pub fresh_append : (xs bs : List Dest) (o : OpenSlots) → Fresh xs o → Fresh bs (all_opened xs o) → Fresh (xs ++ bs) o
 fresh_append [] bs o f g = g

@@ -3,7 +3,7 @@ use Rattle.std.proofs.Common.{ℕ, zero, suc, ◌+◌, ◌-◌, ◌≡◌, ◌<�
 use Rattle.std.proofs.lemmas.Bool.{cases_eq}
 use Rattle.ws_isa.specs.declared.instr.Op.TheVariants.{Nop}
 use Rattle.ws_isa.specs.Image.{Instr, Image, instr_at, block_at, first_number, is_memory, is_memory_op, stops, target, is_first, IsIn, IsBlock}
-use Rattle.image_walk.specs.Open.{OpenToNotes}
+use Rattle.ws_isa.specs.Open.{OpenToNotes}
 use Rattle.wave_link.specs.declared.outline.Way.TheVariants.{Out}
 use Rattle.wave_link.specs.declared.outline.Outline.{Outline}
 use Rattle.wave_link.specs.declared.states.Ways.{Ways}

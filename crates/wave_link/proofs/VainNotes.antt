@@ -5,8 +5,8 @@ use Rattle.ws_isa.specs.declared.instr.Op.{Op}
 use Rattle.ws_isa.specs.declared.instr.Link.TheVariants.{Is}
 use Rattle.ws_isa.specs.declared.instr.Note.{Note}
 use Rattle.ws_isa.specs.Image.{Instr, Exit, Block, Image, nth, or_else, no_instr, no_block, flat, first_of, instr_at, block_at, first_number, is_memory, is_memory_op, note_of, leave_to, is_stop, stops, target, is_first, IsBlock}
-use Rattle.image_walk.specs.Sound.{InWave, first, turn, edge, last_op, seq, LinkRules}
-use Rattle.image_walk.specs.Open.{OpenToNotes}
+use Rattle.ws_isa.specs.Sound.{InWave, first, turn, edge, last_op, seq, LinkRules}
+use Rattle.ws_isa.specs.Open.{OpenToNotes}
 use Rattle.wave_link.specs.Grown.{annotated}
 use Rattle.wave_link.proofs.Edges.{count_kept as draft_count, target_kept as draft_target, stops_kept as draft_stops, first_kept as draft_first, wave_kept as draft_wave}
 use Rattle.wave_link.proofs.VainWithout.{count_kept, target_kept, stops_kept, first_kept, wave_kept}

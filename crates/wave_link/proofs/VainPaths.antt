@@ -3,7 +3,7 @@ use Rattle.std.proofs.Common.{ℕ, zero, suc, ◌+◌, ◌≡◌, ◌<◌, ◌�
 use Rattle.std.proofs.lemmas.Bool.{cases_eq, cases_Bool, cases_lt}
 use Rattle.ws_isa.specs.declared.instr.Link.{Link}
 use Rattle.ws_isa.specs.Image.{Image, block_at, first_number, is_memory, stops, target, is_first, IsIn, IsBlock}
-use Rattle.image_walk.specs.Sound.{InWave, first, turn, last_op}
+use Rattle.ws_isa.specs.Sound.{InWave, first, turn, last_op}
 use Rattle.wave_link.specs.declared.outline.Way.TheVariants.{Out}
 use Rattle.wave_link.specs.declared.outline.Outline.{Outline}
 use Rattle.wave_link.specs.declared.links.Behind.{Behind}

@@ -3,7 +3,7 @@ use Rattle.std.proofs.Common.{ℕ, ◌≡◌, ◌⊎◌, Bool, true, false, cond
 use Rattle.std.proofs.lemmas.Bool.{cases_Bool}
 use Rattle.ws_isa.specs.declared.instr.Link.TheVariants.{Is}
 use Rattle.ws_isa.specs.Image.{Image, block_at, is_memory, note_of, IsBlock}
-use Rattle.image_walk.specs.Sound.{ShapeRules, InWave, first, turn, edge, last_op, ComesNext, Sound, seq, wave_at}
+use Rattle.ws_isa.specs.Sound.{ShapeRules, InWave, first, turn, edge, last_op, ComesNext, Sound, seq, wave_at}
 use Rattle.wave_link.specs.Vain.{FollowsIn, OtherNext, OtherBefore, other, none, Unlinkable, no_operation, first_and_not, last_and_not, neighbours}
 
 -- operation i comes on a path in wave w

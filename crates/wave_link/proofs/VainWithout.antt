@@ -2,8 +2,8 @@
 use Rattle.std.proofs.Common.{ℕ, zero, suc, ◌+◌, ◌-◌, ◌≡◌, ◌<◌, ◌≤◌, ◌⊎◌, Bool, true, false, cond, not, List, [], ◌∷◌, ◌++◌, length, Option, Some, None, refl, sym, ap, ap₂, ◌∙◌, inl, inr, subst, arith, eqb, eq-eqb, ne_eqb}
 use Rattle.std.proofs.lemmas.Bool.{cases_eq, cases_lt, lt-ltb, le-ltb}
 use Rattle.ws_isa.specs.Image.{Instr, Exit, Goto, Branch, Landings, Stop, Block, Image, nth, or_else, no_block, flat, first_of, instr_at, block_at, first_number, is_memory, is_memory_op, leave_to, is_stop, stops, target, is_first, IsIn, IsBlock}
-use Rattle.image_walk.specs.Sound.{InWave, first, turn, edge, last_op}
-use Rattle.image_walk.proofs.Blocks.{number_next, number_within}
+use Rattle.ws_isa.specs.Sound.{InWave, first, turn, edge, last_op}
+use Rattle.ws_isa.proofs.Blocks.{number_next, number_within}
 use Rattle.wave_link.specs.Vain.{moved, instr_but, instrs_but, exit_but, blocks_but, without, FollowsIn, EndsIn}
 use Rattle.ws_isa.proofs.Counting.{first_one}
 

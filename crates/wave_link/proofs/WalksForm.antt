@@ -5,8 +5,8 @@ use Rattle.ws_isa.specs.declared.instr.Dest.{Dest}
 use Rattle.ws_isa.specs.declared.instr.Op.{Op}
 use Rattle.ws_isa.specs.declared.instr.Op.TheVariants.{Nop}
 use Rattle.ws_isa.specs.Image.{Image, instr_at, block_at, first_number, edge_dests, stops, IsIn, IsBlock}
-use Rattle.image_walk.specs.Sound.{HasDest}
-use Rattle.image_walk.specs.Walk.{Ports, Pos, choice_of, opening_memory}
+use Rattle.ws_isa.specs.Sound.{HasDest}
+use Rattle.ws_isa.specs.Walk.{Ports, Pos, choice_of, opening_memory}
 use Rattle.wave_link.proofs.GrownForm.{Grown, renamed, extra}
 
 abbrev pub SentLike : (ℕ → Option ℕ) → Ports → Ports → Type 0

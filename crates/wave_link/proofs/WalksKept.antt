@@ -6,9 +6,9 @@ use Rattle.ws_isa.specs.declared.instr.Dest.{Dest}
 use Rattle.ws_isa.specs.declared.instr.Op.{Op}
 use Rattle.ws_isa.specs.declared.instr.Op.TheVariants.{Nop}
 use Rattle.ws_isa.specs.Image.{Image, Token, or_else, first_number, ports, is_memory, is_memory_op, is_advance, now_dests, edge_dests, size_of, stops, target, is_first, start_dests, result_of, result_of_op, answer, answer_op, after, after_op, tokens_to, IsIn, IsBlock}
-use Rattle.image_walk.specs.Sound.{HasDest}
-use Rattle.image_walk.specs.Walk.{Ports, no_ports, with_token, with_tokens, gather, Inst, Pos, enter, wave_of, operands_at, result_at, fire, choice, edge_tokens, leave, is_within, step, start_tokens, opening, pos, mem, fires_from, fires, with_inst, walk, has_ended}
-use Rattle.image_walk.proofs.Slots.{with_tokens_append}
+use Rattle.ws_isa.specs.Sound.{HasDest}
+use Rattle.ws_isa.specs.Walk.{Ports, no_ports, with_token, with_tokens, gather, Inst, Pos, enter, wave_of, operands_at, result_at, fire, choice, edge_tokens, leave, is_within, step, start_tokens, opening, pos, mem, fires_from, fires, with_inst, walk, has_ended}
+use Rattle.ws_isa.proofs.Slots.{with_tokens_append}
 use Rattle.wave_link.proofs.GrownForm.{Grown, renamed, extra, nop_slot, own_slot, Trigger, Whole, Own, Before}
 use Rattle.wave_link.proofs.SlotsKept.{step_number, extra_cases}
 use Rattle.wave_link.proofs.WalksForm.{SentLike, op_at, choice_at, WalksAlike, StandsFor, AtEnd}

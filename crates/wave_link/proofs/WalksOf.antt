@@ -2,10 +2,10 @@
 use Rattle.std.proofs.Common.{ℕ, zero, suc, ◌+◌, ◌-◌, ◌≡◌, ◌≤◌, ◌⊎◌, inl, inr, Bool, true, false, cond, length, refl, sym, ap, ap₂, ◌∙◌, subst, arith}
 use Rattle.ws_words.specs.Outside.{World}
 use Rattle.ws_isa.specs.Image.{Image, size_of, IsBlock}
-use Rattle.image_walk.specs.Open.{OpenToNotes}
-use Rattle.image_walk.specs.Walk.{Pos, is_within, opening, step, pos, walk, has_ended, CostAtMost}
-use Rattle.image_walk.specs.Sound.{SlotRules}
-use Rattle.image_walk.proofs.Ending.{walk_up}
+use Rattle.ws_isa.specs.Open.{OpenToNotes}
+use Rattle.ws_isa.specs.Walk.{Pos, is_within, opening, step, pos, walk, has_ended, CostAtMost}
+use Rattle.ws_isa.specs.Sound.{SlotRules}
+use Rattle.ws_isa.proofs.Ending.{walk_up}
 use Rattle.wave_link.specs.Grown.{annotated}
 use Rattle.wave_link.specs.Passed.{where_left, blocks_left, added_left, FollowsFor, WalksFor}
 use Rattle.wave_link.proofs.GrownOf.{sizes}

@@ -1,7 +1,7 @@
 -- The image of a draft that is open to notes is sound.
 use Rattle.ws_isa.specs.Image.{Image}
-use Rattle.image_walk.specs.Sound.{Sound}
-use Rattle.image_walk.specs.Open.{OpenToNotes}
+use Rattle.ws_isa.specs.Sound.{Sound}
+use Rattle.ws_isa.specs.Open.{OpenToNotes}
 use Rattle.wave_link.specs.Grown.{annotated}
 use Rattle.wave_link.proofs.ShapeOf.{shape_rules}
 use Rattle.wave_link.proofs.WalksOf.{keeps_slots}

@@ -2,7 +2,7 @@
 use Rattle.std.specs.Prelude.{ℕ, zero, suc, ◌+◌, ◌-◌, ◌≡◌, ◌≤◌, true, cond, length}
 use Rattle.ws_words.specs.Outside.{World}
 use Rattle.ws_isa.specs.Image.{Image, size_of}
-use Rattle.image_walk.specs.Walk.{Pos, pos, is_within, mem, walk, has_ended, CostAtMost}
+use Rattle.ws_isa.specs.Walk.{Pos, pos, is_within, mem, walk, has_ended, CostAtMost}
 
 -- n where a step leaves a block, else 0
 abbrev pub where_left : Image → Pos → ℕ → ℕ

@@ -2,7 +2,7 @@
 use Rattle.std.specs.Prelude.{ℕ, suc, ◌+◌, List, [], ◌∷◌, length, Option}
 use Rattle.ws_isa.specs.declared.instr.Note.{Note}
 use Rattle.ws_isa.specs.Image.{Instr, Block, Image, IsBlock}
-use Rattle.image_walk.specs.Sound.{LinkRules}
+use Rattle.ws_isa.specs.Sound.{LinkRules}
 use Rattle.wave_link.specs.Triggers.{IsAdded}
 use Rattle.wave_link.specs.Vain.{without}
 

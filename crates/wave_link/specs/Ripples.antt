@@ -1,7 +1,7 @@
 -- Which ripple the annotator gives to an operation that doesn't write.
 use Rattle.std.specs.Prelude.{ℕ, suc, ◌≡◌, ◌<◌, ◌≤◌, ◌⊎◌, true, false, List, Option}
 use Rattle.ws_isa.specs.Image.{Image, first_number, is_writing, note_of}
-use Rattle.image_walk.specs.Sound.{InWave, IsAmong, ComesNext, seq}
+use Rattle.ws_isa.specs.Sound.{InWave, IsAmong, ComesNext, seq}
 
 -- on some path inside the wave, writing operation j stands before instruction k
 pub record MayPrecede (image : Image) (j k : ℕ) : Type 0 where

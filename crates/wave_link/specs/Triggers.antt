@@ -2,8 +2,8 @@
 use Rattle.std.specs.Prelude.{ℕ, suc, ◌≡◌, ◌⊎◌}
 use Rattle.ws_isa.specs.declared.instr.Op.TheVariants.{Steer}
 use Rattle.ws_isa.specs.Image.{Image, instr_at, first_number, size_of, IsIn, IsBlock}
-use Rattle.image_walk.specs.Sound.{HasDest}
-use Rattle.image_walk.specs.Open.{OnlyEdge}
+use Rattle.ws_isa.specs.Sound.{HasDest}
+use Rattle.ws_isa.specs.Open.{OnlyEdge}
 
 -- instruction n of the image is the last one of block b, and the draft's block has one less
 pub record IsAdded (draft image : Image) (b n : ℕ) : Type 0 where

@@ -3,7 +3,7 @@ use Rattle.std.specs.Prelude.{ℕ, suc, ◌+◌, ◌-◌, ◌≡◌, cond, List,
 use Rattle.ws_isa.specs.declared.instr.Op.TheVariants.{Nop}
 use Rattle.ws_isa.specs.declared.instr.Dest.{Dest}
 use Rattle.ws_isa.specs.Image.{Instr, Exit, Goto, Branch, Landings, Stop, Pad, Block, Image, instr_at, block_at, IsBlock}
-use Rattle.image_walk.specs.Sound.{ComesNext, PathEnds, wave_at}
+use Rattle.ws_isa.specs.Sound.{ComesNext, PathEnds, wave_at}
 use Rattle.wave_link.specs.Triggers.{IsAdded}
 
 -- The image without instruction x and without the destinations that name it. Those behind x move

@@ -1,7 +1,7 @@
 //! Laws of notes, and of images without a no-op.
 
 ghost use Rattle.std.specs.Prelude.{◌≡◌, ℕ, None};
-ghost use Rattle.image_walk.specs.Sound.{Sound};
+ghost use Rattle.ws_isa.specs.Sound.{Sound};
 ghost use Rattle.wave_link.specs.Renoted.{renoted};
 ghost use Rattle.wave_link.specs.Samples.{annotated_b, draft_b};
 ghost use Rattle.wave_link.specs.Vain.{Unlinkable, without};

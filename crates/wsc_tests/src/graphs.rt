@@ -11,7 +11,6 @@ ghost use Rattle.call_gen.specs.Keeps.{HasNoSend};
 use call_gen::{reached, spell_calls};
 use cfg_build::lower;
 use cfg_core::{Graph, run_graph};
-use image_walk::Checked;
 use live_vars::live;
 use phi_conv::join_short;
 use seq_run::run_plain;
@@ -23,6 +22,7 @@ use std::alloc::Global;
 use std::test::Fail;
 use wave_build::compile;
 use wave_cut::cut;
+use ws_isa::Checked;
 use ws_words::{Cells, NoMemory, Words, World};
 
 // Numbers of turns in which runs stop at each of their first statements, then further on.

@@ -1,12 +1,12 @@
 //! The images of programs walk as the programs run.
 
 use crate::graphs::{INPUTS, PROGRAMS, accepted, world};
-use image_walk::{Checked, Walked, walk_image};
 use seq_run::run_plain;
 use src_check::Accepted;
 use std::alloc::Global;
 use std::test::Fail;
 use wave_build::compile;
+use ws_isa::{Checked, Walked, walk_image};
 use ws_words::{Cells, NoMemory, Plain, Words, World};
 
 // The most turns and firings that a test takes.

@@ -9,12 +9,12 @@ ghost use Rattle.wave_gen.specs.Words.{IsWord};
 ghost use Rattle.wsc_top.specs.Answers.{TellWords};
 
 use fire_crew::{Free, Gate};
-use image_walk::Checked;
 use port_set::{Port, Slots, TapePort};
 use std::alloc::Global;
 use std::sync::Wait;
 use std::thread::Threads;
 use ws_io::{MemSink, MemSource, Sink, Source};
+use ws_isa::Checked;
 use ws_words::{Bytes, NoMemory, Words};
 use wsc_top::{Outcome, Status, wsc};
 

@@ -1,15 +1,15 @@
 //! Cores that make their events in other orders than `run`.
 
-ghost use Rattle.core_run.specs.Cores.{Runs};
+ghost use Rattle.df_core.specs.Cores.{Runs};
 
 use crate::graphs::{compiled, world};
 use crate::images::are_first;
 use annot_check::check_image;
 use asm_text::read_asm;
-use core_run::{Core, Done, Event, Finish, Run, StepFault, run_checked};
-use image_walk::{Checked, walk_image};
+use df_core::{Core, Done, Event, Finish, Run, StepFault, run_checked};
 use std::alloc::Global;
 use std::test::Fail;
+use ws_isa::{Checked, walk_image};
 use ws_words::{Cells, NoMemory, Words, World};
 
 // How often each program is run at random.

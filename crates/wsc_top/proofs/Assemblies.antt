@@ -2,7 +2,7 @@
 use Rattle.std.specs.Prelude.{◌≡◌, ℕ, List, Ok, Err}
 use Rattle.std.proofs.Common.{subst, sym}
 use Rattle.ws_isa.specs.Image.{Image}
-use Rattle.image_walk.specs.Sound.{Sound}
+use Rattle.ws_isa.specs.Sound.{Sound}
 use Rattle.asm_text.specs.Reading.{read}
 use Rattle.annot_check.specs.declared.fault.Bad.{Bad}
 use Rattle.annot_check.specs.declared.fault.CheckFault.{CheckFault}

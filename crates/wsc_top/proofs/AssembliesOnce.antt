@@ -8,10 +8,10 @@ use Rattle.ws_words.specs.Outside.{Act, loads, stores, reads, prints, gives, tak
 use Rattle.src_ast.specs.declared.lexeme.Place.{Place}
 use Rattle.src_ast.specs.Once.{ExactlyOne}
 use Rattle.ws_isa.specs.Image.{Image, array_at}
-use Rattle.image_walk.specs.Walk.{Inst, mem, walk, fires}
-use Rattle.image_walk.specs.Operations.{operations, ops, without_loads, effect_of, Effect, FaultsAt, NoFault}
+use Rattle.ws_isa.specs.Walk.{Inst, mem, walk, fires}
+use Rattle.ws_isa.specs.Operations.{operations, ops, without_loads, effect_of, Effect, FaultsAt, NoFault}
 use Rattle.ws_isa.specs.Formed.{Formed}
-use Rattle.image_walk.specs.Sound.{Sound}
+use Rattle.ws_isa.specs.Sound.{Sound}
 use Rattle.grid_clock.specs.declared.run.Clocked.{Clocked}
 use Rattle.grid_clock.specs.Schedule.{Grid as Grids}
 use Rattle.grid_clock.specs.Clocks.{Clocks}

@@ -33,8 +33,8 @@ use Rattle.wsc_top.specs.Executions.{Executes, rested, spent, stopped, failed, O
 use Rattle.wsc_top.specs.Generated.{IsGeneratedJob}
 use Rattle.trace_check.specs.declared.recording.TraceEnd.{TraceEnd}
 use Rattle.trace_check.specs.declared.recording.TraceEnd.TheVariants as end
-use Rattle.core_run.specs.declared.drive.Finish.{Finish}
-use Rattle.core_run.specs.declared.drive.Finish.TheVariants as finish
+use Rattle.df_core.specs.declared.drive.Finish.{Finish}
+use Rattle.df_core.specs.declared.drive.Finish.TheVariants as finish
 use Rattle.wsc_top.specs.Clocked.{clocked_status}
 use Rattle.wsc_top.specs.Traced as traces
 use Rattle.wsc_top.specs.Traced.{IsReplayed, HasTrace, missing, faulty, illegal, made, trace_status}

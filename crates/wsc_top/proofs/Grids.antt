@@ -2,11 +2,11 @@
 use Rattle.std.proofs.Common.{◌≡◌, ℕ, ◌≤◌, false, List, Option, Some, None, true, refl, sym, ap, ◌∙◌, subst, inl, arith}
 use Rattle.ws_words.specs.Outside.{World}
 use Rattle.ws_isa.specs.Image.{Image}
-use Rattle.core_run.specs.declared.answer.Done.{Done as Left}
-use Rattle.core_run.specs.declared.drive.Finish.{Finish}
-use Rattle.core_run.specs.declared.drive.Finish.TheVariants as finish
-use Rattle.core_run.specs.Answer.{RunSo}
-use Rattle.core_run.specs.Told.{run_from}
+use Rattle.df_core.specs.declared.answer.Done.{Done as Left}
+use Rattle.df_core.specs.declared.drive.Finish.{Finish}
+use Rattle.df_core.specs.declared.drive.Finish.TheVariants as finish
+use Rattle.df_core.specs.Answer.{RunSo}
+use Rattle.df_core.specs.Told.{run_from}
 use Rattle.wsc_words.specs.declared.command.Command.{Command}
 use Rattle.wsc_words.specs.declared.command.Command.TheVariants as command
 use Rattle.wsc_words.specs.declared.key.Key.{Key}

@@ -14,10 +14,10 @@ use Rattle.ws_isa.specs.declared.instr.Op.{Op}
 use Rattle.ws_isa.specs.declared.instr.Op.TheVariants.{Const, Alu, Merge, Advance, Steer, Phi, Send, Load, Store, Input, Output, Give, Take, Nop, Halt}
 use Rattle.ws_isa.specs.Formed.{Formed, OpIn}
 use Rattle.ws_isa.specs.Shown as image_shown
-use Rattle.image_walk.specs.Walk.{Inst, fires, mem, opening_memory, has_ended}
-use Rattle.image_walk.specs.Operations.{FaultsAt, NoFault}
-use Rattle.image_walk.proofs.There.{all_nth}
-use Rattle.core_law.specs.Ends.{FirstWithin}
+use Rattle.ws_isa.specs.Walk.{Inst, fires, mem, opening_memory, has_ended}
+use Rattle.ws_isa.specs.Operations.{FaultsAt, NoFault}
+use Rattle.ws_isa.proofs.There.{all_nth}
+use Rattle.df_core.specs.Ends.{FirstWithin}
 use Rattle.cfg_core.specs.Graph as graph
 use Rattle.cfg_core.specs.Graph.{GraphArray}
 use Rattle.cfg_core.specs.Shown.{shown_arrays, shown_cells, shown_among, hidden, is_hidden}
@@ -28,7 +28,7 @@ use Rattle.seq_run.specs.Laws.{HasAnswer}
 use Rattle.seq_run.proofs.FirstPasts.{not_within, one_array, one_before}
 use Rattle.seq_run.proofs.OneAnswer.{fronts, some_answer, passed}
 use Rattle.ws_words.specs.Plain.{took_words}
-use Rattle.df_job.specs.Began.{Began}
+use Rattle.df_core.specs.Began.{Began}
 use Rattle.port_set.specs.Ports.{Told}
 use Rattle.store_buf.specs.Outdoors.{SlotsAre, port_of}
 use Rattle.wsc_top.specs.Answers.{Does, to_end, to_fault, so_far, IsOnPort}

@@ -8,12 +8,12 @@ use Rattle.ws_words.specs.Plain.{took_words}
 use Rattle.ws_isa.specs.declared.instr.Op.{Op}
 use Rattle.ws_isa.specs.declared.instr.Op.TheVariants.{Const, Alu, Merge, Advance, Steer, Phi, Send, Load, Store, Input, Output, Give, Take, Nop, Halt}
 use Rattle.ws_isa.specs.Image.{Array, Image, instr_at, acts_of_op, is_past, is_past_op}
-use Rattle.image_walk.specs.Walk.{Inst, fires}
-use Rattle.image_walk.specs.Operations.{past, without_loads}
-use Rattle.core_law.specs.Ends.{FirstWithin}
+use Rattle.ws_isa.specs.Walk.{Inst, fires}
+use Rattle.ws_isa.specs.Operations.{past, without_loads}
+use Rattle.df_core.specs.Ends.{FirstWithin}
 use Rattle.cfg_core.specs.Graph.{GraphArray}
 use Rattle.cfg_core.specs.Shown.{shown_among, is_hidden, shown_acts}
-use Rattle.df_job.specs.Began.{Began}
+use Rattle.df_core.specs.Began.{Began}
 use Rattle.port_set.specs.Ports.{Told}
 use Rattle.port_set.specs.Slots.{port_at}
 use Rattle.store_buf.specs.Outdoors.{SlotIs, SlotsAre, port_of}

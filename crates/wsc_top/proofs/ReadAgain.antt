@@ -8,10 +8,10 @@ use Rattle.src_ast.specs.Syntax.{Part}
 use Rattle.port_set.specs.Ports.{Told}
 use Rattle.ws_isa.specs.Image.{Image}
 use Rattle.ws_isa.specs.Formed.{Formed}
-use Rattle.image_walk.specs.Sound.{Sound}
-use Rattle.core_law.specs.Core as law
-use Rattle.core_law.specs.Core.{Run, core_opening}
-use Rattle.core_run.specs.declared.engine.Event.{Event}
+use Rattle.ws_isa.specs.Sound.{Sound}
+use Rattle.df_core.specs.Core as law
+use Rattle.df_core.specs.Core.{Run, core_opening}
+use Rattle.df_core.specs.declared.engine.Event.{Event}
 use Rattle.asm_text.specs.Printed.{printed}
 use Rattle.asm_text.specs.Reading.{read}
 use Rattle.trace_check.specs.declared.events.Lined.{Lined}

@@ -3,9 +3,9 @@ use Rattle.std.proofs.Common.{◌≡◌, ℕ, ◌+◌, ◌==◌, Bool, true, fal
 use Rattle.std.proofs.lemmas.Bool.{true≢false}
 use Rattle.ws_words.specs.Outside.{World}
 use Rattle.ws_isa.specs.Image.{Image}
-use Rattle.image_walk.specs.Operations.{FaultsAt, NoFault}
-use Rattle.core_law.specs.Core.{State, Run, core_opening}
-use Rattle.core_run.specs.declared.engine.Event.{Event}
+use Rattle.ws_isa.specs.Operations.{FaultsAt, NoFault}
+use Rattle.df_core.specs.Core.{State, Run, core_opening}
+use Rattle.df_core.specs.declared.engine.Event.{Event}
 use Rattle.trace_check.specs.declared.events.Lined.{Lined}
 use Rattle.trace_check.specs.declared.recording.TraceEnd.{TraceEnd}
 use Rattle.trace_check.specs.declared.recording.TraceEnd.TheVariants as end

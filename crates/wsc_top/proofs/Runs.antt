@@ -4,12 +4,12 @@ use Rattle.std.proofs.Common.{sym, ap, ◌∙◌, subst, inl, inr, arith}
 use Rattle.ws_words.specs.Outside.{World, printed_words}
 use Rattle.ws_isa.specs.Image.{Array, Image, array_at}
 use Rattle.ws_isa.specs.Shown.{shown_cells}
-use Rattle.image_walk.specs.Walk.{mem, walk, CostAtMost}
+use Rattle.ws_isa.specs.Walk.{mem, walk, CostAtMost}
 use Rattle.port_set.specs.Ports.{Told}
-use Rattle.crew_run.specs.declared.finish.CrewFinish.{CrewFinish}
-use Rattle.crew_run.specs.declared.finish.CrewFinish.TheVariants as finish
+use Rattle.fire_crew.specs.declared.finish.CrewFinish.{CrewFinish}
+use Rattle.fire_crew.specs.declared.finish.CrewFinish.TheVariants as finish
 use Rattle.store_buf.specs.Ended.{Rested, Spent, Tripped, PortFailed}
-use Rattle.crew_run.specs.Answer.{CrewTells}
+use Rattle.fire_crew.specs.Answer.{CrewTells}
 use Rattle.wsc_top.specs.declared.status.Status.{Status}
 use Rattle.wsc_top.specs.declared.status.Status.TheVariants.{Done, Budget, Fault, PortFault}
 use Rattle.wsc_top.specs.declared.task.RunOptions.{RunOptions}

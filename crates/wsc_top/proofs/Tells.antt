@@ -11,9 +11,9 @@ use Rattle.src_ast.specs.Meaning.{Passes}
 use Rattle.src_ast.specs.Runs.{Goes}
 use Rattle.ws_isa.specs.Image.{Image, array_at, instr_at}
 use Rattle.ws_isa.specs.Shown.{shown_cells}
-use Rattle.image_walk.specs.Walk.{Inst, fires, mem, walk, has_ended, CostAtMost}
-use Rattle.image_walk.specs.Operations.{NoFault, FaultsAt, effect_of}
-use Rattle.core_law.specs.Ends.{FirstWithin}
+use Rattle.ws_isa.specs.Walk.{Inst, fires, mem, walk, has_ended, CostAtMost}
+use Rattle.ws_isa.specs.Operations.{NoFault, FaultsAt, effect_of}
+use Rattle.df_core.specs.Ends.{FirstWithin}
 use Rattle.port_set.specs.Ports.{Told}
 use Rattle.store_buf.specs.Outdoors.{RoseAt, began_of, port_of, world_with}
 use Rattle.wave_build.specs.Compiled.{WalksAsRun, shown}

@@ -12,8 +12,8 @@ use Rattle.ws_isa.specs.declared.instr.Op.{Op}
 use Rattle.ws_isa.specs.declared.instr.Op.TheVariants.{Give, Take}
 use Rattle.ws_words.specs.Outside.{Outside, World, row}
 use Rattle.ws_words.specs.Plain.{took_words}
-use Rattle.image_walk.specs.Walk.{mem}
-use Rattle.df_job.specs.Began.{Began}
+use Rattle.ws_isa.specs.Walk.{mem}
+use Rattle.df_core.specs.Began.{Began}
 use Rattle.port_set.specs.Ports.{Told}
 use Rattle.port_set.specs.Slots.{port_at}
 use Rattle.store_buf.specs.Outdoors.{PortIn, RoseAt, SlotIs, began_of, failures, port_of, world_with}

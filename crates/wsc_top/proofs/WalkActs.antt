@@ -8,9 +8,9 @@ use Rattle.ws_words.specs.Past as past
 use Rattle.ws_isa.specs.declared.instr.Op.{Op}
 use Rattle.ws_isa.specs.declared.instr.Op.TheVariants.{Const, Alu, Merge, Advance, Steer, Phi, Send, Load, Store, Input, Output, Give, Take, Nop, Halt}
 use Rattle.ws_isa.specs.Image.{Array, Image, instr_at, is_memory, is_memory_op, acts_of_op, after, is_past, is_past_op, array_at, array_of_op, array_length}
-use Rattle.image_walk.specs.Walk.{Inst, Pos, pos, mem, fires, fire, operands_at, opening, opening_memory}
-use Rattle.image_walk.specs.Operations.{past as is_past_inst, FaultsAt}
-use Rattle.image_walk.proofs.Steps.{StepCase, stands, turns, ends, leaves, step_case}
+use Rattle.ws_isa.specs.Walk.{Inst, Pos, pos, mem, fires, fire, operands_at, opening, opening_memory}
+use Rattle.ws_isa.specs.Operations.{past as is_past_inst, FaultsAt}
+use Rattle.ws_isa.proofs.Steps.{StepCase, stands, turns, ends, leaves, step_case}
 use Rattle.seq_run.proofs.FirstPasts.{within_both}
 
 abbrev pub sizes : List Array → List ℕ

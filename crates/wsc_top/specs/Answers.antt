@@ -28,7 +28,7 @@ use Rattle.port_set.specs.Ports.{Told}
 use Rattle.store_buf.specs.Outdoors.{AllTell, RoseAt, lefts_of, world_with}
 use Rattle.ws_isa.specs.Image.{Image}
 use Rattle.ws_isa.specs.Formed.{Formed}
-use Rattle.image_walk.specs.Sound.{Sound}
+use Rattle.ws_isa.specs.Sound.{Sound}
 use Rattle.wave_link.specs.Numbered.{NumberedInOrder}
 use Rattle.wave_link.specs.Ripples.{ExactRipples}
 use Rattle.wave_gen.specs.Words.{IsWord}

@@ -4,7 +4,7 @@ use Rattle.src_ast.specs.declared.lexeme.Place.{Place}
 use Rattle.src_ast.specs.declared.fault.TextFault as text_fault
 use Rattle.src_ast.specs.declared.fault.TextFault.TheVariants as TextFault
 use Rattle.ws_isa.specs.Image.{Image}
-use Rattle.image_walk.specs.Sound.{Sound}
+use Rattle.ws_isa.specs.Sound.{Sound}
 use Rattle.asm_text.specs.declared.fault.AsmKind.{AsmKind}
 use Rattle.asm_text.specs.Reading.{read}
 use Rattle.annot_check.specs.declared.fault.Bad.{Bad}

@@ -2,8 +2,8 @@
 use Rattle.std.specs.Prelude.{◌≡◌, ℕ, ◌≤◌, Bool, List, [], ◌++◌, codes, decimal, if◌then◌else◌}
 use Rattle.ws_isa.specs.Image.{Image, Array}
 use Rattle.ws_isa.specs.Shown.{shown_cells}
-use Rattle.core_run.specs.declared.drive.Finish.{Finish}
-use Rattle.core_run.specs.declared.drive.Finish.TheVariants as finish
+use Rattle.df_core.specs.declared.drive.Finish.{Finish}
+use Rattle.df_core.specs.declared.drive.Finish.TheVariants as finish
 use Rattle.grid_clock.specs.declared.run.Clocked.{Clocked}
 use Rattle.grid_clock.specs.Schedule.{Grid}
 use Rattle.grid_clock.specs.Clocks.{Clocks}

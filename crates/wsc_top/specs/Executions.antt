@@ -3,9 +3,9 @@ use Rattle.std.specs.Prelude.{◌≡◌, ◌⊎◌, ℕ, ◌≤◌, false, Bool,
 use Rattle.ws_words.specs.Outside.{Outside, World, printed_words}
 use Rattle.ws_isa.specs.Image.{Image, array_at, instr_at}
 use Rattle.ws_isa.specs.Shown.{shown_cells}
-use Rattle.image_walk.specs.Walk.{Inst, fires, mem, walk, CostAtMost}
-use Rattle.image_walk.specs.Operations.{FaultsAt, NoFault}
-use Rattle.core_law.specs.Ends.{FirstWithin}
+use Rattle.ws_isa.specs.Walk.{Inst, fires, mem, walk, CostAtMost}
+use Rattle.ws_isa.specs.Operations.{FaultsAt, NoFault}
+use Rattle.df_core.specs.Ends.{FirstWithin}
 use Rattle.port_set.specs.Ports.{Told}
 use Rattle.store_buf.specs.Outdoors.{RoseAt, SlotsAre, began_of, port_of}
 use Rattle.wsc_top.specs.declared.status.Status.{Status}

@@ -2,8 +2,8 @@
 use Rattle.std.specs.Prelude.{◌≡◌, ℕ, List}
 use Rattle.ws_isa.specs.Image.{Array}
 use Rattle.ws_isa.specs.Shown.{shown_cells}
-use Rattle.crew_run.specs.declared.finish.CrewFinish.{CrewFinish}
-use Rattle.crew_run.specs.declared.finish.CrewFinish.TheVariants as finish
+use Rattle.fire_crew.specs.declared.finish.CrewFinish.{CrewFinish}
+use Rattle.fire_crew.specs.declared.finish.CrewFinish.TheVariants as finish
 use Rattle.wsc_top.specs.declared.status.Status.{Status}
 use Rattle.wsc_top.specs.declared.status.Status.TheVariants.{Done, Budget, Fault, PortFault}
 use Rattle.wsc_top.specs.declared.task.Report.{Report}

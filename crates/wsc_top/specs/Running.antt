@@ -6,8 +6,8 @@ use Rattle.src_ast.specs.Syntax.{Part}
 use Rattle.ws_isa.specs.Image.{Image}
 use Rattle.port_set.specs.Ports.{Told}
 use Rattle.store_buf.specs.Outdoors.{world_with}
-use Rattle.crew_run.specs.declared.run.RunEnd.{RunEnd}
-use Rattle.crew_run.specs.declared.finish.CrewFinish.{CrewFinish}
+use Rattle.fire_crew.specs.declared.run.RunEnd.{RunEnd}
+use Rattle.fire_crew.specs.declared.finish.CrewFinish.{CrewFinish}
 use Rattle.multi_wave.specs.declared.each.Each.{Each}
 use Rattle.multi_wave.specs.Parts.{Alone}
 use Rattle.wsc_top.specs.declared.status.Status.{Status}

@@ -1,8 +1,8 @@
 -- What comes of `trace` and `replay`.
 use Rattle.std.specs.Prelude.{◌≡◌, ℕ, List, [], ◌++◌, codes, decimal, flat_map, Option, Some, None, Ok, Err, if◌then◌else◌}
 use Rattle.ws_isa.specs.Image.{Image}
-use Rattle.core_law.specs.Core.{State, Run, core_opening}
-use Rattle.core_run.specs.declared.engine.Event.{Event}
+use Rattle.df_core.specs.Core.{State, Run, core_opening}
+use Rattle.df_core.specs.declared.engine.Event.{Event}
 use Rattle.asm_text.specs.declared.fault.AsmKind.{AsmKind}
 use Rattle.asm_text.specs.declared.fault.AsmKind.TheVariants.{Line}
 use Rattle.asm_text.specs.Printed.{printed}

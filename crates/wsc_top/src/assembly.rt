@@ -2,7 +2,7 @@
 
 ghost use Rattle.std.specs.Prelude.{◌≡◌, ◌≤◌, ℕ, List, length, IfOk, IfErr, Ok};
 ghost use Rattle.ws_isa.specs.Image.{Image};
-ghost use Rattle.image_walk.specs.Sound.{Sound};
+ghost use Rattle.ws_isa.specs.Sound.{Sound};
 ghost use Rattle.asm_text.specs.Reading.{read};
 ghost use Rattle.wsc_top.specs.Sections.{program_of};
 ghost use Rattle.wsc_top.specs.Assembly.{assembly_limit, IsAssembly, IsSectionFault, IsAssemblyFault, AnswersAssembly, fault_of_input};
@@ -11,9 +11,9 @@ use crate::input::input_words;
 use crate::sections::split;
 use annot_check::{Bad, CheckFault, breaches_break, check_image};
 use asm_text::{AsmFault, AsmKind, read_asm};
-use image_walk::Checked;
 use src_ast::{Place, TextFault};
 use std::alloc::Global;
+use ws_isa::Checked;
 use ws_words::Words;
 
 /// Why the text of an assembly is refused: its first faulty line, counted from 1, numbers that

@@ -9,10 +9,10 @@ ghost use Rattle.wsc_top.specs.Running.{IsRead, IsPieceFault, AreRead};
 use crate::job;
 use crate::sections::{after_line, front_length};
 use crate::yields::image_of;
-use image_walk::Checked;
 use src_ast::{Place, Refusal, TextFault, read_is_written};
 use src_lex::place_after;
 use std::alloc::Global;
+use ws_isa::Checked;
 use ws_words::{NoMemory, Words};
 
 /// Why a text is refused: for a fourth separator, in this line; or for a fault of the job that begins at

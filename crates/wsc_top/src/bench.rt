@@ -9,10 +9,10 @@ ghost use Rattle.work_gen.specs.Job.{words_of};
 use crate::job;
 use crate::laws::each_generated_job_is_a_job;
 use crate::yields::image_of;
-use image_walk::Checked;
 use src_ast::{TextFault, read_is_written};
 use std::alloc::Global;
 use work_gen::workload;
+use ws_isa::Checked;
 use ws_words::{NoMemory, Words};
 
 /// An image of the program of the generated job with this number, and the words that it reads.

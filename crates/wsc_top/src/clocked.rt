@@ -10,12 +10,11 @@ use crate::run_texts::{rested, spent, stopped};
 use crate::status::Status;
 use crate::task::{GridOptions, Report};
 use crate::world::world;
-use core_run::Finish;
+use df_core::Finish;
 use grid_clock::{Clocked, grid_run};
-use image_walk::Checked;
 use std::alloc::Global;
 use ws_io::put_decimal;
-use ws_isa::ArrayDecl;
+use ws_isa::{ArrayDecl, Checked};
 use ws_words::{Bytes, NoMemory, Words};
 
 // The status by how a run on a grid ended.

@@ -6,7 +6,7 @@ ghost use Rattle.ws_isa.specs.Image.{Image};
 ghost use Rattle.port_set.specs.Ports.{Told};
 ghost use Rattle.port_set.specs.Slots.{AllOpen, contents};
 ghost use Rattle.store_buf.specs.Outdoors.{AllTell, world_with};
-ghost use Rattle.crew_run.specs.Answer.{CrewTells};
+ghost use Rattle.fire_crew.specs.Answer.{CrewTells};
 ghost use Rattle.part_store.specs.Answer.{PartTells};
 ghost use Rattle.wsc_top.specs.Executions.{Executes, HasBegun};
 ghost use Rattle.wsc_top.specs.Answers.{TellWords};
@@ -15,14 +15,13 @@ use crate::run_texts::answer;
 use crate::status::Status;
 use crate::task::RunOptions;
 use crate::text::Text;
-use crew_run::{CrewFinish, RunEnd, run_image};
-use fire_crew::Gate;
-use image_walk::Checked;
+use fire_crew::{CrewFinish, Gate, RunEnd, run_image};
 use part_store::{PartFinish, part_image};
 use port_set::{Port, Slots};
 use std::alloc::Global;
 use std::sync::Wait;
 use std::thread::Threads;
+use ws_isa::Checked;
 use ws_words::{NoMemory, Words};
 
 /// What is to be written, the image that was run or is printed, the images of the threads that were run,

@@ -9,7 +9,7 @@ ghost use Rattle.src_ast.specs.Syntax.{Part};
 ghost use Rattle.src_ast.specs.Once.{ExactlyOne};
 ghost use Rattle.ws_isa.specs.Image.{Image};
 ghost use Rattle.ws_isa.specs.Formed.{Formed};
-ghost use Rattle.image_walk.specs.Sound.{Sound};
+ghost use Rattle.ws_isa.specs.Sound.{Sound};
 ghost use Rattle.wave_gen.specs.Words.{IsWord};
 ghost use Rattle.asm_text.specs.Printed.{printed};
 ghost use Rattle.asm_text.specs.Reading.{read};
@@ -39,7 +39,6 @@ ghost use Rattle.wsc_top.specs.Answers.{TellWords, EndsSo, AssemblyEndsSo, Bench
 use annot_check::breaches_break;
 use asm_text::{printed_reads_again, printed_texts_have_no_marker, read_images_are_formed};
 use grid_clock::clocks_are_one;
-use image_walk::{effects_are_one, walks_go_on};
 use seq_run::one_answer;
 use src_ast::{printed_reads_the_same, read_is_written, same_programs_are_accepted_alike};
 use src_check::each_program_is_checked_once;
@@ -47,6 +46,7 @@ use src_lex::each_text_is_lexed_once;
 use src_parse::lexemes_are_parsed_once;
 use trace_check::{made_traces_are_replayed, written_traces_read_again};
 use work_gen::generated_programs_are_accepted;
+use ws_isa::{effects_are_one, walks_go_on};
 use wsc_words::words_are_one_line;
 
 /// Each input section comes to one thing alone: its words, or its first item that is no word.

@@ -15,15 +15,14 @@ use crate::run_texts::answer;
 use crate::status::Status;
 use crate::task::RunOptions;
 use crate::text::Text;
-use crew_run::CrewFinish;
-use fire_crew::Gate;
-use image_walk::Checked;
+use fire_crew::{CrewFinish, Gate};
 use multi_wave::{Each, Four, Part, ThreadEnd, ThreadGate, multi_run};
 use port_set::{Port, Slots};
 use std::alloc::Global;
 use std::sync::Wait;
 use std::thread::Threads;
 use ws_io::put_decimal;
+use ws_isa::Checked;
 use ws_words::{Bytes, NoMemory, Words};
 
 // A line has from 1 to 8 workers.

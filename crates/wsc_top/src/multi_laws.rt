@@ -11,8 +11,8 @@ ghost use Rattle.wsc_top.specs.Answers.{TellWords};
 ghost use Rattle.wsc_top.specs.Threads.{ThreadsDo, ExecutesAlone, status_of, Thread, images_of, Replies, AreDue, AreToldJobs, MultiEndsSo, IsFreeAnswer};
 
 use crate::laws::each_text_is_a_job_or_refused;
-use image_walk::{effects_are_one, walks_go_on};
 use seq_run::one_answer;
+use ws_isa::{effects_are_one, walks_go_on};
 use wsc_words::words_are_one_line;
 
 /// Each text comes to one thing alone: it is some jobs, each with one program and one list of words, or

@@ -11,7 +11,7 @@ use crate::status::Status;
 use crate::task::Report;
 use crate::text::Text;
 use crate::texts::{BUDGET, done as ended, put_array_at, put_words, summary};
-use crew_run::CrewFinish;
+use fire_crew::CrewFinish;
 use std::alloc::Global;
 use ws_io::put_decimal;
 use ws_isa::ArrayDecl;

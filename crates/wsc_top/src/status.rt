@@ -3,8 +3,8 @@
 ghost use Rattle.std.specs.Prelude.{◌≡◌};
 ghost use Rattle.wsc_top.specs.Codes.{code_of};
 
-use image_walk::Checked;
 use port_set::{Port, Slots};
+use ws_isa::Checked;
 
 /// How a call of the program ends.
 #[derive(Clone, Copy, Debug, PartialEq, Eq)]

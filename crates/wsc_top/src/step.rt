@@ -4,7 +4,7 @@ use crate::batch::ReadJobs;
 use crate::status::Status;
 use crate::task::RunOptions;
 use crate::text::Text;
-use image_walk::Checked;
+use ws_isa::Checked;
 use ws_words::{NoMemory, Words};
 
 /// An answer that is ready: its status, its text, and the image that it ran without ports or prints; or an

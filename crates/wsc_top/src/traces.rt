@@ -18,8 +18,7 @@ use crate::step::Starved;
 use crate::texts::{asm_refused, put_words};
 use crate::world::world;
 use asm_text::{AsmFault, AsmKind, print_asm};
-use core_run::Event;
-use image_walk::Checked;
+use df_core::Event;
 use src_ast::Place;
 use src_lex::place_after;
 use std::alloc::Global;
@@ -28,6 +27,7 @@ use trace_check::{
     traces_are_replayed_once,
 };
 use ws_io::put_decimal;
+use ws_isa::Checked;
 use ws_words::{Bytes, NoMemory, Words};
 
 /// Where a text begins.

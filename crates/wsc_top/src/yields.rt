@@ -22,13 +22,13 @@ use crate::texts;
 use crate::traces::{replayed, traced};
 use crate::world::world;
 use asm_text::print_asm;
-use image_walk::Checked;
 use list_out::list_image;
 use seq_run::run_plain;
 use src_ast::{print_program, printed_reads_the_same};
 use src_check::Accepted;
 use std::alloc::Global;
 use wave_build::compile;
+use ws_isa::Checked;
 use ws_words::{NoMemory, Plain, Words};
 
 /// The image of a program, which is formed and sound.

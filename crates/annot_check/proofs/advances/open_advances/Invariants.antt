@@ -1,6 +1,6 @@
 use Rattle.std.proofs.Common.{◌≡◌, ◌+◌, drop, map}
 use Rattle.ws_isa.specs.View as view
-use Rattle.image_walk.specs.Sound.{none_open, all_opened}
+use Rattle.ws_isa.specs.Sound.{none_open, all_opened}
 use Rattle.annot_check.specs.Runs.{advance_list}
 use Rattle.annot_check.specs.Open.{look, OpenOk, Moved}
 use Rattle.annot_check.proofs.advances.open_advances.Given as goal

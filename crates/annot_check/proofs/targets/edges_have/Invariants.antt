@@ -1,7 +1,7 @@
 use Rattle.std.proofs.Common.{◌<◌, ℕ}
 use Rattle.ws_isa.specs.View as view
 use Rattle.ws_isa.specs.Image.{block_at, target}
-use Rattle.image_walk.specs.Sound.{HasPad}
+use Rattle.ws_isa.specs.Sound.{HasPad}
 use Rattle.annot_check.proofs.targets.edges_have.Given as goal
 
 abbrev pub invariant-loop-choice : goal.invariant-loop-choice

@@ -1,6 +1,6 @@
 use Rattle.std.proofs.Common.{◌<◌, ℕ}
 use Rattle.ws_isa.specs.View as view
-use Rattle.image_walk.specs.Sound.{IsLater}
+use Rattle.ws_isa.specs.Sound.{IsLater}
 use Rattle.annot_check.proofs.targets.edges_later.Given as goal
 
 abbrev pub invariant-loop-choice : goal.invariant-loop-choice

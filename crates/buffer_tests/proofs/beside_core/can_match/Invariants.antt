@@ -1,4 +1,4 @@
-use Rattle.core_run.specs.Cores.{Runs}
+use Rattle.df_core.specs.Cores.{Runs}
 use Rattle.buffer_tests.proofs.beside_core.can_match.Given as goal
 
 abbrev pub invariant-loop-wave : goal.invariant-loop-wave

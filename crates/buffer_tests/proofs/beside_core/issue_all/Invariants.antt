@@ -1,4 +1,4 @@
-use Rattle.core_run.specs.Cores.{Runs}
+use Rattle.df_core.specs.Cores.{Runs}
 use Rattle.buffer_tests.proofs.beside_core.issue_all.Given as goal
 
 abbrev pub invariant-loop : goal.invariant-loop

@@ -1,8 +1,8 @@
 use Rattle.std.proofs.Common.{ℕ, List, subst, sym}
 use denote.Param.Send.{sendable}
 use Rattle.match_table.specs.Tables.{Content}
-use Rattle.crew_tables.specs.Growth.{GrowFrom}
-use Rattle.crew_tables.specs.Rows.{Fits, contents}
+use Rattle.match_table.specs.Growth.{GrowFrom}
+use Rattle.match_table.specs.Rows.{Fits, contents}
 use Rattle.fire_crew.proofs.phase.phase.Goals as goal
 
 pub map_vec-back-requires-after_bounds : goal.map_vec-back-requires-after_bounds

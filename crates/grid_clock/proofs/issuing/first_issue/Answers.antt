@@ -1,5 +1,5 @@
 use Rattle.std.proofs.Common.{◌+◌, subst, sym, ◌∙◌, arith}
-use Rattle.core_run.specs.Places.{image_of}
+use Rattle.df_core.specs.Places.{image_of}
 use Rattle.grid_clock.specs.During.{Least}
 use Rattle.grid_clock.proofs.Firsts.{least_taken, least_kept, least_found}
 use Rattle.grid_clock.proofs.issuing.first_issue.Goals as goal

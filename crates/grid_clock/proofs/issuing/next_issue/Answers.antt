@@ -1,5 +1,5 @@
 use Rattle.std.proofs.Common.{sym, ◌∙◌}
-use Rattle.core_run.specs.Places.{image_of}
+use Rattle.df_core.specs.Places.{image_of}
 use Rattle.grid_clock.proofs.Firsts.{next_is_first}
 use Rattle.grid_clock.proofs.issuing.next_issue.Goals as goal
 

@@ -1,7 +1,7 @@
 use Rattle.std.proofs.Common.{[], ◌∷◌}
-use Rattle.core_law.specs.Core.{Match}
-use Rattle.core_run.specs.Places.{image_of}
-use Rattle.core_run.specs.Ways.{token_of}
+use Rattle.df_core.specs.Core.{Match}
+use Rattle.df_core.specs.Places.{image_of}
+use Rattle.df_core.specs.Ways.{token_of}
 use Rattle.grid_clock.proofs.Leading.{same_going, same_leads}
 use Rattle.grid_clock.proofs.matching.make_match.Goals as goal
 

@@ -1,4 +1,4 @@
-use Rattle.crew_tables.specs.Rows.{contents}
+use Rattle.match_table.specs.Rows.{contents}
 use Rattle.machine_tests.proofs.crews.phase.Given as goal
 
 abbrev pub ghosts-counted : goal.ghosts-counted

@@ -1,6 +1,6 @@
 use Rattle.std.proofs.Common.{◌≡◌, ℕ, List, true, sym, ap, ◌∙◌, subst, arith}
-use Rattle.image_walk.specs.Walk.{gather}
-use Rattle.core_law.specs.Core.{is_full}
+use Rattle.ws_isa.specs.Walk.{gather}
+use Rattle.df_core.specs.Core.{is_full}
 use Rattle.match_table.specs.declared.entry.Arrived.{Arrived}
 use Rattle.match_table.specs.Ports.{alone}
 use Rattle.match_table.proofs.Held.{full_one, full_two, full_three}

@@ -1,5 +1,5 @@
 use Rattle.std.proofs.Common.{List, Option, subst}
-use Rattle.df_job.specs.Began.{Began}
+use Rattle.df_core.specs.Began.{Began}
 use Rattle.store_buf.specs.Outdoors.{RoseSince}
 use Rattle.part_store.proofs.Telling.{port_failed}
 use Rattle.part_store.proofs.ends.port_run.Goals as goal

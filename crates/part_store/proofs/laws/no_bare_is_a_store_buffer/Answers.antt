@@ -1,4 +1,4 @@
-use Rattle.core_law.specs.Core.{has}
+use Rattle.df_core.specs.Core.{has}
 use Rattle.part_store.proofs.Wholly as W
 use Rattle.part_store.proofs.laws.no_bare_is_a_store_buffer.Goals as goal
 

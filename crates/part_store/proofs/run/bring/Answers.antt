@@ -9,7 +9,7 @@ use Rattle.part_store.proofs.Coming.{map_ok}
 use Rattle.part_store.proofs.Paying.{not_fired, pay_held, taken_waits, taken_fires, taken_asks}
 use Rattle.part_store.proofs.Reaching.{covers_beside, covers_wider}
 use Rattle.part_store.proofs.run.bring.Goals as goal
-use Rattle.core_law.proofs.Ports.{has_some}
+use Rattle.df_core.proofs.Ports.{has_some}
 
 pub returns-in-Some-clause-paid : goal.returns-in-Some-clause-paid
 returns-in-Some-clause-paid g c =

@@ -1,7 +1,7 @@
 use Rattle.std.proofs.Common.{List, Option, ap, subst, sym}
 use Rattle.ws_words.specs.Outside.{World}
 use Rattle.port_set.specs.Slots.{AllOpen, contents}
-use Rattle.df_job.specs.Began.{Began}
+use Rattle.df_core.specs.Began.{Began}
 use Rattle.store_buf.specs.Outdoors.{AllBegan}
 use Rattle.part_store.proofs.run.part_run.Goals as goal
 

@@ -1,5 +1,5 @@
 use Rattle.std.proofs.Common.{◌⊎◌, ℕ, length}
-use Rattle.core_law.specs.Core.{IsSent}
+use Rattle.df_core.specs.Core.{IsSent}
 use Rattle.part_store.specs.Runs.{Covers}
 use Rattle.part_store.proofs.way.take_all.Given as goal
 

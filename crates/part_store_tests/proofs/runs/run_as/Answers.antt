@@ -1,7 +1,7 @@
 use Rattle.std.proofs.Common.{List, Option, ap, sym, subst}
 use Rattle.ws_words.specs.Outside.{World}
 use Rattle.port_set.specs.Slots.{contents}
-use Rattle.df_job.specs.Began.{Began}
+use Rattle.df_core.specs.Began.{Began}
 use Rattle.store_buf.specs.Outdoors.{AllBegan}
 use Rattle.part_store_tests.proofs.runs.run_as.Goals as goal
 

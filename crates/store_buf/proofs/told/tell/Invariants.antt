@@ -1,7 +1,7 @@
 use Rattle.std.proofs.Common.{◌≡◌, ◌+◌, ◌++◌, drop}
 use Rattle.smallvec.specs.SmallVec.{small_vec_len}
 use Rattle.ws_isa.specs.Image.{tokens_to}
-use Rattle.df_job.specs.Rights.{tokens_of}
+use Rattle.df_core.specs.Rights.{tokens_of}
 use Rattle.store_buf.proofs.told.tell.Given as goal
 
 abbrev pub invariant-loop-dest : goal.invariant-loop-dest

@@ -1,5 +1,5 @@
 use Rattle.std.proofs.Common.{List, sym, subst}
-use Rattle.core_law.specs.Core.{State, Event, Run, Rest, core_opening}
+use Rattle.df_core.specs.Core.{State, Event, Run, Rest, core_opening}
 use Rattle.trace_check.specs.Replays.{events_of}
 use Rattle.trace_check.proofs.Written.{events_again}
 use Rattle.trace_check.proofs.laws.made_traces_are_replayed.Goals as goal

@@ -1,5 +1,5 @@
 use Rattle.std.proofs.Common.{[]}
-use Rattle.core_law.specs.Core.{core_opening}
+use Rattle.df_core.specs.Core.{core_opening}
 use Rattle.trace_check.proofs.Making.{same_refl}
 use Rattle.trace_check.proofs.Once.{one_run, no_stop}
 use Rattle.trace_check.proofs.laws.traces_are_replayed_once.Goals as goal

@@ -1,6 +1,6 @@
 use Rattle.std.proofs.Common.{List, sym, subst}
-use Rattle.core_run.specs.declared.engine.Event.{Event}
-use Rattle.core_run.specs.Cores.{event_of}
+use Rattle.df_core.specs.declared.engine.Event.{Event}
+use Rattle.df_core.specs.Cores.{event_of}
 use Rattle.trace_check.specs.Recorded.{MakesEvents}
 use Rattle.trace_check.proofs.Led.{none_led, one_led, next_enabled}
 use Rattle.trace_check.proofs.recording.make_events.Goals as goal

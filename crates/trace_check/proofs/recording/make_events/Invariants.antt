@@ -1,4 +1,4 @@
-use Rattle.core_run.specs.Cores.{Runs}
+use Rattle.df_core.specs.Cores.{Runs}
 use Rattle.trace_check.specs.Recorded.{MakesEvents}
 use Rattle.trace_check.proofs.recording.make_events.Given as goal
 

@@ -1,7 +1,7 @@
 use Rattle.ws_words.specs.Plain.{world_of}
-use Rattle.core_run.specs.Cores.{event_of}
+use Rattle.df_core.specs.Cores.{event_of}
 use Rattle.std.proofs.Common.{map}
-use Rattle.core_law.specs.Core.{core_opening}
+use Rattle.df_core.specs.Core.{core_opening}
 use Rattle.trace_check.proofs.Led.{Facts, traces_so, opened, led_run}
 use Rattle.trace_check.proofs.recording.trace.Goals as goal
 

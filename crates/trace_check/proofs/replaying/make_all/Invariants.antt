@@ -1,5 +1,5 @@
 use Rattle.std.proofs.Common.{take}
-use Rattle.core_run.specs.Cores.{Runs}
+use Rattle.df_core.specs.Cores.{Runs}
 use Rattle.trace_check.specs.Replays.{events_of}
 use Rattle.trace_check.proofs.Making.{LedAlong}
 use Rattle.trace_check.proofs.replaying.make_all.Given as goal

@@ -1,6 +1,6 @@
 use Rattle.std.proofs.Common.{List, sym, subst, ◌∙◌}
 use Rattle.ws_words.specs.Plain.{world_of}
-use Rattle.core_law.specs.Core.{Run, core_opening}
+use Rattle.df_core.specs.Core.{Run, core_opening}
 use Rattle.trace_check.specs.declared.events.Lined.{Lined}
 use Rattle.trace_check.specs.Replays.{events_of}
 use Rattle.trace_check.proofs.Telling.{Facts, fault_told, replay_told, rest_told}

@@ -1,4 +1,4 @@
-use Rattle.core_run.specs.Cores.{Runs}
+use Rattle.df_core.specs.Cores.{Runs}
 use Rattle.wsc_tests.proofs.schedules.comes_to_rest.Given as goal
 
 abbrev pub invariant-loop : goal.invariant-loop

@@ -1,4 +1,4 @@
-use Rattle.core_run.specs.Cores.{Runs}
+use Rattle.df_core.specs.Cores.{Runs}
 use Rattle.wsc_tests.proofs.schedules.follows.Given as goal
 
 abbrev pub invariant-loop-refused : goal.invariant-loop-refused

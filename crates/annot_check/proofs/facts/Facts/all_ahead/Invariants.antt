@@ -1,6 +1,6 @@
 use Rattle.std.proofs.Common.{◌⊎◌, ℕ, drop}
 use Rattle.ws_isa.specs.View as view
-use Rattle.image_walk.specs.Sound.{HasDest, IsAhead}
+use Rattle.ws_isa.specs.Sound.{HasDest, IsAhead}
 use Rattle.annot_check.proofs.facts.Facts.all_ahead.Given as goal
 
 abbrev pub invariant-loop-dest : goal.invariant-loop-dest

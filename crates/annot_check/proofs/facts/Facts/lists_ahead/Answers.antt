@@ -3,7 +3,7 @@ use Rattle.std.proofs.lemmas.Bool.{cases_eq}
 use Rattle.ws_isa.specs.View as view
 use Rattle.ws_isa.specs.Image.{Instr, instr_at, first_number}
 use Rattle.ws_isa.specs.Formed.{most_instrs}
-use Rattle.image_walk.specs.Sound.{HasDest, IsAhead}
+use Rattle.ws_isa.specs.Sound.{HasDest, IsAhead}
 use Rattle.annot_check.proofs.Blocks.{last_number, first_rises}
 use Rattle.annot_check.proofs.Entries.{instrs_read, instrs_count}
 use Rattle.annot_check.proofs.Passing.{instr_here, within_read, ends_read}

@@ -1,7 +1,7 @@
 use Rattle.std.proofs.Common.{◌≡◌, ◌<◌, ◌+◌, ℕ}
 use Rattle.ws_isa.specs.View as view
 use Rattle.ws_isa.specs.Image.{instr_at, IsIn}
-use Rattle.image_walk.specs.Sound.{HasDest, IsAhead}
+use Rattle.ws_isa.specs.Sound.{HasDest, IsAhead}
 use Rattle.annot_check.proofs.facts.Facts.lists_ahead.Given as goal
 
 abbrev pub invariant-loop-instr : goal.invariant-loop-instr

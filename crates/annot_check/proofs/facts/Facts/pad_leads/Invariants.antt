@@ -1,5 +1,5 @@
 use Rattle.std.proofs.Common.{◌≡◌, ◌<◌, ◌≤◌, ◌⊎◌, ℕ, true, drop}
-use Rattle.image_walk.specs.Sound.{HasDest}
+use Rattle.ws_isa.specs.Sound.{HasDest}
 use Rattle.annot_check.specs.Open.{bit}
 use Rattle.annot_check.proofs.facts.Facts.pad_leads.Given as goal
 

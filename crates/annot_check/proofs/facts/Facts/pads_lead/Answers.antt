@@ -1,7 +1,7 @@
 use Rattle.std.proofs.Common.{inl, inr, subst}
 use Rattle.ws_isa.specs.View as view
 use Rattle.ws_isa.specs.Image.{Pad}
-use Rattle.image_walk.specs.Sound.{HasDest}
+use Rattle.ws_isa.specs.Sound.{HasDest}
 use Rattle.annot_check.proofs.Shapes.{pad_here, pad_rest, pad_more}
 use Rattle.annot_check.proofs.facts.Facts.pads_lead.Goals as goal
 

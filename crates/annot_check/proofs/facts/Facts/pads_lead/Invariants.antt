@@ -1,7 +1,7 @@
 use Rattle.std.proofs.Common.{◌≡◌, ◌<◌, ◌≤◌, ◌⊎◌, ℕ, true, drop, map}
 use Rattle.ws_isa.specs.View as view
 use Rattle.ws_isa.specs.Image.{In, Pad}
-use Rattle.image_walk.specs.Sound.{HasDest}
+use Rattle.ws_isa.specs.Sound.{HasDest}
 use Rattle.annot_check.specs.Open.{bit}
 use Rattle.annot_check.proofs.facts.Facts.pads_lead.Given as goal
 

@@ -2,7 +2,7 @@ use Rattle.std.proofs.Common.{◌≡◌, ◌<◌, ◌≤◌, ℕ}
 use Rattle.ws_isa.specs.View as view
 use Rattle.ws_isa.specs.Image.{block_at, target}
 use Rattle.ws_isa.specs.declared.instr.Op.TheVariants.{Send}
-use Rattle.image_walk.specs.Sound.{HasPad}
+use Rattle.ws_isa.specs.Sound.{HasPad}
 use Rattle.annot_check.specs.Spread.{op_of}
 use Rattle.annot_check.specs.Table.{choices_of}
 use Rattle.annot_check.proofs.facts.Facts.sends_land.Given as goal

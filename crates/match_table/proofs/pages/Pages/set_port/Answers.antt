@@ -1,6 +1,6 @@
 use Rattle.std.proofs.Common.{ℕ, ◌≡◌, sym, subst, cond, set, Some}
 use Rattle.match_table.specs.declared.entry.Entry.{Entry}
-use Rattle.core_law.specs.Core.{same_key}
+use Rattle.df_core.specs.Core.{same_key}
 use Rattle.match_table.specs.Pages.{Store, arrived_in, IsUnder}
 use Rattle.match_table.specs.Ports.{with_port}
 use Rattle.match_table.proofs.Store.{was_set, port_arrived, set_stays}

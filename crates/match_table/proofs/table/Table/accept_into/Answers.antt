@@ -1,6 +1,6 @@
 use Rattle.std.proofs.Common.{ℕ, ap, ◌∙◌}
 use Rattle.ws_isa.specs.Image.{instr_at}
-use Rattle.core_run.specs.Places.{image_of}
+use Rattle.df_core.specs.Places.{image_of}
 use Rattle.match_table.proofs.table.Table.accept_into.Goals as goal
 
 pub take-requires-clause-op : goal.take-requires-clause-op

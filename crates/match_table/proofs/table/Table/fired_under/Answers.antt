@@ -1,6 +1,6 @@
 use Rattle.std.proofs.Common.{refl, ap, ◌∙◌}
 use Rattle.std.proofs.lemmas.Bool.{both_ways}
-use Rattle.core_run.specs.Places.{image_of}
+use Rattle.df_core.specs.Places.{image_of}
 use Rattle.match_table.specs.Tables.{Content}
 use Rattle.match_table.proofs.Listed.{listed_full, listed_operands}
 use Rattle.match_table.proofs.Answered.{count_is}

@@ -1,11 +1,11 @@
 use Rattle.std.proofs.Common.{ℕ, ◌≤◌, List, length, refl, subst, sym, ap, ◌∙◌}
 use Rattle.ws_isa.specs.Image.{Token, instr_at, ports}
-use Rattle.core_law.specs.Core.{IsSent}
-use Rattle.core_law.specs.Fit.{RightRequest}
+use Rattle.df_core.specs.Core.{IsSent}
+use Rattle.df_core.specs.Fit.{RightRequest}
 use Rattle.ws_isa.specs.Formed.{Formed}
-use Rattle.core_run.proofs.Few.{few}
-use Rattle.core_run.specs.Places.{image_of}
-use Rattle.df_job.specs.Rights.{Asked, operands_of}
+use Rattle.df_core.proofs.Few.{few}
+use Rattle.df_core.specs.Places.{image_of}
+use Rattle.df_core.specs.Rights.{Asked, operands_of}
 use Rattle.match_table.specs.Ports.{listed}
 use Rattle.match_table.specs.Tables.{Content}
 use Rattle.match_table.proofs.Answered.{ok_now, fills, memory_is, sent_is, sends_right, asks_right, request_right}

@@ -1,8 +1,8 @@
 use Rattle.std.proofs.Common.{ℕ, ◌≡◌, true, List, Option, refl, sym, ap, ◌∙◌, subst}
 use Rattle.ws_isa.specs.Image.{ports}
-use Rattle.image_walk.specs.Walk.{gather}
-use Rattle.core_law.specs.Core.{is_full}
-use Rattle.core_run.specs.Places.{image_of}
+use Rattle.ws_isa.specs.Walk.{gather}
+use Rattle.df_core.specs.Core.{is_full}
+use Rattle.df_core.specs.Places.{image_of}
 use Rattle.match_table.specs.declared.entry.Entry.{Entry}
 use Rattle.match_table.specs.declared.meeting.Seen.{Seen}
 use Rattle.match_table.specs.Pages.{arrived_in}

@@ -1,7 +1,7 @@
 use Rattle.std.proofs.Common.{◌∙◌, List, Ok, ap, subst}
 use Rattle.ws_isa.specs.Image.{Token}
-use Rattle.core_run.specs.Places.{image_of}
-use Rattle.df_job.specs.Rights.{tokens_of}
+use Rattle.df_core.specs.Places.{image_of}
+use Rattle.df_core.specs.Rights.{tokens_of}
 use Rattle.part_store.specs.Contents.{Content}
 use Rattle.part_store.specs.Calls.{AddressSo, address_of}
 use Rattle.part_store.specs.Parts.{content_of}

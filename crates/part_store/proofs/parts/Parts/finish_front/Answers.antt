@@ -4,8 +4,8 @@ use Rattle.ws_words.specs.Outside.{row, with_row}
 use Rattle.ws_isa.specs.declared.instr.Dest.{Dest}
 use Rattle.ws_isa.specs.declared.instr.Op.{Op}
 use Rattle.ws_isa.specs.Image.{Token, instr_at, tokens_to}
-use Rattle.core_run.specs.Places.{destinations, image_of}
-use Rattle.df_job.specs.Rights.{tokens_of}
+use Rattle.df_core.specs.Places.{destinations, image_of}
+use Rattle.df_core.specs.Rights.{tokens_of}
 use Rattle.store_buf.specs.Ordering.{no_request, kept_at}
 use Rattle.store_buf.proofs.Lists.{or_any}
 use Rattle.part_store.specs.Contents.{cell}
@@ -15,7 +15,7 @@ use Rattle.part_store.specs.Parts.{Beside, Stands, content_of}
 use Rattle.part_store.proofs.Fronts as F
 use Rattle.part_store.proofs.Finishing as N
 use Rattle.part_store.proofs.parts.Parts.finish_front.Goals as goal
-use Rattle.core_run.proofs.Few.{few_sent}
+use Rattle.df_core.proofs.Few.{few_sent}
 
 pub returns-in_default-clause-leads : goal.returns-in_default-clause-leads
 returns-in_default-clause-leads g c = (

@@ -1,6 +1,6 @@
 use Rattle.std.proofs.Common.{◌∙◌, refl}
-use Rattle.core_run.specs.Places.{image_of}
-use Rattle.df_job.specs.Rights.{tokens_of}
+use Rattle.df_core.specs.Places.{image_of}
+use Rattle.df_core.specs.Rights.{tokens_of}
 use Rattle.part_store.proofs.Followed as F
 use Rattle.part_store.proofs.parts.Parts.follow.Goals as goal
 

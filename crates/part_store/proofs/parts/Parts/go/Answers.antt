@@ -3,9 +3,9 @@ use Rattle.std.proofs.lemmas.List.{append-nil}
 use Rattle.std.proofs.lemmas.Result.{err_from_is_err_and}
 use Rattle.ws_isa.specs.declared.instr.Op.{Op}
 use Rattle.ws_isa.specs.Image.{Image, Token, instr_at, is_past_op, sends, tokens_to, array_of_op, array_at}
-use Rattle.core_run.specs.Places.{destinations, image_of}
-use Rattle.core_run.specs.Chains.{chain_of}
-use Rattle.df_job.specs.Rights.{tokens_of}
+use Rattle.df_core.specs.Places.{destinations, image_of}
+use Rattle.df_core.specs.Chains.{chain_of}
+use Rattle.df_core.specs.Rights.{tokens_of}
 use Rattle.store_buf.specs.declared.fault.Silent.{Silent}
 use Rattle.store_buf.specs.declared.fault.Silent.TheVariants.{Failed, NoMemory}
 use Rattle.store_buf.specs.declared.kept.Kept.{Kept}
@@ -26,7 +26,7 @@ use Rattle.part_store.proofs.Sending as N
 use Rattle.part_store.proofs.Turning as U
 use Rattle.part_store.proofs.parts.Parts.go.Goals as goal
 use Rattle.part_store.proofs.parts.Parts.go.Goals.{then-has-via-then-has, then-has-via-else-has+then-holds}
-use Rattle.core_run.proofs.Few.{few_sent}
+use Rattle.df_core.proofs.Few.{few_sent}
 
 past_so : (image : Image) (op : Op) (k m : Kept) (b : Bool) → is_past_op image.arrays op (k.first ∷ []) ≡ b → op ≡ (instr_at image k.instr).op → k ≡ m → is_past_at image m ≡ b
 past_so image op k m b e f q = subst (λ (x : Kept). is_past_op image.arrays (instr_at image x.instr).op (x.first ∷ []) ≡ b) q (subst (λ (o : Op). is_past_op image.arrays o (k.first ∷ []) ≡ b) f e)

@@ -1,6 +1,6 @@
 use Rattle.std.proofs.Common.{ℕ, ◌≡◌, false, ap, refl, inl}
 use Rattle.part_store.specs.Bares.{is_in}
-use Rattle.core_run.specs.Places.{image_of}
+use Rattle.df_core.specs.Places.{image_of}
 use Rattle.part_store.proofs.Coming as C
 use Rattle.part_store.proofs.parts.Parts.put_by.Goals as goal
 

@@ -1,5 +1,5 @@
 use Rattle.std.proofs.Common.{true, refl, inl}
-use Rattle.core_run.specs.Places.{image_of}
+use Rattle.df_core.specs.Places.{image_of}
 use Rattle.part_store.proofs.Coming as C
 use Rattle.part_store.proofs.parts.Parts.put_by_address.Goals as goal
 

@@ -1,5 +1,5 @@
 use Rattle.std.proofs.Common.{ℕ, ◌≡◌, ◌∙◌, Option, Some, slice_set, refl, ap, subst}
-use Rattle.core_law.specs.Core.{same_key, with_key}
+use Rattle.df_core.specs.Core.{same_key, with_key}
 use Rattle.store_buf.specs.declared.kept.Kept.{Kept}
 use Rattle.store_buf.specs.Requests.{entry_of}
 use Rattle.store_buf.specs.Ordering.{no_request, kept_at}

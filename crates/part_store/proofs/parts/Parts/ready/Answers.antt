@@ -1,6 +1,6 @@
 use Rattle.std.proofs.Common.{ℕ, ◌-◌, ◌≡◌, ◌<◌, ◌∙◌, false, length, slice_index_or, ap, sym, subst, inl, inr, arith}
 use Rattle.std.proofs.lemmas.Bool.{cases_lt}
-use Rattle.core_run.specs.Places.{image_of}
+use Rattle.df_core.specs.Places.{image_of}
 use Rattle.store_buf.specs.Ordering.{kept_at}
 use Rattle.store_buf.proofs.Lists.{or_any}
 use Rattle.part_store.specs.Parts.{go_flag}

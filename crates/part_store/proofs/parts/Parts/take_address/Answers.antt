@@ -1,7 +1,7 @@
 use Rattle.std.proofs.Common.{List, ◌++◌, ◌∙◌, true, refl, ap, sym, subst, inl}
 use Rattle.ws_isa.specs.Image.{Token}
-use Rattle.core_run.specs.Places.{image_of}
-use Rattle.df_job.specs.Rights.{tokens_of}
+use Rattle.df_core.specs.Places.{image_of}
+use Rattle.df_core.specs.Rights.{tokens_of}
 use Rattle.store_buf.specs.Contents.{RightTokens}
 use Rattle.part_store.specs.Calls.{AddressSo}
 use Rattle.part_store.specs.Parts.{content_of}

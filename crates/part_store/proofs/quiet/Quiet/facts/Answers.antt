@@ -1,6 +1,6 @@
 use Rattle.std.proofs.Common.{◌≡◌, None, false, subst}
 use Rattle.ws_words.specs.Outside.{Outside}
-use Rattle.core_law.specs.Core.{has}
+use Rattle.df_core.specs.Core.{has}
 use Rattle.store_buf.specs.Contents.{Content, Idle, IsBuffer}
 use Rattle.part_store.proofs.Wholly as W
 use Rattle.part_store.proofs.quiet.Quiet.facts.Goals as goal

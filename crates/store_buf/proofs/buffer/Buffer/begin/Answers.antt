@@ -1,7 +1,7 @@
 use Rattle.std.proofs.Common.{◌≡◌, None, false, [], map, length, ap, ◌∙◌, sym, subst, arith}
 use Rattle.ws_isa.specs.Image.{Image, cells_of}
 use Rattle.ws_isa.specs.View as view
-use Rattle.image_walk.specs.Walk.{opening_memory}
+use Rattle.ws_isa.specs.Walk.{opening_memory}
 use Rattle.store_buf.specs.declared.order.Order.{Order}
 use Rattle.store_buf.specs.declared.store.Store.{Store}
 use Rattle.store_buf.specs.Ordering.{OrderOk, Room}

@@ -1,5 +1,5 @@
-use Rattle.core_run.specs.Places.{image_of}
-use Rattle.df_job.specs.Rights.{tokens_of}
+use Rattle.df_core.specs.Places.{image_of}
+use Rattle.df_core.specs.Rights.{tokens_of}
 use Rattle.store_buf.proofs.Coming as K
 use Rattle.store_buf.proofs.buffer.Buffer.submit.Goals as goal
 

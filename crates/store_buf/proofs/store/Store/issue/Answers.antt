@@ -3,12 +3,12 @@ use Rattle.std.proofs.lemmas.List.{append-nil}
 use Rattle.std.proofs.lemmas.Result.{err_from_is_err_and}
 use Rattle.ws_isa.specs.declared.instr.Op.{Op}
 use Rattle.ws_isa.specs.Image.{Image, instr_at, is_past_op, ports, sends, answer, tokens_to, array_of_op}
-use Rattle.core_run.specs.Places.{destinations}
-use Rattle.core_law.specs.Effect.{effect_after}
-use Rattle.df_job.specs.Rights.{operands_of, tokens_of}
-use Rattle.core_run.specs.Chains.{chain_of}
-use Rattle.core_run.specs.Places.{image_of}
-use Rattle.core_law.specs.Core.{has}
+use Rattle.df_core.specs.Places.{destinations}
+use Rattle.df_core.specs.Effect.{effect_after}
+use Rattle.df_core.specs.Rights.{operands_of, tokens_of}
+use Rattle.df_core.specs.Chains.{chain_of}
+use Rattle.df_core.specs.Places.{image_of}
+use Rattle.df_core.specs.Core.{has}
 use Rattle.store_buf.specs.declared.fault.Silent.{Silent}
 use Rattle.store_buf.specs.declared.fault.Silent.TheVariants.{Failed, NoMemory}
 use Rattle.store_buf.specs.declared.kept.Kept.{Kept}
@@ -24,7 +24,7 @@ use Rattle.store_buf.proofs.Counted as C
 use Rattle.store_buf.proofs.Silence.{port_waits}
 use Rattle.store_buf.proofs.Stepping as S
 use Rattle.store_buf.proofs.store.Store.issue.Goals as goal
-use Rattle.core_run.proofs.Few.{few_sent}
+use Rattle.df_core.proofs.Few.{few_sent}
 
 pub run-requires-clause-port : goal.run-requires-clause-port
 run-requires-clause-port g c = subst PortIn (sym c.op-op.ensures) (port_in (image_of c.args.program.now) c.request-kept.result.instr c.requires.formed)

@@ -1,6 +1,6 @@
 use Rattle.std.proofs.Common.{◌∙◌, sym, ap, subst, refl, arith}
-use Rattle.core_run.specs.Places.{image_of}
-use Rattle.df_job.specs.Rights.{tokens_of}
+use Rattle.df_core.specs.Places.{image_of}
+use Rattle.df_core.specs.Rights.{tokens_of}
 use Rattle.store_buf.specs.Stores.{AllLead}
 use Rattle.store_buf.proofs.Turns as T
 use Rattle.store_buf.proofs.store.Store.issue_all.Goals as goal

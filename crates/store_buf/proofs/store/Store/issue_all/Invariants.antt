@@ -1,7 +1,7 @@
 use Rattle.std.proofs.Common.{◌≡◌, ◌*◌}
 use Rattle.smallvec.specs.SmallVec.{HasRoomFor}
-use Rattle.core_run.specs.Places.{image_of}
-use Rattle.df_job.specs.Rights.{tokens_of}
+use Rattle.df_core.specs.Places.{image_of}
+use Rattle.df_core.specs.Rights.{tokens_of}
 use Rattle.store_buf.specs.Outdoors.{FaultsGrow}
 use Rattle.store_buf.specs.Stores.{StoreOk, AllLead, left_over}
 use Rattle.store_buf.proofs.store.Store.issue_all.Given as goal

@@ -1,5 +1,5 @@
 use Rattle.std.proofs.Common.{inl}
-use Rattle.core_run.specs.Places.{image_of}
+use Rattle.df_core.specs.Places.{image_of}
 use Rattle.store_buf.proofs.Coming as K
 use Rattle.store_buf.proofs.store.Store.put_by.Goals as goal
 

@@ -1,5 +1,0 @@
-pub mod Effect
-pub mod Core
-pub mod Fit
-pub mod Ends
-pub mod Shown

@@ -1,6 +1,0 @@
-use Rattle.std.proofs.Common.{◌≡◌, ◌++◌}
-use Rattle.core_run.specs.Outdoors.{rows_of}
-use Rattle.core_run.proofs.answer.cells_of.Given as goal
-
-abbrev pub invariant-loop-row : goal.invariant-loop-row
-invariant-loop-row l = l.cells ++ rows_of l.row-iterator.rest.items ≡ rows_of l.fn.rows.items

@@ -1,5 +1,0 @@
-use Rattle.core_run.proofs.Stepping.{kept_same, runs_same}
-use Rattle.core_run.proofs.engine.Core.prepare.Goals as goal
-
-pub returns-clause-core : goal.returns-clause-core
-returns-clause-core c = runs_same c.args.self.now c.prepare.new.self c.prepare.ensures.same

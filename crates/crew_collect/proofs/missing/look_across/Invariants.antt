@@ -1,8 +1,0 @@
-use Rattle.std.proofs.Common.{◌≡◌, ◌<◌, ℕ, [], All}
-use Rattle.crew_collect.specs.Together.{behind, part_behind}
-use Rattle.crew_tables.specs.Growth.{content_at}
-use Rattle.crew_collect.specs.Owing.{IsMissing, ToldIn}
-use Rattle.crew_collect.proofs.missing.look_across.Given as goal
-
-abbrev pub invariant-loop-number : goal.invariant-loop-number
-invariant-loop-number g l = All (IsMissing (part_behind l.tables).held) l.found × (l.found ≡ [] → (l.initial.found ≡ []) × ((k : ℕ) → k < l.number → ToldIn g.J.Job.image (part_behind l.tables).held l.from l.to (content_at (behind l.tables) k)))

@@ -1,7 +1,0 @@
-use Rattle.std.proofs.Common.{◌≡◌, [], All, take}
-use Rattle.crew_collect.specs.Together.{part_behind}
-use Rattle.crew_collect.specs.Owing.{HasAnswered, IsMissing}
-use Rattle.crew_collect.proofs.missing.look_back.Given as goal
-
-abbrev pub invariant-loop-kept : goal.invariant-loop-kept
-invariant-loop-kept g l = All (IsMissing (part_behind l.tables).held) l.found × (l.found ≡ [] → (l.initial.found ≡ []) × All (HasAnswered g.J.Job.image (part_behind l.tables).held) (take l.kept-index l.buffer.kept))

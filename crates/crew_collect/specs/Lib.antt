@@ -1,4 +1,0 @@
-pub mod Together
-pub mod Coming
-pub mod Owing
-pub mod Ends

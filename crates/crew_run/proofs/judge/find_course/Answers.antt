@@ -1,4 +1,0 @@
-use Rattle.crew_run.proofs.judge.find_course.Goals as goal
-
-pub returns-in-Err : goal.returns-in-Err
-returns-in-Err g c = c.in-Err.ensures.ends c.args.left

@@ -1,5 +1,0 @@
-use Rattle.std.proofs.Common.{length}
-use Rattle.crew_run.proofs.turn.deal.Given as goal
-
-abbrev pub decreases-loop-token : goal.decreases-loop-token
-decreases-loop-token g l = length l.tokens

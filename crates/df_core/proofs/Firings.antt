@@ -1,0 +1,81 @@
+-- How many instances the first steps of a walk have, and which steps fire those that have fired.
+use Rattle.std.proofs.Common.{ℕ, zero, suc, ◌+◌, ◌≡◌, ◌≤◌, List, [], ◌∷◌, ◌++◌, length, Some, None, refl, sym, ap, ◌∙◌, subst, inl, inr, arith, length-append}
+use Rattle.std.proofs.lemmas.Bool.{cases_eq}
+use Rattle.ws_words.specs.Outside.{World}
+use Rattle.ws_isa.specs.Image.{Image, In}
+use Rattle.ws_isa.specs.Walk.{Inst, fires, walk, CostAtMost}
+use Rattle.df_core.specs.Core.{Key, HasFired, Once}
+use Rattle.df_core.specs.Fit.{FiresAt, NoOp}
+use Rattle.df_core.proofs.Facts.{WalkFacts}
+use Rattle.df_core.proofs.Passing.{same_fired}
+use Rattle.df_core.proofs.Pauses.{cases_fires}
+use Rattle.df_core.specs.Answer.{FiringSteps}
+
+module _ (image : Image) (world : World) where
+  walk_none : (t : ℕ) → fires image world t ≡ None → walk image world (suc t) ≡ walk image world t
+  unfolding walk
+  walk_none t e = rw e refl
+
+  walk_some : (t : ℕ) (x : Inst) → fires image world t ≡ Some x → walk image world (suc t) ≡ walk image world t ++ x ∷ []
+  unfolding walk
+  walk_some t x e = rw e refl
+
+  one_more : (t : ℕ) (x : Inst) → fires image world t ≡ Some x → length (walk image world (suc t)) ≡ suc (length (walk image world t))
+  one_more t x e = ap length (walk_some t x e) ∙ (let l : length (walk image world t ++ x ∷ []) ≡ length (walk image world t) + 1 = length-append (walk image world t) (x ∷ []) in omega arith)
+
+  step_up : (t : ℕ) → length (walk image world t) ≤ length (walk image world (suc t))
+  step_up t = elim (cases_fires image world t) [
+    | inl e ↦ (let l : length (walk image world (suc t)) ≡ length (walk image world t) = ap length (walk_none t e) in omega arith)
+    | inr x ↦ (let l : length (walk image world (suc t)) ≡ suc (length (walk image world t)) = one_more t x.0 x.1 in omega arith)
+  ]
+
+  pub walk_up : (t u : ℕ) → t ≤ u → length (walk image world t) ≤ length (walk image world u)
+  walk_up t zero l = let e : t ≡ zero = omega arith in rw e (omega arith)
+  walk_up t (suc u) l = elim (cases_eq t (suc u)) [
+    | inl e ↦ rw e (omega arith)
+    | inr n ↦ (let a : length (walk image world t) ≤ length (walk image world u) = walk_up t u (omega arith) in
+        let b : length (walk image world u) ≤ length (walk image world (suc u)) = step_up u in omega arith)
+  ]
+
+  -- where the whole walk has fired nothing more does
+  pub none_fires : (n t u : ℕ) → CostAtMost image world n → n ≤ length (walk image world t) → NoOp image world t u
+  none_fires n t u cost l k x a b fx mx =
+      let c : length (walk image world (suc k)) ≤ n = cost (suc k) in
+      let d : length (walk image world (suc k)) ≡ suc (length (walk image world k)) = one_more k x fx in
+      let e : length (walk image world t) ≤ length (walk image world k) = walk_up t k a in
+      omega arith
+
+  -- the steps at which instances fire
+  pub record StepsOf (ks : List Key) : Type 0 where
+    pub steps : List ℕ
+    pub firing : FiringSteps image world steps
+    pub count : length steps ≡ length ks
+    pub has : (w i t : ℕ) (x : Inst) → HasFired ks w i → FiresAt image world w i t x → In t steps
+    pub only : (t : ℕ) (x : Inst) → In t steps → fires image world t ≡ Some x → HasFired ks x.wave x.instr
+
+  module _ (facts : WalkFacts image world) where
+    pub steps_of : (ks : List Key) → Once ks → ((w i : ℕ) → HasFired ks w i → (t : ℕ) × (x : Inst) × FiresAt image world w i t x) → StepsOf ks
+    steps_of [] o f = record { steps = []; firing = tt; count = refl; has = λ w i t x h at. absurd h; only = λ t x h fx. absurd h }
+    steps_of (k ∷ ks) o f =
+        let here = f k.wave k.instr (inl (refl, refl)) in
+        let t0 : ℕ = here.0 in
+        let at0 : FiresAt image world k.wave k.instr here.0 here.1 = here.2 in
+        let rest : StepsOf ks = steps_of ks o.1 (λ w i h. f w i (inr h)) in
+        record {
+          steps = here.0 ∷ rest.steps;
+          firing = (
+            (here.1, at0.fires),
+            (λ h. o.0 (subst (λ (n : ℕ). HasFired ks k.wave n) at0.instr (subst (λ (n : ℕ). HasFired ks n here.1.instr) at0.wave (rest.only here.0 here.1 h at0.fires)))),
+            rest.firing,
+          );
+          count = ap suc rest.count;
+          has = λ w i t x h at. elim h [
+            | inl e ↦ inl (facts.once t here.0 x here.1 at.fires at0.fires (at.wave ∙ sym e.0 ∙ sym at0.wave) (at.instr ∙ sym e.1 ∙ sym at0.instr))
+            | inr g ↦ inr (rest.has w i t x g at)
+          ];
+          only = λ t x h fx. elim h [
+            | inl e ↦ (let g : here.1 ≡ x = same_fired image world facts here.0 t here.1 x at0.fires fx (sym e) in
+                inl (sym at0.wave ∙ ap (λ (z : Inst). z.wave) g, sym at0.instr ∙ ap (λ (z : Inst). z.instr) g))
+            | inr g ↦ inr (rest.only t x g fx)
+          ];
+        }

@@ -1,0 +1,93 @@
+-- The states of a core, and how its calls lead from one to another.
+use Rattle.std.specs.Prelude.{ℕ, ◌≡◌, ◌<◌, ◌≤◌, ◌-◌, ◌^◌, Bool, true, false, []}
+use Rattle.ws_words.specs.Outside.{World}
+use Rattle.ws_isa.specs.Image.{Image}
+use Rattle.ws_isa.specs.Formed.{Formed}
+use Rattle.ws_isa.specs.Sound.{Sound}
+use Rattle.df_core.specs.Core as law
+use Rattle.df_core.specs.Core.{State, Step, Enabled, Rest, Match, Issue}
+use Rattle.df_core.specs.declared.answer.Done.{Done}
+use Rattle.df_core.specs.declared.engine.Core.{Core}
+use Rattle.df_core.specs.declared.engine.Event.{Event}
+use Rattle.df_core.specs.declared.engine.Event.TheVariants as code
+use Rattle.df_core.specs.declared.engine.StepFault.{StepFault}
+use Rattle.df_core.specs.declared.engine.StepFault.TheVariants as fault
+use Rattle.df_core.specs.Places.{ProgramIs, image_of}
+use Rattle.df_core.specs.Flows.{Holds, Room, Reaches}
+use Rattle.df_core.specs.Told.{done_of}
+use Rattle.df_core.specs.Ends.{AfterFired}
+use Rattle.df_core.specs.declared.drive.Finish.{Finish}
+use Rattle.df_core.specs.Finishes.{is_budget}
+
+-- the core stands at this state of a run of an image in a world
+pub record IsAt (image : Image) (world : World) (core : Core) (s : State) : Type 0 where
+  pub program : ProgramIs core.program
+  pub image_is : image_of core.program ≡ image
+  pub formed : Formed image
+  pub sound : Sound image
+  pub holds : Holds image world [] core.flow s
+
+-- it stands at some state
+pub record Runs (core : Core) : Type 0 where
+  pub image : Image
+  pub world : World
+  pub state : State
+  pub at : IsAt image world core state
+
+-- what the instances that have fired have done
+abbrev pub done : Core → Done
+done core = done_of core.flow
+
+abbrev pub event_of : Event → law.Event
+event_of (code.Match wave instr port) = Match wave instr port
+event_of (code.Issue wave instr) = Issue wave instr
+
+abbrev pub is_not_ready : StepFault → Bool
+is_not_ready fault.NotReady = true
+is_not_ready fault.NoMemory = false
+
+-- the event leads from each state at which the core stood to one at which it stands
+abbrev pub Makes : law.Event → Core → Core → Type 0
+Makes event old new = (image : Image) (world : World) (s : State) → IsAt image world old s →
+    (t : State) × Step image s event t × IsAt image world new t
+
+-- at no state at which the core stands is the event enabled
+abbrev pub NotEnabled : law.Event → Core → Type 0
+NotEnabled event core = (image : Image) (world : World) (s : State) → IsAt image world core s →
+    Enabled image s event → ⊥
+
+-- at each state at which the core stands the event is enabled
+abbrev pub IsEnabled : law.Event → Core → Type 0
+IsEnabled event core = (image : Image) (world : World) (s : State) → IsAt image world core s →
+    Enabled image s event
+
+-- at each state at which the core stands no event is enabled
+abbrev pub IsAtRest : Core → Type 0
+IsAtRest core = (image : Image) (world : World) (s : State) → IsAt image world core s →
+    Rest image s
+
+-- the core stands at the same states
+abbrev pub Keeps : Core → Core → Type 0
+Keeps old new = (image : Image) (world : World) (s : State) → IsAt image world old s →
+    IsAt image world new s
+
+-- some events lead on
+abbrev pub LeadsTo : Core → Core → Type 0
+LeadsTo old new = (image : Image) (world : World) (s : State) → IsAt image world old s →
+    (t : State) × Reaches image s t × IsAt image world new t
+
+-- there is room for one more firing, and for the events around it
+abbrev pub HasRoom : Core → Type 0
+HasRoom core = Room core.flow 0 1 × ((done core).fired < 2 ^ 64 - 2)
+
+-- where the budget is spent, the most operations of the walk that have all fired have been passed, and
+-- memory is what they leave
+abbrev pub SpendsAll : Finish → Core → Core → Type 0
+SpendsAll finish old new = (image : Image) (world : World) (s : State) → IsAt image world old s →
+    (t : State) × IsAt image world new t
+    × (is_budget finish ≡ true → (p : ℕ) × AfterFired image world t p)
+
+-- no more than the budget have fired, and there is room for a run until then
+pub record Prepared (core : Core) (budget : ℕ) : Type 0 where
+  pub fired : (done core).fired ≤ budget
+  pub room : Room core.flow 0 (budget - (done core).fired)

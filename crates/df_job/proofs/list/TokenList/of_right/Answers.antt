@@ -1,6 +1,0 @@
-use Rattle.df_job.specs.Rights.{tokens_of}
-use Rattle.df_job.proofs.Sends.{all_right}
-use Rattle.df_job.proofs.list.TokenList.of_right.Goals as goal
-
-pub invariant_of-result : goal.invariant_of-result
-invariant_of-result g c = (c.requires.room, all_right g.J.Job.image g.J.Job.world (tokens_of c.args.raw.items) c.requires.right)

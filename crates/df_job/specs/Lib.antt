@@ -1,3 +1,0 @@
-pub mod Began
-pub mod Codes
-pub mod Rights

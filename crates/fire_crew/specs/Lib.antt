@@ -1,0 +1,7 @@
+pub mod Together
+pub mod Coming
+pub mod Owing
+pub mod Ends
+pub mod Verdicts
+pub mod Finishes
+pub mod Answer

@@ -1,0 +1,44 @@
+-- What tables and a buffer owe.
+use Rattle.std.specs.Prelude.{ℕ, ◌≡◌, ◌<◌, ◌≤◌, true, false, List, length, slice_index_or, Some, None, is_some}
+use Rattle.ws_isa.specs.Image.{Image, Token, ports, is_memory, result_of, sends}
+use Rattle.ws_isa.specs.Walk.{Ports}
+use Rattle.df_core.specs.Core.{Key, HasFired, IsSent, operands_in}
+use Rattle.df_core.specs.Shown.{Tables as Part}
+use Rattle.df_core.specs.Rights.{operands_of}
+use Rattle.match_table.specs.Tables.{Content, held}
+use Rattle.store_buf.specs.declared.kept.Kept.{Kept}
+use Rattle.store_buf.specs.Requests.{entry_of}
+
+-- no table has had it
+abbrev pub IsMissing : Ports → Token → Type 0
+IsMissing held t = held t.wave t.instr t.port ≡ None
+
+-- each of these has come to its table
+abbrev pub HaveCome : Ports → List Token → Type 0
+HaveCome held ts = (w i p v : ℕ) → IsSent ts w i p v → (u : ℕ) × (held w i p ≡ Some u)
+
+-- its request is kept
+abbrev pub IsKnown : List Kept → Key → Type 0
+IsKnown kept k = is_some (entry_of kept k.wave k.instr) ≡ true
+
+-- if it isn't one of memory, the result tokens of these operands have come to their tables
+abbrev pub HasTold : Image → Ports → List ℕ → Key → Type 0
+HasTold image all operands k = is_memory image k.instr ≡ false →
+    HaveCome all (sends image k.wave k.instr operands (result_of image k.instr operands))
+
+-- each that a table lists, from this place to before that one, has told so
+abbrev pub ToldIn : Image → Ports → ℕ → ℕ → Content → Type 0
+ToldIn image all from to c = (k : ℕ) (d : Key) → from ≤ k → k < to → k < length c.fired →
+    HasTold image all
+    (operands_in image (held c) (slice_index_or c.fired k d).wave (slice_index_or c.fired k d).instr)
+    (slice_index_or c.fired k d)
+
+-- if it is issued, its result tokens have come to their tables
+abbrev pub HasAnswered : Image → Ports → Kept → Type 0
+HasAnswered image held k = (a : ℕ) → k.answer ≡ Some a →
+    HaveCome held (sends image k.wave k.instr (operands_of (ports image k.instr) k.first k.second) a)
+
+-- these requests are kept of all memory instances that have fired
+abbrev pub AllKnown : Image → Part → List Kept → Type 0
+AllKnown image t kept = (w i : ℕ) → HasFired t.fired w i → is_memory image i ≡ true →
+    is_some (entry_of kept w i) ≡ true

@@ -1,0 +1,39 @@
+-- Sixteen tables as one part of the core's state.
+use Rattle.std.specs.Prelude.{ℕ, suc, ◌+◌, ◌%◌, List, [], ◌∷◌, ◌++◌, map}
+use Rattle.std.specs.Borrow.{Bor}
+use Rattle.df_core.specs.Core.{Key}
+use Rattle.df_core.specs.Shown.{Tables as Part}
+use Rattle.match_table.specs.Tables.{Content, held}
+use Rattle.match_table.specs.declared.row.Tables.{Tables}
+use Rattle.match_table.specs.Growth.{content_at}
+use Rattle.match_table.specs.Limits.{Serves}
+use Rattle.match_table.specs.Rows.{contents}
+
+-- the tables serve, from this number on, the instances whose wave number plus instruction is their number
+-- modulo 16
+abbrev pub ServeFrom : ℕ → List Content → Type 0
+ServeFrom n [] = Unit {0}
+ServeFrom n (c ∷ cs) = Serves n c × ServeFrom (suc n) cs
+
+-- what they list, one table after another
+abbrev pub all_fired : List Content → List Key
+all_fired [] = []
+all_fired (c ∷ cs) = c.fired ++ all_fired cs
+
+-- what they hold and list together: at each instance what the table holds that serves it
+abbrev pub together : List Content → Part
+together cs = record { held = λ w i p. held (content_at cs ((w + i) % 16)) w i p; fired = all_fired cs }
+
+abbrev pub part_of : {J : Type 0} → Tables J → Part
+part_of ts = together (contents ts)
+
+-- what stands behind references to tables, in order
+abbrev pub behind : List (Bor Content) → List Content
+behind rs = map (λ r. r.now) rs
+
+abbrev pub part_behind : List (Bor Content) → Part
+part_behind rs = together (behind rs)
+
+-- each table holds tokens of the instances alone that it serves
+abbrev pub AllServe : {J : Type 0} → Tables J → Type 0
+AllServe ts = ServeFrom 0 (contents ts)

@@ -1,0 +1,144 @@
+//! A turn: the budget is shared out, tokens are dealt, and workers run.
+
+ghost use Rattle.std.specs.Prelude.{◌≡◌, ◌<◌, ◌≤◌, length, true, false};
+ghost use Rattle.df_core.specs.Core.{has};
+ghost use Rattle.fire_crew.specs.Together.{AllServe, part_of};
+ghost use Rattle.match_table.specs.Growth.{AllGrow};
+ghost use Rattle.match_table.specs.Rows.{contents};
+
+use crate::limits::{fired, fitting, limits};
+use crate::own::see_brought;
+use crate::phase::{PhaseEnd, phase};
+use crate::{Bare, Gate, Wrap};
+use df_core::{Code, Job, Token, TokenList};
+use match_table::{Tables, table_of};
+use port_set::Port;
+use ready_pool::{SeatList, seats};
+use std::alloc::Global;
+use std::marker::Brand;
+use std::sync::Wait;
+use std::thread::Threads;
+use store_buf::Buffer;
+use ws_words::NoMemory;
+
+/// A phase with these tokens. No more instances fire than the budget allows, and no table loses
+/// anything. Where more may fire then a table has had the token that is named: if no worker brought it,
+/// the caller's thread does, with no other at work.
+pub fn turn<J: Job + Send + Sync, P: Port + Send, G: Gate, R: Threads + Wait + Sync>(
+    rt: &R,
+    alloc: Global,
+    tables: Tables<J>,
+    buffer: Buffer<J, P>,
+    token: &Token<J>,
+    tokens: TokenList<J>,
+    workers: u32,
+    budget: u64,
+    code: &Code<'_, J>,
+    gate: &G,
+) -> PhaseEnd<J, P>
+    requires serve { AllServe tables }
+    requires within { length (part_of tables).fired ≤ budget }
+    requires workers { (1 ≤ workers) × (workers ≤ 8) }
+    ensures serve { AllServe result.tables }
+    ensures within { length (part_of result.tables).fired ≤ budget }
+    ensures grow { AllGrow (contents tables) (contents result.tables) }
+    ensures come { result.starved ≡ false → length (part_of result.tables).fired < budget
+        → has ((part_of result.tables).held token.now.wave token.now.instr token.now.port) ≡ true }
+{
+    let first = table_of(token.wave(), token.instr());
+    let mut after = work(
+        rt, alloc, tables, buffer, tokens, first, workers, budget, code, gate,
+    );
+    let brought = see_brought(
+        alloc,
+        code,
+        &mut after.tables,
+        &mut after.buffer,
+        token,
+        &mut after.let_go,
+        budget,
+    );
+    after.starved = after.starved || brought.is_err();
+    after
+}
+
+// The work of a phase, in which the table `first` may fire where any may.
+fn work<J: Job + Send + Sync, P: Port + Send, G: Gate, R: Threads + Wait + Sync>(
+    rt: &R,
+    alloc: Global,
+    tables: Tables<J>,
+    buffer: Buffer<J, P>,
+    tokens: TokenList<J>,
+    first: u64,
+    workers: u32,
+    budget: u64,
+    code: &Code<'_, J>,
+    gate: &G,
+) -> PhaseEnd<J, P>
+    requires serve { AllServe tables }
+    requires within { length (part_of tables).fired ≤ budget }
+    requires workers { (1 ≤ workers) × (workers ≤ 8) }
+    ensures serve { AllServe result.tables }
+    ensures within { length (part_of result.tables).fired ≤ budget }
+    ensures grow { AllGrow (contents tables) (contents result.tables) }
+{
+    let left = budget - fired(&tables);
+    let Ok(limits) = limits(alloc, &tables, left, first) else {
+        return stays(tables, buffer, tokens);
+    };
+    let Ok(deal) = dealt(alloc, tokens, workers) else {
+        return stays(tables, buffer, TokenList::empty(alloc));
+    };
+    let after = phase::<J, Brand, P, G, R>(rt, alloc, tables, buffer, &limits, deal, code, gate);
+    fitting(&after.tables, &limits);
+    after
+}
+
+// Memory ran out before a worker could run.
+fn stays<J: Job, P: Port>(
+    tables: Tables<J>,
+    buffer: Buffer<J, P>,
+    tokens: TokenList<J>,
+) -> PhaseEnd<J, P>
+    ensures { result.tables ≡ tables }
+{
+    PhaseEnd {
+        tables,
+        buffer,
+        let_go: tokens,
+        starved: true,
+    }
+}
+
+// Seats with these tokens.
+fn dealt<J: Job>(
+    alloc: Global,
+    tokens: TokenList<J>,
+    workers: u32,
+) -> Result<SeatList<Token<J>>, NoMemory>
+    requires { (1 ≤ workers) × (workers ≤ 8) }
+{
+    let mut seats = seats::<Token<J>>(alloc, workers)?;
+    deal::<Bare, J, Token<J>>(&mut seats, 0, tokens);
+    Ok(seats)
+}
+
+/// Puts tokens into seats, one after another from this one on. Answers which comes next.
+pub fn deal<L: Wrap<Token<J>, T>, J: Job, T: Drop>(
+    seats: &mut SeatList<T>,
+    first: usize,
+    tokens: TokenList<J>,
+) -> usize {
+    let mut tokens = tokens;
+    let mut at = first;
+    while let Some(token) = tokens.pop() {
+        if at >= seats.len() {
+            at = 0;
+        }
+        if at < seats.len() {
+            let _ = seats[at].put(L::wrap(token));
+            at += 1;
+        }
+    }
+    at
+}

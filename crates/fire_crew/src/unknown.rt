@@ -1,0 +1,73 @@
+//! Requests that a buffer doesn't know.
+
+ghost use Rattle.std.specs.Prelude.{◌≡◌, [], All, OnOk, IfOk};
+ghost use Rattle.df_core.specs.Fit.{RightRequest};
+ghost use Rattle.match_table.specs.Ports.{listed};
+ghost use Rattle.match_table.specs.Tables.{key_of, of_memory};
+ghost use Rattle.fire_crew.specs.Together.{part_of};
+ghost use Rattle.fire_crew.specs.Owing.{AllKnown, IsKnown};
+
+use crate::tables::table_at;
+use df_core::{Code, Job, Request};
+use match_table::row::Tables;
+use match_table::{Fired, Table};
+use port_set::Port;
+use std::alloc::Global;
+use store_buf::Buffer;
+use ws_words::NoMemory;
+
+/// The requests of instances that have fired and that the buffer doesn't know.
+pub fn unknown<J: Job, P: Port>(
+    alloc: Global,
+    code: &Code<'_, J>,
+    tables: &Tables<J>,
+    buffer: &Buffer<J, P>,
+) -> Result<Vec<Request<J>>, NoMemory>
+    ensures { IfOk result (λ requests. requests.items ≡ []
+        → AllKnown J.image (part_of tables.now) buffer.now.kept) }
+{
+    let mut requests = Vec::new(alloc);
+    for number in 0..16 {
+        ask_all(code, table_at(tables, number), buffer, &mut requests)?;
+    }
+    Ok(requests)
+}
+
+// Those of one table.
+fn ask_all<J: Job, P: Port>(
+    code: &Code<'_, J>,
+    table: &Table<J>,
+    buffer: &Buffer<J, P>,
+    requests: &mut Vec<Request<J>>,
+) -> Result<(), NoMemory>
+    ensures { OnOk result (requests.new.items ≡ [] → (requests.old.items ≡ [])
+        × All (IsKnown buffer.now.kept) (of_memory J.image table.now.fired)) }
+{
+    table.facts();
+    let _ = code.program();
+    for place in 0..table.asked_count() {
+        ask(code, table.asked_at(code, place), buffer, requests)?;
+    }
+    Ok(())
+}
+
+// That of one instance of memory.
+fn ask<J: Job, P: Port>(
+    code: &Code<'_, J>,
+    fired: Fired,
+    buffer: &Buffer<J, P>,
+    requests: &mut Vec<Request<J>>,
+) -> Result<(), NoMemory>
+    requires { RightRequest J.image J.world fired.wave fired.instr (listed fired.operands) }
+    ensures { OnOk result (requests.new.items ≡ [] → (requests.old.items ≡ [])
+        × IsKnown buffer.now.kept (key_of fired)) }
+{
+    let _ = code.program();
+    if buffer.knows(fired.wave, fired.instr) {
+        return Ok(());
+    }
+    let first = fired.operands.first();
+    let second = fired.operands.second();
+    requests.push(Request::right(fired.wave, fired.instr, first, second))?;
+    Ok(())
+}

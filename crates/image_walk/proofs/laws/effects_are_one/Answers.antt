@@ -1,5 +1,0 @@
-use Rattle.image_walk.proofs.OneEffect.{one_effect}
-use Rattle.image_walk.proofs.laws.effects_are_one.Goals as goal
-
-pub returns : goal.returns
-returns c = λ image world p one other a b. one_effect image world p one other a b

@@ -1,0 +1,104 @@
+//! A table of one phase.
+
+ghost use Rattle.std.specs.Prelude.{◌≡◌, ◌+◌, ◌<◌, ◌≤◌, ◌%◌, ℕ, List, length, slice_index};
+ghost use Rattle.match_table.specs.Growth.{Grows, content_at};
+ghost use Rattle.match_table.specs.Limits.{Serves, Offered};
+
+use crate::{Results, Table, Took};
+use df_core::{Code, Job, Token};
+use std::marker::{Brand, Model, PhantomData};
+
+/// The largest lengths of the lists of fired instances in one phase, by table, and what the tables
+/// hold and list when it begins.
+pub trait Quotas {
+    ghost use Rattle.std.specs.Prelude.{ℕ, List};
+    ghost use Rattle.match_table.specs.Tables.{Content};
+
+    ghost most: { List ℕ };
+
+    ghost began: { List Content };
+}
+
+impl Quotas for Brand {
+    ghost use Rattle.std.specs.Prelude.{[]};
+
+    ghost most = { [] };
+
+    ghost began = { [] };
+}
+
+/// What a table of a phase does with a token: what a table does, or nothing, since the token would fire
+/// its instance and the quota is spent.
+#[derive(Clone, Copy, Debug, PartialEq, Eq)]
+pub enum Offer {
+    Took(Took),
+    Spent,
+}
+
+/// A table of one phase. It serves the instances whose wave number plus instruction is K modulo 16,
+/// and lists no more that fired than its quota allows. It has grown from what it was when the phase began.
+#[derive(Drop)]
+pub struct Limited<J: Job, Q: Quotas, const K: u64> {
+    table: Table<J>,
+    most: usize,
+    of: PhantomData<Q>,
+}
+
+impl<J: Job, Q: Quotas, const K: u64> Model for Limited<J, Q, K> {
+    ghost use Rattle.std.specs.Prelude.{◌≡◌, ◌≤◌, length, slice_index};
+    ghost use Rattle.match_table.specs.Tables.{Content};
+    ghost use Rattle.match_table.specs.Growth.{Grows, content_at};
+    ghost use Rattle.match_table.specs.Limits.{Serves};
+
+    ghost Value = { Content };
+
+    ghost view = { λ l. l.table };
+
+    ghost invariant = { λ l. Serves K l.table × (l.most ≡ slice_index Q.most K)
+        × (length l.table.fired ≤ l.most) × Grows (content_at Q.began K) l.table };
+}
+
+impl<J: Job, Q: Quotas, const K: u64> Limited<J, Q, K> {
+    /// A table for one phase.
+    pub fn new(table: Table<J>, most: usize) -> Limited<J, Q, K>
+        requires serves { Serves K table }
+        requires most { (most ≡ slice_index Q.most K) × (length table.fired ≤ most) }
+        requires began { table ≡ content_at Q.began K }
+        ensures { result ≡ table }
+    {
+        Limited {
+            table,
+            most,
+            of: PhantomData,
+        }
+    }
+
+    /// Takes a token, unless it would fire its instance and the quota is spent. What the instance hands
+    /// on stands in the place that is lent.
+    #[inline(always)]
+    pub fn offer<'i>(
+        &mut self,
+        code: &Code<'i, J>,
+        token: &Token<J>,
+        results: &mut Results<'i, J>,
+    ) -> Offer
+        requires { (token.now.wave + token.now.instr) % 16 ≡ K }
+        ensures { Offered J.image (slice_index Q.most K) self.old token.now self.new results.new result }
+    {
+        if self.table.fired_count() >= self.most && self.table.would_fire(code, token) {
+            results.clear();
+            return Offer::Spent;
+        }
+        Offer::Took(self.table.accept_into(code, token, results))
+    }
+
+    /// The table, at the end of the phase.
+    pub fn into_table(self) -> Table<J>
+        ensures same { result ≡ self }
+        ensures serves { Serves K result }
+        ensures within { length result.fired ≤ slice_index Q.most K }
+        ensures grows { Grows (content_at Q.began K) result }
+    {
+        self.table
+    }
+}
