@@ -82,6 +82,7 @@ module _ (image : Image) (world : World) (began : List (Option Began)) (c d : Co
       told = λ w i a n e. s.partly.told w i a (sym (queued_same w i) ∙ n) (sym (issued w i) ∙ e);
       opened = λ w i a n e. queued_same w i ∙ s.partly.opened w i a n (sym (bare_old w i a n) ∙ e);
       sits = λ e h. s.partly.sits e (subst (λ (es : List Entry). In e es) come.queued h);
+      numbered = λ e h. s.partly.numbered e (subst (λ (es : List Entry). In e es) come.queued h);
       rising = subst (Rising image world) (sym come.queued) s.partly.rising;
       every = λ e r j t h on w i a u n there l. queued_same w i ∙ s.partly.every e r j t (front_back e r j h) on w i a u n there l;
       few = subst (λ (es : List Entry). open_queues es ≤ 16) (sym come.queued) s.partly.few;

@@ -33,15 +33,15 @@ both_ok (Ok a) f x y = f x y
 both_ok (Err e) f x y = tt
 
 -- not queued later, not queued before
-old_joined : (image : Image) (e : Entry) (es : List Entry) (w i : ℕ) → is_queued (joined image e es) w i ≡ false → is_queued es w i ≡ false
+old_joined : (image : Image) (e : Entry) (es : List Entry) (w i : ℕ) → is_queued (joined e es) w i ≡ false → is_queued es w i ≡ false
 old_joined image e es w i n = elim (cases_Bool (is_queued es w i)) [
-  | inl q ↦ (let f = F.queued_in es w i q in absurd (both_ways (is_queued (joined image e es) w i) n
-      (F.in_queued (joined image e es) w i f.0 (F.joined_old image e es f.0 f.1) f.2)))
+  | inl q ↦ (let f = F.queued_in es w i q in absurd (both_ways (is_queued (joined e es) w i) n
+      (F.in_queued (joined e es) w i f.0 (F.joined_old e es f.0 f.1) f.2)))
   | inr q ↦ q
 ]
 
-new_joined : (image : Image) (e : Entry) (es : List Entry) (w i : ℕ) → is_queued (joined image e es) w i ≡ false → SameKey e.wave e.instr w i → ⊥
-new_joined image e es w i n key = both_ways (is_queued (joined image e es) w i) n (F.in_queued (joined image e es) w i e (F.joined_new image e es) key)
+new_joined : (image : Image) (e : Entry) (es : List Entry) (w i : ℕ) → is_queued (joined e es) w i ≡ false → SameKey e.wave e.instr w i → ⊥
+new_joined image e es w i n key = both_ways (is_queued (joined e es) w i) n (F.in_queued (joined e es) w i e (F.joined_new e es) key)
 
 old_without : (es : List Entry) (a b w i : ℕ) → is_queued (without es a b) w i ≡ false → (SameKey a b w i → ⊥) → is_queued es w i ≡ false
 old_without es a b w i n other = elim (cases_Bool (is_queued es w i)) [
@@ -87,9 +87,9 @@ module _ (image : Image) where
     Done c = HaveAnswered image f way c
 
     -- an operation joins a queue
-    join_done : (c d : Content) (k : Kept) (o : _) → Counted image c k 0 (joined image (entry_at image k) c.queued) o d → Done c → Done d
+    join_done : (c d : Content) (k : Kept) (o : _) → Counted image c k 0 (joined (entry_at image k) c.queued) o d → Done c → Done d
     join_done c d k o n done w i a x e s q =
-        let q' : is_queued (joined image (entry_at image k) c.queued) w i ≡ false = subst (λ (es : List Entry). is_queued es w i ≡ false) n.queued_are q in
+        let q' : is_queued (joined (entry_at image k) c.queued) w i ≡ false = subst (λ (es : List Entry). is_queued es w i ≡ false) n.queued_are q in
         elim (with_key_cases k.wave k.instr (Some (answered k (Some 0))) (entry_of c.kept) w i) [
           | inl h ↦ absurd (new_joined image (entry_at image k) c.queued w i q' h.0)
           | inr h ↦ done w i a x (sym h.1 ∙ sym (n.kept w i) ∙ e) s (old_joined image (entry_at image k) c.queued w i q')

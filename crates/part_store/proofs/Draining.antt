@@ -1,13 +1,15 @@
 -- The data of a store comes and its cell's queue is followed.
-use Rattle.std.proofs.Common.{ℕ, ◌≡◌, Bool, true, false, List, [], ◌++◌, Option, Some, None, Result, Ok, Err, sym, ap, ◌∙◌, subst, inl, inr}
+use Rattle.std.proofs.Common.{ℕ, ◌-◌, ◌≡◌, slice_index, Bool, true, false, List, [], ◌++◌, Option, Some, None, Result, Ok, Err, sym, ap, ◌∙◌, subst, inl, inr}
 use Rattle.std.proofs.lemmas.Bool.{both_ways, cases_eq}
 use Rattle.ws_words.specs.Outside.{World}
-use Rattle.ws_isa.specs.Image.{Image, Token}
+use Rattle.ws_isa.specs.declared.instr.Op.{Op}
+use Rattle.ws_isa.specs.Image.{Image, Token, array_at, array_of_op, instr_at}
 use Rattle.ws_isa.specs.Formed.{Formed}
 use Rattle.ws_isa.specs.Sound.{Sound}
 use Rattle.df_core.specs.declared.chain.Chain as code
 use Rattle.df_core.specs.Chains.{chain_of}
 use Rattle.df_core.specs.Stands.{HasEarly}
+use Rattle.df_core.proofs.Ports.{SameKey}
 use Rattle.df_core.specs.Began.{Began}
 use Rattle.df_core.specs.Rights.{IsAsked}
 use Rattle.store_buf.specs.declared.fault.BufFault.{BufFault}
@@ -19,63 +21,62 @@ use Rattle.store_buf.specs.Stores.{asked_of}
 use Rattle.part_store.specs.declared.entry.Entry.{Entry}
 use Rattle.part_store.specs.declared.parts.Parts.{Parts}
 use Rattle.part_store.specs.Bares.{is_in}
-use Rattle.part_store.specs.Queues.{entry_in, front}
+use Rattle.part_store.specs.Queues.{front}
+use Rattle.part_store.specs.Contents.{is_on_row}
 use Rattle.part_store.specs.Parted.{OnCell, Parting}
 use Rattle.store_buf.specs.Outdoors.{RoseAt}
 use Rattle.store_buf.specs.Contents.{RightTokens}
 use Rattle.part_store.specs.Calls.{SubmitSo, TookSo}
 use Rattle.part_store.specs.Calls.{fills as arrived}
-use Rattle.part_store.specs.Rules.{Fills, Moves, MovesTo, stays}
+use Rattle.part_store.specs.Rules.{Fills, Moves, MovesTo}
 use Rattle.part_store.specs.Parts.{Beside, Calm, DrainLeads, Filled, FollowsOn, FrontsBut, FrontsBy, LeadsTo, SettledSo, Stands, content_of}
 use Rattle.part_store.proofs.Filling as L
 use Rattle.part_store.proofs.Fronts as F
 use Rattle.part_store.proofs.Keeping as K
 use Rattle.part_store.proofs.Leading as G
-use Rattle.part_store.proofs.Places as X
+use Rattle.part_store.proofs.Ops as O
 use Rattle.part_store.proofs.Resting as R
 use Rattle.part_store.proofs.Times as T
 
-module _ {P : Type 0} where
-  -- it isn't queued
-  pub not_queued : (image : Image) (w i : ℕ) (s : Parts P) (ts : List Token) → entry_in s.queues.entries.items w i ≡ None → ts ≡ ts ++ [] → DrainLeads image w i s s ts ts
-  not_queued image w i s ts none e = (
-    [],
-    e,
-    λ world began formed sound st going by. (
-      stays,
-      (
-        st,
-        λ f r j h. by f r j h (λ a b.
-            let x = F.in_queued s.queues.entries.items w i f (F.front_in s.queues.entries.items r j f h).0 (record { wave = a; instr = b }) in
-            let y = X.queued_none s.queues.entries.items w i none in
-            both_ways _ y x),
-      ),
-    ),
-  )
+-- the row of a load or store
+pub row_is : (image : Image) (op : Op) (i row : ℕ) → row ≡ array_of_op op - 1 → op ≡ (instr_at image i).op → row ≡ array_at image i - 1
+unfolding array_at
+row_is image op i row e f = e ∙ ap (λ (x : Op). array_of_op x - 1) f
 
-  pub queued : (image : Image) (w i : ℕ) (e : Entry) (s n : Parts P) (t0 t1 : List Token) → entry_in s.queues.entries.items w i ≡ Some e → FollowsOn image e.row e.index s n t0 t1 → ((f : Entry) → front n.queues.entries.items e.row e.index ≡ Some f → is_in n.bare f.wave f.instr ≡ true) → DrainLeads image w i s n t0 t1
-  queued image w i e s n t0 t1 found on none = (
+-- a queued operation of a request's instance waits on the request's cell
+own_cell : (image : Image) (world : World) (formed : Formed image) (sound : Sound image) (k : Kept) → IsAsked image world (asked_of k) → (f : Entry) (t : ℕ) → OnCell image world f.wave f.instr f.row f.index t → SameKey k.wave k.instr f.wave f.instr → (f.row ≡ array_at image k.instr - 1) × (f.index ≡ k.first)
+own_cell image world formed sound k right f t on key =
+    let here : OnCell image world k.wave k.instr f.row f.index t = subst (λ (i : ℕ). OnCell image world k.wave i f.row f.index t) (sym key.instr) (subst (λ (w : ℕ). OnCell image world w f.instr f.row f.index t) (sym key.wave) on) in
+    let row : is_on_row (instr_at image k.instr).op (array_at image k.instr - 1) ≡ true = elim (O.cases_row image [] k.instr 0) [
+      | inl z ↦ z.0
+      | inr z ↦ absurd (both_ways (is_on_row (instr_at image k.instr).op f.row) (z.0 f.row) here.row)
+    ] in
+    let there : OnCell image world k.wave k.instr (array_at image k.instr - 1) k.first right.time = record { inst = right.inst; at = right.at; row = row; index = ap (λ (ys : List ℕ). slice_index ys 0) right.operands ∙ O.first_of image k } in
+    let same = T.one_there image world formed sound k.wave k.instr f.row f.index t (array_at image k.instr - 1) k.first right.time here there in
+    (same.row, same.index)
+
+-- the queue of its cell is followed
+module _ {P : Type 0} where
+  pub drained_so : (image : Image) (k : Kept) (r : ℕ) → r ≡ array_at image k.instr - 1 → (s n : Parts P) (t0 t1 : List Token) → FollowsOn image r k.first s n t0 t1 → ((f : Entry) → front n.queues.entries.items r k.first ≡ Some f → is_in n.bare f.wave f.instr ≡ true) → DrainLeads image k s n t0 t1
+  drained_so image k r is s n t0 t1 on none = (
     on.0,
     on.1,
-    λ world began formed sound st going by.
-        let at = X.found_in s.queues.entries.items w i e found in
-        let but : FrontsBut e.row e.index (content_of s) = λ f q l h far. by f q l h (λ a b.
+    λ world began formed sound right st going by.
+        let but : FrontsBut r k.first (content_of s) = λ f q l h far. by f q l h (λ a b.
         let z = F.front_in s.queues.entries.items q l f h in
         let sf = (st.parting.partly.sits f z.0).0 in
-        let se = (st.parting.partly.sits e at.0).0 in
-        let f_on : OnCell image world e.wave e.instr f.row f.index sf.0 = subst (λ (m : ℕ). OnCell image world e.wave m f.row f.index sf.0) (b ∙ sym at.1.instr) (subst (λ (m : ℕ). OnCell image world m f.instr f.row f.index sf.0) (a ∙ sym at.1.wave) sf.1) in
-        let same = T.one_there image world formed sound e.wave e.instr f.row f.index sf.0 e.row e.index se.0 f_on se.1 in
-        far (sym z.1.row ∙ same.row) (sym z.1.index ∙ same.index)) in
-        let r = on.2 world began formed sound st going but in (
-          r.0,
+        let own = own_cell image world formed sound k right f sf.0 sf.1 (record { wave = sym a; instr = sym b }) in
+        far (sym z.1.row ∙ own.0 ∙ sym is) (sym z.1.index ∙ own.1)) in
+        let x = on.2 world began formed sound st going but in (
+          x.0,
           (
-            r.1,
-            λ f q l h. elim (cases_eq q e.row) [
-              | inl a ↦ elim (cases_eq l e.index) [
-                | inl b ↦ none f (subst (λ (x : ℕ). front n.queues.entries.items e.row x ≡ Some f) b (subst (λ (x : ℕ). front n.queues.entries.items x l ≡ Some f) a h))
-                | inr b ↦ r.2 f q l h (λ x y. b y)
+            x.1,
+            λ f q l h. elim (cases_eq q r) [
+              | inl a ↦ elim (cases_eq l k.first) [
+                | inl b ↦ none f (subst (λ (y : ℕ). front n.queues.entries.items r y ≡ Some f) b (subst (λ (y : ℕ). front n.queues.entries.items y l ≡ Some f) a h))
+                | inr b ↦ x.2 f q l h (λ y z. b z)
               ]
-              | inr a ↦ r.2 f q l h (λ x y. a x)
+              | inr a ↦ x.2 f q l h (λ y z. a y)
             ],
           ),
         ),
@@ -83,7 +84,7 @@ module _ {P : Type 0} where
 
 -- the data has come, and moves lead on
 module _ {P : Type 0} (image : Image) (world : World) (began : List (Option Began)) (formed : Formed image) (sound : Sound image) (old mid d new : Parts P) (k : Kept) (t0 t1 t2 : List Token)
-    (filled : Filled old k mid) (drains : DrainLeads image k.wave k.instr (record mid { starved = false }) d t0 t1) (beside : Beside (record mid { starved = false }) d) (lead : LeadsTo image (record d { starved = false }) new t1 t2)
+    (filled : Filled old k mid) (drains : DrainLeads image k (record mid { starved = false }) d t0 t1) (beside : Beside (record mid { starved = false }) d) (lead : LeadsTo image (record d { starved = false }) new t1 t2)
     (empty : t0 ≡ []) (running : old.fault ≡ None) (working : old.failed ≡ None) (right : IsAsked image world (asked_of k)) (calm : Calm image world began old) where
   fills : Fills (content_of old) k (content_of (record mid { starved = false }))
   fills = record {
@@ -116,7 +117,7 @@ module _ {P : Type 0} (image : Image) (world : World) (began : List (Option Bega
       ∙ calm.1 e r j (subst (λ (es : List Entry). front es r j ≡ Some e) filled.fills.queued h)
 
   drained : Moves image (content_of (record mid { starved = false })) drains.0 (content_of d) × Calm image world began d
-  drained = drains.2 world began formed sound stands (filled.fills.fault ∙ running) by
+  drained = drains.2 world began formed sound right stands (filled.fills.fault ∙ running) by
 
   same : d ≡ record d { starved = false }
   same j = record { order = d.order; bare = d.bare; queues = d.queues; outer = d.outer; fault = d.fault; failed = d.failed; starved = beside.starved j }

@@ -71,6 +71,7 @@ module _ (image : Image) (world : World) (began : List (Option Began)) (c d : Co
         | inr y ↦ queued_same w i ∙ s.partly.opened w i a n (sym (bare_there w i y.0) ∙ e)
       ];
       sits = λ e h. s.partly.sits e (subst (λ (es : List Entry). In e es) f.queued h);
+      numbered = λ e h. s.partly.numbered e (subst (λ (es : List Entry). In e es) f.queued h);
       rising = subst (Rising image world) (sym f.queued) s.partly.rising;
       every = λ e r j t h on w i a u n there l. queued_same w i ∙ s.partly.every e r j t (front_back e r j h) on w i a u n there l;
       few = subst (λ (es : List Entry). open_queues es ≤ 16) (sym f.queued) s.partly.few;

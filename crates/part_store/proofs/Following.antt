@@ -312,6 +312,7 @@ module _ (image : Image) (world : World) (formed : Formed image) (sound : Sound 
     told = new_told;
     opened = new_opened;
     sits = λ x h. p.sits x (in_left x h);
+    numbered = λ x h. p.numbered x (in_left x h);
     rising = subst (Rising image world) (sym go.queued) (T.rising_without image world formed sound e.wave e.instr c.queued p.rising);
     every = λ f r j u h f_on w i b v n there l. elim (cell_cases e r j) [
       | inl z ↦ (let m : t < u = then_later r j u f z.1 h f_on in

@@ -1,7 +1,7 @@
 -- The first entry on a cell, and entries that are queued.
 use Rattle.std.proofs.Common.{ℕ, ◌≡◌, ◌⊎◌, Bool, true, false, cond, List, [], ◌∷◌, Some, None, refl, sym, ap, ◌∙◌, subst, inl, inr}
 use Rattle.std.proofs.lemmas.Bool.{both_ways, cases_Bool}
-use Rattle.ws_isa.specs.Image.{Image, In}
+use Rattle.ws_isa.specs.Image.{In}
 use Rattle.df_core.proofs.Ports.{SameKey}
 use Rattle.part_store.specs.declared.entry.Entry.{Entry}
 use Rattle.part_store.specs.Queues.{front, is_queued, all_later, joined, without}
@@ -49,51 +49,51 @@ in_queued (e ∷ es) w i f (inr g) k = elim (key_cases e.wave e.instr w i) [
   | inr c ↦ rw c.0 (in_queued es w i f g k)
 ]
 
-module _ (image : Image) (f : Entry) where
-  pub joined_in : (es : List Entry) (e : Entry) → In e (joined image f es) → (e ≡ f) ⊎ In e es
+module _ (f : Entry) where
+  pub joined_in : (es : List Entry) (e : Entry) → In e (joined f es) → (e ≡ f) ⊎ In e es
   joined_in [] e (inl q) = inl q
   joined_in [] e (inr h) = absurd h
-  joined_in (x ∷ es) e h = elim (cases_Bool (all_later image (x ∷ es) f)) [
-    | inl l ↦ elim (subst (λ (b : Bool). In e (cond b (f ∷ x ∷ es) (x ∷ joined image f es))) l h) [ inl q ↦ inl q | inr g ↦ inr g ]
-    | inr l ↦ elim (subst (λ (b : Bool). In e (cond b (f ∷ x ∷ es) (x ∷ joined image f es))) l h) [
+  joined_in (x ∷ es) e h = elim (cases_Bool (all_later (x ∷ es) f)) [
+    | inl l ↦ elim (subst (λ (b : Bool). In e (cond b (f ∷ x ∷ es) (x ∷ joined f es))) l h) [ inl q ↦ inl q | inr g ↦ inr g ]
+    | inr l ↦ elim (subst (λ (b : Bool). In e (cond b (f ∷ x ∷ es) (x ∷ joined f es))) l h) [
       | inl q ↦ inr (inl q)
       | inr g ↦ elim (joined_in es e g) [ inl q ↦ inl q | inr k ↦ inr (inr k) ]
     ]
   ]
 
-  pub joined_new : (es : List Entry) → In f (joined image f es)
+  pub joined_new : (es : List Entry) → In f (joined f es)
   joined_new [] = inl refl
-  joined_new (x ∷ es) = elim (cases_Bool (all_later image (x ∷ es) f)) [
-    | inl l ↦ subst (λ (b : Bool). In f (cond b (f ∷ x ∷ es) (x ∷ joined image f es))) (sym l) (inl refl)
-    | inr l ↦ subst (λ (b : Bool). In f (cond b (f ∷ x ∷ es) (x ∷ joined image f es))) (sym l) (inr (joined_new es))
+  joined_new (x ∷ es) = elim (cases_Bool (all_later (x ∷ es) f)) [
+    | inl l ↦ subst (λ (b : Bool). In f (cond b (f ∷ x ∷ es) (x ∷ joined f es))) (sym l) (inl refl)
+    | inr l ↦ subst (λ (b : Bool). In f (cond b (f ∷ x ∷ es) (x ∷ joined f es))) (sym l) (inr (joined_new es))
   ]
 
-  pub joined_old : (es : List Entry) (e : Entry) → In e es → In e (joined image f es)
+  pub joined_old : (es : List Entry) (e : Entry) → In e es → In e (joined f es)
   joined_old [] e h = absurd h
-  joined_old (x ∷ es) e h = elim (cases_Bool (all_later image (x ∷ es) f)) [
-    | inl l ↦ subst (λ (b : Bool). In e (cond b (f ∷ x ∷ es) (x ∷ joined image f es))) (sym l) (inr h)
-    | inr l ↦ subst (λ (b : Bool). In e (cond b (f ∷ x ∷ es) (x ∷ joined image f es))) (sym l) (elim h [ inl q ↦ inl q | inr g ↦ inr (joined_old es e g) ])
+  joined_old (x ∷ es) e h = elim (cases_Bool (all_later (x ∷ es) f)) [
+    | inl l ↦ subst (λ (b : Bool). In e (cond b (f ∷ x ∷ es) (x ∷ joined f es))) (sym l) (inr h)
+    | inr l ↦ subst (λ (b : Bool). In e (cond b (f ∷ x ∷ es) (x ∷ joined f es))) (sym l) (elim h [ inl q ↦ inl q | inr g ↦ inr (joined_old es e g) ])
   ]
 
   -- on other cells nothing changes
-  pub joined_other : (es : List Entry) (r j : ℕ) → (IsOn f r j → ⊥) → front (joined image f es) r j ≡ front es r j
+  pub joined_other : (es : List Entry) (r j : ℕ) → (IsOn f r j → ⊥) → front (joined f es) r j ≡ front es r j
   joined_other [] r j n = front_there f [] r j n
-  joined_other (x ∷ es) r j n = elim (cases_Bool (all_later image (x ∷ es) f)) [
-    | inl l ↦ ap (λ (b : Bool). front (cond b (f ∷ x ∷ es) (x ∷ joined image f es)) r j) l ∙ front_there f (x ∷ es) r j n
-    | inr l ↦ ap (λ (b : Bool). front (cond b (f ∷ x ∷ es) (x ∷ joined image f es)) r j) l ∙ elim (cell_cases x r j) [
-      | inl c ↦ front_here x (joined image f es) r j c.1 ∙ sym (front_here x es r j c.1)
-      | inr c ↦ front_there x (joined image f es) r j c.1 ∙ joined_other es r j n ∙ sym (front_there x es r j c.1)
+  joined_other (x ∷ es) r j n = elim (cases_Bool (all_later (x ∷ es) f)) [
+    | inl l ↦ ap (λ (b : Bool). front (cond b (f ∷ x ∷ es) (x ∷ joined f es)) r j) l ∙ front_there f (x ∷ es) r j n
+    | inr l ↦ ap (λ (b : Bool). front (cond b (f ∷ x ∷ es) (x ∷ joined f es)) r j) l ∙ elim (cell_cases x r j) [
+      | inl c ↦ front_here x (joined f es) r j c.1 ∙ sym (front_here x es r j c.1)
+      | inr c ↦ front_there x (joined f es) r j c.1 ∙ joined_other es r j n ∙ sym (front_there x es r j c.1)
     ]
   ]
 
   -- on a cell that no queue held it is the first one
-  pub joined_first : (es : List Entry) (r j : ℕ) → IsOn f r j → front es r j ≡ None → front (joined image f es) r j ≡ Some f
+  pub joined_first : (es : List Entry) (r j : ℕ) → IsOn f r j → front es r j ≡ None → front (joined f es) r j ≡ Some f
   joined_first [] r j o h = front_here f [] r j o
-  joined_first (x ∷ es) r j o h = elim (cases_Bool (all_later image (x ∷ es) f)) [
-    | inl l ↦ ap (λ (b : Bool). front (cond b (f ∷ x ∷ es) (x ∷ joined image f es)) r j) l ∙ front_here f (x ∷ es) r j o
-    | inr l ↦ ap (λ (b : Bool). front (cond b (f ∷ x ∷ es) (x ∷ joined image f es)) r j) l ∙ elim (cell_cases x r j) [
+  joined_first (x ∷ es) r j o h = elim (cases_Bool (all_later (x ∷ es) f)) [
+    | inl l ↦ ap (λ (b : Bool). front (cond b (f ∷ x ∷ es) (x ∷ joined f es)) r j) l ∙ front_here f (x ∷ es) r j o
+    | inr l ↦ ap (λ (b : Bool). front (cond b (f ∷ x ∷ es) (x ∷ joined f es)) r j) l ∙ elim (cell_cases x r j) [
       | inl c ↦ absurd (let g : Some x ≡ None = sym (front_here x es r j c.1) ∙ h in cc)
-      | inr c ↦ front_there x (joined image f es) r j c.1 ∙ joined_first es r j o (sym (front_there x es r j c.1) ∙ h)
+      | inr c ↦ front_there x (joined f es) r j c.1 ∙ joined_first es r j o (sym (front_there x es r j c.1) ∙ h)
     ]
   ]
 

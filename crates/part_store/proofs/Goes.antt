@@ -154,7 +154,7 @@ module _ {P : Type 0} (image : Image) (world : World) (formed : Formed image) (s
   module _ (n : Parts P) (within : is_past_at image k ≡ false)
       (kept : n.order.kept.items ≡ slice_set s.order.kept.items p (record { wave = (kept_at s.order p).wave; instr = (kept_at s.order p).instr; first = (kept_at s.order p).first; second = (kept_at s.order p).second; answer = Some 0 }))
       (passed : PassedOn image (chain_of s.order.chain) (kept_at s.order p).instr s.order.early.items (chain_of n.order.chain) n.order.early.items)
-      (bare : n.bare ≡ s.bare) (fault : n.fault ≡ s.fault) (outer : n.outer ≡ s.outer) (queued : n.queues.entries.items ≡ joined image (entry_at image k) s.queues.entries.items) where
+      (bare : n.bare ≡ s.bare) (fault : n.fault ≡ s.fault) (outer : n.outer ≡ s.outer) (queued : n.queues.entries.items ≡ joined (entry_at image k) s.queues.entries.items) where
     outside_moved : (word : ℕ) (q : List Entry) → Counted image (content_of s) k word q (holding n.outer) (content_of n) → Counted image (content_of s) k word q (holding s.outer) (content_of n)
     outside_moved word q g = subst (λ (h : Holding). Counted image (content_of s) k word q h (content_of n)) (ap holding outer) g
 
@@ -176,11 +176,11 @@ module _ {P : Type 0} (image : Image) (world : World) (formed : Formed image) (s
     pub waits_on : (is_in s.bare k.wave k.instr ≡ true) ⊎ ((is_in s.bare k.wave k.instr ≡ false) × (holds_op s.queues.entries.items (instr_at image k.instr).op k.first ≡ true)) →
         Moves image (content_of s) [] (content_of n) × Calm image world began n
     waits_on (inl b) =
-        let g = outside_moved 0 (joined image (entry_at image k) s.queues.entries.items) (counted n 0 within (ask_bare b) kept passed bare fault (joined image (entry_at image k) s.queues.entries.items) queued) in
+        let g = outside_moved 0 (joined (entry_at image k) s.queues.entries.items) (counted n 0 within (ask_bare b) kept passed bare fault (joined (entry_at image k) s.queues.entries.items) queued) in
         let m : Moves image (content_of s) [] (content_of n) = opens k calm.1 (opens_so b) g stays in
         (m, (stands n 0 within (ask_bare b) kept passed bare fault [] m, K.opened_fronts image world formed sound began (content_of s) (content_of n) parting k calm.1 (opens_so b) g))
     waits_on (inr h) =
-        let g = outside_moved 0 (joined image (entry_at image k) s.queues.entries.items) (counted n 0 within (ask_whole h.0) kept passed bare fault (joined image (entry_at image k) s.queues.entries.items) queued) in
+        let g = outside_moved 0 (joined (entry_at image k) s.queues.entries.items) (counted n 0 within (ask_whole h.0) kept passed bare fault (joined (entry_at image k) s.queues.entries.items) queued) in
         let m : Moves image (content_of s) [] (content_of n) = joins k calm.1 (goes_so h.0) h.1 g stays in
         (m, (stands n 0 within (ask_whole h.0) kept passed bare fault [] m, K.joined_fronts image world formed sound began (content_of s) (content_of n) parting k calm.1 (goes_so h.0) h.1 g))
 
@@ -247,6 +247,7 @@ module _ {P : Type 0} (image : Image) (world : World) (began : List (Option Bega
               told = p.told;
               opened = p.opened;
               sits = p.sits;
+              numbered = p.numbered;
               rising = p.rising;
               every = p.every;
               few = p.few;

@@ -191,6 +191,7 @@ module _ (image : Image) (world : World) (formed : Formed image) (sound : Sound 
     ];
     sits = λ e h. let s = p.sits e (subst (λ (es : List Entry). In e es) go.queued_are h) in
         (s.0, elim (with_key_cases k.wave k.instr (Some (answer image k.instr (operands_at image k) memory)) counts e.wave e.instr) [ inl z ↦ (answer image k.instr (operands_at image k) memory, z.1) | inr z ↦ (s.1.0, z.1 ∙ s.1.1) ]);
+    numbered = λ e h. p.numbered e (subst (λ (es : List Entry). In e es) go.queued_are h);
     rising = subst (Rising image world) (sym go.queued_are) p.rising;
     every = λ e r j t h on w i a u n there l. elim (count_cases w i a n) [
       | inl key ↦ absurd (not_held r j u e w i key (sym (front_same r j) ∙ h) there)

@@ -2,7 +2,7 @@
 use Rattle.std.proofs.Common.{ℕ, ◌-◌, ◌≡◌, ◌≤◌, ◌⊎◌, Bool, true, false, List, length, Option, Some, None, slice_index, refl, sym, ap, ◌∙◌, subst, inl, inr, arith}
 use Rattle.std.proofs.lemmas.Bool.{both_ways, cases_Bool, cases_lt}
 use Rattle.ws_words.specs.Outside.{Outside, World, row}
-use Rattle.ws_isa.specs.Image.{Image, In, instr_at, array_at, answer}
+use Rattle.ws_isa.specs.Image.{Image, In, instr_at, array_at, answer, note_of}
 use Rattle.ws_isa.specs.Formed.{Formed}
 use Rattle.ws_isa.specs.Sound.{Sound}
 use Rattle.df_core.specs.Effect.{effect_at, effect_after}
@@ -17,7 +17,7 @@ use Rattle.store_buf.specs.Outdoors.{Holding, OutIs}
 use Rattle.part_store.specs.declared.entry.Entry.{Entry}
 use Rattle.part_store.specs.Queues.{front, holds, is_queued, joined, open_queues}
 use Rattle.part_store.specs.Contents.{Content, is_bare, cell, is_on_row}
-use Rattle.part_store.specs.Parted.{OnCell, Earlier, IsKept, Partly, Rising, is_store_op}
+use Rattle.part_store.specs.Parted.{OnCell, Earlier, IsKept, IsNumbered, Partly, Rising, is_store_op}
 use Rattle.part_store.specs.Rules.{Counted, entry_at}
 use Rattle.part_store.proofs.Keys.{IsOn}
 use Rattle.part_store.proofs.Keys as K
@@ -31,12 +31,12 @@ module _ (image : Image) (world : World) (formed : Formed image) (sound : Sound 
     (c : Content) (waiting : ℕ → ℕ → Option (List ℕ)) (counts : ℕ → ℕ → Option ℕ) (memory : Outside) (legal : Legal image world counts waiting false c.chain memory) (p : Partly image world began counts memory c)
     (k : Kept) (is_kept : entry_of c.kept k.wave k.instr ≡ Some k) (xs : List ℕ) (req : RightRequest image world k.wave k.instr xs) (may : Issuable image counts c.chain false k.wave k.instr xs)
     (row_is : is_on_row (instr_at image k.instr).op (array_at image k.instr - 1) ≡ true) (first_is : slice_index xs 0 ≡ k.first)
-    (word : ℕ) (d : Content) (go : Counted image c k word (joined image (entry_at image k) c.queued) c.outside d) where
+    (word : ℕ) (d : Content) (go : Counted image c k word (joined (entry_at image k) c.queued) c.outside d) where
   abbrev facts : WalkFacts image world
   facts = T.facts image world formed sound
 
   abbrev f : Entry
-  f = record { wave = k.wave; instr = k.instr; row = array_at image k.instr - 1; index = k.first }
+  f = record { wave = k.wave; instr = k.instr; seq = (note_of image k.instr).seq; row = array_at image k.instr - 1; index = k.first }
 
   abbrev counts' : ℕ → ℕ → Option ℕ
   counts' = issued_with image counts memory k.wave k.instr xs
@@ -65,10 +65,10 @@ module _ (image : Image) (world : World) (formed : Formed image) (sound : Sound 
 
   queued_old : (w i : ℕ) → is_queued c.queued w i ≡ true → is_queued d.queued w i ≡ true
   queued_old w i e = let q = F.queued_in c.queued w i e in
-      subst (λ (es : List Entry). is_queued es w i ≡ true) (sym go.queued_are) (F.in_queued (joined image f c.queued) w i q.0 (F.joined_old image f c.queued q.0 q.1) q.2)
+      subst (λ (es : List Entry). is_queued es w i ≡ true) (sym go.queued_are) (F.in_queued (joined f c.queued) w i q.0 (F.joined_old f c.queued q.0 q.1) q.2)
 
   queued_new : (w i : ℕ) → SameKey k.wave k.instr w i → is_queued d.queued w i ≡ true
-  queued_new w i key = subst (λ (es : List Entry). is_queued es w i ≡ true) (sym go.queued_are) (F.in_queued (joined image f c.queued) w i f (F.joined_new image f c.queued) key)
+  queued_new w i key = subst (λ (es : List Entry). is_queued es w i ≡ true) (sym go.queued_are) (F.in_queued (joined f c.queued) w i f (F.joined_new f c.queued) key)
 
   new_right : (w i : ℕ) (x : Kept) → entry_of d.kept w i ≡ Some x → IsKept image world (is_bare d w i) x
   new_right w i x e = elim (entry_cases w i) [
@@ -97,12 +97,15 @@ module _ (image : Image) (world : World) (formed : Formed image) (sound : Sound 
     | inr h ↦ queued_old w i (p.opened w i a h.1 (sym (go.bare w i) ∙ b))
   ]
 
-  sits_one : (e : Entry) → In e (joined image f c.queued) → ((t : ℕ) × OnCell image world e.wave e.instr e.row e.index t) × ((a : ℕ) × (counts' e.wave e.instr ≡ Some a))
-  sits_one e h = elim (F.joined_in image f c.queued e h) [
+  sits_one : (e : Entry) → In e (joined f c.queued) → ((t : ℕ) × OnCell image world e.wave e.instr e.row e.index t) × ((a : ℕ) × (counts' e.wave e.instr ≡ Some a))
+  sits_one e h = elim (F.joined_in f c.queued e h) [
     | inl q ↦ subst (λ (y : Entry). ((t : ℕ) × OnCell image world y.wave y.instr y.row y.index t) × ((a : ℕ) × (counts' y.wave y.instr ≡ Some a))) (sym q)
         ((req.time, here), (answer image k.instr xs memory, new_count k.wave k.instr (record { wave = refl; instr = refl })))
     | inr g ↦ (let s = p.sits e g in (s.0, elim (with_key_cases k.wave k.instr (Some (answer image k.instr xs memory)) counts e.wave e.instr) [ inl z ↦ (answer image k.instr xs memory, z.1) | inr z ↦ (s.1.0, z.1 ∙ s.1.1) ]))
   ]
+
+  numbered_one : (e : Entry) → In e (joined f c.queued) → IsNumbered image e
+  numbered_one e h = elim (F.joined_in f c.queued e h) [ inl q ↦ subst (λ (y : Entry). IsNumbered image y) (sym q) refl | inr g ↦ p.numbered e g ]
 
   -- an operation that counted is of another instance
   other_key : (w i a : ℕ) → counts w i ≡ Some a → SameKey k.wave k.instr w i → ⊥
@@ -114,9 +117,9 @@ module _ (image : Image) (world : World) (formed : Formed image) (sound : Sound 
   order_of g h =
       let s = p.sits g h in
       elim (cases_lt s.0.0 req.time) [
-        | inl l ↦ inl (T.earlier_by image world formed sound g f s.0.0 req.time s.0.1 here l)
+        | inl l ↦ inl (T.earlier_by image world formed sound g f s.0.0 req.time s.0.1 here l (p.numbered g h, refl))
         | inr l ↦ elim (cases_lt req.time s.0.0) [
-          | inl m ↦ inr (T.earlier_by image world formed sound f g req.time s.0.0 here s.0.1 m)
+          | inl m ↦ inr (T.earlier_by image world formed sound f g req.time s.0.0 here s.0.1 m (refl, p.numbered g h))
           | inr m ↦ absurd (let e : s.0.0 ≡ req.time = omega (arith, l, m) in
               other_key g.wave g.instr s.1.0 s.1.1 (T.one_instance image world formed sound k.wave k.instr f.row f.index g.wave g.instr g.row g.index req.time here (subst (λ (n : ℕ). OnCell image world g.wave g.instr g.row g.index n) e s.0.1)))
         ]
@@ -134,19 +137,19 @@ module _ (image : Image) (world : World) (formed : Formed image) (sound : Sound 
   ]
 
   abbrev Few : Type 0
-  Few = open_queues (joined image f c.queued) ≤ 16
+  Few = open_queues (joined f c.queued) ≤ 16
 
   -- the fields that depend on the cell's queue, old or new
-  module _ (few : open_queues (joined image f c.queued) ≤ 16)
-      (first_now : (r j : ℕ) (e : Entry) → IsOn f r j → front (joined image f c.queued) r j ≡ Some e → front c.queued r j ≡ Some e ⊎ ((e ≡ f) × (front c.queued r j ≡ None)))
+  module _ (few : open_queues (joined f c.queued) ≤ 16)
+      (first_now : (r j : ℕ) (e : Entry) → IsOn f r j → front (joined f c.queued) r j ≡ Some e → front c.queued r j ≡ Some e ⊎ ((e ≡ f) × (front c.queued r j ≡ None)))
       (alone : (r j w i a u : ℕ) → IsOn f r j → front c.queued r j ≡ None → counts w i ≡ Some a → OnCell image world w i r j u → req.time ≤ u → ⊥)
       (value : (r j : ℕ) → IsOn f r j → front c.queued r j ≡ None → cell memory.cells r j ≡ cell (effect_at image world req.time).cells r j) where
     -- a first entry is an old one, or the new one of a cell that no queue held
     firsts : (r j : ℕ) (e : Entry) → front d.queued r j ≡ Some e → (front c.queued r j ≡ Some e) ⊎ (IsOn f r j × (e ≡ f) × (front c.queued r j ≡ None))
-    firsts r j e h0 = let h : front (joined image f c.queued) r j ≡ Some e = subst (λ (es : List Entry). front es r j ≡ Some e) go.queued_are h0 in
+    firsts r j e h0 = let h : front (joined f c.queued) r j ≡ Some e = subst (λ (es : List Entry). front es r j ≡ Some e) go.queued_are h0 in
         elim (is_it r j) [
           | inl o ↦ elim (first_now r j e o h) [ inl q ↦ inl q | inr q ↦ inr (o, q.0, q.1) ]
-          | inr n ↦ inl (sym (F.joined_other image f c.queued r j n) ∙ h)
+          | inr n ↦ inl (sym (F.joined_other f c.queued r j n) ∙ h)
         ]
       where
         is_it : (r j : ℕ) → IsOn f r j ⊎ (IsOn f r j → ⊥)
@@ -163,6 +166,7 @@ module _ (image : Image) (world : World) (formed : Formed image) (sound : Sound 
       told = new_told;
       opened = new_opened;
       sits = λ e h. sits_one e (subst (λ (es : List Entry). In e es) go.queued_are h);
+      numbered = λ e h. numbered_one e (subst (λ (es : List Entry). In e es) go.queued_are h);
       rising = subst (Rising image world) (sym go.queued_are) (T.rising_joined image world formed sound f c.queued p.rising order_of);
       every = λ e r j t h on w i a u n there l. elim (count_cases w i a n) [
         | inl key ↦ queued_new w i key
@@ -173,10 +177,10 @@ module _ (image : Image) (world : World) (formed : Formed image) (sound : Sound 
       ];
       few = subst (λ (es : List Entry). open_queues es ≤ 16) (sym go.queued_are) few;
       free = λ r j n. elim (K.cell_cases f r j) [
-        | inl z ↦ absurd (let g = F.held_in (joined image f c.queued) r j f (F.joined_new image f c.queued) z.1 in
+        | inl z ↦ absurd (let g = F.held_in (joined f c.queued) r j f (F.joined_new f c.queued) z.1 in
             both_ways (holds d.queued r j) n (ap has (subst (λ (es : List Entry). front es r j ≡ Some g.0) (sym go.queued_are) g.1)))
         | inr z ↦ ap (λ (h : Holding). cell h.cells r j) go.outside_is
-            ∙ p.free r j (ap has (sym (F.joined_other image f c.queued r j z.1)) ∙ subst (λ (es : List Entry). holds es r j ≡ false) go.queued_are n) ∙ sym (off_cell r j z.1)
+            ∙ p.free r j (ap has (sym (F.joined_other f c.queued r j z.1)) ∙ subst (λ (es : List Entry). holds es r j ≡ false) go.queued_are n) ∙ sym (off_cell r j z.1)
       ];
       before = λ e r j t h on. ap (λ (x : Holding). cell x.cells r j) go.outside_is ∙ elim (firsts r j e h) [
         | inl q ↦ p.before e r j t q on

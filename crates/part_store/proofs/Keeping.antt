@@ -75,9 +75,9 @@ module _ (image : Image) (world : World) (formed : Formed image) (sound : Sound 
     -- the operation joins a queue, behind its first entry, which is a store without data
     module _ (fronts : Fronts c) (k : Kept) (bare : Bool) (w : Waits c k bare) (xs : List ℕ) (req : RightRequest image world k.wave k.instr xs) (may : Issuable image s.counts c.chain false k.wave k.instr xs)
         (row : is_on_row (instr_at image k.instr).op (array_at image k.instr - 1) ≡ true) (first_is : slice_index xs 0 ≡ k.first) (within : is_past_at image k ≡ false)
-        (d : Content) (go : Counted image c k 0 (joined image (entry_at image k) c.queued) c.outside d) where
+        (d : Content) (go : Counted image c k 0 (joined (entry_at image k) c.queued) c.outside d) where
       abbrev f : Entry
-      f = record { wave = k.wave; instr = k.instr; row = array_at image k.instr - 1; index = k.first }
+      f = record { wave = k.wave; instr = k.instr; seq = (note_of image k.instr).seq; row = array_at image k.instr - 1; index = k.first }
 
       here : OnCell image world k.wave k.instr (array_at image k.instr - 1) k.first req.time
       here = J.here image world formed sound began c (asking image c) s.counts s.memory legal s.partly k w.kept xs req may row first_is 0 d go
@@ -95,7 +95,7 @@ module _ (image : Image) (world : World) (formed : Formed image) (sound : Sound 
           let st : is_store_op (instr_at image e.instr).op ≡ true = subst (λ (m : ℕ). is_store_op (instr_at image m).op ≡ true) key.instr ad.store in
           let l : q.0.0 < legal.cut = S.store_passed image world formed sound false (asking image c) s.counts c.chain s.memory legal e.wave e.instr q.1.0 q.0.0 e.row e.index q.1.1 st q.0.1 in
           let m : legal.cut ≤ req.time = S.from image world formed sound false (asking image c) s.counts c.chain s.memory legal k.wave k.instr xs req may in
-          T.earlier_by image world formed sound e f q.0.0 req.time q.0.1 here (omega (arith, l, m))
+          T.earlier_by image world formed sound e f q.0.0 req.time q.0.1 here (omega (arith, l, m)) (s.partly.numbered e i.0, refl)
         where
           has_entry : (o : Option Kept) (a : ℕ) → answer_if o ≡ Some a → (x : Kept) × (o ≡ Some x)
           has_entry None a e = absurd (let g : None ≡ Some a = e in cc)
@@ -110,10 +110,10 @@ module _ (image : Image) (world : World) (formed : Formed image) (sound : Sound 
       -- a queue that is there
       join_held : (e : Entry) → front c.queued (array_at image k.instr - 1) k.first ≡ Some e → Partly image world began (issued_with image s.counts s.memory k.wave k.instr xs) (effect_after image k.instr xs s.memory) d
       join_held e h = J.joins image world formed sound began c (asking image c) s.counts s.memory legal s.partly k w.kept xs req may row first_is 0 d go
-          (let a1 : open_queues (joined image f c.queued) ≡ N.one_more (holds c.queued f.row f.index) (open_queues c.queued) = N.open_joined image f c.queued in
+          (let a1 : open_queues (joined f c.queued) ≡ N.one_more (holds c.queued f.row f.index) (open_queues c.queued) = N.open_joined f c.queued in
           let b1 : N.one_more (holds c.queued f.row f.index) (open_queues c.queued) ≡ open_queues c.queued = ap (λ (b : Bool). N.one_more b (open_queues c.queued)) (ap has h) in
           let c1 : open_queues c.queued ≤ 16 = s.partly.few in omega (arith, a1, b1, c1))
-          (λ r j x on g. let z : front (joined image f c.queued) r j ≡ Some e = T.joined_front image world formed sound f c.queued r j e s.partly.rising (move_to r j (Some e) on h) (behind e h) in
+          (λ r j x on g. let z : front (joined f c.queued) r j ≡ Some e = T.joined_front image world formed sound f c.queued r j e s.partly.rising (move_to r j (Some e) on h) (behind e h) in
           let y : Some e ≡ Some x = sym z ∙ g in inl (move_to r j (Some e) on h ∙ y))
           (λ r j v i a u on g n there l. let z : Some e ≡ None = sym (move_to r j (Some e) on h) ∙ g in cc)
           (λ r j on g. absurd (let z : Some e ≡ None = sym (move_to r j (Some e) on h) ∙ g in cc))
@@ -122,10 +122,10 @@ module _ (image : Image) (world : World) (formed : Formed image) (sound : Sound 
       join_new : front c.queued (array_at image k.instr - 1) k.first ≡ None → IsNext c.chain (note_of image k.instr) → is_store_op (instr_at image k.instr).op ≡ true → open_queues c.queued < 16 →
           Partly image world began (issued_with image s.counts s.memory k.wave k.instr xs) (effect_after image k.instr xs s.memory) d
       join_new h next st room = J.joins image world formed sound began c (asking image c) s.counts s.memory legal s.partly k w.kept xs req may row first_is 0 d go
-          (let a1 : open_queues (joined image f c.queued) ≡ N.one_more (holds c.queued f.row f.index) (open_queues c.queued) = N.open_joined image f c.queued in
+          (let a1 : open_queues (joined f c.queued) ≡ N.one_more (holds c.queued f.row f.index) (open_queues c.queued) = N.open_joined f c.queued in
           let b1 : N.one_more (holds c.queued f.row f.index) (open_queues c.queued) ≡ N.one_more false (open_queues c.queued) = ap (λ (b : Bool). N.one_more b (open_queues c.queued)) (ap has h) in
           omega (arith, a1, b1, room))
-          (λ r j x on g. let z : front (joined image f c.queued) r j ≡ Some f = F.joined_first image f c.queued r j on (move_to r j None on h) in
+          (λ r j x on g. let z : front (joined f c.queued) r j ≡ Some f = F.joined_first f c.queued r j on (move_to r j None on h) in
           let y : Some f ≡ Some x = sym z ∙ g in inr ((let q : f ≡ x = cc in sym q), move_to r j None on h))
           (λ r j v i a u on g n there l. alone r j v i a u on n there l)
           (λ r j on g. ap (λ (o : Outside). cell o.cells r j) (legal.ordered.memory ∙ sym (mem_same image world facts legal.cut req.time
@@ -149,25 +149,25 @@ module _ (image : Image) (world : World) (formed : Formed image) (sound : Sound 
 
       -- the first entries are stores without data then
       join_fronts : ((e : Entry) × (front c.queued (array_at image k.instr - 1) k.first ≡ Some e)) ⊎ ((front c.queued (array_at image k.instr - 1) k.first ≡ None) × (is_bare c k.wave k.instr ≡ true)) → Fronts d
-      join_fronts which x r j h0 = let h : front (joined image f c.queued) r j ≡ Some x = subst (λ (es : List Entry). front es r j ≡ Some x) go.queued_are h0 in
+      join_fronts which x r j h0 = let h : front (joined f c.queued) r j ≡ Some x = subst (λ (es : List Entry). front es r j ≡ Some x) go.queued_are h0 in
           go.bare x.wave x.instr ∙ elim (cell_cases f r j) [
             | inl o ↦ elim which [
               | inl z ↦ (let y : Some z.0 ≡ Some x = sym (T.joined_front image world formed sound f c.queued r j z.0 s.partly.rising (move_to r j (Some z.0) o.1 z.1) (behind z.0 z.1)) ∙ h in
                   let q : z.0 ≡ x = cc in subst (λ (e : Entry). is_bare c e.wave e.instr ≡ true) q (fronts z.0 r j (move_to r j (Some z.0) o.1 z.1)))
-              | inr z ↦ (let y : Some f ≡ Some x = sym (F.joined_first image f c.queued r j o.1 (move_to r j None o.1 z.0)) ∙ h in
+              | inr z ↦ (let y : Some f ≡ Some x = sym (F.joined_first f c.queued r j o.1 (move_to r j None o.1 z.0)) ∙ h in
                   let q : f ≡ x = cc in subst (λ (e : Entry). is_bare c e.wave e.instr ≡ true) q z.1)
             ]
-            | inr n ↦ fronts x r j (sym (F.joined_other image f c.queued r j n.1) ∙ h)
+            | inr n ↦ fronts x r j (sym (F.joined_other f c.queued r j n.1) ∙ h)
           ]
 
       same_now : (v i : ℕ) → has (issued_with image s.counts s.memory k.wave k.instr xs v i) ≡ has (issued_in d.kept v i)
       same_now = J.new_same image world formed sound began c (asking image c) s.counts s.memory legal s.partly k w.kept xs req may row first_is 0 d go
 
       joined_now : Partly image world began (issued_with image s.counts s.memory k.wave k.instr xs) (effect_after image k.instr xs s.memory) d → Parting image world began d
-      joined_now new = counted k bare w xs req may first_is within 0 (joined image (entry_at image k) c.queued) c.outside d go same_now new
+      joined_now new = counted k bare w xs req may first_is within 0 (joined (entry_at image k) c.queued) c.outside d go same_now new
 
   -- rule 1
-  opened : (c d : Content) → Parting image world began c → (k : Kept) → Fronts c → OpensQueue image c k → Counted image c k 0 (joined image (entry_at image k) c.queued) c.outside d → Parting image world began d
+  opened : (c d : Content) → Parting image world began c → (k : Kept) → Fronts c → OpensQueue image c k → Counted image c k 0 (joined (entry_at image k) c.queued) c.outside d → Parting image world began d
   opened c d s k fronts o go =
       let ad : IsAddressed image world k.wave k.instr k.first = S.bare_kept image world (is_bare c k.wave k.instr) k o.waits.bare_is (s.partly.right k.wave k.instr k o.waits.kept) in
       let row : is_on_row (instr_at image k.instr).op (array_at image k.instr - 1) ≡ true = O.store_row image k.instr ad.store in
@@ -189,7 +189,7 @@ module _ (image : Image) (world : World) (formed : Formed image) (sound : Sound 
           which None e = inr e
           which (Some x) e = inl (x, e)
 
-  pub opened_fronts : (c d : Content) → Parting image world began c → (k : Kept) → Fronts c → OpensQueue image c k → Counted image c k 0 (joined image (entry_at image k) c.queued) c.outside d → Fronts d
+  pub opened_fronts : (c d : Content) → Parting image world began c → (k : Kept) → Fronts c → OpensQueue image c k → Counted image c k 0 (joined (entry_at image k) c.queued) c.outside d → Fronts d
   opened_fronts c d s k fronts o go =
       let ad : IsAddressed image world k.wave k.instr k.first = S.bare_kept image world (is_bare c k.wave k.instr) k o.waits.bare_is (s.partly.right k.wave k.instr k o.waits.kept) in
       let row : is_on_row (instr_at image k.instr).op (array_at image k.instr - 1) ≡ true = O.store_row image k.instr ad.store in
@@ -210,7 +210,7 @@ module _ (image : Image) (world : World) (formed : Formed image) (sound : Sound 
   right_of c s k w = S.whole_kept image world (is_bare c k.wave k.instr) k w.bare_is (s.partly.right k.wave k.instr k w.kept)
 
   -- rule 2
-  joined_so : (c d : Content) → Parting image world began c → (k : Kept) → Fronts c → GoesByChain image c k → holds_op c.queued (instr_at image k.instr).op k.first ≡ true → Counted image c k 0 (joined image (entry_at image k) c.queued) c.outside d → Parting image world began d
+  joined_so : (c d : Content) → Parting image world began c → (k : Kept) → Fronts c → GoesByChain image c k → holds_op c.queued (instr_at image k.instr).op k.first ≡ true → Counted image c k 0 (joined (entry_at image k) c.queued) c.outside d → Parting image world began d
   joined_so c d s k fronts g h go = elim (O.cases_row image c.queued k.instr k.first) [
     | inl z ↦ (let req = right_of c s k g.waits in
         let may = may_counts c s k g in
@@ -220,7 +220,7 @@ module _ (image : Image) (world : World) (formed : Formed image) (sound : Sound 
     | inr z ↦ absurd (both_ways (holds_op c.queued (instr_at image k.instr).op k.first) z.1 h)
   ]
 
-  pub joined_fronts : (c d : Content) → Parting image world began c → (k : Kept) → Fronts c → GoesByChain image c k → holds_op c.queued (instr_at image k.instr).op k.first ≡ true → Counted image c k 0 (joined image (entry_at image k) c.queued) c.outside d → Fronts d
+  pub joined_fronts : (c d : Content) → Parting image world began c → (k : Kept) → Fronts c → GoesByChain image c k → holds_op c.queued (instr_at image k.instr).op k.first ≡ true → Counted image c k 0 (joined (entry_at image k) c.queued) c.outside d → Fronts d
   joined_fronts c d s k fronts g h go = elim (O.cases_row image c.queued k.instr k.first) [
     | inl z ↦ (let req = right_of c s k g.waits in
         let may = may_counts c s k g in
@@ -290,6 +290,7 @@ module _ (image : Image) (world : World) (formed : Formed image) (sound : Sound 
           told = s.partly.told;
           opened = s.partly.opened;
           sits = s.partly.sits;
+          numbered = s.partly.numbered;
           rising = s.partly.rising;
           every = s.partly.every;
           few = s.partly.few;

@@ -11,6 +11,8 @@ pub mod Following
 pub mod Issuing
 pub mod Keeping
 pub mod Places
+pub mod Lines
+pub mod Ordered
 pub mod Turning
 pub mod Goes
 pub mod Sending

@@ -1,7 +1,7 @@
 -- How many queues are open.
 use Rattle.std.proofs.Common.{ℕ, suc, ◌≡◌, ◌≤◌, Bool, true, false, cond, List, [], ◌∷◌, refl, sym, ap, ◌∙◌, subst, inl, inr, arith}
 use Rattle.std.proofs.lemmas.Bool.{both_ways, cases_Bool}
-use Rattle.ws_isa.specs.Image.{Image, In}
+use Rattle.ws_isa.specs.Image.{In}
 use Rattle.df_core.specs.Core.{has}
 use Rattle.df_core.proofs.Ports.{SameKey}
 use Rattle.part_store.specs.declared.entry.Entry.{Entry}
@@ -31,18 +31,18 @@ swap true b n = refl
 swap false true n = refl
 swap false false n = refl
 
-pub open_joined : (image : Image) (f : Entry) (es : List Entry) → open_queues (joined image f es) ≡ one_more (holds es f.row f.index) (open_queues es)
-open_joined image f [] = refl
-open_joined image f (x ∷ es) = elim (cases_Bool (all_later image (x ∷ es) f)) [
-  | inl l ↦ ap (λ (b : Bool). open_queues (cond b (f ∷ x ∷ es) (x ∷ joined image f es))) l
-  | inr l ↦ ap (λ (b : Bool). open_queues (cond b (f ∷ x ∷ es) (x ∷ joined image f es))) l ∙ elim (cell_cases x f.row f.index) [
-    | inl c ↦ (let g = F.held_in (joined image f es) x.row x.index f (F.joined_new image f es) (on_same x f c.1) in
-        ap (λ (b : Bool). one_more b (open_queues (joined image f es))) (ap has g.1)
-        ∙ open_joined image f es
+pub open_joined : (f : Entry) (es : List Entry) → open_queues (joined f es) ≡ one_more (holds es f.row f.index) (open_queues es)
+open_joined f [] = refl
+open_joined f (x ∷ es) = elim (cases_Bool (all_later (x ∷ es) f)) [
+  | inl l ↦ ap (λ (b : Bool). open_queues (cond b (f ∷ x ∷ es) (x ∷ joined f es))) l
+  | inr l ↦ ap (λ (b : Bool). open_queues (cond b (f ∷ x ∷ es) (x ∷ joined f es))) l ∙ elim (cell_cases x f.row f.index) [
+    | inl c ↦ (let g = F.held_in (joined f es) x.row x.index f (F.joined_new f es) (on_same x f c.1) in
+        ap (λ (b : Bool). one_more b (open_queues (joined f es))) (ap has g.1)
+        ∙ open_joined f es
         ∙ ap (λ (b : Bool). one_more b (open_queues es)) (sym (at_cell es x f.row f.index c.1))
         ∙ sym (ap (λ (b : Bool). one_more b (one_more (holds es x.row x.index) (open_queues es))) (held_here x es f.row f.index c.1)))
-    | inr c ↦ ap (λ (b : Bool). one_more b (open_queues (joined image f es))) (ap has (F.joined_other image f es x.row x.index (λ o. c.1 (on_same f x o))))
-        ∙ ap (one_more (holds es x.row x.index)) (open_joined image f es)
+    | inr c ↦ ap (λ (b : Bool). one_more b (open_queues (joined f es))) (ap has (F.joined_other f es x.row x.index (λ o. c.1 (on_same f x o))))
+        ∙ ap (one_more (holds es x.row x.index)) (open_joined f es)
         ∙ swap (holds es x.row x.index) (holds es f.row f.index) (open_queues es)
         ∙ sym (ap (λ (b : Bool). one_more b (one_more (holds es x.row x.index) (open_queues es))) (held_there x es f.row f.index c.1))
   ]

@@ -31,6 +31,7 @@ module _ (image : Image) (world : World) (began : List (Option Began))
       told = λ w i a q e. absurd (cc (e));
       opened = λ w i a e b. absurd (cc (e));
       sits = λ e h. absurd h;
+      numbered = λ e h. absurd h;
       rising = tt;
       every = λ e r j t h. absurd (cc (h));
       few = omega arith;

@@ -26,6 +26,7 @@ module _ (image : Image) (world : World) (began : List (Option Began)) (c : Cont
       told = p.told;
       opened = λ w i a n e. p.opened w i a n (sym (same w i) ∙ e);
       sits = p.sits;
+      numbered = p.numbered;
       rising = p.rising;
       every = p.every;
       few = p.few;

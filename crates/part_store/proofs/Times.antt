@@ -4,7 +4,7 @@ use Rattle.std.proofs.lemmas.Bool.{and_from, and_parts, both_ways, cases_Bool, c
 use Rattle.ws_words.specs.Outside.{World}
 use Rattle.ws_isa.specs.declared.instr.Op.{Op}
 use Rattle.ws_isa.specs.declared.instr.Op.TheVariants.{Load, Store}
-use Rattle.ws_isa.specs.Image.{Image, In, instr_at, is_memory, is_memory_op, note_of}
+use Rattle.ws_isa.specs.Image.{Image, In, instr_at, is_memory, is_memory_op}
 use Rattle.ws_isa.specs.Formed.{Formed}
 use Rattle.ws_isa.specs.Walk.{Inst}
 use Rattle.ws_isa.specs.Sound.{Sound}
@@ -13,13 +13,14 @@ use Rattle.df_core.proofs.Facts.{WalkFacts}
 use Rattle.df_core.proofs.FromSound.{facts_of}
 use Rattle.df_core.proofs.PortsThere.{ports_there}
 use Rattle.df_core.proofs.Passing.{same_fired}
+use Rattle.df_core.specs.Core.{same_key}
 use Rattle.df_core.proofs.Ports.{SameKey}
 use Rattle.df_core.proofs.Settling.{one_time}
 use Rattle.part_store.specs.declared.entry.Entry.{Entry}
-use Rattle.part_store.specs.Queues.{all_later, front, is_later, joined, without}
+use Rattle.part_store.specs.Queues.{all_later, front, is_later, joined, without, without_first}
 use Rattle.part_store.specs.Contents.{is_on_row}
-use Rattle.part_store.specs.Parted.{OnCell, Earlier, Rising}
-use Rattle.part_store.proofs.Keys.{IsOn, key_cases, cell_cases}
+use Rattle.part_store.specs.Parted.{OnCell, Earlier, IsNumbered, Rising}
+use Rattle.part_store.proofs.Keys.{IsOn, key_cases, cell_cases, same_key_is}
 use Rattle.part_store.proofs.Numbers.{seq_up}
 use Rattle.part_store.proofs.Fronts as F
 
@@ -75,10 +76,10 @@ module _ (image : Image) (world : World) (formed : Formed image) (sound : Sound 
   pub earlier_then : (e f g : Entry) → Earlier image world e f → Earlier image world f g → Earlier image world e g
   earlier_then e f g a b =
       let s : a.then ≡ b.time = at_once f a.then b.time a.other b.one in
-      record { time = a.time; one = a.one; then = b.then; other = b.other; before = (let p : a.time < a.then = a.before in let q : b.time < b.then = b.before in omega arith) }
+      record { time = a.time; one = a.one; then = b.then; other = b.other; before = (let p : a.time < a.then = a.before in let q : b.time < b.then = b.before in omega arith); numbered = (a.numbered.0, b.numbered.1) }
 
-  pub earlier_by : (e f : Entry) (t u : ℕ) → At e t → At f u → t < u → Earlier image world e f
-  earlier_by e f t u a b l = record { time = t; one = a; then = u; other = b; before = l }
+  pub earlier_by : (e f : Entry) (t u : ℕ) → At e t → At f u → t < u → IsNumbered image e × IsNumbered image f → Earlier image world e f
+  earlier_by e f t u a b l n = record { time = t; one = a; then = u; other = b; before = l; numbered = n }
 
   pub earlier_times : (e f : Entry) (t u : ℕ) → Earlier image world e f → At e t → At f u → t < u
   earlier_times e f t u s a b =
@@ -94,7 +95,7 @@ module _ (image : Image) (world : World) (formed : Formed image) (sound : Sound 
       let e : s.time ≡ s.then = q.time in
       let l : s.time < s.then = s.before in omega arith
 
-  waves_of : (e f : Entry) → Earlier image world e f → (e.wave < f.wave) ⊎ ((e.wave ≡ f.wave) × ((note_of image e.instr).seq < (note_of image f.instr).seq))
+  waves_of : (e f : Entry) → Earlier image world e f → (e.wave < f.wave) ⊎ ((e.wave ≡ f.wave) × (e.seq < f.seq))
   waves_of e f s =
       let mx : is_memory image s.one.inst.instr ≡ true = ap (is_memory image) s.one.at.instr ∙ row_memory image e.instr e.row s.one.row in
       let my : is_memory image s.other.inst.instr ≡ true = ap (is_memory image) s.other.at.instr ∙ row_memory image f.instr f.row s.other.row in
@@ -104,21 +105,21 @@ module _ (image : Image) (world : World) (formed : Formed image) (sound : Sound 
       let we : s.one.inst.wave ≡ e.wave = s.one.at.wave in
       let wf : s.other.inst.wave ≡ f.wave = s.other.at.wave in
       elim (cases_eq e.wave f.wave) [
-        | inl same ↦ inr (same, rw (← s.one.at.instr, ← s.other.at.instr) (seq_up image world sound.shape sound.links s.time s.then s.one.inst s.other.inst l s.one.at.fires mx s.other.at.fires my (we ∙ same ∙ sym wf)))
+        | inl same ↦ inr (same, rw (s.numbered.0, s.numbered.1, ← s.one.at.instr, ← s.other.at.instr) (seq_up image world sound.shape sound.links s.time s.then s.one.inst s.other.inst l s.one.at.fires mx s.other.at.fires my (we ∙ same ∙ sym wf)))
         | inr n ↦ inl (omega arith)
       ]
 
   -- what comes later has the later wave or sequence number
-  pub later_is : (e f : Entry) → Earlier image world e f → is_later image f e ≡ true
+  pub later_is : (e f : Entry) → Earlier image world e f → is_later f e ≡ true
   later_is e f s = elim (waves_of e f s) [
     | inl l ↦ rw (lt-ltb e.wave f.wave l) refl
-    | inr h ↦ rw (le-ltb e.wave f.wave (omega (arith, h.0)), eq-eqb e.wave f.wave h.0, lt-ltb (note_of image e.instr).seq (note_of image f.instr).seq h.1) refl
+    | inr h ↦ rw (le-ltb e.wave f.wave (omega (arith, h.0)), eq-eqb e.wave f.wave h.0, lt-ltb e.seq f.seq h.1) refl
   ]
 
-  pub later_not : (e f : Entry) → Earlier image world e f → is_later image e f ≡ false
+  pub later_not : (e f : Entry) → Earlier image world e f → is_later e f ≡ false
   later_not e f s = elim (waves_of e f s) [
     | inl l ↦ rw (le-ltb f.wave e.wave (omega (arith, l)), ne_eqb f.wave e.wave (λ q. omega (arith, l, q))) refl
-    | inr h ↦ rw (le-ltb f.wave e.wave (omega (arith, h.0)), eq-eqb f.wave e.wave (sym h.0), le-ltb (note_of image f.instr).seq (note_of image e.instr).seq (omega (arith, h.1))) refl
+    | inr h ↦ rw (le-ltb f.wave e.wave (omega (arith, h.0)), eq-eqb f.wave e.wave (sym h.0), le-ltb f.seq e.seq (omega (arith, h.1))) refl
   ]
 
   -- a cell's first entry is the first in the walk's order
@@ -135,27 +136,41 @@ module _ (image : Image) (world : World) (formed : Formed image) (sound : Sound 
     ]
   ]
 
+  -- a cell's first operation is the only one of its instance
+  pub first_leaves : (es : List Entry) (r j : ℕ) (e : Entry) → Rising image world es → front es r j ≡ Some e → without_first es r j ≡ without es e.wave e.instr
+  first_leaves [] r j e rise h = refl
+  first_leaves (x ∷ es) r j e rise h = elim (cell_cases x r j) [
+    | inl c ↦ (let q : Some x ≡ Some e = sym (F.front_here x es r j c.1) ∙ h in let s : x ≡ e = cc in
+        let k : same_key x.wave x.instr e.wave e.instr ≡ true = subst (λ (y : Entry). same_key x.wave x.instr y.wave y.instr ≡ true) s (same_key_is x.wave x.instr) in
+        ap (λ (b : Bool). cond b es (x ∷ without_first es r j)) c.0 ∙ sym (ap (λ (b : Bool). cond b es (x ∷ without es e.wave e.instr)) k))
+    | inr c ↦ (let g : front es r j ≡ Some e = sym (F.front_there x es r j c.1) ∙ h in
+        ap (λ (b : Bool). cond b es (x ∷ without_first es r j)) c.0 ∙ elim (key_cases x.wave x.instr e.wave e.instr) [
+          | inl k ↦ absurd (not_self x e k.1 (rise.0 e (F.front_in es r j e g).0))
+          | inr k ↦ ap (λ (zs : List Entry). x ∷ zs) (first_leaves es r j e rise.1 g) ∙ sym (ap (λ (b : Bool). cond b es (x ∷ without es e.wave e.instr)) k.0)
+        ])
+  ]
+
   -- one more at its place keeps the order
   module _ (f : Entry) where
-    later_all : (es : List Entry) → ((g : Entry) → In g es → Earlier image world f g) → all_later image es f ≡ true
+    later_all : (es : List Entry) → ((g : Entry) → In g es → Earlier image world f g) → all_later es f ≡ true
     later_all [] all = refl
-    later_all (x ∷ es) all = and_from (is_later image x f) (all_later image es f) (later_is f x (all x (inl refl))) (later_all es (λ g h. all g (inr h)))
+    later_all (x ∷ es) all = and_from (is_later x f) (all_later es f) (later_is f x (all x (inl refl))) (later_all es (λ g h. all g (inr h)))
 
-    not_all : (x : Entry) (es : List Entry) → Earlier image world x f → all_later image (x ∷ es) f ≡ false
-    not_all x es a = ap (λ (b : Bool). b && all_later image es f) (later_not x f a)
+    not_all : (x : Entry) (es : List Entry) → Earlier image world x f → all_later (x ∷ es) f ≡ false
+    not_all x es a = ap (λ (b : Bool). b && all_later es f) (later_not x f a)
 
-    pub rising_joined : (es : List Entry) → Rising image world es → ((g : Entry) → In g es → Earlier image world g f ⊎ Earlier image world f g) → Rising image world (joined image f es)
+    pub rising_joined : (es : List Entry) → Rising image world es → ((g : Entry) → In g es → Earlier image world g f ⊎ Earlier image world f g) → Rising image world (joined f es)
     rising_joined [] rise all = ((λ g h. absurd h), tt)
-    rising_joined (x ∷ es) rise all = elim (cases_Bool (all_later image (x ∷ es) f)) [
-      | inl l ↦ subst (λ (b : Bool). Rising image world (cond b (f ∷ x ∷ es) (x ∷ joined image f es))) (sym l) (elim (all x (inl refl)) [
-        | inl a ↦ absurd (both_ways (is_later image x f) (later_not x f a) (and_parts (is_later image x f) (all_later image es f) l).0)
+    rising_joined (x ∷ es) rise all = elim (cases_Bool (all_later (x ∷ es) f)) [
+      | inl l ↦ subst (λ (b : Bool). Rising image world (cond b (f ∷ x ∷ es) (x ∷ joined f es))) (sym l) (elim (all x (inl refl)) [
+        | inl a ↦ absurd (both_ways (is_later x f) (later_not x f a) (and_parts (is_later x f) (all_later es f) l).0)
         | inr a ↦ ((λ g h. elim h [ inl q ↦ subst (λ (y : Entry). Earlier image world f y) (sym q) a | inr k ↦ earlier_then f x g a (rise.0 g k) ]), rise)
       ])
-      | inr l ↦ subst (λ (b : Bool). Rising image world (cond b (f ∷ x ∷ es) (x ∷ joined image f es))) (sym l) (
-        (λ g h. elim (F.joined_in image f es g h) [
+      | inr l ↦ subst (λ (b : Bool). Rising image world (cond b (f ∷ x ∷ es) (x ∷ joined f es))) (sym l) (
+        (λ g h. elim (F.joined_in f es g h) [
           | inl q ↦ subst (λ (y : Entry). Earlier image world x y) (sym q) (elim (all x (inl refl)) [
             | inl a ↦ a
-            | inr a ↦ absurd (both_ways (all_later image (x ∷ es) f) l (later_all (x ∷ es) (λ g h. elim h [ inl q ↦ subst (λ (y : Entry). Earlier image world f y) (sym q) a | inr k ↦ earlier_then f x g a (rise.0 g k) ])))
+            | inr a ↦ absurd (both_ways (all_later (x ∷ es) f) l (later_all (x ∷ es) (λ g h. elim h [ inl q ↦ subst (λ (y : Entry). Earlier image world f y) (sym q) a | inr k ↦ earlier_then f x g a (rise.0 g k) ])))
           ])
           | inr k ↦ rise.0 g k
         ]),
@@ -164,15 +179,15 @@ module _ (image : Image) (world : World) (formed : Formed image) (sound : Sound 
     ]
 
     -- the first entry of its cell stays the first, where it is earlier
-    pub joined_front : (es : List Entry) (r j : ℕ) (e : Entry) → Rising image world es → front es r j ≡ Some e → Earlier image world e f → front (joined image f es) r j ≡ Some e
+    pub joined_front : (es : List Entry) (r j : ℕ) (e : Entry) → Rising image world es → front es r j ≡ Some e → Earlier image world e f → front (joined f es) r j ≡ Some e
     joined_front [] r j e rise h a = absurd (let g : None ≡ Some e = h in cc)
     joined_front (x ∷ es) r j e rise h a = elim (cell_cases x r j) [
       | inl c ↦ (let q : Some x ≡ Some e = sym (F.front_here x es r j c.1) ∙ h in let s : x ≡ e = cc in
-          let l : all_later image (x ∷ es) f ≡ false = not_all x es (subst (λ (y : Entry). Earlier image world y f) (sym s) a) in
-          ap (λ (b : Bool). front (cond b (f ∷ x ∷ es) (x ∷ joined image f es)) r j) l ∙ F.front_here x (joined image f es) r j c.1 ∙ q)
+          let l : all_later (x ∷ es) f ≡ false = not_all x es (subst (λ (y : Entry). Earlier image world y f) (sym s) a) in
+          ap (λ (b : Bool). front (cond b (f ∷ x ∷ es) (x ∷ joined f es)) r j) l ∙ F.front_here x (joined f es) r j c.1 ∙ q)
       | inr c ↦ (let g : front es r j ≡ Some e = sym (F.front_there x es r j c.1) ∙ h in
-          let l : all_later image (x ∷ es) f ≡ false = not_all x es (earlier_then x e f (rise.0 e (F.front_in es r j e g).0) a) in
-          ap (λ (b : Bool). front (cond b (f ∷ x ∷ es) (x ∷ joined image f es)) r j) l ∙ F.front_there x (joined image f es) r j c.1 ∙ joined_front es r j e rise.1 g a)
+          let l : all_later (x ∷ es) f ≡ false = not_all x es (earlier_then x e f (rise.0 e (F.front_in es r j e g).0) a) in
+          ap (λ (b : Bool). front (cond b (f ∷ x ∷ es) (x ∷ joined f es)) r j) l ∙ F.front_there x (joined f es) r j c.1 ∙ joined_front es r j e rise.1 g a)
     ]
 
   module _ (w i : ℕ) where

@@ -400,6 +400,7 @@ module _ (image : Image) (world : World) (formed : Formed image) (sound : Sound 
           told = λ w i a q e. e;
           opened = λ w i a e b. absurd (both_ways (is_bare c w i) (none w i) b);
           sits = λ e h. absurd (subst (λ (es : List Entry). In e es) free h);
+          numbered = λ e h. absurd (subst (λ (es : List Entry). In e es) free h);
           rising = subst (Rising image world) (sym free) tt;
           every = λ e r j t h. absurd (no_front e r j h);
           few = subst (λ (es : List Entry). open_queues es ≤ 16) (sym free) (omega arith);

@@ -1,11 +1,25 @@
 -- The cells that queues hold.
-use Rattle.std.specs.Prelude.{ℕ, ◌≡◌}
-use Rattle.std.specs.HashSet.{contains}
+use Rattle.std.specs.Prelude.{ℕ, ◌≡◌, false, List, [], ◌∷◌, Option}
+use Rattle.std.specs.HashMap.{get}
+use Rattle.std.specs.Option.{option_map}
+use Rattle.ws_isa.specs.Image.{In}
 use Rattle.store_buf.specs.Finding.{pair_eq}
+use Rattle.part_store.specs.declared.entry.Entry.{Entry}
+use Rattle.part_store.specs.declared.queues.Line.{Line}
 use Rattle.part_store.specs.declared.queues.Queues.{Queues}
-use Rattle.part_store.specs.Queues.{holds, open_queues}
+use Rattle.part_store.specs.Queues.{count_on, front, is_later, open_queues}
 
--- the held cells are listed and counted
+-- the queue of a cell, where one holds it: its first operation, and how many wait
+abbrev pub line_of : List Entry → ℕ → ℕ → Option Line
+line_of es r j = option_map (λ e. record { first = e; count = count_on es r j }) (front es r j)
+
+-- the walk comes to none of them later than to one behind it
+abbrev pub Sorted : List Entry → Type 0
+Sorted [] = Unit {0}
+Sorted (e ∷ es) = ((f : Entry) → In f es → is_later e f ≡ false) × Sorted es
+
+-- operations stand in the walk's order, and the held cells are listed and counted
 pub record QueuesOk (q : Queues) : Type 0 where
-  pub cells : (r j : ℕ) → contains pair_eq q.cells (r, j) ≡ holds q.entries.items r j
+  pub sorted : Sorted q.entries.items
+  pub lines : (r j : ℕ) → get pair_eq q.lines (r, j) ≡ line_of q.entries.items r j
   pub counted : q.held ≡ open_queues q.entries.items

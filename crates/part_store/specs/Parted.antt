@@ -4,7 +4,7 @@ use Rattle.std.specs.Prelude.{slice_index}
 use Rattle.ws_words.specs.Outside.{Outside, World, row}
 use Rattle.ws_isa.specs.declared.instr.Op.{Op}
 use Rattle.ws_isa.specs.declared.instr.Op.TheVariants.{Store}
-use Rattle.ws_isa.specs.Image.{Image, In, instr_at}
+use Rattle.ws_isa.specs.Image.{Image, In, instr_at, note_of}
 use Rattle.ws_isa.specs.Walk.{Inst}
 use Rattle.df_core.specs.Effect.{effect_at}
 use Rattle.df_core.specs.Core.{has}
@@ -27,6 +27,10 @@ pub record OnCell (image : Image) (world : World) (w i r j t : ℕ) : Type 0 whe
   pub row : is_on_row (instr_at image i).op r ≡ true
   pub index : slice_index inst.operands 0 ≡ j
 
+-- it has the sequence number of its instruction's note
+abbrev pub IsNumbered : Image → Entry → Type 0
+IsNumbered image e = e.seq ≡ (note_of image e.instr).seq
+
 -- the walk comes to the one before it comes to the other
 pub record Earlier (image : Image) (world : World) (e f : Entry) : Type 0 where
   pub time : ℕ
@@ -34,6 +38,7 @@ pub record Earlier (image : Image) (world : World) (e f : Entry) : Type 0 where
   pub then : ℕ
   pub other : OnCell image world f.wave f.instr f.row f.index then
   pub before : time < then
+  pub numbered : IsNumbered image e × IsNumbered image f
 
 -- in the walk's order
 abbrev pub Rising : Image → World → List Entry → Type 0
@@ -71,6 +76,7 @@ pub record Partly (image : Image) (world : World) (began : List (Option Began))
   -- first one on all
   pub sits : (e : Entry) → In e c.queued → ((t : ℕ) × OnCell image world e.wave e.instr e.row e.index t)
       × ((a : ℕ) × (counts e.wave e.instr ≡ Some a))
+  pub numbered : (e : Entry) → In e c.queued → IsNumbered image e
   pub rising : Rising image world c.queued
   pub every : (e : Entry) (r j t : ℕ) → front c.queued r j ≡ Some e →
       OnCell image world e.wave e.instr r j t →

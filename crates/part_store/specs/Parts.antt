@@ -2,7 +2,7 @@
 use Rattle.std.specs.Prelude.{ℕ, ◌≡◌, ◌+◌, ◌<◌, ◌≤◌, ◌++◌, Bool, true, false, ◌==◌, is_some, cond, ◌&&◌}
 use Rattle.std.specs.Prelude.{◌||◌, not, ltb, nat_eq, List, length, Option, Some, None, Result}
 use Rattle.std.specs.Prelude.{Ok, Err, vec_len, vec_capacity}
-use Rattle.std.specs.HashSet.{spare}
+use Rattle.std.specs.HashMap.{spare}
 use Rattle.std.specs.VecDeque.{deque_len, deque_capacity}
 use Rattle.ws_words.specs.Outside.{World}
 use Rattle.ws_isa.specs.Image.{Image, Token, instr_at}
@@ -60,7 +60,7 @@ module _ {P : Type 0} where
     pub early : Room s.order
     pub printed : vec_len s.outer.printed + s.order.waiting ≤ vec_capacity s.outer.printed
     pub queues : deque_len s.queues.entries + s.order.waiting ≤ deque_capacity s.queues.entries
-    pub cells : s.order.waiting ≤ spare s.queues.cells
+    pub lines : s.order.waiting ≤ spare s.queues.lines
     pub counted : QueuesOk s.queues
     pub bare : (w i : ℕ) → is_in s.bare w i ≡ true → (k : Kept) × (entry_of s.order.kept.items w i ≡ Some k)
 
@@ -216,11 +216,12 @@ module _ {P : Type 0} where
       Calm image world began new × RightTokens image world tokens
       × SubmitSo image (content_of old) k tokens result (content_of new)
 
-  -- the queue of an instance's cell is followed
-  abbrev pub DrainLeads : Image → ℕ → ℕ → Parts P → Parts P → List Token → List Token → Type 0
-  DrainLeads image w i old new before after = (tokens : List Token) × (after ≡ before ++ tokens)
+  -- the queue of a store's cell is followed
+  abbrev pub DrainLeads : Image → Kept → Parts P → Parts P → List Token → List Token → Type 0
+  DrainLeads image k old new before after = (tokens : List Token) × (after ≡ before ++ tokens)
       × ((world : World) (began : List (Option Began)) → Formed image → Sound image →
-      Stands image world began old → old.fault ≡ None → FrontsBy w i (content_of old) →
+      IsAsked image world (asked_of k) → Stands image world began old → old.fault ≡ None →
+      FrontsBy k.wave k.instr (content_of old) →
       Moves image (content_of old) tokens (content_of new) × Calm image world began new)
 
 module _ {P : Type 0} where

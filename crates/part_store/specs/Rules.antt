@@ -79,8 +79,13 @@ pub record Counted (image : Image) (c : Content) (k : Kept) (word : ℕ) (queued
   pub fault : d.fault ≡ c.fault
 
 abbrev pub entry_at : Image → Kept → Entry
-entry_at image k =
-    record { wave = k.wave; instr = k.instr; row = array_at image k.instr - 1; index = k.first }
+entry_at image k = record {
+  wave = k.wave;
+  instr = k.instr;
+  seq = (note_of image k.instr).seq;
+  row = array_at image k.instr - 1;
+  index = k.first;
+}
 
 -- what a first entry gives, and the cells that it leaves
 abbrev pub word_of : Image → Content → Entry → ℕ
@@ -119,11 +124,11 @@ pub record Followed (image : Image) (c : Content) (e : Entry) (tokens : List Tok
 pub data Moves (image : Image) : Content → List Token → Content → Type 0 where
   stays : {c : Content} → Moves image c [] c
   opens : {c d e : Content} {rest : List Token} (k : Kept) → Fronts c → OpensQueue image c k →
-      Counted image c k 0 (joined image (entry_at image k) c.queued) c.outside d → Moves image d rest e →
+      Counted image c k 0 (joined (entry_at image k) c.queued) c.outside d → Moves image d rest e →
       Moves image c rest e
   joins : {c d e : Content} {rest : List Token} (k : Kept) → Fronts c → GoesByChain image c k →
       holds_op c.queued (instr_at image k.instr).op k.first ≡ true →
-      Counted image c k 0 (joined image (entry_at image k) c.queued) c.outside d → Moves image d rest e →
+      Counted image c k 0 (joined (entry_at image k) c.queued) c.outside d → Moves image d rest e →
       Moves image c rest e
   issues : {c d e : Content} {rest : List Token} (k : Kept) (word : ℕ) (left : Holding) → Fronts c →
       GoesByChain image c k → holds_op c.queued (instr_at image k.instr).op k.first ≡ false →

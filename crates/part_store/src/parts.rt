@@ -19,7 +19,7 @@ ghost use Rattle.store_buf.specs.Ordering.{MayAt, OrderOk, kept_at, near_at};
 ghost use Rattle.store_buf.specs.Outdoors.{FaultsGrow};
 ghost use Rattle.part_store.specs.declared.entry.Entry.{Entry};
 ghost use Rattle.store_buf.specs.declared.kept.Kept.{Kept};
-ghost use Rattle.part_store.specs.Queues.{front, is_queued, joined, open_queues, without};
+ghost use Rattle.part_store.specs.Queues.{front, joined, open_queues, without_first};
 ghost use Rattle.part_store.specs.Parted.{is_store_op};
 ghost use Rattle.part_store.specs.Contents.{cell, holds_op};
 ghost use Rattle.part_store.specs.Rules.{entry_at};
@@ -287,7 +287,7 @@ impl<P: Port> Parts<P> {
         self.settle(program, told)
     }
 
-    // Where the operation of an instance is queued, the first entries on its cell are done.
+    // The first entries on the cell of a store whose data has come are done.
     fn drain(&mut self, program: &Program<'_>, kept: Kept, told: &mut Told)
         requires program { ProgramIs program.now }
         requires formed { Formed (image_of program.now) }
@@ -295,16 +295,13 @@ impl<P: Port> Parts<P> {
         requires room { HasRoomFor told.old
             (8 * (self.old.order.waiting + length self.old.queues.entries.items)) }
         ensures ok { PartsOk self.new }
-        ensures leads { DrainLeads (image_of program.now) kept.wave kept.instr self.old self.new
+        ensures leads { DrainLeads (image_of program.now) kept self.old self.new
             (tokens_of told.old.items) (tokens_of told.new.items) }
         ensures same { Beside self.old self.new }
         ensures room { HasRoomFor told.new (8 * self.new.order.waiting) }
         ensures same_room { told.new.capacity ≡ told.old.capacity }
     {
-        match self.queues.find(kept.wave, kept.instr) {
-            Some(entry) => self.follow(program, entry.row, entry.index, told),
-            None => {}
-        }
+        self.follow(program, row_of(program.op(kept.instr)), kept.first, told);
     }
 
     // The data of a store has come, whose address came before.
@@ -490,14 +487,14 @@ impl<P: Port> Parts<P> {
         requires program { ProgramIs program.now }
         requires formed { Formed (image_of program.now) }
         requires ok { PartsOk self.old }
-        requires queued { is_queued self.old.queues.entries.items entry.wave entry.instr ≡ true }
+        requires first { front self.old.queues.entries.items entry.row entry.index ≡ Some entry }
         requires room { HasRoomFor told.old
             (8 * (self.old.order.waiting + length self.old.queues.entries.items)) }
         ensures ok { PartsOk self.new }
         ensures leads { FinishLeads (image_of program.now) entry self.old self.new
             (tokens_of told.old.items) (tokens_of told.new.items) }
         ensures queued { self.new.queues.entries.items
-            ≡ without self.old.queues.entries.items entry.wave entry.instr }
+            ≡ without_first self.old.queues.entries.items entry.row entry.index }
         ensures fewer { length self.new.queues.entries.items + 1
             ≡ length self.old.queues.entries.items }
         ensures same { Beside self.old self.new }
@@ -505,7 +502,7 @@ impl<P: Port> Parts<P> {
             (8 * (self.new.order.waiting + length self.new.queues.entries.items)) }
         ensures same_room { told.new.capacity ≡ told.old.capacity }
     {
-        self.queues.leave(entry.wave, entry.instr);
+        self.queues.leave(entry);
         let Some(place) = self.issued_place(entry.wave, entry.instr) else {
             return;
         };
@@ -735,7 +732,7 @@ impl<P: Port> Parts<P> {
         ensures passed { PassedOn (image_of program.now) (chain_of self.old.order.chain)
             (near_at self.old.order at).instr self.old.order.early.items
             (chain_of self.new.order.chain) self.new.order.early.items }
-        ensures queued { self.new.queues.entries.items ≡ joined (image_of program.now)
+        ensures queued { self.new.queues.entries.items ≡ joined
             (entry_at (image_of program.now) (near_at self.old.order at))
             self.old.queues.entries.items }
         ensures fewer { self.new.order.waiting < self.old.order.waiting }
@@ -749,10 +746,11 @@ impl<P: Port> Parts<P> {
         let entry = Entry {
             wave: kept.wave,
             instr: kept.instr,
+            seq: program.note(kept.instr).seq,
             row: row_of(program.op(kept.instr)),
             index: kept.first,
         };
-        self.queues.join(program, entry);
+        self.queues.join(entry);
         self.order.issue(program, at, 0);
     }
 }

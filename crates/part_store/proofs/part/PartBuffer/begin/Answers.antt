@@ -49,7 +49,7 @@ invariant_of-result g c =
       early = no_room order c.new-3.ensures.ok c.new-3.ensures.kept c.new-3.ensures.early;
       printed = omega (arith, w, c.new.ensures.len);
       queues = omega (arith, w, n, queues.entries.ok.0);
-      cells = omega (arith, w);
+      lines = omega (arith, w);
       counted = c.new-5.ensures.ok;
       bare = none_bare bare order.kept.items c.new-4.ensures;
     })

@@ -16,7 +16,7 @@ returns-clause-ok g c =
       early = c.requires.ok.early;
       printed = c.requires.ok.printed;
       queues = c.requires.ok.queues;
-      cells = c.requires.ok.cells;
+      lines = c.requires.ok.lines;
       counted = c.requires.ok.counted;
       bare = λ w i e. U.still_kept (record { arrays = []; blocks = [] }) o c.requires.ok.order c.args.place c.requires.within c.args.word _
           (ap (λ (k : Kept). slice_set o.kept.items c.args.place (record { wave = k.wave; instr = k.instr; first = k.first; second = k.second; answer = Some c.args.word })) q) w i (c.requires.ok.bare w i e);

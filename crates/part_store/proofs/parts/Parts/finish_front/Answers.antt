@@ -1,10 +1,10 @@
-use Rattle.std.proofs.Common.{ℕ, ◌≡◌, ◌≤◌, ◌∙◌, List, [], length, sym, ap, subst, cond, slice_set, arith}
+use Rattle.std.proofs.Common.{◌≡◌, ◌∙◌, List, [], length, sym, ap, subst, cond, slice_set, arith}
 use Rattle.std.proofs.lemmas.List.{append-nil}
 use Rattle.ws_words.specs.Outside.{row, with_row}
 use Rattle.ws_isa.specs.declared.instr.Dest.{Dest}
 use Rattle.ws_isa.specs.declared.instr.Op.{Op}
 use Rattle.ws_isa.specs.Image.{Token, instr_at, tokens_to}
-use Rattle.df_core.specs.Places.{destinations, image_of}
+use Rattle.df_core.specs.Places.{image_of}
 use Rattle.df_core.specs.Rights.{tokens_of}
 use Rattle.store_buf.specs.Ordering.{no_request, kept_at}
 use Rattle.store_buf.proofs.Lists.{or_any}
@@ -14,6 +14,7 @@ use Rattle.part_store.specs.Rules.{Moves}
 use Rattle.part_store.specs.Parts.{Beside, Stands, content_of}
 use Rattle.part_store.proofs.Fronts as F
 use Rattle.part_store.proofs.Finishing as N
+use Rattle.part_store.proofs.Times as T
 use Rattle.part_store.proofs.parts.Parts.finish_front.Goals as goal
 use Rattle.df_core.proofs.Few.{few_sent}
 
@@ -54,7 +55,8 @@ returns-clause-leads g c = (
       let read = ap (λ (o : _). o.read) c.answer_at.ensures.outer ∙ c.use_cell-word.ensures.read in
       let printed = ap (λ (o : _). o.printed) c.answer_at.ensures.outer ∙ c.use_cell-word.ensures.printed in
       let ports = ap (λ (o : _). o.ports) c.answer_at.ensures.outer ∙ c.use_cell-word.ensures.ports in
-      let queued = ap (λ (x : _). x.entries.items) c.answer_at.ensures.queues ∙ c.leave.ensures.entries in
+      let queued = ap (λ (x : _). x.entries.items) c.answer_at.ensures.queues ∙ c.leave.ensures.entries
+      ∙ T.first_leaves image world formed sound old.queues.entries.items e.row e.index e st.parting.partly.rising fol.first in
       let b = c.answer_at.ensures.same in
       let beside : Beside old new = record { chain = b.chain; early = b.early; waiting = b.waiting; bare = b.bare; ports = b.ports ∙ c.use_cell-word.ensures.ports; fault = b.fault; failed = b.failed; starved = b.starved } in
       let told = ap (λ (ds : List Dest). tokens_to e.wave word ds) c.destinations.ensures

@@ -13,8 +13,8 @@ loop-entry-init g c = record {
   same_room = refl;
 }
 
-pub finish_front-requires-clause-queued : goal.finish_front-requires-clause-queued
-finish_front-requires-clause-queued g c = F.front_queued c.loop-entry.self.queues.entries.items c.args.row c.args.index c.in-Some.entry c.in-Some.ensures.some.0
+pub finish_front-requires-clause-first : goal.finish_front-requires-clause-first
+finish_front-requires-clause-first g c = F.on_its_cell c.loop-entry.self.queues.entries.items c.args.row c.args.index c.in-Some.entry c.in-Some.ensures.some.0
 
 pub loop-entry-preserved : goal.loop-entry-preserved
 loop-entry-preserved g c =

@@ -1,4 +1,4 @@
-use Rattle.std.proofs.Common.{ℕ, ◌<◌, ◌≡◌, ◌≤◌, ◌∙◌, ◌⊎◌, Bool, List, Some, refl, Result, Ok, Err, OnErr, true, false, [], ◌∷◌, length, slice_index_or, ap, sym, subst, inl, inr, arith}
+use Rattle.std.proofs.Common.{ℕ, ◌<◌, ◌≡◌, ◌∙◌, ◌⊎◌, Bool, List, Some, refl, Result, Ok, Err, OnErr, true, false, [], ◌∷◌, length, slice_index_or, ap, sym, subst, inl, inr, arith}
 use Rattle.std.proofs.lemmas.List.{append-nil}
 use Rattle.std.proofs.lemmas.Result.{err_from_is_err_and}
 use Rattle.ws_isa.specs.declared.instr.Op.{Op}
@@ -119,7 +119,7 @@ returns-clause-ok g c = let o = c.args.self.now.order in record {
   early = c.issue.ensures.room;
   printed = omega (arith, c.issue.ensures.fewer, c.requires.ok.printed, c.in_ok-word.ensures.room, c.in_ok-word.ensures.fewer);
   queues = omega (arith, c.issue.ensures.fewer, c.requires.ok.queues);
-  cells = omega (arith, c.issue.ensures.fewer, c.requires.ok.cells);
+  lines = omega (arith, c.issue.ensures.fewer, c.requires.ok.lines);
   counted = c.requires.ok.counted;
   bare = λ w i e. U.still_kept (image_of c.args.program.now) o c.requires.ok.order (slice_index_or o.near.items c.args.at (length o.kept.items)) c.requires.goes.may.place c.in_ok-word.word c.issue.new.self.kept.items c.issue.ensures.kept w i (c.requires.ok.bare w i e);
 }

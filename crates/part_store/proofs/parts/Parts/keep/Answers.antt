@@ -15,7 +15,7 @@ returns-clause-ok g c =
           omega (arith, w, e, n.early.ok.0, o.early.ok.0, c.add.ensures.grown, c.requires.ok.early)) c.add.ensures.still);
       printed = omega (arith, m, c.in_ok-reserve.ensures.ok);
       queues = omega (arith, m, c.in_ok-reserve-2.ensures.room);
-      cells = omega (arith, m, c.in_ok-reserve-2.ensures.cells);
+      lines = omega (arith, m, c.in_ok-reserve-2.ensures.lines);
       counted = c.in_ok-reserve-2.ensures.ok c.requires.ok.counted;
       bare = λ w i e. let old = c.requires.ok.bare w i e in
           C.both c.add.result (C.map_ok c.add.result (λ (q : n.kept.items ≡ o.kept.items ++ c.args.kept ∷ []). subst (λ (ks : List Kept). (x : Kept) × (entry_of ks w i ≡ Some x)) (sym q) (C.kept_more o.kept.items c.args.kept w i old)) c.add.ensures.kept)

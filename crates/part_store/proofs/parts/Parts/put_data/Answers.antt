@@ -19,7 +19,7 @@ returns-clause-ok g c =
       early = c.requires.ok.early;
       printed = c.requires.ok.printed;
       queues = c.requires.ok.queues;
-      cells = c.requires.ok.cells;
+      lines = c.requires.ok.lines;
       counted = c.requires.ok.counted;
       bare = λ w i e. A.kept_still o c.requires.ok.order p _ l (ap (λ (k : Kept). k.wave) q) (ap (λ (k : Kept). k.instr) q) w i
           (c.requires.ok.bare w i (A.still_in (same_key c.args.kept.wave c.args.kept.instr w i) (is_in c.args.self.now.bare w i) _ (c.forget.ensures w i) e));

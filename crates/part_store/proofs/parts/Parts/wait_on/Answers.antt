@@ -1,6 +1,6 @@
 use Rattle.std.proofs.Common.{ℕ, ◌-◌, ◌≡◌, ◌∙◌, ap, length, slice_index_or, arith}
 use Rattle.ws_isa.specs.declared.instr.Op.{Op}
-use Rattle.ws_isa.specs.Image.{Image, instr_at, array_at, array_of_op}
+use Rattle.ws_isa.specs.Image.{Image, instr_at, note_of, array_at, array_of_op}
 use Rattle.df_core.specs.Places.{image_of}
 use Rattle.store_buf.specs.declared.kept.Kept.{Kept}
 use Rattle.store_buf.specs.Ordering.{near_at}
@@ -13,8 +13,8 @@ use Rattle.part_store.proofs.parts.Parts.wait_on.Goals as goal
 pub join-requires-clause-room : goal.join-requires-clause-room
 join-requires-clause-room g c = let s = C.some_wait (image_of c.args.program.now) c.args.self.now.order c.requires.ok.order c.args.at c.requires.may in omega (arith, s, c.requires.ok.queues)
 
-pub join-requires-clause-cells : goal.join-requires-clause-cells
-join-requires-clause-cells g c = let s = C.some_wait (image_of c.args.program.now) c.args.self.now.order c.requires.ok.order c.args.at c.requires.may in omega (arith, s, c.requires.ok.cells)
+pub join-requires-clause-lines : goal.join-requires-clause-lines
+join-requires-clause-lines g c = let s = C.some_wait (image_of c.args.program.now) c.args.self.now.order c.requires.ok.order c.args.at c.requires.may in omega (arith, s, c.requires.ok.lines)
 
 pub returns-clause-ok : goal.returns-clause-ok
 returns-clause-ok g c = let o = c.args.self.now.order in record {
@@ -22,7 +22,7 @@ returns-clause-ok g c = let o = c.args.self.now.order in record {
   early = c.issue.ensures.room;
   printed = omega (arith, c.issue.ensures.fewer, c.requires.ok.printed);
   queues = omega (arith, c.issue.ensures.fewer, c.requires.ok.queues, c.join.ensures.more, c.join.ensures.room);
-  cells = omega (arith, c.issue.ensures.fewer, c.requires.ok.cells, c.join.ensures.cells);
+  lines = omega (arith, c.issue.ensures.fewer, c.requires.ok.lines, c.join.ensures.lines);
   counted = c.join.ensures.ok;
   bare = λ w i e. U.still_kept (image_of c.args.program.now) o c.requires.ok.order (slice_index_or o.near.items c.args.at (length o.kept.items)) c.requires.may.place 0 c.issue.new.self.kept.items c.issue.ensures.kept w i (c.requires.ok.bare w i e);
 }
@@ -36,4 +36,5 @@ returns-clause-queued g c =
     let image = image_of c.args.program.now in
     let q : c.request-kept.result ≡ near_at c.args.self.now.order c.args.at = c.request-kept.ensures in
     let r : c.row_of.result ≡ array_at image (near_at c.args.self.now.order c.args.at).instr - 1 = row_so image c.op.result c.request-kept.result (near_at c.args.self.now.order c.args.at) c.row_of.result c.row_of.ensures c.op.ensures q in
-    c.join.ensures.entries ∙ ap (λ (e : Entry). joined image e c.args.self.now.queues.entries.items) (λ j. record { wave = (q j).wave; instr = (q j).instr; row = r j; index = (q j).first })
+    let n : c.note.result.seq ≡ (note_of image (near_at c.args.self.now.order c.args.at).instr).seq = ap (λ (x : _). x.seq) c.note.ensures ∙ ap (λ (x : Kept). (note_of image x.instr).seq) q in
+    c.join.ensures.entries ∙ ap (λ (e : Entry). joined e c.args.self.now.queues.entries.items) (λ j. record { wave = (q j).wave; instr = (q j).instr; seq = n j; row = r j; index = (q j).first })
