@@ -8,7 +8,7 @@ use Rattle.store_buf.specs.declared.fault.Silent.{Silent}
 use Rattle.store_buf.specs.declared.fault.Silent.TheVariants.{Failed, NoMemory}
 use Rattle.store_buf.specs.Ordering.{OrderOk, kept_at, ready_flag}
 use Rattle.store_buf.specs.Outdoors.{FaultsGrow}
-use Rattle.store_buf.proofs.Lists.{in_at}
+use Rattle.store_buf.proofs.Lists.{in_at, or_any}
 use Rattle.store_buf.proofs.Ordered.{ready_waits}
 use Rattle.part_store.specs.declared.parts.Parts.{Parts}
 use Rattle.part_store.specs.Contents.{Content}
@@ -71,6 +71,13 @@ module _ {P : Type 0} where
   pub silent_from : (image : Image) (a b c : Parts P) (why : Silent) → FaultsGrow a.outer.ports b.outer.ports → SilentSo image b c why → SilentSo image a c why
   silent_from image a b c (Failed p) grow s = (s.0, rose_from _ _ _ (grow p) s.1)
   silent_from image a b c (NoMemory p) grow s = s
+
+  -- one at hand that was looked at
+  pub stays_at : (image : Image) (s : Parts P) (at k p : ℕ) (b : Bool) → at ≡ k → k < length s.order.near.items → p ≡ slice_index_or s.order.near.items at p → (p < length s.order.kept.items → b ≡ go_flag image s (kept_at s.order p)) → b ≡ false →
+      slice_index_or s.order.near.items k (length s.order.kept.items) < length s.order.kept.items → go_flag image s (kept_at s.order (slice_index_or s.order.near.items k (length s.order.kept.items))) ≡ false
+  stays_at image s at k p b same l is goes held m =
+      let e : p ≡ slice_index_or s.order.near.items k (length s.order.kept.items) = is ∙ ap (λ (j : ℕ). slice_index_or s.order.near.items j p) same ∙ or_any s.order.near.items k p (length s.order.kept.items) l in
+      subst (λ (q : ℕ). go_flag image s (kept_at s.order q) ≡ false) e (sym (goes (subst (λ (q : ℕ). q < length s.order.kept.items) (sym e) m)) ∙ held)
 
   -- none at hand may go, so none may
   pub none_go : (image : Image) (s : Parts P) → OrderOk s.order → ((k : ℕ) → k < length s.order.near.items → slice_index_or s.order.near.items k (length s.order.kept.items) < length s.order.kept.items →

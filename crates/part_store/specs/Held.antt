@@ -5,7 +5,7 @@ use Rattle.std.specs.Option.{option_map}
 use Rattle.ws_isa.specs.Image.{In}
 use Rattle.store_buf.specs.Finding.{pair_eq}
 use Rattle.part_store.specs.declared.entry.Entry.{Entry}
-use Rattle.part_store.specs.declared.queues.Line.{Line}
+use Rattle.part_store.specs.declared.entry.Line.{Line}
 use Rattle.part_store.specs.declared.queues.Queues.{Queues}
 use Rattle.part_store.specs.Queues.{count_on, front, is_later, open_queues}
 

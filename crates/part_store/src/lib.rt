@@ -30,11 +30,15 @@ pub mod bare;
 pub mod ends;
 pub mod entry;
 pub mod finish;
+mod follow;
 pub mod laws;
+mod moves;
 pub mod part;
 pub mod parts;
 pub mod queues;
 pub mod quiet;
+mod room;
+mod rows;
 mod run;
 mod way;
 

@@ -1,27 +1,24 @@
-use Rattle.std.proofs.Common.{ℕ, ◌-◌, ◌≡◌, ◌<◌, ◌∙◌, false, length, slice_index_or, ap, sym, subst, inl, inr, arith}
+use Rattle.std.proofs.Common.{◌-◌, inl, inr, arith}
 use Rattle.std.proofs.lemmas.Bool.{cases_lt}
 use Rattle.df_core.specs.Places.{image_of}
-use Rattle.store_buf.specs.Ordering.{kept_at}
-use Rattle.store_buf.proofs.Lists.{or_any}
-use Rattle.part_store.specs.Parts.{go_flag}
 use Rattle.part_store.proofs.Leading as L
 use Rattle.part_store.proofs.parts.Parts.ready.Goals as goal
 
-pub returns : goal.returns
-returns g c = L.none_go (image_of c.args.program.now) c.args.self.now c.requires.ok.order (λ k l m. c.loop-at.invariant.behind k (omega (arith, c.loop-at-test.false)) l m)
+pub loop-front-preserved : goal.loop-front-preserved
+loop-front-preserved g c = let image = image_of c.args.program.now in let s = c.args.self.now in record {
+  within = omega (arith, c.loop-front.invariant.within);
+  before = λ k h l m. elim (cases_lt k c.loop-front.front) [
+    | inl a ↦ c.loop-front.invariant.before k a l m
+    | inr a ↦ L.stays_at image s c.loop-front.front k c.index-in-loop-front.result.now c.may_go-in-loop-front.result (omega (arith, h, a)) l c.index-in-loop-front.ensures c.may_go-in-loop-front.ensures.goes c.if-may_go-2.false m
+  ];
+  behind = λ k h l m. elim (cases_lt k c.loop-front.back) [
+    | inl a ↦ L.stays_at image s (c.loop-front.back - 1) k c.index.result.now c.may_go.result (omega (arith, h, a)) l c.index.ensures c.may_go.ensures.goes c.if-may_go.false m
+    | inr a ↦ c.loop-front.invariant.behind k a l m
+  ];
+}
 
-pub loop-at-preserved : goal.loop-at-preserved
-loop-at-preserved g c =
-    let s = c.args.self.now in
-    let near = s.order.near.items in
-    let kept = s.order.kept.items in
-    let image = image_of c.args.program.now in
-    record {
-      within = (let w = c.loop-at.invariant.within in omega (arith, w));
-      behind = λ k l m n. elim (cases_lt k c.loop-at.at) [
-        | inl h ↦ (let e : c.loop-at.at - 1 ≡ k = omega (arith, h, l, c.loop-at-test.true) in
-            let i : c.index.result.now ≡ slice_index_or near k (length kept) = c.index.ensures ∙ ap (λ (x : ℕ). slice_index_or near x c.index.result.now) e ∙ or_any near k c.index.result.now (length kept) m in
-            subst (λ (x : ℕ). go_flag image s (kept_at s.order x) ≡ false) i (sym (c.if-may_go.ensures.goes (subst (λ (x : ℕ). x < length kept) (sym i) n))))
-        | inr h ↦ c.loop-at.invariant.behind k h m n
-      ];
-    }
+pub returns : goal.returns
+returns g c = L.none_go (image_of c.args.program.now) c.args.self.now c.requires.ok.order (λ k l m. elim (cases_lt k c.loop-front.front) [
+  | inl h ↦ c.loop-front.invariant.before k h l m
+  | inr h ↦ c.loop-front.invariant.behind k (omega (arith, c.loop-front-test.false, h)) l m
+])

@@ -1,0 +1,228 @@
+//! What the chain and the rules let go.
+
+ghost use Rattle.std.specs.Prelude.{◌≡◌, ◌<◌, ◌*◌, ◌⊎◌, true, false, Some, None, length, slice_index_or};
+ghost use Rattle.std.specs.Prelude.{slice_set, IfErr, OnOk, OnErr, MatchOption};
+ghost use Rattle.smallvec.specs.SmallVec.{HasRoomFor};
+ghost use Rattle.ws_isa.specs.Formed.{Formed};
+ghost use Rattle.df_core.specs.Core.{has};
+ghost use Rattle.df_core.specs.Chains.{PassedOn, chain_of};
+ghost use Rattle.df_core.specs.Places.{ProgramIs, image_of};
+ghost use Rattle.df_core.specs.Rights.{tokens_of};
+ghost use Rattle.store_buf.specs.Ordering.{MayAt, kept_at, near_at};
+ghost use Rattle.store_buf.specs.Outdoors.{FaultsGrow};
+ghost use Rattle.part_store.specs.Queues.{joined};
+ghost use Rattle.part_store.specs.Contents.{holds_op};
+ghost use Rattle.part_store.specs.Rules.{entry_at};
+ghost use Rattle.part_store.specs.Parts.{GoesAt, MovesOn, LeadsTo, NoneGo, PartsOk, SettledSo, SilentSo};
+ghost use Rattle.part_store.specs.Parts.{StaysCalm, go_flag, left_over, rule_flag};
+
+use crate::entry::Entry;
+use crate::parts::Parts;
+use crate::queues::QUEUES;
+use crate::rows::{array_of, row_of};
+use df_core::program::Program;
+use port_set::Port;
+use store_buf::fault::{BufFault, Silent};
+use store_buf::kept::Kept;
+use store_buf::told::{Told, tell};
+use ws_isa::Op;
+use ws_words::NoMemory;
+
+impl<P: Port> Parts<P> {
+    // Does what the rules let, and keeps in mind how that ends.
+    pub(crate) fn settle(&mut self, program: &Program<'_>, told: &mut Told) -> Result<(), BufFault>
+        requires program { ProgramIs program.now }
+        requires formed { Formed (image_of program.now) }
+        requires ok { PartsOk self.old }
+        requires room { HasRoomFor told.old (8 * self.old.order.waiting) }
+        ensures ok { PartsOk self.new }
+        ensures lead { LeadsTo (image_of program.now) (record self.old { starved = false }) self.new
+            (tokens_of told.old.items) (tokens_of told.new.items) }
+        ensures settled { SettledSo (image_of program.now) self.old result self.new }
+        ensures room { told.new.capacity ≡ told.old.capacity }
+    {
+        self.starved = false;
+        match self.go_on(program, told) {
+            Ok(()) => match self.fault {
+                Some(array) => Err(BufFault::Index { array }),
+                None => Ok(()),
+            },
+            Err(Silent::Failed { port }) => {
+                self.failed = Some(port);
+                Err(BufFault::Port { port })
+            }
+            Err(Silent::NoMemory { .. }) => {
+                self.starved = true;
+                Err(BufFault::NoMemory)
+            }
+        }
+    }
+
+    /// Lets requests and addresses go until none may, or the chain is stopped, or a port doesn't
+    /// answer.
+    pub fn go_on(&mut self, program: &Program<'_>, told: &mut Told) -> Result<(), Silent>
+        requires program { ProgramIs program.now }
+        requires formed { Formed (image_of program.now) }
+        requires ok { PartsOk self.old }
+        requires room { HasRoomFor told.old (8 * self.old.order.waiting) }
+        ensures ok { PartsOk self.new }
+        ensures lead { LeadsTo (image_of program.now) self.old self.new
+            (tokens_of told.old.items) (tokens_of told.new.items) }
+        ensures none { OnOk result ((has self.new.fault ≡ true)
+            ⊎ NoneGo (image_of program.now) self.new) }
+        ensures silent { IfErr result (SilentSo (image_of program.now) self.old self.new) }
+        ensures going { OnErr result (self.new.fault ≡ None) }
+        ensures failed { self.new.failed ≡ self.old.failed }
+        ensures starved { self.new.starved ≡ self.old.starved }
+        ensures same_room { told.new.capacity ≡ told.old.capacity }
+    {
+        while self.fault.is_none() {
+            match self.ready(program) {
+                None => return Ok(()),
+                Some(at) => self.go(program, at, told)?,
+            }
+        }
+        Ok(())
+    }
+
+    // The place in the list at hand of a request or address that may go. It is looked for from both
+    // ends: mostly it stands at one of them.
+    fn ready(&self, program: &Program<'_>) -> Option<usize>
+        requires program { ProgramIs program.now }
+        requires ok { PartsOk self.now }
+        ensures { MatchOption result (NoneGo (image_of program.now) self.now)
+            (GoesAt (image_of program.now) self.now) }
+    {
+        let mut front = 0;
+        let mut back = self.order.near.len();
+        while front < back {
+            back -= 1;
+            if self.may_go(program, self.order.near[back]) {
+                return Some(back);
+            }
+            if self.may_go(program, self.order.near[front]) {
+                return Some(front);
+            }
+            front += 1;
+        }
+        None
+    }
+
+    // Whether the request or address at a place may go.
+    fn may_go(&self, program: &Program<'_>, place: usize) -> bool
+        requires program { ProgramIs program.now }
+        requires ok { PartsOk self.now }
+        ensures yes { result ≡ true → place < length self.now.order.kept.items }
+        ensures goes { place < length self.now.order.kept.items
+            → result ≡ go_flag (image_of program.now) self.now (kept_at self.now.order place) }
+    {
+        match self.order.kept.get(place) {
+            Some(kept) => {
+                self.order.may_issue(program, place) && self.may_by_rules(program, *kept)
+            }
+            None => false,
+        }
+    }
+
+    // Whether the rules let one go that the chain lets go: an address within its array where a queue
+    // holds its cell or one is free, and a request within its array or where no queue is open.
+    fn may_by_rules(&self, program: &Program<'_>, kept: Kept) -> bool
+        requires program { ProgramIs program.now }
+        requires ok { PartsOk self.now }
+        ensures { result ≡ rule_flag (image_of program.now) self.now kept }
+    {
+        let op = program.op(kept.instr);
+        if self.bare.has(kept.wave, kept.instr) {
+            !program.is_past(op, kept.first)
+                && (self.queues.held < QUEUES || self.holds(op, kept.first))
+        } else {
+            self.queues.entries.is_empty() || !program.is_past(op, kept.first)
+        }
+    }
+
+    // Whether a queue holds the cell of an operation with this index.
+    fn holds(&self, op: Op, index: u64) -> bool
+        requires { PartsOk self.now }
+        ensures { result ≡ holds_op self.now.queues.entries.items op index }
+    {
+        match op {
+            Op::Load(_) | Op::Store(_) => self.queues.holds(row_of(op), index),
+            _ => false,
+        }
+    }
+
+    /// Lets the request or address at a place of the list at hand go. At one past the end the chain
+    /// stops. Where a port doesn't answer, the request still waits.
+    pub fn go(&mut self, program: &Program<'_>, at: usize, told: &mut Told) -> Result<(), Silent>
+        requires program { ProgramIs program.now }
+        requires formed { Formed (image_of program.now) }
+        requires ok { PartsOk self.old }
+        requires goes { GoesAt (image_of program.now) self.old at }
+        requires going { self.old.fault ≡ None }
+        requires room { HasRoomFor told.old (8 * self.old.order.waiting) }
+        ensures ok { PartsOk self.new }
+        ensures leads { OnOk result (MovesOn (image_of program.now) self.old self.new
+            (tokens_of told.old.items) (tokens_of told.new.items)) }
+        ensures stays { OnErr result (StaysCalm (image_of program.now) self.old self.new) }
+        ensures fewer { OnOk result (left_over self.new < left_over self.old) }
+        ensures order { OnErr result (self.new.order ≡ self.old.order) }
+        ensures fault { OnErr result (self.new.fault ≡ self.old.fault) }
+        ensures untold { OnErr result (told.new.items ≡ told.old.items) }
+        ensures silent { IfErr result (SilentSo (image_of program.now) self.old self.new) }
+        ensures counted { FaultsGrow self.old.outer.ports self.new.outer.ports }
+        ensures failed { self.new.failed ≡ self.old.failed }
+        ensures starved { self.new.starved ≡ self.old.starved }
+        ensures room { HasRoomFor told.new (8 * self.new.order.waiting) }
+        ensures same_room { told.new.capacity ≡ told.old.capacity }
+    {
+        let kept = self.order.request(at);
+        let op = program.op(kept.instr);
+        if program.is_past(op, kept.first) {
+            self.fault = Some(array_of(op));
+            return Ok(());
+        }
+        if self.bare.has(kept.wave, kept.instr) || self.holds(op, kept.first) {
+            self.wait_on(program, at);
+            return Ok(());
+        }
+        let word = self.outer.run(op, kept.first, kept.second)?;
+        self.order.issue(program, at, word);
+        tell(told, kept.wave, program.destinations(kept.instr, 0), word);
+        Ok(())
+    }
+
+    // The request or address at a place of the list at hand joins the queue of its cell, and counts
+    // as issued.
+    fn wait_on(&mut self, program: &Program<'_>, at: usize)
+        requires program { ProgramIs program.now }
+        requires ok { PartsOk self.old }
+        requires may { MayAt (image_of program.now) self.old.order at }
+        ensures ok { PartsOk self.new }
+        ensures kept { self.new.order.kept.items ≡ slice_set self.old.order.kept.items
+            (slice_index_or self.old.order.near.items at (length self.old.order.kept.items))
+            (record (near_at self.old.order at) { answer = Some 0 }) }
+        ensures passed { PassedOn (image_of program.now) (chain_of self.old.order.chain)
+            (near_at self.old.order at).instr self.old.order.early.items
+            (chain_of self.new.order.chain) self.new.order.early.items }
+        ensures queued { self.new.queues.entries.items ≡ joined
+            (entry_at (image_of program.now) (near_at self.old.order at))
+            self.old.queues.entries.items }
+        ensures fewer { self.new.order.waiting < self.old.order.waiting }
+        ensures bare { self.new.bare ≡ self.old.bare }
+        ensures outer { self.new.outer ≡ self.old.outer }
+        ensures fault { self.new.fault ≡ self.old.fault }
+        ensures failed { self.new.failed ≡ self.old.failed }
+        ensures starved { self.new.starved ≡ self.old.starved }
+    {
+        let kept = self.order.request(at);
+        let entry = Entry {
+            wave: kept.wave,
+            instr: kept.instr,
+            seq: program.note(kept.instr).seq,
+            row: row_of(program.op(kept.instr)),
+            index: kept.first,
+        };
+        self.queues.join(entry);
+        self.order.issue(program, at, 0);
+    }
+}

@@ -1,0 +1,159 @@
+//! Requests and addresses that a buffer with partial store queues keeps, and room for what comes of them.
+
+ghost use Rattle.std.specs.Prelude.{◌≡◌, ◌<◌, ◌≤◌, ◌+◌, ◌*◌, ◌++◌, ◌∷◌, ℕ, [], true, cond, Some, None};
+ghost use Rattle.std.specs.Prelude.{length, IfSome, IfNone, OnOk, OnErr};
+ghost use Rattle.smallvec.specs.SmallVec.{HasRoomFor};
+ghost use Rattle.df_core.specs.Core.{same_key};
+ghost use Rattle.std.specs.HashSet.{spare};
+ghost use Rattle.store_buf.specs.Requests.{entry_of};
+ghost use Rattle.store_buf.specs.Ordering.{OrderOk};
+ghost use Rattle.store_buf.specs.declared.kept.Kept.{Kept};
+ghost use Rattle.part_store.specs.Bares.{is_in};
+ghost use Rattle.part_store.specs.Parts.{Keeps, PartsOk, Filled, kept_flag};
+
+use crate::parts::Parts;
+use port_set::Port;
+use store_buf::kept::Kept;
+use store_buf::told::Told;
+use ws_words::NoMemory;
+
+// For each request that waits there has to be room for eight tokens.
+const MOST_WAITING: usize = usize::MAX / 32;
+
+impl<P: Port> Parts<P> {
+    // Makes room for the tokens of all that waits or is queued, and of one more.
+    pub(crate) fn make_room(&self, told: &mut Told) -> Result<(), NoMemory>
+        ensures items { told.new.items ≡ told.old.items }
+        ensures room { OnOk result (HasRoomFor told.new
+            (8 * (self.now.order.waiting + length self.now.queues.entries.items + 1))) }
+        ensures grown { told.old.capacity ≤ told.new.capacity }
+    {
+        let waiting = self.order.waiting;
+        let queued = self.queues.entries.len();
+        if waiting >= MOST_WAITING || queued >= MOST_WAITING {
+            return Err(NoMemory);
+        }
+        told.reserve(8 * (waiting + queued + 1))?;
+        Ok(())
+    }
+
+    // Keeps a request of an instance that had none, and makes room for the word that it may print and
+    // the queue that it may join.
+    pub(crate) fn keep(&mut self, kept: Kept) -> Result<(), NoMemory>
+        requires ok { PartsOk self.old }
+        requires fresh { entry_of self.old.order.kept.items kept.wave kept.instr ≡ None }
+        requires waits { kept.answer ≡ None }
+        ensures ok { PartsOk self.new }
+        ensures keeps { OnOk result (Keeps self.old (self.old.order.kept.items ++ kept ∷ []) self.new) }
+        ensures unchanged { OnErr result (Keeps self.old self.old.order.kept.items self.new) }
+        ensures waiting { OnOk result (self.new.order.waiting ≡ self.old.order.waiting + 1) }
+        ensures bare { self.new.bare ≡ self.old.bare }
+    {
+        let waiting = self.order.waiting;
+        if waiting >= MOST_WAITING {
+            return Err(NoMemory);
+        }
+        self.outer.printed.reserve(waiting + 1)?;
+        self.queues.reserve(waiting + 1)?;
+        self.order.add(kept)
+    }
+
+    // Keeps an address of an instance that had none.
+    pub(crate) fn keep_bare(&mut self, kept: Kept) -> Result<(), NoMemory>
+        requires ok { PartsOk self.old }
+        requires fresh { entry_of self.old.order.kept.items kept.wave kept.instr ≡ None }
+        requires waits { kept.answer ≡ None }
+        ensures ok { PartsOk self.new }
+        ensures keeps { OnOk result (Keeps self.old (self.old.order.kept.items ++ kept ∷ []) self.new) }
+        ensures unchanged { OnErr result (Keeps self.old self.old.order.kept.items self.new) }
+        ensures waiting { OnOk result (self.new.order.waiting ≡ self.old.order.waiting + 1) }
+        ensures bare { OnOk result ((w i : ℕ) → is_in self.new.bare w i
+            ≡ cond (same_key kept.wave kept.instr w i) true (is_in self.old.bare w i)) }
+        ensures still { OnErr result ((w i : ℕ) → is_in self.new.bare w i
+            ≡ is_in self.old.bare w i) }
+    {
+        self.reserve_bare()?;
+        self.keep(kept)?;
+        self.add_bare(kept);
+        Ok(())
+    }
+
+    // Makes room for one more address.
+    fn reserve_bare(&mut self) -> Result<(), NoMemory>
+        requires ok { PartsOk self.old }
+        ensures ok { PartsOk self.new }
+        ensures keeps { Keeps self.old self.old.order.kept.items self.new }
+        ensures waiting { self.new.order.waiting ≡ self.old.order.waiting }
+        ensures room { OnOk result (1 ≤ spare self.new.bare.set) }
+        ensures bare { (w i : ℕ) → is_in self.new.bare w i ≡ is_in self.old.bare w i }
+    {
+        self.bare.reserve()
+    }
+
+    // A request that was kept is an address alone.
+    fn add_bare(&mut self, kept: Kept)
+        requires ok { PartsOk self.old }
+        requires kept { (k : Kept) × (entry_of self.old.order.kept.items kept.wave kept.instr ≡ Some k) }
+        requires room { 1 ≤ spare self.old.bare.set }
+        ensures ok { PartsOk self.new }
+        ensures keeps { Keeps self.old self.old.order.kept.items self.new }
+        ensures waiting { self.new.order.waiting ≡ self.old.order.waiting }
+        ensures bare { (w i : ℕ) → is_in self.new.bare w i
+            ≡ cond (same_key kept.wave kept.instr w i) true (is_in self.old.bare w i) }
+    {
+        self.bare.add(kept.wave, kept.instr);
+    }
+
+    // The data of a store has come, whose address came before.
+    pub(crate) fn put_data(&mut self, kept: Kept)
+        requires ok { PartsOk self.old }
+        requires bare { is_in self.old.bare kept.wave kept.instr ≡ true }
+        ensures ok { PartsOk self.new }
+        ensures filled { Filled self.old kept self.new }
+    {
+        let Some(place) = self.kept_place(kept.wave, kept.instr) else {
+            return;
+        };
+        self.bare.forget(kept.wave, kept.instr);
+        let old = self.order.kept[place];
+        self.order.kept[place] = Kept {
+            wave: old.wave,
+            instr: old.instr,
+            first: kept.first,
+            second: kept.second,
+            answer: old.answer,
+        };
+    }
+
+    // The place of the request or address of an instance.
+    fn kept_place(&self, wave: u64, instr: u32) -> Option<usize>
+        requires { OrderOk self.now.order }
+        ensures within { IfSome result (λ p. p < length self.now.order.kept.items) }
+        ensures is { IfSome result (λ p. kept_flag self.now.order p wave instr ≡ true) }
+        ensures none { IfNone result ((k : Kept) →
+            entry_of self.now.order.kept.items wave instr ≡ Some k → ⊥) }
+    {
+        match self.order.index.find(wave, instr) {
+            Some(place) => {
+                if self.is_kept_at(place, wave, instr) {
+                    Some(place)
+                } else {
+                    None
+                }
+            }
+            None => None,
+        }
+    }
+
+    // Whether the request at a place is that of the instance.
+    fn is_kept_at(&self, place: usize, wave: u64, instr: u32) -> bool
+        ensures yes { result ≡ true → place < length self.now.order.kept.items }
+        ensures flag { place < length self.now.order.kept.items →
+            result ≡ kept_flag self.now.order place wave instr }
+    {
+        match self.order.kept.get(place) {
+            Some(kept) => kept.wave == wave && kept.instr == instr,
+            None => false,
+        }
+    }
+}
