@@ -11,8 +11,8 @@ use crate::entry::Page;
 pub(crate) fn number_of(wave: u64, instr: u32) -> u64
     ensures { result ≡ page_number wave instr }
 {
-    wave.wrapping_mul(1 << 24)
-        .wrapping_add(u64::from(instr / 256))
+    wave.wrapping_mul(1 << 27)
+        .wrapping_add(u64::from(instr / 32))
 }
 
 // How far from a place that is guessed a number is looked for first.
