@@ -1,5 +1,7 @@
 -- A request that counts as issued has another answer, and an order's facts stay.
-use Rattle.std.proofs.Common.{ℕ, zero, suc, ◌≡◌, ◌<◌, ◌==◌, ◌&&◌, Bool, true, false, cond, List, [], ◌∷◌, length, Option, Some, None, slice_index_or, slice_set, refl, sym, ap, ◌∙◌, subst, inl, inr, arith, eqb-true, eq-eqb}
+use Rattle.std.proofs.Common.{ℕ, zero, suc, ◌≡◌, ◌<◌, ◌==◌, ◌&&◌, Bool, true, false, cond, List, [], ◌∷◌}
+use Rattle.std.proofs.Common.{length, Option, Some, None, slice_index_or, slice_set, refl, sym, ap, ◌∙◌}
+use Rattle.std.proofs.Common.{subst, inl, inr, arith, eqb-true, eq-eqb}
 use Rattle.std.specs.Prelude.{is_some}
 use Rattle.std.proofs.lemmas.Bool.{both_ways, cases_eq, and_parts}
 use Rattle.ws_isa.specs.Image.{In}
@@ -24,18 +26,27 @@ one_same : (o : Option ℕ) (a b n : ℕ) → o ≡ Some a → one_if o n ≡ n
 one_same o a b n e = ap (λ (x : Option ℕ). one_if x n) e
 
 -- as many wait
-unissued_same : (ks : List Kept) (p a b : ℕ) (k d : Kept) → p < length ks → (slice_index_or ks p d).answer ≡ Some a → k.answer ≡ Some b → unissued (slice_set ks p k) ≡ unissued ks
+unissued_same : (ks : List Kept) (p a b : ℕ) (k d : Kept) → p < length ks →
+    (slice_index_or ks p d).answer ≡ Some a → k.answer ≡ Some b → unissued (slice_set ks p k) ≡ unissued ks
 unissued_same [] p a b k d l e f = absurd (omega (arith, l))
-unissued_same (x ∷ ks) zero a b k d l e f = ap (λ (o : Option ℕ). one_if o (unissued ks)) f ∙ sym (ap (λ (o : Option ℕ). one_if o (unissued ks)) e)
-unissued_same (x ∷ ks) (suc p) a b k d l e f = ap (one_if x.answer) (unissued_same ks p a b k d (omega (arith, l)) e f)
+unissued_same (x ∷ ks) zero a b k d l e f = ap (λ (o : Option ℕ). one_if o (unissued ks)) f
+    ∙ sym (ap (λ (o : Option ℕ). one_if o (unissued ks)) e)
+unissued_same (x ∷ ks) (suc p) a b k d l e f =
+    ap (one_if x.answer) (unissued_same ks p a b k d (omega (arith, l)) e f)
 
-unissued_like : (ks : List Kept) (p : ℕ) (k d : Kept) → p < length ks → (slice_index_or ks p d).answer ≡ k.answer → unissued (slice_set ks p k) ≡ unissued ks
+unissued_like : (ks : List Kept) (p : ℕ) (k d : Kept) → p < length ks →
+    (slice_index_or ks p d).answer ≡ k.answer → unissued (slice_set ks p k) ≡ unissued ks
 unissued_like [] p k d l e = absurd (omega (arith, l))
 unissued_like (x ∷ ks) zero k d l e = sym (ap (λ (o : Option ℕ). one_if o (unissued ks)) e)
 unissued_like (x ∷ ks) (suc p) k d l e = ap (one_if x.answer) (unissued_like ks p k d (omega (arith, l)) e)
 
-module _ (o n : Order) (ok : OrderOk o) (p : ℕ) (k : Kept) (l : p < length o.kept.items) (alike : k.answer ≡ None → (kept_at o p).answer ≡ None) (as_many : unissued (slice_set o.kept.items p k) ≡ unissued o.kept.items) (wave_is : k.wave ≡ (kept_at o p).wave) (instr_is : k.instr ≡ (kept_at o p).instr)
-    (kept : n.kept.items ≡ slice_set o.kept.items p k) (waiting : n.waiting ≡ o.waiting) (index : n.index ≡ o.index) (chain : n.chain ≡ o.chain) (near : n.near.items ≡ o.near.items) (later : n.later ≡ o.later) where
+module _ (o n : Order) (ok : OrderOk o) (p : ℕ) (k : Kept) (l : p < length o.kept.items)
+    (alike : k.answer ≡ None → (kept_at o p).answer ≡ None)
+    (as_many : unissued (slice_set o.kept.items p k) ≡ unissued o.kept.items)
+    (wave_is : k.wave ≡ (kept_at o p).wave) (instr_is : k.instr ≡ (kept_at o p).instr)
+    (kept : n.kept.items ≡ slice_set o.kept.items p k) (waiting : n.waiting ≡ o.waiting)
+    (index : n.index ≡ o.index) (chain : n.chain ≡ o.chain) (near : n.near.items ≡ o.near.items)
+    (later : n.later ≡ o.later) where
   size : length n.kept.items ≡ length o.kept.items
   size = ap length kept ∙ set_length o.kept.items p k
 
@@ -46,23 +57,28 @@ module _ (o n : Order) (ok : OrderOk o) (p : ℕ) (k : Kept) (l : p < length o.k
   at_p = ap (λ (ks : List Kept). slice_index_or ks p no_request) kept ∙ set_here o.kept.items p k no_request l
 
   at_q : (q : ℕ) → (p ≡ q → ⊥) → kept_at n q ≡ kept_at o q
-  at_q q m = ap (λ (ks : List Kept). slice_index_or ks q no_request) kept ∙ set_other o.kept.items p q k no_request m
+  at_q q m = ap (λ (ks : List Kept). slice_index_or ks q no_request) kept
+      ∙ set_other o.kept.items p q k no_request m
 
   wave_same : (q : ℕ) → (kept_at n q).wave ≡ (kept_at o q).wave
   wave_same q = elim (cases_eq p q) [
-    | inl e ↦ subst (λ (z : ℕ). (kept_at n z).wave ≡ (kept_at o z).wave) e (ap (λ (x : Kept). x.wave) at_p ∙ wave_is)
+    | inl e ↦ subst (λ (z : ℕ). (kept_at n z).wave ≡ (kept_at o z).wave) e
+        (ap (λ (x : Kept). x.wave) at_p ∙ wave_is)
     | inr m ↦ ap (λ (x : Kept). x.wave) (at_q q m)
   ]
 
   instr_same : (q : ℕ) → (kept_at n q).instr ≡ (kept_at o q).instr
   instr_same q = elim (cases_eq p q) [
-    | inl e ↦ subst (λ (z : ℕ). (kept_at n z).instr ≡ (kept_at o z).instr) e (ap (λ (x : Kept). x.instr) at_p ∙ instr_is)
+    | inl e ↦ subst (λ (z : ℕ). (kept_at n z).instr ≡ (kept_at o z).instr) e
+        (ap (λ (x : Kept). x.instr) at_p ∙ instr_is)
     | inr m ↦ ap (λ (x : Kept). x.instr) (at_q q m)
   ]
 
   still_waits : (q : ℕ) → (kept_at n q).answer ≡ None → (kept_at o q).answer ≡ None
   still_waits q e = elim (cases_eq p q) [
-    | inl h ↦ subst (λ (z : ℕ). (kept_at o z).answer ≡ None) h (alike (ap (λ (x : Kept). x.answer) (sym at_p) ∙ subst (λ (z : ℕ). (kept_at n z).answer ≡ None) (sym h) e))
+    | inl h ↦ subst (λ (z : ℕ). (kept_at o z).answer ≡ None) h
+        (alike (ap (λ (x : Kept). x.answer) (sym at_p)
+        ∙ subst (λ (z : ℕ). (kept_at n z).answer ≡ None) (sym h) e))
     | inr m ↦ ap (λ (x : Kept). x.answer) (sym (at_q q m)) ∙ e
   ]
 
@@ -72,20 +88,32 @@ module _ (o n : Order) (ok : OrderOk o) (p : ℕ) (k : Kept) (l : p < length o.k
   pub changed : OrderOk n
   changed = record {
     index = λ q m. subst (λ (x : _). place_in x (kept_at n q).wave (kept_at n q).instr ≡ Some q) (sym index)
-        (subst (λ (z : ℕ). place_in o.index (kept_at n q).wave z ≡ Some q) (sym (instr_same q)) (subst (λ (z : ℕ). place_in o.index z (kept_at o q).instr ≡ Some q) (sym (wave_same q)) (ok.index q (within q m))));
+        (subst (λ (z : ℕ). place_in o.index (kept_at n q).wave z ≡ Some q) (sym (instr_same q))
+        (subst (λ (z : ℕ). place_in o.index z (kept_at o q).instr ≡ Some q) (sym (wave_same q))
+        (ok.index q (within q m))));
     count = waiting ∙ ok.count ∙ sym (ap unissued kept ∙ as_many);
-    near = λ q m w e. subst (In q) (sym near) (ok.near q (within q m) (sym (wave_same q) ∙ w ∙ wave_chain) (still_waits q e));
-    far = λ q m lt. subst (λ (x : _). In q (places_in x (kept_at n q).wave)) (sym later) (subst (λ (z : ℕ). In q (places_in o.later z)) (sym (wave_same q)) (ok.far q (within q m) (omega (arith, lt, wave_chain, wave_same q))));
+    near = λ q m w e. subst (In q) (sym near)
+        (ok.near q (within q m) (sym (wave_same q) ∙ w ∙ wave_chain) (still_waits q e));
+    far = λ q m lt. subst (λ (x : _). In q (places_in x (kept_at n q).wave)) (sym later)
+        (subst (λ (z : ℕ). In q (places_in o.later z)) (sym (wave_same q))
+        (ok.far q (within q m) (omega (arith, lt, wave_chain, wave_same q))));
     waves = (let w = ok.waves in omega (arith, w, waiting, wave_chain, size));
   }
 
-module _ (o n : Order) (ok : OrderOk o) (p : ℕ) (k : Kept) (l : p < length o.kept.items) (wave_is : k.wave ≡ (kept_at o p).wave) (instr_is : k.instr ≡ (kept_at o p).instr)
-    (kept : n.kept.items ≡ slice_set o.kept.items p k) (waiting : n.waiting ≡ o.waiting) (index : n.index ≡ o.index) (chain : n.chain ≡ o.chain) (near : n.near.items ≡ o.near.items) (later : n.later ≡ o.later) where
+module _ (o n : Order) (ok : OrderOk o) (p : ℕ) (k : Kept) (l : p < length o.kept.items)
+    (wave_is : k.wave ≡ (kept_at o p).wave) (instr_is : k.instr ≡ (kept_at o p).instr)
+    (kept : n.kept.items ≡ slice_set o.kept.items p k) (waiting : n.waiting ≡ o.waiting)
+    (index : n.index ≡ o.index) (chain : n.chain ≡ o.chain) (near : n.near.items ≡ o.near.items)
+    (later : n.later ≡ o.later) where
   pub answered : (a b : ℕ) → (kept_at o p).answer ≡ Some a → k.answer ≡ Some b → OrderOk n
-  answered a b had has = changed o n ok p k l (λ e. absurd (let f : Some b ≡ None = sym has ∙ e in cc)) (unissued_same o.kept.items p a b k no_request l had has) wave_is instr_is kept waiting index chain near later
+  answered a b had has = changed o n ok p k l (λ e. absurd (let f : Some b ≡ None = sym has ∙ e in cc))
+      (unissued_same o.kept.items p a b k no_request l had has) wave_is instr_is kept waiting index chain near
+      later
 
   pub refilled : k.answer ≡ (kept_at o p).answer → OrderOk n
-  refilled e = changed o n ok p k l (λ f. sym e ∙ f) (unissued_like o.kept.items p k no_request l (sym e)) wave_is instr_is kept waiting index chain near later
+  refilled e = changed o n ok p k l (λ f. sym e ∙ f)
+      (unissued_like o.kept.items p k no_request l (sym e)) wave_is instr_is kept waiting index chain near
+      later
 
 -- a request that is kept stands where its place is kept
 pub record Standing (o : Order) (w i : ℕ) (k : Kept) : Type 0 where
@@ -96,10 +124,12 @@ pub record Standing (o : Order) (w i : ℕ) (k : Kept) : Type 0 where
   pub wave : k.wave ≡ w
   pub instr : k.instr ≡ i
 
-pub stands_at : (o : Order) → OrderOk o → (w i : ℕ) (k : Kept) → entry_of o.kept.items w i ≡ Some k → Standing o w i k
+pub stands_at : (o : Order) → OrderOk o → (w i : ℕ) (k : Kept) → entry_of o.kept.items w i ≡ Some k →
+    Standing o w i k
 stands_at o ok w i k e = elim (F.entry_case o.kept.items w i) [
   | inl n ↦ absurd (let g : None ≡ Some k = sym n ∙ e in cc)
-  | inr s ↦ (let g : Some (slice_index_or o.kept.items s.place no_request) ≡ Some k = sym s.is ∙ e in let q : slice_index_or o.kept.items s.place no_request ≡ k = cc in
+  | inr s ↦ (let g : Some (slice_index_or o.kept.items s.place no_request) ≡ Some k = sym s.is ∙ e in
+      let q : slice_index_or o.kept.items s.place no_request ≡ k = cc in
       record {
         place = s.place;
         found = F.place_of o.kept.items (place_in o.index) ok.index w i s;
@@ -110,8 +140,11 @@ stands_at o ok w i k e = elim (F.entry_case o.kept.items w i) [
       })
 ]
 
-pub flag_is : (o : Order) (p w i a : ℕ) (k : Kept) → kept_at o p ≡ k → k.wave ≡ w → k.instr ≡ i → k.answer ≡ Some a → issued_flag o p w i ≡ true
-flag_is o p w i a k is ew ei ea = subst (λ (x : Kept). ((x.wave == w) && ((x.instr == i) && is_some x.answer)) ≡ true) (sym is) (rw (eq-eqb k.wave w ew, eq-eqb k.instr i ei, ea) refl)
+pub flag_is : (o : Order) (p w i a : ℕ) (k : Kept) → kept_at o p ≡ k → k.wave ≡ w → k.instr ≡ i →
+    k.answer ≡ Some a → issued_flag o p w i ≡ true
+flag_is o p w i a k is ew ei ea = subst (λ (x : Kept).
+    ((x.wave == w) && ((x.instr == i) && is_some x.answer)) ≡ true) (sym is)
+    (rw (eq-eqb k.wave w ew, eq-eqb k.instr i ei, ea) refl)
 
 pub record Flagged (o : Order) (p w i : ℕ) : Type 0 where
   pub wave : (kept_at o p).wave ≡ w
@@ -120,18 +153,27 @@ pub record Flagged (o : Order) (p w i : ℕ) : Type 0 where
 
 pub flagged : (o : Order) (p w i : ℕ) → issued_flag o p w i ≡ true → Flagged o p w i
 flagged o p w i e =
-    let a = and_parts ((kept_at o p).wave == w) (((kept_at o p).instr == i) && is_some (kept_at o p).answer) e in
+    let a = and_parts ((kept_at o p).wave == w)
+    (((kept_at o p).instr == i) && is_some (kept_at o p).answer) e in
     let b = and_parts ((kept_at o p).instr == i) (is_some (kept_at o p).answer) a.1 in
-    record { wave = eqb-true (kept_at o p).wave w a.0; instr = eqb-true (kept_at o p).instr i b.0; some = b.1 }
+    record {
+      wave = eqb-true (kept_at o p).wave w a.0;
+      instr = eqb-true (kept_at o p).instr i b.0;
+      some = b.1;
+    }
 
 pub answer_of : (o : Option ℕ) → is_some o ≡ true → (a : ℕ) × (o ≡ Some a)
 answer_of o e = some_of o e
 
-pub kept_flag_is : (o : Order) (p w i : ℕ) (k : Kept) → kept_at o p ≡ k → k.wave ≡ w → k.instr ≡ i → kept_flag o p w i ≡ true
-kept_flag_is o p w i k is ew ei = subst (λ (x : Kept). ((x.wave == w) && (x.instr == i)) ≡ true) (sym is) (rw (eq-eqb k.wave w ew, eq-eqb k.instr i ei) refl)
+pub kept_flag_is : (o : Order) (p w i : ℕ) (k : Kept) → kept_at o p ≡ k → k.wave ≡ w → k.instr ≡ i →
+    kept_flag o p w i ≡ true
+kept_flag_is o p w i k is ew ei = subst (λ (x : Kept). ((x.wave == w) && (x.instr == i)) ≡ true) (sym is)
+    (rw (eq-eqb k.wave w ew, eq-eqb k.instr i ei) refl)
 
-pub key_flagged : (o : Order) (p w i : ℕ) → kept_flag o p w i ≡ true → ((kept_at o p).wave ≡ w) × ((kept_at o p).instr ≡ i)
-key_flagged o p w i e = let a = and_parts ((kept_at o p).wave == w) ((kept_at o p).instr == i) e in (eqb-true (kept_at o p).wave w a.0, eqb-true (kept_at o p).instr i a.1)
+pub key_flagged : (o : Order) (p w i : ℕ) → kept_flag o p w i ≡ true →
+    ((kept_at o p).wave ≡ w) × ((kept_at o p).instr ≡ i)
+key_flagged o p w i e = let a = and_parts ((kept_at o p).wave == w) ((kept_at o p).instr == i) e in
+    (eqb-true (kept_at o p).wave w a.0, eqb-true (kept_at o p).instr i a.1)
 
 if_true : (b x : Bool) → cond b false x ≡ true → x ≡ true
 if_true true x e = absurd (both_ways false refl e)
@@ -141,14 +183,23 @@ pub still_in : (b x y : Bool) → y ≡ cond b false x → y ≡ true → x ≡ 
 still_in b x y e f = if_true b x (sym e ∙ f)
 
 -- a request at a place that is changed is found changed
-pub replaced : (o : Order) → OrderOk o → (p : ℕ) (k : Kept) → p < length o.kept.items → k.wave ≡ (kept_at o p).wave → k.instr ≡ (kept_at o p).instr → (w i : ℕ) → entry_of (slice_set o.kept.items p k) w i ≡ with_key k.wave k.instr (Some k) (entry_of o.kept.items) w i
-replaced o ok p k l ew ei w i = entry_set o.kept.items p k l (once_of o.kept.items (place_in o.index) ok.index) ew ei w i
+pub replaced : (o : Order) → OrderOk o → (p : ℕ) (k : Kept) → p < length o.kept.items →
+    k.wave ≡ (kept_at o p).wave → k.instr ≡ (kept_at o p).instr → (w i : ℕ) →
+    entry_of (slice_set o.kept.items p k) w i ≡ with_key k.wave k.instr (Some k) (entry_of o.kept.items) w i
+replaced o ok p k l ew ei w i = entry_set o.kept.items p k l
+    (once_of o.kept.items (place_in o.index) ok.index) ew ei w i
 
-pub kept_still : (o : Order) → OrderOk o → (p : ℕ) (k : Kept) → p < length o.kept.items → k.wave ≡ (kept_at o p).wave → k.instr ≡ (kept_at o p).instr → (w i : ℕ) → ((x : Kept) × (entry_of o.kept.items w i ≡ Some x)) → (x : Kept) × (entry_of (slice_set o.kept.items p k) w i ≡ Some x)
-kept_still o ok p k l ew ei w i e = elim (with_key_cases k.wave k.instr (Some k) (entry_of o.kept.items) w i) [
-  | inl h ↦ (k, replaced o ok p k l ew ei w i ∙ h.1)
-  | inr h ↦ (e.0, replaced o ok p k l ew ei w i ∙ h.1 ∙ e.1)
-]
+pub kept_still : (o : Order) → OrderOk o → (p : ℕ) (k : Kept) → p < length o.kept.items →
+    k.wave ≡ (kept_at o p).wave → k.instr ≡ (kept_at o p).instr → (w i : ℕ) →
+    ((x : Kept) × (entry_of o.kept.items w i ≡ Some x)) →
+    (x : Kept) × (entry_of (slice_set o.kept.items p k) w i ≡ Some x)
+kept_still o ok p k l ew ei w i e =
+    elim (with_key_cases k.wave k.instr (Some k) (entry_of o.kept.items) w i) [
+      | inl h ↦ (k, replaced o ok p k l ew ei w i ∙ h.1)
+      | inr h ↦ (e.0, replaced o ok p k l ew ei w i ∙ h.1 ∙ e.1)
+    ]
 
-pub found_at : (o : Order) → OrderOk o → (p : ℕ) → p < length o.kept.items → entry_of o.kept.items (kept_at o p).wave (kept_at o p).instr ≡ Some (kept_at o p)
-found_at o ok p l = sym (F.here o.kept.items (place_in o.index) ok.index (kept_at o p).wave (kept_at o p).instr p (ok.index p l) l refl refl)
+pub found_at : (o : Order) → OrderOk o → (p : ℕ) → p < length o.kept.items →
+    entry_of o.kept.items (kept_at o p).wave (kept_at o p).instr ≡ Some (kept_at o p)
+found_at o ok p l = sym (F.here o.kept.items (place_in o.index) ok.index (kept_at o p).wave
+    (kept_at o p).instr p (ok.index p l) l refl refl)

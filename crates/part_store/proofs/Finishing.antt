@@ -1,5 +1,6 @@
 -- The first entry of a queue is done: the moves, and what is true afterwards.
-use Rattle.std.proofs.Common.{ℕ, ◌≡◌, ◌<◌, true, cond, List, length, drop, Option, Some, None, slice_set, refl, sym, ap, ◌∙◌, subst, inl, inr}
+use Rattle.std.proofs.Common.{ℕ, ◌≡◌, ◌<◌, true, cond, List, length, drop, Option, Some, None, slice_set}
+use Rattle.std.proofs.Common.{refl, sym, ap, ◌∙◌, subst, inl, inr}
 use Rattle.std.proofs.lemmas.List.{append-nil}
 use Rattle.ws_words.specs.Outside.{World, row, with_row}
 use Rattle.ws_isa.specs.Image.{Image, Token, In, instr_at, is_memory, sends, tokens_to}
@@ -39,24 +40,40 @@ pub record Counts (c : Content) (e : Entry) : Type 0 where
   pub answer : ℕ
   pub answered : request.answer ≡ Some answer
 
-entry_with : (o : Option Kept) (a : ℕ) → answer_if o ≡ Some a → (x : Kept) × (o ≡ Some x) × (x.answer ≡ Some a)
+entry_with : (o : Option Kept) (a : ℕ) → answer_if o ≡ Some a →
+    (x : Kept) × (o ≡ Some x) × (x.answer ≡ Some a)
 entry_with None a e = absurd (let g : None ≡ Some a = e in cc)
 entry_with (Some x) a e = (x, refl, e)
 
-pub counts : (image : Image) (world : World) (began : List (Option Began)) (c : Content) → Parting image world began c → (e : Entry) → In e c.queued → Counts c e
+pub counts : (image : Image) (world : World) (began : List (Option Began)) (c : Content) →
+    Parting image world began c → (e : Entry) → In e c.queued → Counts c e
 counts image world began c s e h =
     let q = (s.partly.sits e h).1 in
-    let r = O.some_more (issued_in c.kept e.wave e.instr) (s.counts e.wave e.instr) q.0 (sym (s.partly.same e.wave e.instr)) q.1 in
+    let r = O.some_more (issued_in c.kept e.wave e.instr) (s.counts e.wave e.instr) q.0
+    (sym (s.partly.same e.wave e.instr)) q.1 in
     let x = entry_with (entry_of c.kept e.wave e.instr) r.0 r.1 in
     record { request = x.0; is_kept = x.1; answer = r.0; answered = x.2 }
 
-module _ {P : Type 0} (image : Image) (world : World) (formed : Formed image) (sound : Sound image) (began : List (Option Began)) (s n : Parts P) (e : Entry) (p : ℕ) (ok : OrderOk s.order) (st : Stands image world began s) (going : s.fault ≡ None) (fol : FrontGoes (content_of s) e)
+module _ {P : Type 0} (image : Image) (world : World) (formed : Formed image) (sound : Sound image)
+    (began : List (Option Began)) (s n : Parts P) (e : Entry) (p : ℕ) (ok : OrderOk s.order)
+    (st : Stands image world began s) (going : s.fault ≡ None) (fol : FrontGoes (content_of s) e)
     (l : p < length s.order.kept.items) (flag : issued_flag s.order p e.wave e.instr ≡ true) (word : ℕ)
-    (kept : n.order.kept.items ≡ slice_set s.order.kept.items p (record { wave = (kept_at s.order p).wave; instr = (kept_at s.order p).instr; first = (kept_at s.order p).first; second = (kept_at s.order p).second; answer = Some word }))
+    (kept : n.order.kept.items ≡ slice_set s.order.kept.items p
+    (record {
+      wave = (kept_at s.order p).wave;
+      instr = (kept_at s.order p).instr;
+      first = (kept_at s.order p).first;
+      second = (kept_at s.order p).second;
+      answer = Some word;
+    }))
     (word_is : word ≡ cond (is_store_op (instr_at image e.instr).op) 0 (cell s.outer.cells e.row e.index))
-    (cells : n.outer.cells ≡ cond (is_store_op (instr_at image e.instr).op) (with_row s.outer.cells e.row (slice_set (row s.outer.cells e.row) e.index (kept_at s.order p).second)) s.outer.cells)
-    (input : n.outer.input ≡ s.outer.input) (read : n.outer.read ≡ s.outer.read) (printed : n.outer.printed ≡ s.outer.printed) (ports : n.outer.ports ≡ s.outer.ports)
-    (queued : n.queues.entries.items ≡ without s.queues.entries.items e.wave e.instr) (same : Beside s n) where
+    (cells : n.outer.cells ≡ cond (is_store_op (instr_at image e.instr).op)
+    (with_row s.outer.cells e.row (slice_set (row s.outer.cells e.row) e.index
+    (kept_at s.order p).second)) s.outer.cells)
+    (input : n.outer.input ≡ s.outer.input) (read : n.outer.read ≡ s.outer.read)
+    (printed : n.outer.printed ≡ s.outer.printed) (ports : n.outer.ports ≡ s.outer.ports)
+    (queued : n.queues.entries.items ≡ without s.queues.entries.items e.wave e.instr)
+    (same : Beside s n) where
   abbrev k : Kept
   k = kept_at s.order p
 
@@ -64,22 +81,49 @@ module _ {P : Type 0} (image : Image) (world : World) (formed : Formed image) (s
   at = A.flagged s.order p e.wave e.instr flag
 
   found : entry_of s.order.kept.items e.wave e.instr ≡ Some (kept_at s.order p)
-  found = subst (λ (i : ℕ). entry_of s.order.kept.items e.wave i ≡ Some (kept_at s.order p)) at.instr (subst (λ (w : ℕ). entry_of s.order.kept.items w (kept_at s.order p).instr ≡ Some (kept_at s.order p)) at.wave (U.found image s.order ok p l))
+  found = subst (λ (i : ℕ). entry_of s.order.kept.items e.wave i ≡ Some (kept_at s.order p)) at.instr
+      (subst (λ (w : ℕ). entry_of s.order.kept.items w (kept_at s.order p).instr ≡ Some (kept_at s.order p))
+      at.wave (U.found image s.order ok p l))
 
   word_so : word ≡ word_of image (content_of s) e
   word_so = word_is
 
   abbrev Entries : ℕ → ℕ → ℕ → Type 0
-  Entries a b v = (w i : ℕ) → entry_of n.order.kept.items w i ≡ with_key a b (Some (record { wave = a; instr = b; first = (kept_at s.order p).first; second = (kept_at s.order p).second; answer = Some v })) (entry_of s.order.kept.items) w i
+  Entries a b v = (w i : ℕ) → entry_of n.order.kept.items w i ≡ with_key a b
+      (Some (record {
+        wave = a;
+        instr = b;
+        first = (kept_at s.order p).first;
+        second = (kept_at s.order p).second;
+        answer = Some v;
+      })) (entry_of s.order.kept.items) w i
 
-  entries : (w i : ℕ) → entry_of n.order.kept.items w i ≡ with_key e.wave e.instr (Some (record { wave = e.wave; instr = e.instr; first = (kept_at s.order p).first; second = (kept_at s.order p).second; answer = Some (word_of image (content_of s) e) })) (entry_of s.order.kept.items) w i
-  entries = subst (λ (x : ℕ × ℕ × ℕ). (w i : ℕ) → entry_of n.order.kept.items w i ≡ with_key x.0 x.1 (Some (record { wave = x.0; instr = x.1; first = (kept_at s.order p).first; second = (kept_at s.order p).second; answer = Some x.2 })) (entry_of s.order.kept.items) w i)
+  entries : (w i : ℕ) → entry_of n.order.kept.items w i ≡ with_key e.wave e.instr
+      (Some (record {
+        wave = e.wave;
+        instr = e.instr;
+        first = (kept_at s.order p).first;
+        second = (kept_at s.order p).second;
+        answer = Some (word_of image (content_of s) e);
+      }))
+      (entry_of s.order.kept.items) w i
+  entries = subst (λ (x : ℕ × ℕ × ℕ). (w i : ℕ) →
+      entry_of n.order.kept.items w i ≡ with_key x.0 x.1
+      (Some (record {
+        wave = x.0;
+        instr = x.1;
+        first = (kept_at s.order p).first;
+        second = (kept_at s.order p).second;
+        answer = Some x.2;
+      })) (entry_of s.order.kept.items) w i)
       (λ j. (at.wave j, at.instr j, word_so j)) (U.answered image s.order ok p l word n.order.kept.items kept)
 
   abbrev tokens : List Token
   tokens = sends image e.wave e.instr (operands_at image (kept_at s.order p)) (word_of image (content_of s) e)
 
-  followed : Followed image (content_of s) e (sends image e.wave e.instr (operands_at image (kept_at s.order p)) (word_of image (content_of s) e)) (content_of n)
+  followed : Followed image (content_of s) e
+      (sends image e.wave e.instr (operands_at image (kept_at s.order p)) (word_of image (content_of s) e))
+      (content_of n)
   followed = record {
     request = kept_at s.order p;
     is_kept = found;
@@ -95,31 +139,61 @@ module _ {P : Type 0} (image : Image) (world : World) (formed : Formed image) (s
     tokens_are = refl;
   }
 
-  moves : Moves image (content_of s) (sends image e.wave e.instr (operands_at image (kept_at s.order p)) (word_of image (content_of s) e)) (content_of n)
-  moves = subst (λ (ts : List Token). Moves image (content_of s) ts (content_of n)) (append-nil (sends image e.wave e.instr (operands_at image (kept_at s.order p)) (word_of image (content_of s) e))) (follows e fol going followed stays)
+  moves : Moves image (content_of s) (sends image e.wave e.instr (operands_at image (kept_at s.order p))
+      (word_of image (content_of s) e)) (content_of n)
+  moves = subst (λ (ts : List Token). Moves image (content_of s) ts (content_of n))
+      (append-nil (sends image e.wave e.instr (operands_at image (kept_at s.order p))
+      (word_of image (content_of s) e))) (follows e fol going followed stays)
 
   has_same : (w i : ℕ) → has (issued_in n.order.kept.items w i) ≡ has (issued_in s.order.kept.items w i)
-  has_same w i = elim (with_key_cases e.wave e.instr (Some (record { wave = e.wave; instr = e.instr; first = (kept_at s.order p).first; second = (kept_at s.order p).second; answer = Some (word_of image (content_of s) e) })) (entry_of s.order.kept.items) w i) [
-    | inl h ↦ ap (λ (o : Option Kept). has (answer_if o)) (entries w i ∙ h.1) ∙ sym (ap has (subst (λ (x : ℕ × ℕ). issued_in s.order.kept.items x.0 x.1 ≡ Some (A.answer_of (kept_at s.order p).answer at.some).0) (λ j. (h.0.wave j, h.0.instr j)) (ap answer_if found ∙ (A.answer_of (kept_at s.order p).answer at.some).1)))
-    | inr h ↦ ap (λ (o : Option Kept). has (answer_if o)) (entries w i ∙ h.1)
-  ]
+  has_same w i = elim (with_key_cases e.wave e.instr
+      (Some (record {
+        wave = e.wave;
+        instr = e.instr;
+        first = (kept_at s.order p).first;
+        second = (kept_at s.order p).second;
+        answer = Some (word_of image (content_of s) e);
+      }))
+      (entry_of s.order.kept.items) w i) [
+        | inl h ↦ ap (λ (o : Option Kept). has (answer_if o)) (entries w i ∙ h.1)
+            ∙ sym (ap has (subst (λ (x : ℕ × ℕ).
+            issued_in s.order.kept.items x.0 x.1 ≡ Some (A.answer_of (kept_at s.order p).answer at.some).0)
+            (λ j. (h.0.wave j, h.0.instr j)) (ap answer_if found
+            ∙ (A.answer_of (kept_at s.order p).answer at.some).1)))
+        | inr h ↦ ap (λ (o : Option Kept). has (answer_if o)) (entries w i ∙ h.1)
+      ]
 
   memory : is_memory image (kept_at s.order p).instr ≡ true
   memory = let i = (F.front_in s.queues.entries.items e.row e.index e fol.first).0 in
       ap (is_memory image) at.instr ∙ T.row_memory image e.instr e.row (st.parting.partly.sits e i).0.1.row
 
   -- the code's tokens
-  pub told_are : tokens_to e.wave word (destinations image e.instr 0) ≡ sends image e.wave e.instr (operands_at image (kept_at s.order p)) (word_of image (content_of s) e)
-  told_are = subst (λ (x : ℕ × ℕ × ℕ). tokens_to x.0 word (destinations image x.1 0) ≡ sends image x.0 x.1 (operands_at image (kept_at s.order p)) x.2) (λ j. (at.wave j, at.instr j, word_so j)) (N.sent image (kept_at s.order p) word memory)
+  pub told_are : tokens_to e.wave word (destinations image e.instr 0) ≡ sends image e.wave e.instr
+      (operands_at image (kept_at s.order p)) (word_of image (content_of s) e)
+  told_are = subst (λ (x : ℕ × ℕ × ℕ). tokens_to x.0 word (destinations image x.1 0) ≡ sends image x.0 x.1
+      (operands_at image (kept_at s.order p)) x.2) (λ j. (at.wave j, at.instr j, word_so j))
+      (N.sent image (kept_at s.order p) word memory)
 
-  pub finishes : Moves image (content_of s) (sends image e.wave e.instr (operands_at image (kept_at s.order p)) (word_of image (content_of s) e)) (content_of n) × Stands image world began n
+  pub finishes : Moves image (content_of s)
+      (sends image e.wave e.instr (operands_at image (kept_at s.order p)) (word_of image (content_of s) e))
+      (content_of n) × Stands image world began n
   finishes = (
     moves,
     record {
-      parting = (K.moves_keep image world formed sound began (content_of s) (content_of n) (sends image e.wave e.instr (operands_at image (kept_at s.order p)) (word_of image (content_of s) e)) moves st.parting).0;
-      early_issued = λ j h. let r = subst (λ (x : code.Chain × List ℕ). EarlyIssued (issued_in s.order.kept.items) (chain_of x.0) x.1) (λ i. (sym same.chain i, sym (ap (λ (v : _). v.items) same.early) i)) st.early_issued j h in
-          O.some_more (issued_in n.order.kept.items n.order.chain.wave j) (issued_in s.order.kept.items n.order.chain.wave j) r.0 (has_same n.order.chain.wave j) r.1;
-      early_all = λ cut w i a t x is y at2 me m. let r = O.some_more (issued_in s.order.kept.items w i) (issued_in n.order.kept.items w i) a (sym (has_same w i)) is in
-          subst (λ (z : code.Chain × List ℕ). HasEarly image world (issued_in s.order.kept.items) (chain_of z.0) z.1) (λ j. (sym same.chain j, sym (ap (λ (v : _). v.items) same.early) j)) st.early_all cut w i r.0 t x r.1 y at2 me m;
+      parting = (K.moves_keep image world formed sound began (content_of s) (content_of n)
+          (sends image e.wave e.instr (operands_at image (kept_at s.order p))
+          (word_of image (content_of s) e)) moves st.parting).0;
+      early_issued = λ j h. let r = subst
+          (λ (x : code.Chain × List ℕ). EarlyIssued (issued_in s.order.kept.items) (chain_of x.0) x.1)
+          (λ i. (sym same.chain i, sym (ap (λ (v : _). v.items) same.early) i)) st.early_issued j h in
+          O.some_more (issued_in n.order.kept.items n.order.chain.wave j)
+          (issued_in s.order.kept.items n.order.chain.wave j) r.0 (has_same n.order.chain.wave j) r.1;
+      early_all = λ cut w i a t x is y at2 me m. let r =
+          O.some_more (issued_in s.order.kept.items w i) (issued_in n.order.kept.items w i) a
+          (sym (has_same w i)) is in
+          subst (λ (z : code.Chain × List ℕ).
+          HasEarly image world (issued_in s.order.kept.items) (chain_of z.0) z.1)
+          (λ j. (sym same.chain j, sym (ap (λ (v : _). v.items) same.early) j)) st.early_all cut w i r.0 t
+          x r.1 y at2 me m;
     },
   )

@@ -6,10 +6,12 @@ use Rattle.df_core.proofs.Ports.{SameKey}
 use Rattle.part_store.specs.declared.entry.Entry.{Entry}
 use Rattle.part_store.specs.Queues.{same_cell}
 
-pub key_cases : (w i a b : ℕ) → ((same_key w i a b ≡ true) × SameKey w i a b) ⊎ ((same_key w i a b ≡ false) × (SameKey w i a b → ⊥))
+pub key_cases : (w i a b : ℕ) → ((same_key w i a b ≡ true) × SameKey w i a b) ⊎
+    ((same_key w i a b ≡ false) × (SameKey w i a b → ⊥))
 key_cases w i a b = go (cases_eq w a) (cases_eq i b)
   where
-    go : (w ≡ a) ⊎ (w ≡ a → ⊥) → (i ≡ b) ⊎ (i ≡ b → ⊥) → ((same_key w i a b ≡ true) × SameKey w i a b) ⊎ ((same_key w i a b ≡ false) × (SameKey w i a b → ⊥))
+    go : (w ≡ a) ⊎ (w ≡ a → ⊥) → (i ≡ b) ⊎ (i ≡ b → ⊥) →
+        ((same_key w i a b ≡ true) × SameKey w i a b) ⊎ ((same_key w i a b ≡ false) × (SameKey w i a b → ⊥))
     go (inl e) (inl g) = inl (rw (eq-eqb w a e, eq-eqb i b g) refl, record { wave = e; instr = g })
     go (inr n) g = inr (rw (ne_eqb w a n) refl, λ s. n s.wave)
     go (inl e) (inr n) = inr (rw (eq-eqb w a e, ne_eqb i b n) refl, λ s. n s.instr)
@@ -19,10 +21,12 @@ pub record IsOn (e : Entry) (r j : ℕ) : Type 0 where
   pub row : e.row ≡ r
   pub index : e.index ≡ j
 
-pub cell_cases : (e : Entry) (r j : ℕ) → ((same_cell e r j ≡ true) × IsOn e r j) ⊎ ((same_cell e r j ≡ false) × (IsOn e r j → ⊥))
+pub cell_cases : (e : Entry) (r j : ℕ) → ((same_cell e r j ≡ true) × IsOn e r j) ⊎
+    ((same_cell e r j ≡ false) × (IsOn e r j → ⊥))
 cell_cases e r j = go (cases_eq e.row r) (cases_eq e.index j)
   where
-    go : (e.row ≡ r) ⊎ (e.row ≡ r → ⊥) → (e.index ≡ j) ⊎ (e.index ≡ j → ⊥) → ((same_cell e r j ≡ true) × IsOn e r j) ⊎ ((same_cell e r j ≡ false) × (IsOn e r j → ⊥))
+    go : (e.row ≡ r) ⊎ (e.row ≡ r → ⊥) → (e.index ≡ j) ⊎ (e.index ≡ j → ⊥) →
+        ((same_cell e r j ≡ true) × IsOn e r j) ⊎ ((same_cell e r j ≡ false) × (IsOn e r j → ⊥))
     go (inl a) (inl b) = inl (rw (eq-eqb e.row r a, eq-eqb e.index j b) refl, record { row = a; index = b })
     go (inr n) b = inr (rw (ne_eqb e.row r n) refl, λ s. n s.row)
     go (inl a) (inr n) = inr (rw (eq-eqb e.row r a, ne_eqb e.index j n) refl, λ s. n s.index)

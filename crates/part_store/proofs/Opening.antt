@@ -18,7 +18,9 @@ use Rattle.part_store.specs.Calls.{FailedSo}
 use Rattle.part_store.specs.Parts.{PartsOk, Standing, content_of}
 
 module _ (image : Image) (world : World) (began : List (Option Began))
-    (reach : (state : State) → Reach image world state → Fit image world state × Grounded image world state × Once state.fired) (ports : List (Option Told)) (all : AllBegan began world.left ports) where
+    (reach : (state : State) → Reach image world state →
+    Fit image world state × Grounded image world state × Once state.fired) (ports : List (Option Told))
+    (all : AllBegan began world.left ports) where
   opening_parting : Parting image world began (opening_content image world ports)
   unfolding opening_memory
   opening_parting = let is = O.opening_is image world began reach ports all in record {
@@ -57,14 +59,17 @@ module _ (image : Image) (world : World) (began : List (Option Began))
   }
 
   module _ {P : Type 0} where
-    pub opening_stands : (s : Parts P) → PartsOk s → s.order.early.items ≡ [] → content_of s ≡ opening_content image world ports → Standing image world began s
+    pub opening_stands : (s : Parts P) → PartsOk s → s.order.early.items ≡ [] →
+        content_of s ≡ opening_content image world ports → Standing image world began s
     opening_stands s ok early is = record {
       ok = ok;
       calm = (
         record {
           parting = subst (Parting image world began) (sym is) opening_parting;
           early_issued = λ i h. absurd (subst (λ xs. In i xs) early h);
-          early_all = λ cut w i a t e has x at memory l. absurd (let f : issued_in s.order.kept.items w i ≡ None = ap (λ (c : Content). issued_in c.kept w i) is in let g : None ≡ Some a = sym f ∙ has in cc);
+          early_all = λ cut w i a t e has x at memory l.
+              absurd (let f : issued_in s.order.kept.items w i ≡ None =
+              ap (λ (c : Content). issued_in c.kept w i) is in let g : None ≡ Some a = sym f ∙ has in cc);
         },
         subst Fronts (sym is) opening_fronts,
       );

@@ -1,5 +1,6 @@
 -- A token comes to the table, and what is known of a run stays true.
-use Rattle.std.proofs.Common.{ℕ, ◌≡◌, true, false, List, [], ◌∷◌, ◌++◌, length, Some, None, sym, ap, ◌∙◌, subst, inl, inr, arith}
+use Rattle.std.proofs.Common.{ℕ, ◌≡◌, true, false, List, [], ◌∷◌, ◌++◌, length, Some, None, sym, ap, ◌∙◌}
+use Rattle.std.proofs.Common.{subst, inl, inr, arith}
 use Rattle.ws_words.specs.Outside.{World}
 use Rattle.ws_isa.specs.Image.{Image, Token, ports, is_memory, result_of, sends}
 use Rattle.ws_isa.specs.Formed.{Formed}
@@ -25,17 +26,21 @@ use Rattle.df_core.proofs.Owing.{nothing}
 use Rattle.ws_isa.proofs.Images.{nth_below}
 
 -- an instance to which a token hasn't come hasn't fired
-pub not_fired : (image : Image) (world : World) (formed : Formed image) (sound : Sound image) (t : Tables) → TablesOk image world t → (x : Token) → IsRight image world x → t.held x.wave x.instr x.port ≡ None → HasFired t.fired x.wave x.instr → ⊥
+pub not_fired : (image : Image) (world : World) (formed : Formed image) (sound : Sound image) (t : Tables) →
+    TablesOk image world t → (x : Token) → IsRight image world x → t.held x.wave x.instr x.port ≡ None →
+    HasFired t.fired x.wave x.instr → ⊥
 not_fired image world formed sound t tok x right missing h =
     let facts : WalkFacts image world = T.facts image world formed sound in
     let f = tok.fired_full x.wave x.instr h in
     let l = nth_below right.inst.operands x.port x.value right.operand in
-    let n : length right.inst.operands ≡ ports image x.instr = facts.filled right.time right.inst right.at.fires ∙ ap (ports image) right.at.instr in
+    let n : length right.inst.operands ≡ ports image x.instr =
+    facts.filled right.time right.inst right.at.fires ∙ ap (ports image) right.at.instr in
     let g = f.1 x.port (omega (arith, l, n)) in
     nothing g.0 (sym missing ∙ g.1)
 
 module _ (image : Image) where
-  pub pay_more : (t : Tables) (c : Content) (way more : List Token) → Covers way more → Paid image t c way → Paid image t c more
+  pub pay_more : (t : Tables) (c : Content) (way more : List Token) → Covers way more → Paid image t c way →
+      Paid image t c more
   pay_more t c way more k paid = record {
     start = up _ paid.start;
     told = λ w i h m. up _ (paid.told w i h m);
@@ -47,7 +52,8 @@ module _ (image : Image) where
       up ts = R.reach_by t.held t.held way more ts (R.reach_more t.held way more k)
 
   -- a token that has come is let go
-  pub pay_held : (t : Tables) (c : Content) (way : List Token) (x : Token) → (v : ℕ) × (t.held x.wave x.instr x.port ≡ Some v) → Paid image t c (way ++ x ∷ []) → Paid image t c way
+  pub pay_held : (t : Tables) (c : Content) (way : List Token) (x : Token) →
+      (v : ℕ) × (t.held x.wave x.instr x.port ≡ Some v) → Paid image t c (way ++ x ∷ []) → Paid image t c way
   pay_held t c way x come paid = record {
     start = up _ paid.start;
     told = λ w i h m. up _ (paid.told w i h m);
@@ -59,20 +65,27 @@ module _ (image : Image) where
       up ts = R.reach_by t.held t.held (way ++ x ∷ []) way ts (R.reach_held t.held way x come)
 
   -- a token comes, and its instance hasn't fired
-  module _ (old : table.Content) (x : Token) (new : table.Content) (a : Arrives old x new) (fresh : HasFired old.fired x.wave x.instr → ⊥) where
+  module _ (old : table.Content) (x : Token) (new : table.Content) (a : Arrives old x new)
+      (fresh : HasFired old.fired x.wave x.instr → ⊥) where
     same_at : (w i p : ℕ) → HasFired old.fired w i → held old w i p ≡ held new w i p
-    same_at w i p h = sym (a.more w i p ∙ elim (with_at_cases x.wave x.instr x.port (Some x.value) (held old) w i p) [
-      | inl g ↦ absurd (fresh (subst (λ (k : ℕ × ℕ). HasFired old.fired k.0 k.1) (λ j. (sym g.0.wave j, sym g.0.instr j)) h))
-      | inr g ↦ g.1
-    ])
+    same_at w i p h = sym (a.more w i p ∙ elim
+        (with_at_cases x.wave x.instr x.port (Some x.value) (held old) w i p) [
+          | inl g ↦ absurd (fresh (subst (λ (k : ℕ × ℕ). HasFired old.fired k.0 k.1)
+              (λ j. (sym g.0.wave j, sym g.0.instr j)) h))
+          | inr g ↦ g.1
+        ])
 
-    same_operands : (w i : ℕ) → HasFired old.fired w i → operands_in image (held old) w i ≡ operands_in image (held new) w i
+    same_operands : (w i : ℕ) → HasFired old.fired w i →
+        operands_in image (held old) w i ≡ operands_in image (held new) w i
     same_operands w i h = gather_same (held old) (held new) w i w i 0 (ports image i) (λ p. same_at w i p h)
 
-    pub pay_arrived : (c : Content) (way : List Token) → Paid image (part old) c (way ++ x ∷ []) → Paid image (record { held = held new; fired = old.fired }) c way
+    pub pay_arrived : (c : Content) (way : List Token) → Paid image (part old) c (way ++ x ∷ []) →
+        Paid image (record { held = held new; fired = old.fired }) c way
     pay_arrived c way paid = record {
       start = up _ paid.start;
-      told = λ w i h m. subst (λ (xs : List ℕ). AllReach (held new) way (sends image w i xs (result_of image i xs))) (same_operands w i h) (up _ (paid.told w i h m));
+      told = λ w i h m. subst (λ (xs : List ℕ).
+          AllReach (held new) way (sends image w i xs (result_of image i xs))) (same_operands w i h)
+          (up _ (paid.told w i h m));
       asked = paid.asked;
       answered = λ w i n k e s q. up _ (paid.answered w i n k e s q);
     }
@@ -81,16 +94,21 @@ module _ (image : Image) where
         up ts = R.reach_by (held old) (held new) (way ++ x ∷ []) way ts (R.reach_arrived old x new a way)
 
   -- one more has fired
-  module _ (f : Ports) (fired : List Key) (w i : ℕ) (c : Content) (way : List Token) (paid : Paid image (record { held = f; fired = fired }) c way) where
+  module _ (f : Ports) (fired : List Key) (w i : ℕ) (c : Content) (way : List Token)
+      (paid : Paid image (record { held = f; fired = fired }) c way) where
     abbrev one_more : Tables
     one_more = record { held = f; fired = fired ++ record { wave = w; instr = i } ∷ [] }
 
-    pub pay_fires : is_memory image i ≡ false → AllReach f way (sends image w i (operands_in image f w i) (result_of image i (operands_in image f w i))) → Paid image one_more c way
+    pub pay_fires : is_memory image i ≡ false →
+        AllReach f way (sends image w i (operands_in image f w i)
+        (result_of image i (operands_in image f w i))) → Paid image one_more c way
     pay_fires plain sent = record {
       start = paid.start;
       told = λ a b h m. elim (has_from fired (record { wave = w; instr = i }) a b h) [
         | inl g ↦ paid.told a b g m
-        | inr g ↦ subst (λ (k : ℕ × ℕ). AllReach f way (sends image k.0 k.1 (operands_in image f k.0 k.1) (result_of image k.1 (operands_in image f k.0 k.1)))) (λ j. (g.0 j, g.1 j)) sent
+        | inr g ↦ subst (λ (k : ℕ × ℕ). AllReach f way
+            (sends image k.0 k.1 (operands_in image f k.0 k.1)
+            (result_of image k.1 (operands_in image f k.0 k.1)))) (λ j. (g.0 j, g.1 j)) sent
       ];
       asked = λ a b h m. elim (has_from fired (record { wave = w; instr = i }) a b h) [
         | inl g ↦ paid.asked a b g m
@@ -114,29 +132,43 @@ module _ (image : Image) where
     }
 
   -- what a table answers to a token
-  module _ (old : table.Content) (x : Token) (new : table.Content) (a : Arrives old x new) (fresh : HasFired old.fired x.wave x.instr → ⊥) (c : Content) (way : List Token) (paid : Paid image (part old) c (way ++ x ∷ [])) where
+  module _ (old : table.Content) (x : Token) (new : table.Content) (a : Arrives old x new)
+      (fresh : HasFired old.fired x.wave x.instr → ⊥) (c : Content) (way : List Token)
+      (paid : Paid image (part old) c (way ++ x ∷ [])) where
     pub taken_waits : new.fired ≡ old.fired → Paid image (part new) c way
-    taken_waits same = subst (λ (ks : List Key). Paid image (record { held = held new; fired = ks }) c way) (sym same) (pay_arrived old x new a fresh c way paid)
+    taken_waits same = subst (λ (ks : List Key). Paid image (record { held = held new; fired = ks }) c way)
+        (sym same) (pay_arrived old x new a fresh c way paid)
 
-    pub taken_fires : (more tokens : List Token) (xs : List ℕ) → Full image old x new xs → is_memory image x.instr ≡ false → tokens ≡ sends image x.wave x.instr xs (result_of image x.instr xs) → Covers way more → Covers tokens more → Paid image (part new) c more
+    pub taken_fires : (more tokens : List Token) (xs : List ℕ) → Full image old x new xs →
+        is_memory image x.instr ≡ false →
+        tokens ≡ sends image x.wave x.instr xs (result_of image x.instr xs) → Covers way more →
+        Covers tokens more → Paid image (part new) c more
     taken_fires more tokens xs full plain are keep sent =
-        let up = pay_more (record { held = held new; fired = old.fired }) c way more keep (pay_arrived old x new a fresh c way paid) in
-        let sent' : Covers (sends image x.wave x.instr (operands_in image (held new) x.wave x.instr) (result_of image x.instr (operands_in image (held new) x.wave x.instr))) more =
-        subst (λ (ys : List ℕ). Covers (sends image x.wave x.instr ys (result_of image x.instr ys)) more) full.operands_are (subst (λ (ts : List Token). Covers ts more) are sent) in
+        let up = pay_more (record { held = held new; fired = old.fired }) c way more keep
+        (pay_arrived old x new a fresh c way paid) in
+        let sent' : Covers (sends image x.wave x.instr (operands_in image (held new) x.wave x.instr)
+        (result_of image x.instr (operands_in image (held new) x.wave x.instr))) more =
+        subst (λ (ys : List ℕ). Covers (sends image x.wave x.instr ys (result_of image x.instr ys)) more)
+        full.operands_are (subst (λ (ts : List Token). Covers ts more) are sent) in
         subst (λ (ks : List Key). Paid image (record { held = held new; fired = ks }) c more) (sym full.fired)
         (pay_fires (held new) old.fired x.wave x.instr c more up plain (R.reach_all (held new) _ more sent'))
 
-    pub taken_asks : (d : Content) (more : List Token) (xs : List ℕ) → Full image old x new xs → is_memory image x.instr ≡ true → ((t : Tables) → Paid image t c way → Paid image t d more) → IsWhole d x.wave x.instr → Paid image (part new) d more
+    pub taken_asks : (d : Content) (more : List Token) (xs : List ℕ) → Full image old x new xs →
+        is_memory image x.instr ≡ true → ((t : Tables) → Paid image t c way → Paid image t d more) →
+        IsWhole d x.wave x.instr → Paid image (part new) d more
     taken_asks d more xs full memory tell whole =
-        let up = tell (record { held = held new; fired = old.fired }) (pay_arrived old x new a fresh c way paid) in
+        let up = tell (record { held = held new; fired = old.fired })
+        (pay_arrived old x new a fresh c way paid) in
         subst (λ (ks : List Key). Paid image (record { held = held new; fired = ks }) d more) (sym full.fired)
         (pay_asks (held new) old.fired x.wave x.instr d more up memory whole)
 
 -- a run begins
-pub pay_start : (image : Image) (f : Ports) (ks : List Key) (c : Content) → ks ≡ [] → c.kept ≡ [] → Paid image (record { held = f; fired = ks }) c (start_tokens image)
+pub pay_start : (image : Image) (f : Ports) (ks : List Key) (c : Content) → ks ≡ [] → c.kept ≡ [] →
+    Paid image (record { held = f; fired = ks }) c (start_tokens image)
 pay_start image f ks c none empty = record {
   start = R.reach_all f (start_tokens image) (start_tokens image) (R.covers_self (start_tokens image));
   told = λ w i h m. absurd (subst (λ (ls : List Key). HasFired ls w i) none h);
   asked = λ w i h m. absurd (subst (λ (ls : List Key). HasFired ls w i) none h);
-  answered = λ w i a k e s q. absurd (nothing k (subst (λ (ls : List Kept). entry_of ls w i ≡ Some k) empty e));
+  answered = λ w i a k e s q. absurd (nothing k
+      (subst (λ (ls : List Kept). entry_of ls w i ≡ Some k) empty e));
 }

@@ -11,7 +11,8 @@ use Rattle.store_buf.specs.Holds.{waiting_in}
 use Rattle.part_store.specs.Contents.{Content, asking, is_bare}
 use Rattle.part_store.specs.Parted.{Fronts, IsKept, Parting}
 
-module _ (image : Image) (world : World) (began : List (Option Began)) (c : Content) (bs : List (ℕ × ℕ)) (same : (w i : ℕ) → list_any (pair_eq (w, i)) bs ≡ is_bare c w i) where
+module _ (image : Image) (world : World) (began : List (Option Began)) (c : Content) (bs : List (ℕ × ℕ))
+    (same : (w i : ℕ) → list_any (pair_eq (w, i)) bs ≡ is_bare c w i) where
   asking_same : asking image (record c { bare = bs }) ≡ asking image c
   asking_same j = λ w i. cond (same w i j) None (waiting_in image c.kept w i)
 
@@ -19,7 +20,8 @@ module _ (image : Image) (world : World) (began : List (Option Began)) (c : Cont
   parting s = let p = s.partly in record {
     counts = s.counts;
     memory = s.memory;
-    legal = subst (λ (f : ℕ → ℕ → Option (List ℕ)). Legal image world s.counts f (has c.fault) c.chain s.memory) (sym asking_same) s.legal;
+    legal = subst (λ (f : ℕ → ℕ → Option (List ℕ)).
+        Legal image world s.counts f (has c.fault) c.chain s.memory) (sym asking_same) s.legal;
     partly = record {
       right = λ w i k e. subst (λ (b : Bool). IsKept image world b k) (sym (same w i)) (p.right w i k e);
       same = p.same;

@@ -1,5 +1,7 @@
 -- A request or address that may go: what the chain lets, and what comes when it counts as issued.
-use Rattle.std.proofs.Common.{ℕ, ◌≡◌, ◌<◌, ◌≤◌, ◌⊎◌, ◌==◌, true, false, not, ◌&&◌, ◌||◌, nat_le, List, [], ◌∷◌, length, Option, Some, None, slice_set, refl, sym, ap, ◌∙◌, subst, inl, inr, leb-true}
+use Rattle.std.proofs.Common.{ℕ, ◌≡◌, ◌<◌, ◌≤◌, ◌⊎◌, ◌==◌, true, false, not, ◌&&◌, ◌||◌, nat_le, List, []}
+use Rattle.std.proofs.Common.{◌∷◌, length, Option, Some, None, slice_set, refl, sym, ap, ◌∙◌, subst, inl, inr}
+use Rattle.std.proofs.Common.{leb-true}
 use Rattle.std.proofs.lemmas.Bool.{and_parts}
 use Rattle.ws_words.specs.Outside.{Outside, World}
 use Rattle.ws_isa.specs.Image.{Image, In, instr_at, is_load, is_load_op, is_past, is_past_op, note_of}
@@ -35,11 +37,35 @@ module _ (image : Image) (o : Order) (ok : OrderOk o) (p : ℕ) (l : p < length 
   k = kept_at o p
 
   pub found : entry_of o.kept.items (kept_at o p).wave (kept_at o p).instr ≡ Some (kept_at o p)
-  found = sym (F.here o.kept.items (place_in o.index) ok.index (kept_at o p).wave (kept_at o p).instr p (ok.index p l) l refl refl)
+  found = sym (F.here o.kept.items (place_in o.index) ok.index (kept_at o p).wave (kept_at o p).instr p
+      (ok.index p l) l refl refl)
 
-  pub answered : (word : ℕ) (ks : List Kept) → ks ≡ slice_set o.kept.items p (record { wave = (kept_at o p).wave; instr = (kept_at o p).instr; first = (kept_at o p).first; second = (kept_at o p).second; answer = Some word }) →
-      (w i : ℕ) → entry_of ks w i ≡ with_key (kept_at o p).wave (kept_at o p).instr (Some (record { wave = (kept_at o p).wave; instr = (kept_at o p).instr; first = (kept_at o p).first; second = (kept_at o p).second; answer = Some word })) (entry_of o.kept.items) w i
-  answered word ks kept w i = ap (λ (xs : List Kept). entry_of xs w i) kept ∙ entry_set o.kept.items p (record { wave = (kept_at o p).wave; instr = (kept_at o p).instr; first = (kept_at o p).first; second = (kept_at o p).second; answer = Some word }) l (once_of o.kept.items (place_in o.index) ok.index) refl refl w i
+  pub answered : (word : ℕ) (ks : List Kept) →
+      ks ≡ slice_set o.kept.items p (record {
+        wave = (kept_at o p).wave;
+        instr = (kept_at o p).instr;
+        first = (kept_at o p).first;
+        second = (kept_at o p).second;
+        answer = Some word;
+      }) →
+      (w i : ℕ) → entry_of ks w i ≡ with_key (kept_at o p).wave (kept_at o p).instr
+      (Some (record {
+        wave = (kept_at o p).wave;
+        instr = (kept_at o p).instr;
+        first = (kept_at o p).first;
+        second = (kept_at o p).second;
+        answer = Some word;
+      }))
+      (entry_of o.kept.items) w i
+  answered word ks kept w i = ap (λ (xs : List Kept). entry_of xs w i) kept
+      ∙ entry_set o.kept.items p (record {
+        wave = (kept_at o p).wave;
+        instr = (kept_at o p).instr;
+        first = (kept_at o p).first;
+        second = (kept_at o p).second;
+        answer = Some word;
+      }) l
+      (once_of o.kept.items (place_in o.index) ok.index) refl refl w i
 
   module _ (ready : ready_flag image o (kept_at o p) ≡ true) where
     pub waits : ((kept_at o p).answer ≡ None) × ((kept_at o p).wave ≡ o.chain.wave)
@@ -49,23 +75,44 @@ module _ (image : Image) (o : Order) (ok : OrderOk o) (p : ℕ) (l : p < length 
     unfolding is_load
     op_is = refl
 
-    pub turn : IsNext (chain_of o.chain) (note_of image (kept_at o p).instr) ⊎ ((is_load image (kept_at o p).instr ≡ true) × (is_past_at image (kept_at o p) ≡ false) × ((note_of image (kept_at o p).instr).ripple ≤ position_after o.chain.last))
+    pub turn : IsNext (chain_of o.chain) (note_of image (kept_at o p).instr) ⊎
+        ((is_load image (kept_at o p).instr ≡ true) × (is_past_at image (kept_at o p) ≡ false) ×
+        ((note_of image (kept_at o p).instr).ripple ≤ position_after o.chain.last))
     turn =
-        let a = and_parts _ (may_flag image (chain_of o.chain) (kept_at o p).wave (kept_at o p).instr (kept_at o p).first) ready in
-        let b = and_parts ((kept_at o p).wave == o.chain.wave) (next_flag (chain_of o.chain) (note_of image (kept_at o p).instr) || (is_load_op (instr_at image (kept_at o p).instr).op && not (is_past_op image.arrays (instr_at image (kept_at o p).instr).op ((kept_at o p).first ∷ [])) && nat_le (note_of image (kept_at o p).instr).ripple (position_after o.chain.last))) a.1 in
-        elim (either (next_flag (chain_of o.chain) (note_of image (kept_at o p).instr)) (is_load_op (instr_at image (kept_at o p).instr).op && not (is_past_op image.arrays (instr_at image (kept_at o p).instr).op ((kept_at o p).first ∷ [])) && nat_le (note_of image (kept_at o p).instr).ripple (position_after o.chain.last)) b.1) [
+        let a = and_parts _ (may_flag image (chain_of o.chain) (kept_at o p).wave (kept_at o p).instr
+        (kept_at o p).first) ready in
+        let b = and_parts ((kept_at o p).wave == o.chain.wave)
+        (next_flag (chain_of o.chain)
+        (note_of image (kept_at o p).instr)
+        || (is_load_op (instr_at image (kept_at o p).instr).op && not
+        (is_past_op image.arrays (instr_at image (kept_at o p).instr).op ((kept_at o p).first ∷ [])) &&
+        nat_le (note_of image (kept_at o p).instr).ripple (position_after o.chain.last))) a.1 in
+        elim (either (next_flag (chain_of o.chain) (note_of image (kept_at o p).instr))
+        (is_load_op (instr_at image (kept_at o p).instr).op && not
+        (is_past_op image.arrays (instr_at image (kept_at o p).instr).op ((kept_at o p).first ∷ [])) &&
+        nat_le (note_of image (kept_at o p).instr).ripple (position_after o.chain.last)) b.1) [
           | inl e ↦ inl (next_is (chain_of o.chain) (note_of image (kept_at o p).instr) e)
-          | inr e ↦ (let c = and_parts (is_load_op (instr_at image (kept_at o p).instr).op && not (is_past_op image.arrays (instr_at image (kept_at o p).instr).op ((kept_at o p).first ∷ []))) (nat_le (note_of image (kept_at o p).instr).ripple (position_after o.chain.last)) e in
-              let d = and_parts (is_load_op (instr_at image (kept_at o p).instr).op) (not (is_past_op image.arrays (instr_at image (kept_at o p).instr).op ((kept_at o p).first ∷ []))) c.0 in
+          | inr e ↦ (let c = and_parts (is_load_op (instr_at image (kept_at o p).instr).op && not
+              (is_past_op image.arrays (instr_at image (kept_at o p).instr).op ((kept_at o p).first ∷ [])))
+              (nat_le (note_of image (kept_at o p).instr).ripple (position_after o.chain.last)) e in
+              let d = and_parts (is_load_op (instr_at image (kept_at o p).instr).op)
+              (not (is_past_op image.arrays (instr_at image (kept_at o p).instr).op
+              ((kept_at o p).first ∷ []))) c.0 in
               inr (op_is ∙ d.0, not_false _ d.1, leb-true _ _ c.1))
         ]
 
 -- the chain passes it and issued ones behind it, or it is listed
-module _ (image : Image) (world : World) (formed : Formed image) (sound : Sound image) (o n : Order) (counts : ℕ → ℕ → Option ℕ) (memory : Outside) (waiting after : ℕ → ℕ → Option (List ℕ))
-    (legal : Legal image world counts waiting false (chain_of o.chain) memory) (same : (w i : ℕ) → has (counts w i) ≡ has (issued_in o.kept.items w i))
-    (early_issued : EarlyIssued (issued_in o.kept.items) (chain_of o.chain) o.early.items) (early_all : HasEarly image world (issued_in o.kept.items) (chain_of o.chain) o.early.items)
-    (w i : ℕ) (xs : List ℕ) (req : RightRequest image world w i xs) (may : Issuable image counts (chain_of o.chain) false w i xs) (inside : is_past image i xs ≡ false)
-    (new_same : (v j : ℕ) → has (issued_with image counts memory w i xs v j) ≡ has (issued_in n.kept.items v j)) (passed : PassedOn image (chain_of o.chain) i o.early.items (chain_of n.chain) n.early.items) where
+module _ (image : Image) (world : World) (formed : Formed image) (sound : Sound image) (o n : Order)
+    (counts : ℕ → ℕ → Option ℕ) (memory : Outside) (waiting after : ℕ → ℕ → Option (List ℕ))
+    (legal : Legal image world counts waiting false (chain_of o.chain) memory)
+    (same : (w i : ℕ) → has (counts w i) ≡ has (issued_in o.kept.items w i))
+    (early_issued : EarlyIssued (issued_in o.kept.items) (chain_of o.chain) o.early.items)
+    (early_all : HasEarly image world (issued_in o.kept.items) (chain_of o.chain) o.early.items)
+    (w i : ℕ) (xs : List ℕ) (req : RightRequest image world w i xs)
+    (may : Issuable image counts (chain_of o.chain) false w i xs) (inside : is_past image i xs ≡ false)
+    (new_same : (v j : ℕ) → has (issued_with image counts memory w i xs v j) ≡ has
+    (issued_in n.kept.items v j)) (passed : PassedOn image (chain_of o.chain) i o.early.items
+    (chain_of n.chain) n.early.items) where
   abbrev facts : WalkFacts image world
   facts = T.facts image world formed sound
 
@@ -75,44 +122,87 @@ module _ (image : Image) (world : World) (formed : Formed image) (sound : Sound 
   going : Going image world counts waiting false (chain_of o.chain) memory o.early.items
   going = record {
     legal = legal;
-    early_issued = λ j h. let r = early_issued j h in O.some_more (counts o.chain.wave j) (issued_in o.kept.items o.chain.wave j) r.0 (same o.chain.wave j) r.1;
-    early_all = λ cut v j a t e is x at me l. let r = O.some_more (issued_in o.kept.items v j) (counts v j) a (sym (same v j)) is in early_all cut v j r.0 t e r.1 x at me l;
+    early_issued = λ j h. let r = early_issued j h in
+        O.some_more (counts o.chain.wave j) (issued_in o.kept.items o.chain.wave j) r.0
+        (same o.chain.wave j) r.1;
+    early_all = λ cut v j a t e is x at me l. let r =
+        O.some_more (issued_in o.kept.items v j) (counts v j) a (sym (same v j)) is in
+        early_all cut v j r.0 t e r.1 x at me l;
   }
 
   After : Type 0
   After = Passes image (issued_with image counts memory w i xs) (chain_of o.chain) (chain_of n.chain)
-      × Going image world (issued_with image counts memory w i xs) after false (chain_of n.chain) (effect_after image i xs memory) n.early.items
+      × Going image world (issued_with image counts memory w i xs) after false (chain_of n.chain)
+      (effect_after image i xs memory) n.early.items
 
   goes : After
   unfolding After
   goes = elim passed [
-    | inl q ↦ G.goes_next image world facts counts waiting false (chain_of o.chain) memory o.early.items going w i xs req may inside after q.0 (chain_of n.chain) n.early.items q.1
+    | inl q ↦ G.goes_next image world facts counts waiting false
+        (chain_of o.chain) memory o.early.items going w i xs req may inside after q.0
+        (chain_of n.chain) n.early.items q.1
     | inr q ↦ (let load : is_load image i ≡ true = elim may.turn [ inl e ↦ absurd (q.0 e) | inr e ↦ e.0 ] in
-        let r = G.goes_early image world facts counts waiting false (chain_of o.chain) memory o.early.items going w i xs req may inside after q.0 load in (
-          subst (λ (d : law.Chain). Passes image (issued_with image counts memory w i xs) (chain_of o.chain) d) (sym q.1) r.0,
-          subst (λ (d : law.Chain). Going image world (issued_with image counts memory w i xs) after false d (effect_after image i xs memory) n.early.items) (sym q.1)
-              (early_alike image world (issued_with image counts memory w i xs) after false (chain_of o.chain) (effect_after image i xs memory) (i ∷ o.early.items) n.early.items
-              (λ j e. subst (In j) (sym q.2) (in_end i j o.early.items e)) (λ j e. end_in i j o.early.items (subst (In j) q.2 e)) r.1),
+        let r = G.goes_early image world facts counts waiting false
+        (chain_of o.chain) memory o.early.items going w i xs req may inside after q.0 load in (
+          subst (λ (d : law.Chain). Passes image (issued_with image counts memory w i xs)
+              (chain_of o.chain) d) (sym q.1) r.0,
+          subst (λ (d : law.Chain). Going image world (issued_with image counts memory w i xs) after false d
+              (effect_after image i xs memory) n.early.items) (sym q.1)
+              (early_alike image world (issued_with image counts memory w i xs) after false (chain_of o.chain)
+              (effect_after image i xs memory) (i ∷ o.early.items) n.early.items
+              (λ j e. subst (In j) (sym q.2) (in_end i j o.early.items e))
+              (λ j e. end_in i j o.early.items (subst (In j) q.2 e)) r.1),
         ))
   ]
 
   pub passes_on : Passes image (issued_in n.kept.items) (chain_of o.chain) (chain_of n.chain)
   unfolding After
-  passes_on = O.passes_alike image (issued_with image counts memory w i xs) (issued_in n.kept.items) (λ v j. sym (new_same v j)) (chain_of o.chain) (chain_of n.chain) goes.0
+  passes_on = O.passes_alike image (issued_with image counts memory w i xs) (issued_in n.kept.items)
+      (λ v j. sym (new_same v j)) (chain_of o.chain) (chain_of n.chain) goes.0
 
   pub early_now : EarlyIssued (issued_in n.kept.items) (chain_of n.chain) n.early.items
   unfolding After
-  early_now j h = let r = goes.1.early_issued j h in O.some_more (issued_in n.kept.items n.chain.wave j) (issued_with image counts memory w i xs n.chain.wave j) r.0 (sym (new_same n.chain.wave j)) r.1
+  early_now j h = let r = goes.1.early_issued j h in
+      O.some_more (issued_in n.kept.items n.chain.wave j)
+      (issued_with image counts memory w i xs n.chain.wave j) r.0 (sym (new_same n.chain.wave j)) r.1
 
   pub all_now : HasEarly image world (issued_in n.kept.items) (chain_of n.chain) n.early.items
   unfolding After
-  all_now cut v j a t e is x at me l = let r = O.some_more (issued_with image counts memory w i xs v j) (issued_in n.kept.items v j) a (new_same v j) is in goes.1.early_all cut v j r.0 t e r.1 x at me l
+  all_now cut v j a t e is x at me l = let r =
+      O.some_more (issued_with image counts memory w i xs v j) (issued_in n.kept.items v j) a
+      (new_same v j) is in goes.1.early_all cut v j r.0 t e r.1 x at me l
 
 -- what was kept is kept still
-pub still_kept : (image : Image) (o : Order) (ok : OrderOk o) (p : ℕ) (l : p < length o.kept.items) (word : ℕ) (ks : List Kept) → ks ≡ slice_set o.kept.items p (record { wave = (kept_at o p).wave; instr = (kept_at o p).instr; first = (kept_at o p).first; second = (kept_at o p).second; answer = Some word }) →
+pub still_kept : (image : Image) (o : Order) (ok : OrderOk o) (p : ℕ) (l : p < length o.kept.items) (word : ℕ)
+    (ks : List Kept) → ks ≡ slice_set o.kept.items p
+    (record {
+      wave = (kept_at o p).wave;
+      instr = (kept_at o p).instr;
+      first = (kept_at o p).first;
+      second = (kept_at o p).second;
+      answer = Some word;
+    }) →
     (w i : ℕ) → ((k : Kept) × (entry_of o.kept.items w i ≡ Some k)) → (k : Kept) × (entry_of ks w i ≡ Some k)
 still_kept image o ok p l word ks kept w i e =
-    elim (with_key_cases (kept_at o p).wave (kept_at o p).instr (Some (record { wave = (kept_at o p).wave; instr = (kept_at o p).instr; first = (kept_at o p).first; second = (kept_at o p).second; answer = Some word })) (entry_of o.kept.items) w i) [
-      | inl h ↦ (record { wave = (kept_at o p).wave; instr = (kept_at o p).instr; first = (kept_at o p).first; second = (kept_at o p).second; answer = Some word }, answered image o ok p l word ks kept w i ∙ h.1)
+    elim (with_key_cases (kept_at o p).wave (kept_at o p).instr
+    (Some (record {
+      wave = (kept_at o p).wave;
+      instr = (kept_at o p).instr;
+      first = (kept_at o p).first;
+      second = (kept_at o p).second;
+      answer = Some word;
+    }))
+    (entry_of o.kept.items) w i) [
+      | inl h ↦ (
+        record {
+          wave = (kept_at o p).wave;
+          instr = (kept_at o p).instr;
+          first = (kept_at o p).first;
+          second = (kept_at o p).second;
+          answer = Some word;
+        },
+        answered image o ok p l
+            word ks kept w i ∙ h.1,
+      )
       | inr h ↦ (e.0, answered image o ok p l word ks kept w i ∙ h.1 ∙ e.1)
     ]

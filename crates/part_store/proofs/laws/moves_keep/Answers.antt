@@ -2,4 +2,5 @@ use Rattle.part_store.proofs.Keeping as K
 use Rattle.part_store.proofs.laws.moves_keep.Goals as goal
 
 pub returns : goal.returns
-returns c image world began formed sound old new tokens moves s = K.moves_keep image world formed sound began old new tokens moves s
+returns c image world began formed sound old new tokens moves s =
+    K.moves_keep image world formed sound began old new tokens moves s

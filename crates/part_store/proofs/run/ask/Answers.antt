@@ -6,10 +6,15 @@ use Rattle.part_store.proofs.Reaching.{offered_beside}
 use Rattle.part_store.proofs.run.ask.Goals as goal
 
 pub returns-clause-paid : goal.returns-clause-paid
-returns-clause-paid g c = map_ok c.offer.result (λ offered t others. submitted g.J.Job.image g.J.Job.world g.J.Job.began c.args.buffer.now c.facts.ensures.parted.0
-    c.submit-answer.new.self (request_of c.args.request) c.submit-answer.result (c.args.next.now ++ others) (c.offer.new.way ++ others) c.submit-answer.ensures
+returns-clause-paid g c = map_ok c.offer.result
+    (λ offered t others. submitted g.J.Job.image g.J.Job.world g.J.Job.began c.args.buffer.now
+    c.facts.ensures.parted.0
+    c.submit-answer.new.self (request_of c.args.request) c.submit-answer.result (c.args.next.now ++ others)
+    (c.offer.new.way ++ others) c.submit-answer.ensures
     (offered_beside c.submit-answer.result c.args.next.now c.offer.new.way others offered) t) c.offer.ensures
 
 pub returns-clause-asked : goal.returns-clause-asked
-returns-clause-asked g c = map_ok c.offer.result (submitted_whole g.J.Job.image g.J.Job.world g.J.Job.began c.args.buffer.now c.facts.ensures.parted.0
-    c.submit-answer.new.self (request_of c.args.request) c.submit-answer.result c.args.next.now c.offer.new.way c.submit-answer.ensures) c.offer.ensures
+returns-clause-asked g c = map_ok c.offer.result
+    (submitted_whole g.J.Job.image g.J.Job.world g.J.Job.began c.args.buffer.now c.facts.ensures.parted.0
+    c.submit-answer.new.self (request_of c.args.request) c.submit-answer.result c.args.next.now
+    c.offer.new.way c.submit-answer.ensures) c.offer.ensures

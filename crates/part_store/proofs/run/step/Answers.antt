@@ -14,7 +14,9 @@ returns-then-holds-clause-paid g c = λ going.
     let buffer = c.args.run.now.buffer in
     let t = c.in-Some.token in
     let h : has (held table t.wave t.instr t.port) ≡ true =
-    sym (ap (λ (k : ℕ × ℕ × ℕ). has (held table k.0 k.1 k.2)) (λ j. (c.wave.ensures.wave j, c.instr.ensures j, c.port.ensures j)))
+    sym (ap (λ (k : ℕ × ℕ × ℕ). has (held table k.0 k.1 k.2))
+    (λ j. (c.wave.ensures.wave j, c.instr.ensures j, c.port.ensures j)))
     ∙ sym c.holds.ensures ∙ c.if-holds.true in
-    pay_held image (part table) buffer (c.take.new.next ++ c.take.new.round) t (has_some (held table t.wave t.instr t.port) h)
+    pay_held image (part table) buffer (c.take.new.next ++ c.take.new.round) t
+    (has_some (held table t.wave t.instr t.port) h)
     (subst (λ (ts : List Token). Paid image (part table) buffer ts) c.in-Some.ensures (c.requires.paid going))

@@ -7,7 +7,10 @@ use Rattle.part_store.proofs.run.tell.Goals as goal
 
 pub returns : goal.returns
 returns g c = record {
-  paid = map_ok c.offer.result (λ offered t others. addressed g.J.Job.image c.args.buffer.now c.address-answer.new.self (address_of c.args.token) c.address-answer.result
+  paid = map_ok c.offer.result (λ offered t others.
+      addressed g.J.Job.image c.args.buffer.now c.address-answer.new.self
+      (address_of c.args.token) c.address-answer.result
       (c.args.next.now ++ others) (c.offer.new.way ++ others) c.address-answer.ensures
-      (offered_beside c.address-answer.result c.args.next.now c.offer.new.way others offered) t) c.offer.ensures;
+      (offered_beside c.address-answer.result c.args.next.now c.offer.new.way others offered) t)
+      c.offer.ensures;
 }

@@ -1,4 +1,5 @@
-use Rattle.std.proofs.Common.{ℕ, ◌≡◌, None, Some, true, false, [], List, map, length, ap, ◌∙◌, sym, subst, arith}
+use Rattle.std.proofs.Common.{ℕ, ◌≡◌, None, Some, true, false, [], List, map, length, ap, ◌∙◌, sym, subst}
+use Rattle.std.proofs.Common.{arith}
 use Rattle.std.proofs.lemmas.Bool.{both_ways}
 use Rattle.std.specs.List.{list_any}
 use Rattle.ws_isa.specs.Image.{Image, cells_of}
@@ -20,8 +21,10 @@ no_room : (o : Order) → OrderOk o → o.kept.items ≡ [] → o.early.items �
 no_room o ok e f = let w = none_wait o ok e in let l = ap length f in omega (arith, w, l, o.early.ok.0)
 
 -- nothing is bare
-none_bare : (b : Bare) (ks : List Kept) → b.set.keys ≡ [] → (w i : ℕ) → is_in b w i ≡ true → (k : Kept) × (entry_of ks w i ≡ Some k)
-none_bare b ks e w i h = absurd (both_ways (is_in b w i) (ap (λ (ps : List (ℕ × ℕ)). list_any (pair_eq (w, i)) ps) e) h)
+none_bare : (b : Bare) (ks : List Kept) → b.set.keys ≡ [] → (w i : ℕ) → is_in b w i ≡ true →
+    (k : Kept) × (entry_of ks w i ≡ Some k)
+none_bare b ks e w i h = absurd (both_ways (is_in b w i)
+    (ap (λ (ps : List (ℕ × ℕ)). list_any (pair_eq (w, i)) ps) e) h)
 
 pub invariant_of-result : goal.invariant_of-result
 invariant_of-result g c =
@@ -36,13 +39,23 @@ invariant_of-result g c =
       order = order;
       bare = bare;
       queues = queues;
-      outer = record { cells = c.in-Ok.cells; input = c.args.input; read = 0; printed = c.new.result; ports = c.new-2.result };
+      outer = record {
+        cells = c.in-Ok.cells;
+        input = c.args.input;
+        read = 0;
+        printed = c.new.result;
+        ports = c.new-2.result;
+      };
       fault = None;
       failed = None;
       starved = false;
     } in
-    let cells : c.in-Ok.cells ≡ cells_of image.arrays = c.in-Ok.ensures ∙ ap (λ xs. cells_of (map view.array xs)) c.deref.ensures.value ∙ ap (λ (i : Image). cells_of i.arrays) c.program.ensures.image in
-    O.opening_stands image world g.J.Job.began (λ state r. c.every_list_of_events.ensures.reach image world c.program.ensures.formed c.program.ensures.sound state r)
+    let cells : c.in-Ok.cells ≡ cells_of image.arrays = c.in-Ok.ensures
+    ∙ ap (λ xs. cells_of (map view.array xs)) c.deref.ensures.value
+    ∙ ap (λ (i : Image). cells_of i.arrays) c.program.ensures.image in
+    O.opening_stands image world g.J.Job.began
+    (λ state r. c.every_list_of_events.ensures.reach image world c.program.ensures.formed
+    c.program.ensures.sound state r)
     c.new-2.result (subst (AllBegan g.J.Job.began world.left) (sym c.new-2.ensures) c.requires.ports) s
     (record {
       order = c.new-3.ensures.ok;
@@ -62,5 +75,10 @@ invariant_of-result g c =
       fault = None;
       failed = None;
       starved = false;
-      outside = record { cells = cells j; input = c.requires.input j; printed = c.new.ensures.items j; ports = c.new-2.result };
+      outside = record {
+        cells = cells j;
+        input = c.requires.input j;
+        printed = c.new.ensures.items j;
+        ports = c.new-2.result;
+      };
     })

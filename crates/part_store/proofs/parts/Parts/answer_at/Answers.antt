@@ -10,14 +10,25 @@ pub returns-clause-ok : goal.returns-clause-ok
 returns-clause-ok g c =
     let o = c.args.self.now.order in
     let a = A.answer_of (kept_at o c.args.place).answer c.requires.issued in
-    let q : c.index-kept.result.now ≡ kept_at o c.args.place = c.index-kept.ensures ∙ or_any o.kept.items c.args.place c.index-kept.result.now no_request c.requires.within in
+    let q : c.index-kept.result.now ≡ kept_at o c.args.place = c.index-kept.ensures
+    ∙ or_any o.kept.items c.args.place c.index-kept.result.now no_request c.requires.within in
     record {
-      order = A.answered o _ c.requires.ok.order c.args.place _ c.requires.within (ap (λ (k : Kept). k.wave) q) (ap (λ (k : Kept). k.instr) q) refl refl refl refl refl refl a.0 c.args.word a.1 refl;
+      order = A.answered o _ c.requires.ok.order c.args.place _ c.requires.within
+          (ap (λ (k : Kept). k.wave) q) (ap (λ (k : Kept). k.instr) q) refl refl refl refl refl refl a.0
+          c.args.word a.1 refl;
       early = c.requires.ok.early;
       printed = c.requires.ok.printed;
       queues = c.requires.ok.queues;
       lines = c.requires.ok.lines;
       counted = c.requires.ok.counted;
-      bare = λ w i e. U.still_kept (record { arrays = []; blocks = [] }) o c.requires.ok.order c.args.place c.requires.within c.args.word _
-          (ap (λ (k : Kept). slice_set o.kept.items c.args.place (record { wave = k.wave; instr = k.instr; first = k.first; second = k.second; answer = Some c.args.word })) q) w i (c.requires.ok.bare w i e);
+      bare = λ w i e. U.still_kept (record { arrays = []; blocks = [] }) o c.requires.ok.order c.args.place
+          c.requires.within c.args.word _
+          (ap (λ (k : Kept). slice_set o.kept.items c.args.place
+          (record {
+            wave = k.wave;
+            instr = k.instr;
+            first = k.first;
+            second = k.second;
+            answer = Some c.args.word;
+          })) q) w i (c.requires.ok.bare w i e);
     }

@@ -24,9 +24,15 @@ returns-clause-leads g c = λ world began formed sound right calm idle.
     let drains = c.drain.ensures.leads in
     let same = c.drain.ensures.same in
     let lead = c.settle.ensures.lead in
-    let told = D.told image world began formed sound old mid d new k t0 t1 t2 filled drains same lead empty c.requires.running c.requires.working right calm in (
-      D.calm_new image world began formed sound old mid d new k t0 t1 t2 filled drains same lead empty c.requires.running c.requires.working right calm,
-      subst (RightTokens image world) (sym told) (D.right_new image world began formed sound old mid d new k t0 t1 t2 filled drains same lead empty c.requires.running c.requires.working right calm),
-      subst (λ (ts : List Token). SubmitSo image (content_of old) k ts c.settle.result (content_of new)) (sym told)
-          (D.said image world began formed sound old mid d new k t0 t1 t2 filled drains same lead empty c.requires.running c.requires.working right calm c.settle.result c.settle.ensures.settled),
+    let told = D.told image world began formed sound old mid d new k t0 t1 t2 filled drains same lead empty
+    c.requires.running c.requires.working right calm in (
+      D.calm_new image world began formed sound old mid d new k t0 t1 t2 filled drains same lead empty
+          c.requires.running c.requires.working right calm,
+      subst (RightTokens image world) (sym told)
+          (D.right_new image world began formed sound old mid d new k t0 t1 t2 filled drains same lead empty
+          c.requires.running c.requires.working right calm),
+      subst (λ (ts : List Token). SubmitSo image (content_of old) k ts c.settle.result (content_of new))
+          (sym told)
+          (D.said image world began formed sound old mid d new k t0 t1 t2 filled drains same lead empty
+          c.requires.running c.requires.working right calm c.settle.result c.settle.ensures.settled),
     )

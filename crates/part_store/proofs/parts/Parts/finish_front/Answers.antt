@@ -24,18 +24,41 @@ returns-in_default-clause-leads g c = (
   sym (append-nil (tokens_of c.args.told.now.items)),
   λ world began formed sound st going fol.
       let e = c.args.entry in
-      let q = N.counts (image_of c.args.program.now) world began (content_of c.args.self.now) st.parting e (F.front_in c.args.self.now.queues.entries.items e.row e.index e fol.first).0 in
+      let q = N.counts (image_of c.args.program.now) world began (content_of c.args.self.now) st.parting e
+      (F.front_in c.args.self.now.queues.entries.items e.row e.index e fol.first).0 in
       absurd (c.in_default.ensures.none q.request q.answer q.is_kept q.answered),
 )
 
 pub tell-requires : goal.tell-requires
-tell-requires g c = let f = few_sent (image_of c.args.program.now) c.requires.formed c.destinations.result.now c.args.entry.instr c.destinations.ensures in
-    omega (arith, f, c.requires.room, c.leave.ensures.fewer, c.args.self.now.queues.entries.ok.0, c.leave.new.self.entries.ok.0)
+tell-requires g c = let f = few_sent (image_of c.args.program.now) c.requires.formed c.destinations.result.now
+    c.args.entry.instr c.destinations.ensures in
+    omega (
+      arith,
+      f,
+      c.requires.room,
+      c.leave.ensures.fewer,
+      c.args.self.now.queues.entries.ok.0,
+      c.leave.new.self.entries.ok.0,
+    )
 
 pub returns-clause-room : goal.returns-clause-room
-returns-clause-room g c = let f = few_sent (image_of c.args.program.now) c.requires.formed c.destinations.result.now c.args.entry.instr c.destinations.ensures in
-    let q : length c.answer_at.new.self.queues.entries.items ≡ length c.leave.new.self.entries.items = ap (λ (x : _). length x.entries.items) c.answer_at.ensures.queues in
-    omega (arith, f, q, c.requires.room, c.leave.ensures.fewer, c.args.self.now.queues.entries.ok.0, c.leave.new.self.entries.ok.0, c.answer_at.ensures.same.waiting, c.tell.ensures.count, c.tell.ensures.room)
+returns-clause-room g c = let f = few_sent
+    (image_of c.args.program.now) c.requires.formed c.destinations.result.now c.args.entry.instr
+    c.destinations.ensures in
+    let q : length c.answer_at.new.self.queues.entries.items ≡ length c.leave.new.self.entries.items =
+    ap (λ (x : _). length x.entries.items) c.answer_at.ensures.queues in
+    omega (
+      arith,
+      f,
+      q,
+      c.requires.room,
+      c.leave.ensures.fewer,
+      c.args.self.now.queues.entries.ok.0,
+      c.leave.new.self.entries.ok.0,
+      c.answer_at.ensures.same.waiting,
+      c.tell.ensures.count,
+      c.tell.ensures.room,
+    )
 
 pub returns-clause-leads : goal.returns-clause-leads
 returns-clause-leads g c = (
@@ -47,20 +70,42 @@ returns-clause-leads g c = (
       let new = c.answer_at.new.self in
       let e = c.args.entry in
       let p = c.in-Some.place in
-      let k : c.index-kept.result.now ≡ kept_at old.order p = c.index-kept.ensures ∙ or_any old.order.kept.items p c.index-kept.result.now no_request c.in-Some.ensures.within in
+      let k : c.index-kept.result.now ≡ kept_at old.order p = c.index-kept.ensures
+      ∙ or_any old.order.kept.items p c.index-kept.result.now no_request c.in-Some.ensures.within in
       let word = c.use_cell-word.result in
-      let word_is : word ≡ cond (is_store_op (instr_at image e.instr).op) 0 (cell old.outer.cells e.row e.index) = c.use_cell-word.ensures.word ∙ ap (λ (op : Op). cond (is_store_op op) 0 (cell old.outer.cells e.row e.index)) c.op.ensures in
-      let cells = ap (λ (o : _). o.cells) c.answer_at.ensures.outer ∙ c.use_cell-word.ensures.cells ∙ (λ j. cond (is_store_op (c.op.ensures j)) (with_row old.outer.cells e.row (slice_set (row old.outer.cells e.row) e.index (k j).second)) old.outer.cells) in
+      let word_is : word ≡ cond (is_store_op (instr_at image e.instr).op) 0
+      (cell old.outer.cells e.row e.index) = c.use_cell-word.ensures.word
+      ∙ ap (λ (op : Op). cond (is_store_op op) 0 (cell old.outer.cells e.row e.index)) c.op.ensures in
+      let cells = ap (λ (o : _). o.cells) c.answer_at.ensures.outer ∙ c.use_cell-word.ensures.cells
+      ∙ (λ j. cond (is_store_op (c.op.ensures j))
+      (with_row old.outer.cells e.row (slice_set (row old.outer.cells e.row) e.index (k j).second))
+      old.outer.cells) in
       let input = ap (λ (o : _). o.input) c.answer_at.ensures.outer ∙ c.use_cell-word.ensures.input in
       let read = ap (λ (o : _). o.read) c.answer_at.ensures.outer ∙ c.use_cell-word.ensures.read in
       let printed = ap (λ (o : _). o.printed) c.answer_at.ensures.outer ∙ c.use_cell-word.ensures.printed in
       let ports = ap (λ (o : _). o.ports) c.answer_at.ensures.outer ∙ c.use_cell-word.ensures.ports in
       let queued = ap (λ (x : _). x.entries.items) c.answer_at.ensures.queues ∙ c.leave.ensures.entries
-      ∙ T.first_leaves image world formed sound old.queues.entries.items e.row e.index e st.parting.partly.rising fol.first in
+      ∙ T.first_leaves image world formed sound old.queues.entries.items e.row e.index e
+      st.parting.partly.rising fol.first in
       let b = c.answer_at.ensures.same in
-      let beside : Beside old new = record { chain = b.chain; early = b.early; waiting = b.waiting; bare = b.bare; ports = b.ports ∙ c.use_cell-word.ensures.ports; fault = b.fault; failed = b.failed; starved = b.starved } in
+      let beside : Beside old new = record {
+        chain = b.chain;
+        early = b.early;
+        waiting = b.waiting;
+        bare = b.bare;
+        ports = b.ports
+            ∙ c.use_cell-word.ensures.ports;
+        fault = b.fault;
+        failed = b.failed;
+        starved = b.starved;
+      } in
       let told = ap (λ (ds : List Dest). tokens_to e.wave word ds) c.destinations.ensures
-      ∙ N.told_are image world formed sound began old new e p c.requires.ok.order st going fol c.in-Some.ensures.within c.in-Some.ensures.is word c.answer_at.ensures.kept word_is cells input read printed ports queued beside in
-      subst (λ (ts : List Token). Moves image (content_of old) ts (content_of new) × Stands image world began new) (sym told)
-      (N.finishes image world formed sound began old new e p c.requires.ok.order st going fol c.in-Some.ensures.within c.in-Some.ensures.is word c.answer_at.ensures.kept word_is cells input read printed ports queued beside),
+      ∙ N.told_are image world formed sound began old new e p c.requires.ok.order st going fol
+      c.in-Some.ensures.within c.in-Some.ensures.is word c.answer_at.ensures.kept word_is cells input read
+      printed ports queued beside in
+      subst (λ (ts : List Token). Moves image (content_of old) ts (content_of new) ×
+      Stands image world began new) (sym told)
+      (N.finishes image world formed sound began old new e p c.requires.ok.order st going fol
+      c.in-Some.ensures.within c.in-Some.ensures.is word c.answer_at.ensures.kept word_is cells input read
+      printed ports queued beside),
 )

@@ -1,4 +1,5 @@
-use Rattle.std.proofs.Common.{ℕ, ◌<◌, ◌≡◌, ◌∙◌, ◌⊎◌, Bool, List, Some, refl, Result, Ok, Err, OnErr, true, false, [], ◌∷◌, length, slice_index_or, ap, sym, subst, inl, inr, arith}
+use Rattle.std.proofs.Common.{ℕ, ◌<◌, ◌≡◌, ◌∙◌, ◌⊎◌, Bool, List, Some, refl, Result, Ok, Err, OnErr, true}
+use Rattle.std.proofs.Common.{false, [], ◌∷◌, length, slice_index_or, ap, sym, subst, inl, inr, arith}
 use Rattle.std.proofs.lemmas.List.{append-nil}
 use Rattle.std.proofs.lemmas.Result.{err_from_is_err_and}
 use Rattle.ws_isa.specs.declared.instr.Op.{Op}
@@ -28,56 +29,87 @@ use Rattle.part_store.proofs.parts.Parts.go.Goals as goal
 use Rattle.part_store.proofs.parts.Parts.go.Goals.{then-has-via-then-has, then-has-via-else-has+then-holds}
 use Rattle.df_core.proofs.Few.{few_sent}
 
-past_so : (image : Image) (op : Op) (k m : Kept) (b : Bool) → is_past_op image.arrays op (k.first ∷ []) ≡ b → op ≡ (instr_at image k.instr).op → k ≡ m → is_past_at image m ≡ b
-past_so image op k m b e f q = subst (λ (x : Kept). is_past_op image.arrays (instr_at image x.instr).op (x.first ∷ []) ≡ b) q (subst (λ (o : Op). is_past_op image.arrays o (k.first ∷ []) ≡ b) f e)
+past_so : (image : Image) (op : Op) (k m : Kept) (b : Bool) → is_past_op image.arrays op (k.first ∷ []) ≡ b →
+    op ≡ (instr_at image k.instr).op → k ≡ m → is_past_at image m ≡ b
+past_so image op k m b e f q = subst (λ (x : Kept).
+    is_past_op image.arrays (instr_at image x.instr).op (x.first ∷ []) ≡ b) q
+    (subst (λ (o : Op). is_past_op image.arrays o (k.first ∷ []) ≡ b) f e)
 
-array_so : (image : Image) (op : Op) (k m : Kept) (a : ℕ) → a ≡ array_of_op op → op ≡ (instr_at image k.instr).op → k ≡ m → array_at image m.instr ≡ a
+array_so : (image : Image) (op : Op) (k m : Kept) (a : ℕ) → a ≡ array_of_op op →
+    op ≡ (instr_at image k.instr).op → k ≡ m → array_at image m.instr ≡ a
 unfolding array_at
-array_so image op k m a e f q = sym (e ∙ ap array_of_op f ∙ ap (λ (x : Kept). array_of_op (instr_at image x.instr).op) q)
+array_so image op k m a e f q = sym (e ∙ ap array_of_op f
+    ∙ ap (λ (x : Kept). array_of_op (instr_at image x.instr).op) q)
 
 pub returns-then-is_past-clause-leads : goal.returns-then-is_past-clause-leads
 returns-then-is_past-clause-leads g c =
     let image = image_of c.args.program.now in
     let old = c.args.self.now in
     let m = near_at old.order c.args.at in
-    let past : is_past_at image m ≡ true = past_so image c.op-op.result c.request-kept.result m true (sym c.is_past.ensures ∙ c.if-is_past.true) c.op-op.ensures c.request-kept.ensures in
-    let a : array_at image m.instr ≡ c.array_of.result = array_so image c.op-op.result c.request-kept.result m c.array_of.result c.array_of.ensures c.op-op.ensures c.request-kept.ensures in (
+    let past : is_past_at image m ≡ true =
+    past_so image c.op-op.result c.request-kept.result m true
+    (sym c.is_past.ensures ∙ c.if-is_past.true) c.op-op.ensures c.request-kept.ensures in
+    let a : array_at image m.instr ≡ c.array_of.result =
+    array_so image c.op-op.result c.request-kept.result m c.array_of.result c.array_of.ensures
+    c.op-op.ensures c.request-kept.ensures in (
       [],
       sym (append-nil (tokens_of c.args.told.now.items)),
-      λ world began formed sound calm. subst (λ (n : ℕ). Moves image (content_of old) [] (record (content_of old) { fault = Some n }) × Calm image world began (record old { fault = Some n })) a
-          (G.stops_now image world formed sound began old c.requires.ok calm c.requires.going c.args.at c.requires.goes past),
+      λ world began formed sound calm. subst
+          (λ (n : ℕ). Moves image (content_of old) [] (record (content_of old) { fault = Some n }) ×
+          Calm image world began (record old { fault = Some n })) a
+          (G.stops_now image world formed sound began old c.requires.ok calm c.requires.going c.args.at
+          c.requires.goes past),
     )
 
-bare_so : {P : Type 0} (s : Parts P) (k m : Kept) (b r : Bool) → r ≡ is_in s.bare k.wave k.instr → r ≡ b → k ≡ m → is_in s.bare m.wave m.instr ≡ b
+bare_so : {P : Type 0} (s : Parts P) (k m : Kept) (b r : Bool) → r ≡ is_in s.bare k.wave k.instr → r ≡ b →
+    k ≡ m → is_in s.bare m.wave m.instr ≡ b
 bare_so s k m b r e f q = subst (λ (x : Kept). is_in s.bare x.wave x.instr ≡ b) q (sym e ∙ f)
 
-held_so : {P : Type 0} (image : Image) (s : Parts P) (op : Op) (k m : Kept) (b r : Bool) → r ≡ holds_op s.queues.entries.items op k.first → r ≡ b → op ≡ (instr_at image k.instr).op → k ≡ m → holds_op s.queues.entries.items (instr_at image m.instr).op m.first ≡ b
-held_so image s op k m b r e f at q = subst (λ (x : Kept). holds_op s.queues.entries.items (instr_at image x.instr).op x.first ≡ b) q (subst (λ (o : Op). holds_op s.queues.entries.items o k.first ≡ b) at (sym e ∙ f))
+held_so : {P : Type 0} (image : Image) (s : Parts P) (op : Op) (k m : Kept) (b r : Bool) →
+    r ≡ holds_op s.queues.entries.items op k.first → r ≡ b → op ≡ (instr_at image k.instr).op → k ≡ m →
+    holds_op s.queues.entries.items (instr_at image m.instr).op m.first ≡ b
+held_so image s op k m b r e f at q = subst
+    (λ (x : Kept). holds_op s.queues.entries.items (instr_at image x.instr).op x.first ≡ b) q
+    (subst (λ (o : Op). holds_op s.queues.entries.items o k.first ≡ b) at (sym e ∙ f))
 
 pub returns-then-has-clause-leads : goal.returns-then-has-clause-leads
 returns-then-has-clause-leads g c =
     let image = image_of c.args.program.now in
     let old = c.args.self.now in
     let m = near_at old.order c.args.at in
-    let within : is_past_at image m ≡ false = past_so image c.op-op.result c.request-kept.result m false (sym c.is_past.ensures ∙ c.if-is_past.false) c.op-op.ensures c.request-kept.ensures in
-    let which : (is_in old.bare m.wave m.instr ≡ true) ⊎ ((is_in old.bare m.wave m.instr ≡ false) × (holds_op old.queues.entries.items (instr_at image m.instr).op m.first ≡ true)) = elim c.then-has.branch [
-      | then-has-via-then-has w ↦ inl (bare_so old c.request-kept.result m true c.has.result c.has.ensures w.if-has.true c.request-kept.ensures)
+    let within : is_past_at image m ≡ false =
+    past_so image c.op-op.result c.request-kept.result m false
+    (sym c.is_past.ensures ∙ c.if-is_past.false) c.op-op.ensures c.request-kept.ensures in
+    let which : (is_in old.bare m.wave m.instr ≡ true) ⊎
+    ((is_in old.bare m.wave m.instr ≡ false) ×
+    (holds_op old.queues.entries.items (instr_at image m.instr).op m.first ≡ true)) =
+    elim c.then-has.branch [
+      | then-has-via-then-has w ↦ inl (bare_so old c.request-kept.result m true c.has.result c.has.ensures
+          w.if-has.true c.request-kept.ensures)
       | then-has-via-else-has+then-holds w ↦ inr (
-        bare_so old c.request-kept.result m false c.has.result c.has.ensures w.if-has.false c.request-kept.ensures,
-        held_so image old c.op-op.result c.request-kept.result m true w.holds.result w.holds.ensures w.if-holds.true c.op-op.ensures c.request-kept.ensures,
+        bare_so old c.request-kept.result m false c.has.result c.has.ensures w.if-has.false
+            c.request-kept.ensures,
+        held_so image old c.op-op.result c.request-kept.result m true w.holds.result w.holds.ensures
+            w.if-holds.true c.op-op.ensures c.request-kept.ensures,
       )
     ] in (
       [],
       sym (append-nil (tokens_of c.args.told.now.items)),
-      λ world began formed sound calm. G.waits_on image world formed sound began old c.requires.ok calm c.requires.going c.args.at c.requires.goes c.wait_on.new.self within c.wait_on.ensures.kept c.wait_on.ensures.passed
-          c.wait_on.ensures.bare c.wait_on.ensures.fault c.wait_on.ensures.outer c.wait_on.ensures.queued which,
+      λ world began formed sound calm. G.waits_on image world formed sound began old c.requires.ok calm
+          c.requires.going c.args.at c.requires.goes c.wait_on.new.self within c.wait_on.ensures.kept
+          c.wait_on.ensures.passed
+          c.wait_on.ensures.bare c.wait_on.ensures.fault c.wait_on.ensures.outer c.wait_on.ensures.queued
+          which,
     )
 
 pub run-requires-clause-port : goal.run-requires-clause-port
-run-requires-clause-port g c = subst PortIn (sym c.op-op.ensures) (port_in (image_of c.args.program.now) c.request-kept.result.instr c.requires.formed)
+run-requires-clause-port g c = subst PortIn (sym c.op-op.ensures)
+    (port_in (image_of c.args.program.now) c.request-kept.result.instr c.requires.formed)
 
 pub run-requires-clause-room : goal.run-requires-clause-room
-run-requires-clause-room g c = let s = C.some_wait (image_of c.args.program.now) c.args.self.now.order c.requires.ok.order c.args.at c.requires.goes.may in omega (arith, s, c.requires.ok.printed)
+run-requires-clause-room g c = let s = C.some_wait
+    (image_of c.args.program.now) c.args.self.now.order c.requires.ok.order c.args.at c.requires.goes.may in
+    omega (arith, s, c.requires.ok.printed)
 
 on_err : {A E : Type 0} {X : Type 0} (r : Result A E) → X → OnErr r X
 on_err (Ok a) h = tt
@@ -85,31 +117,62 @@ on_err (Err e) h = h
 
 pub returns-in_err-word-clause-stays : goal.returns-in_err-word-clause-stays
 returns-in_err-word-clause-stays g c = on_err c.from_residual.result (λ world began calm.
-    let n : Parts g.row.P.Denot = record { order = c.args.self.now.order; bare = c.args.self.now.bare; queues = c.args.self.now.queues; outer = c.run.new.self; fault = c.args.self.now.fault; failed = c.args.self.now.failed; starved = c.args.self.now.starved } in
-    G.still_calm (image_of c.args.program.now) world began c.args.self.now n calm refl refl refl refl (λ b o h. c.in_err-word.ensures.kept b o h))
+    let n : Parts g.row.P.Denot = record {
+      order = c.args.self.now.order;
+      bare = c.args.self.now.bare;
+      queues = c.args.self.now.queues;
+      outer = c.run.new.self;
+      fault = c.args.self.now.fault;
+      failed = c.args.self.now.failed;
+      starved = c.args.self.now.starved;
+    } in
+    G.still_calm (image_of c.args.program.now) world began c.args.self.now n calm refl refl refl refl
+    (λ b o h. c.in_err-word.ensures.kept b o h))
 
-silent_so : (image : Image) {P : Type 0} (old new : Parts P) (op : Op) (k : Kept) (why : Silent) → OrderOk old.order → (q : ℕ) → q < length old.order.kept.items → ready_flag image old.order (kept_at old.order q) ≡ true → k ≡ kept_at old.order q → op ≡ (instr_at image k.instr).op →
+silent_so : (image : Image) {P : Type 0} (old new : Parts P) (op : Op) (k : Kept) (why : Silent) →
+    OrderOk old.order → (q : ℕ) → q < length old.order.kept.items →
+    ready_flag image old.order (kept_at old.order q) ≡ true → k ≡ kept_at old.order q →
+    op ≡ (instr_at image k.instr).op →
     new.order ≡ old.order → SilentAt op old.outer.ports new.outer.ports why → SilentSo image old new why
 silent_so image old new op k (Failed p) ok q l ready is at same s = (
-  subst (λ o. PortWaits image o.kept.items (chain_of o.chain) p) (sym same) (port_waits image old.order ok q l ready p (ap (λ x. port_of (instr_at image x.instr).op) (sym is) ∙ ap port_of (sym at) ∙ s.0)),
+  subst (λ o. PortWaits image o.kept.items (chain_of o.chain) p) (sym same)
+      (port_waits image old.order ok q l ready p
+      (ap (λ x. port_of (instr_at image x.instr).op) (sym is) ∙ ap port_of (sym at) ∙ s.0)),
   s.1,
 )
 silent_so image old new op k (NoMemory p) ok q l ready is at same s =
-    subst (λ o. PortWaits image o.kept.items (chain_of o.chain) p) (sym same) (port_waits image old.order ok q l ready p (ap (λ x. port_of (instr_at image x.instr).op) (sym is) ∙ ap port_of (sym at) ∙ s))
+    subst (λ o. PortWaits image o.kept.items (chain_of o.chain) p) (sym same)
+    (port_waits image old.order ok q l ready p
+    (ap (λ x. port_of (instr_at image x.instr).op) (sym is) ∙ ap port_of (sym at) ∙ s))
 
 pub returns-in_err-word-clause-silent : goal.returns-in_err-word-clause-silent
 returns-in_err-word-clause-silent g c = let o = c.args.self.now.order in
-    let new : Parts g.row.P.Denot = record { order = o; bare = c.args.self.now.bare; queues = c.args.self.now.queues; outer = c.run.new.self; fault = c.args.self.now.fault; failed = c.args.self.now.failed; starved = c.args.self.now.starved } in
+    let new : Parts g.row.P.Denot = record {
+      order = o;
+      bare = c.args.self.now.bare;
+      queues = c.args.self.now.queues;
+      outer = c.run.new.self;
+      fault = c.args.self.now.fault;
+      failed = c.args.self.now.failed;
+      starved = c.args.self.now.starved;
+    } in
     let e = err_from_is_err_and c.from_residual.result c.from_residual.ensures.1 in
-    rw (e.1, e.2) (silent_so (image_of c.args.program.now) c.args.self.now new c.op-op.result c.request-kept.result _ c.requires.ok.order (slice_index_or o.near.items c.args.at (length o.kept.items)) c.requires.goes.may.place c.requires.goes.may.ready c.request-kept.ensures c.op-op.ensures refl c.in_err-word.ensures.silent)
+    rw (e.1, e.2) (silent_so (image_of c.args.program.now) c.args.self.now new c.op-op.result
+    c.request-kept.result _ c.requires.ok.order
+    (slice_index_or o.near.items c.args.at (length o.kept.items)) c.requires.goes.may.place
+    c.requires.goes.may.ready c.request-kept.ensures c.op-op.ensures refl c.in_err-word.ensures.silent)
 
 pub tell-requires : goal.tell-requires
-tell-requires g c = let f = few_sent (image_of c.args.program.now) c.requires.formed c.destinations.result.now c.request-kept.result.instr c.destinations.ensures in
-    let s = C.some_wait (image_of c.args.program.now) c.args.self.now.order c.requires.ok.order c.args.at c.requires.goes.may in
+tell-requires g c = let f = few_sent (image_of c.args.program.now) c.requires.formed c.destinations.result.now
+    c.request-kept.result.instr c.destinations.ensures in
+    let s = C.some_wait (image_of c.args.program.now) c.args.self.now.order c.requires.ok.order c.args.at
+    c.requires.goes.may in
     let r = c.requires.room in omega (arith, f, s, r)
 
 pub returns-clause-room : goal.returns-clause-room
-returns-clause-room g c = let f = few_sent (image_of c.args.program.now) c.requires.formed c.destinations.result.now c.request-kept.result.instr c.destinations.ensures in
+returns-clause-room g c = let f = few_sent
+    (image_of c.args.program.now) c.requires.formed c.destinations.result.now c.request-kept.result.instr
+    c.destinations.ensures in
     let l = c.issue.ensures.fewer in let n = c.tell.ensures.count in let q = c.tell.ensures.room in
     let r = c.requires.room in omega (arith, f, l, n, q, r)
 
@@ -117,11 +180,19 @@ pub returns-clause-ok : goal.returns-clause-ok
 returns-clause-ok g c = let o = c.args.self.now.order in record {
   order = c.issue.ensures.ok;
   early = c.issue.ensures.room;
-  printed = omega (arith, c.issue.ensures.fewer, c.requires.ok.printed, c.in_ok-word.ensures.room, c.in_ok-word.ensures.fewer);
+  printed = omega (
+    arith,
+    c.issue.ensures.fewer,
+    c.requires.ok.printed,
+    c.in_ok-word.ensures.room,
+    c.in_ok-word.ensures.fewer,
+  );
   queues = omega (arith, c.issue.ensures.fewer, c.requires.ok.queues);
   lines = omega (arith, c.issue.ensures.fewer, c.requires.ok.lines);
   counted = c.requires.ok.counted;
-  bare = λ w i e. U.still_kept (image_of c.args.program.now) o c.requires.ok.order (slice_index_or o.near.items c.args.at (length o.kept.items)) c.requires.goes.may.place c.in_ok-word.word c.issue.new.self.kept.items c.issue.ensures.kept w i (c.requires.ok.bare w i e);
+  bare = λ w i e. U.still_kept (image_of c.args.program.now) o c.requires.ok.order
+      (slice_index_or o.near.items c.args.at (length o.kept.items)) c.requires.goes.may.place
+      c.in_ok-word.word c.issue.new.self.kept.items c.issue.ensures.kept w i (c.requires.ok.bare w i e);
 }
 
 pub returns-clause-leads : goal.returns-clause-leads
@@ -131,18 +202,39 @@ returns-clause-leads g c =
     let m = near_at old.order c.args.at in
     let k = c.request-kept.result in
     let word = c.in_ok-word.word in
-    let n : Parts g.row.P.Denot = record { order = c.issue.new.self; bare = old.bare; queues = old.queues; outer = c.run.new.self; fault = old.fault; failed = old.failed; starved = old.starved } in
-    let within : is_past_at image m ≡ false = past_so image c.op-op.result k m false (sym c.is_past.ensures ∙ c.if-is_past.false) c.op-op.ensures c.request-kept.ensures in
-    let whole : is_in old.bare m.wave m.instr ≡ false = bare_so old k m false c.has.result c.has.ensures c.if-has.false c.request-kept.ensures in
-    let held : holds_op old.queues.entries.items (instr_at image m.instr).op m.first ≡ false = held_so image old c.op-op.result k m false c.holds.result c.holds.ensures c.if-holds.false c.op-op.ensures c.request-kept.ensures in (
+    let n : Parts g.row.P.Denot = record {
+      order = c.issue.new.self;
+      bare = old.bare;
+      queues = old.queues;
+      outer = c.run.new.self;
+      fault = old.fault;
+      failed = old.failed;
+      starved = old.starved;
+    } in
+    let within : is_past_at image m ≡ false =
+    past_so image c.op-op.result k m false
+    (sym c.is_past.ensures ∙ c.if-is_past.false) c.op-op.ensures c.request-kept.ensures in
+    let whole : is_in old.bare m.wave m.instr ≡ false =
+    bare_so old k m false c.has.result c.has.ensures c.if-has.false c.request-kept.ensures in
+    let held : holds_op old.queues.entries.items (instr_at image m.instr).op m.first ≡ false =
+    held_so image old c.op-op.result k m false c.holds.result c.holds.ensures c.if-holds.false
+    c.op-op.ensures c.request-kept.ensures in (
       tokens_to k.wave word c.destinations.result.now,
       c.tell.ensures.tokens,
       λ world began formed sound calm.
-          let told : tokens_to k.wave word c.destinations.result.now ≡ sends image m.wave m.instr (operands_at image m) word =
-          ap (tokens_to k.wave word) c.destinations.ensures ∙ ap (λ (x : Kept). tokens_to x.wave word (destinations image x.instr 0)) c.request-kept.ensures
-          ∙ N.sent image m word (G.is_memory_now image world formed sound began old c.requires.ok calm c.requires.going c.args.at c.requires.goes whole) in
-          subst (λ (ts : List Token). Moves image (content_of old) ts (content_of n) × Calm image world began n) (sym told)
-          (G.issues_now image world formed sound began old c.requires.ok calm c.requires.going c.args.at c.requires.goes n word within c.issue.ensures.kept c.issue.ensures.passed refl refl refl whole held
-          (λ b o h. subst (λ (x : Kept). Performed b (instr_at image x.instr).op (x.first ∷ x.second ∷ 0 ∷ []) o word (holding c.run.new.self)) c.request-kept.ensures
-          (subst (λ (op : Op). Performed b op (k.first ∷ k.second ∷ 0 ∷ []) o word (holding c.run.new.self)) c.op-op.ensures (c.in_ok-word.ensures.answer b o 0 h)))),
+          let told : tokens_to k.wave word c.destinations.result.now ≡ sends image m.wave m.instr
+          (operands_at image m) word =
+          ap (tokens_to k.wave word) c.destinations.ensures
+          ∙ ap (λ (x : Kept). tokens_to x.wave word (destinations image x.instr 0)) c.request-kept.ensures
+          ∙ N.sent image m word (G.is_memory_now image world formed sound began old c.requires.ok calm
+          c.requires.going c.args.at c.requires.goes whole) in
+          subst (λ (ts : List Token). Moves image (content_of old) ts (content_of n) ×
+          Calm image world began n) (sym told)
+          (G.issues_now image world formed sound began old c.requires.ok calm c.requires.going c.args.at
+          c.requires.goes n word within c.issue.ensures.kept c.issue.ensures.passed refl refl refl whole
+          held
+          (λ b o h. subst (λ (x : Kept). Performed b (instr_at image x.instr).op
+          (x.first ∷ x.second ∷ 0 ∷ []) o word (holding c.run.new.self)) c.request-kept.ensures
+          (subst (λ (op : Op). Performed b op (k.first ∷ k.second ∷ 0 ∷ []) o word (holding c.run.new.self))
+          c.op-op.ensures (c.in_ok-word.ensures.answer b o 0 h)))),
     )

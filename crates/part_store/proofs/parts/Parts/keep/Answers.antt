@@ -8,16 +8,25 @@ pub returns-clause-ok : goal.returns-clause-ok
 returns-clause-ok g c =
     let o = c.args.self.now.order in
     let n = c.add.new.self in
-    let m : n.waiting ≤ o.waiting + 1 = C.at_most c.add.result n.waiting o.waiting c.add.ensures.waiting c.add.ensures.still in
+    let m : n.waiting ≤ o.waiting + 1 = C.at_most c.add.result n.waiting o.waiting c.add.ensures.waiting
+    c.add.ensures.still in
     record {
       order = c.add.ensures.ok;
-      early = C.both c.add.result c.add.ensures.room (C.map_err c.add.result (λ (w : n.waiting ≡ o.waiting). let e : length n.early.items ≡ length o.early.items = ap length c.add.ensures.early in
-          omega (arith, w, e, n.early.ok.0, o.early.ok.0, c.add.ensures.grown, c.requires.ok.early)) c.add.ensures.still);
+      early = C.both c.add.result c.add.ensures.room
+          (C.map_err c.add.result (λ (w : n.waiting ≡ o.waiting).
+          let e : length n.early.items ≡ length o.early.items = ap length c.add.ensures.early in
+          omega (arith, w, e, n.early.ok.0, o.early.ok.0, c.add.ensures.grown, c.requires.ok.early))
+          c.add.ensures.still);
       printed = omega (arith, m, c.in_ok-reserve.ensures.ok);
       queues = omega (arith, m, c.in_ok-reserve-2.ensures.room);
       lines = omega (arith, m, c.in_ok-reserve-2.ensures.lines);
       counted = c.in_ok-reserve-2.ensures.ok c.requires.ok.counted;
       bare = λ w i e. let old = c.requires.ok.bare w i e in
-          C.both c.add.result (C.map_ok c.add.result (λ (q : n.kept.items ≡ o.kept.items ++ c.args.kept ∷ []). subst (λ (ks : List Kept). (x : Kept) × (entry_of ks w i ≡ Some x)) (sym q) (C.kept_more o.kept.items c.args.kept w i old)) c.add.ensures.kept)
-          (C.map_err c.add.result (λ (q : n.kept.items ≡ o.kept.items). subst (λ (ks : List Kept). (x : Kept) × (entry_of ks w i ≡ Some x)) (sym q) old) c.add.ensures.unchanged);
+          C.both c.add.result (C.map_ok c.add.result
+          (λ (q : n.kept.items ≡ o.kept.items ++ c.args.kept ∷ []).
+          subst (λ (ks : List Kept). (x : Kept) × (entry_of ks w i ≡ Some x)) (sym q)
+          (C.kept_more o.kept.items c.args.kept w i old)) c.add.ensures.kept)
+          (C.map_err c.add.result (λ (q : n.kept.items ≡ o.kept.items).
+          subst (λ (ks : List Kept). (x : Kept) × (entry_of ks w i ≡ Some x)) (sym q) old)
+          c.add.ensures.unchanged);
     }

@@ -10,9 +10,13 @@ returns-in-Ok-clause-leads g c = λ world began formed sound right calm idle.
     let old = c.args.self.now in
     let mid = c.keep.new.self in
     let bare = C.whole_bare old mid c.args.kept c.requires.ok c.requires.fresh c.keep.ensures.bare in (
-      C.put_calm image world began formed sound old mid c.args.kept false c.requires.fresh c.requires.waits c.in-Ok.ensures.keeps bare c.requires.running c.requires.working right calm c.requires.fed c.requires.held idle,
+      C.put_calm image world began formed sound old mid c.args.kept false c.requires.fresh c.requires.waits
+          c.in-Ok.ensures.keeps bare c.requires.running c.requires.working right calm c.requires.fed
+          c.requires.held idle,
       (λ w i p v e. absurd e),
-      C.put_request image world began formed sound old mid c.args.kept false c.requires.fresh c.requires.waits c.in-Ok.ensures.keeps bare c.requires.running c.requires.working right calm c.requires.fed c.requires.held idle refl,
+      C.put_request image world began formed sound old mid c.args.kept false c.requires.fresh c.requires.waits
+          c.in-Ok.ensures.keeps bare c.requires.running c.requires.working right calm c.requires.fed
+          c.requires.held idle refl,
     )
 
 pub returns-in-Err-clause-leads : goal.returns-in-Err-clause-leads
@@ -20,8 +24,14 @@ returns-in-Err-clause-leads g c = λ world began formed sound right calm idle.
     let image = image_of c.args.program.now in
     let old = c.args.self.now in
     let new = c.keep.new.self in
-    let bare : (w i : ℕ) → is_in new.bare w i ≡ is_in old.bare w i = λ w i. ap (λ (b : _). is_in b w i) c.keep.ensures.bare in (
+    let bare : (w i : ℕ) → is_in new.bare w i ≡ is_in old.bare w i =
+    λ w i. ap (λ (b : _). is_in b w i) c.keep.ensures.bare in (
       C.unchanged image world began old new c.in-Err.ensures.unchanged bare calm,
       (λ w i p v e. absurd e),
-      inl ((c.requires.running, c.requires.working), inl c.requires.fresh, C.same_as image world began old new c.in-Err.ensures.unchanged bare),
+      inl (
+        (c.requires.running, c.requires.working),
+        inl c.requires.fresh,
+        C.same_as image world began old new
+            c.in-Err.ensures.unchanged bare,
+      ),
     )

@@ -13,16 +13,20 @@ returns-clause-ok g c =
     let o = c.args.self.now.order in
     let p = c.in-Some.place in
     let l = c.in-Some.ensures.within in
-    let q : c.index-old.result.now ≡ kept_at o p = c.index-old.ensures ∙ or_any o.kept.items p c.index-old.result.now no_request l in
+    let q : c.index-old.result.now ≡ kept_at o p = c.index-old.ensures
+    ∙ or_any o.kept.items p c.index-old.result.now no_request l in
     record {
-      order = A.refilled o _ c.requires.ok.order p _ l (ap (λ (k : Kept). k.wave) q) (ap (λ (k : Kept). k.instr) q) refl refl refl refl refl refl (ap (λ (k : Kept). k.answer) q);
+      order = A.refilled o _ c.requires.ok.order p _ l (ap (λ (k : Kept). k.wave) q)
+          (ap (λ (k : Kept). k.instr) q) refl refl refl refl refl refl (ap (λ (k : Kept). k.answer) q);
       early = c.requires.ok.early;
       printed = c.requires.ok.printed;
       queues = c.requires.ok.queues;
       lines = c.requires.ok.lines;
       counted = c.requires.ok.counted;
-      bare = λ w i e. A.kept_still o c.requires.ok.order p _ l (ap (λ (k : Kept). k.wave) q) (ap (λ (k : Kept). k.instr) q) w i
-          (c.requires.ok.bare w i (A.still_in (same_key c.args.kept.wave c.args.kept.instr w i) (is_in c.args.self.now.bare w i) _ (c.forget.ensures w i) e));
+      bare = λ w i e. A.kept_still o c.requires.ok.order p _ l (ap (λ (k : Kept). k.wave) q)
+          (ap (λ (k : Kept). k.instr) q) w i
+          (c.requires.ok.bare w i (A.still_in (same_key c.args.kept.wave c.args.kept.instr w i)
+          (is_in c.args.self.now.bare w i) _ (c.forget.ensures w i) e));
     }
 
 pub returns-clause-filled : goal.returns-clause-filled
@@ -31,17 +35,41 @@ returns-clause-filled g c =
     let p = c.in-Some.place in
     let l = c.in-Some.ensures.within in
     let k = c.args.kept in
-    let q : c.index-old.result.now ≡ kept_at o p = c.index-old.ensures ∙ or_any o.kept.items p c.index-old.result.now no_request l in
+    let q : c.index-old.result.now ≡ kept_at o p = c.index-old.ensures
+    ∙ or_any o.kept.items p c.index-old.result.now no_request l in
     let f = A.key_flagged o p k.wave k.instr c.in-Some.ensures.is in
     record {
       fills = record {
         old = kept_at o p;
-        was = subst (λ (x : ℕ × ℕ). entry_of o.kept.items x.0 x.1 ≡ Some (kept_at o p)) (λ j. (f.0 j, f.1 j)) (A.found_at o c.requires.ok.order p l);
+        was = subst (λ (x : ℕ × ℕ). entry_of o.kept.items x.0 x.1 ≡ Some (kept_at o p)) (λ j. (f.0 j, f.1 j))
+            (A.found_at o c.requires.ok.order p l);
         bare = c.requires.bare;
-        kept = subst (λ (x : ℕ × ℕ × Option ℕ). (w i : ℕ) → entry_of (slice_set o.kept.items p (record { wave = c.index-old.result.now.wave; instr = c.index-old.result.now.instr; first = k.first; second = k.second; answer = c.index-old.result.now.answer })) w i
-            ≡ with_key x.0 x.1 (Some (record { wave = x.0; instr = x.1; first = k.first; second = k.second; answer = x.2 })) (entry_of o.kept.items) w i)
-            (λ j. ((ap (λ (y : Kept). y.wave) q ∙ f.0) j, (ap (λ (y : Kept). y.instr) q ∙ f.1) j, (ap (λ (y : Kept). y.answer) q) j))
-            (A.replaced o c.requires.ok.order p (record { wave = c.index-old.result.now.wave; instr = c.index-old.result.now.instr; first = k.first; second = k.second; answer = c.index-old.result.now.answer }) l (ap (λ (y : Kept). y.wave) q) (ap (λ (y : Kept). y.instr) q));
+        kept = subst (λ (x : ℕ × ℕ × Option ℕ). (w i : ℕ) →
+            entry_of (slice_set o.kept.items p
+            (record {
+              wave = c.index-old.result.now.wave;
+              instr = c.index-old.result.now.instr;
+              first = k.first;
+              second = k.second;
+              answer = c.index-old.result.now.answer;
+            })) w i
+            ≡ with_key x.0 x.1 (Some (record
+            { wave = x.0; instr = x.1; first = k.first; second = k.second; answer = x.2 }))
+            (entry_of o.kept.items) w i)
+            (λ j. (
+              (ap (λ (y : Kept). y.wave) q ∙ f.0) j,
+              (ap (λ (y : Kept). y.instr) q ∙ f.1) j,
+              (ap (λ (y : Kept). y.answer) q) j,
+            ))
+            (A.replaced o c.requires.ok.order p
+            (record {
+              wave = c.index-old.result.now.wave;
+              instr = c.index-old.result.now.instr;
+              first = k.first;
+              second = k.second;
+              answer = c.index-old.result.now.answer;
+            }) l
+            (ap (λ (y : Kept). y.wave) q) (ap (λ (y : Kept). y.instr) q));
         bare_is = c.forget.ensures;
         queued = refl;
         chain = refl;

@@ -14,13 +14,22 @@ returns-in-Ok-clause-leads g c = λ world began formed sound right calm idle.
     let old = c.args.self.now in
     let mid = c.keep_bare.new.self in
     let lead = c.settle.ensures.lead in
-    let told = lead.1 ∙ ap (λ (xs : List Token). xs ++ lead.0) (ap tokens_of (c.make_room.ensures.items ∙ c.requires.told)) in
-    let now = C.calm_now image world began formed sound old mid c.args.kept true c.requires.fresh c.requires.waits c.in-Ok.ensures.keeps c.in-Ok.ensures.bare c.requires.running c.requires.working right calm in
+    let told = lead.1 ∙ ap (λ (xs : List Token). xs ++ lead.0)
+    (ap tokens_of (c.make_room.ensures.items ∙ c.requires.told)) in
+    let now = C.calm_now image world began formed sound old mid c.args.kept true c.requires.fresh
+    c.requires.waits c.in-Ok.ensures.keeps c.in-Ok.ensures.bare c.requires.running c.requires.working
+    right calm in
     let led = lead.2 world began formed sound now in (
       led.1,
-      subst (RightTokens image world) (sym told) (C.right_now image world began formed sound old mid c.args.kept true c.requires.fresh c.requires.waits c.in-Ok.ensures.keeps c.in-Ok.ensures.bare c.requires.running c.requires.working right calm c.settle.new.self lead.0 led),
-      subst (λ (ts : List Token). AddressSo image (content_of old) c.args.kept ts c.settle.result (content_of c.settle.new.self)) (sym told)
-          (C.said image world began formed sound old mid c.args.kept true c.requires.fresh c.requires.waits c.in-Ok.ensures.keeps c.in-Ok.ensures.bare c.requires.running c.requires.working right calm c.settle.new.self lead.0 led refl c.settle.result c.settle.ensures.settled),
+      subst (RightTokens image world) (sym told)
+          (C.right_now image world began formed sound old mid c.args.kept true c.requires.fresh
+          c.requires.waits c.in-Ok.ensures.keeps c.in-Ok.ensures.bare c.requires.running c.requires.working
+          right calm c.settle.new.self lead.0 led),
+      subst (λ (ts : List Token). AddressSo image (content_of old) c.args.kept ts c.settle.result
+          (content_of c.settle.new.self)) (sym told)
+          (C.said image world began formed sound old mid c.args.kept true c.requires.fresh c.requires.waits
+          c.in-Ok.ensures.keeps c.in-Ok.ensures.bare c.requires.running c.requires.working right calm
+          c.settle.new.self lead.0 led refl c.settle.result c.settle.ensures.settled),
     )
 
 pub returns-in-Err-clause-leads : goal.returns-in-Err-clause-leads
@@ -31,5 +40,10 @@ returns-in-Err-clause-leads g c = λ world began formed sound right calm idle.
     let told = ap tokens_of (c.make_room.ensures.items ∙ c.requires.told) in (
       C.unchanged image world began old new c.in-Err.ensures.unchanged c.in-Err.ensures.still calm,
       subst (RightTokens image world) (sym told) (λ w i p v e. absurd e),
-      inl ((c.requires.running, c.requires.working), c.requires.fresh, C.same_as image world began old new c.in-Err.ensures.unchanged c.in-Err.ensures.still),
+      inl (
+        (c.requires.running, c.requires.working),
+        c.requires.fresh,
+        C.same_as image world began old new
+            c.in-Err.ensures.unchanged c.in-Err.ensures.still,
+      ),
     )

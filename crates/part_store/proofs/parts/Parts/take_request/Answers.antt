@@ -15,13 +15,25 @@ returns-in-Ok-clause-leads g c = λ world began formed sound right calm idle.
     let old = c.args.self.now in
     let mid = c.keep.new.self in
     let lead = c.settle.ensures.lead in
-    let told = lead.1 ∙ ap (λ (xs : List Token). xs ++ lead.0) (ap tokens_of (c.make_room.ensures.items ∙ c.requires.told)) in
-    let now = C.calm_now image world began formed sound old mid c.args.kept false c.requires.fresh c.requires.waits c.in-Ok.ensures.keeps (C.whole_bare old mid c.args.kept c.requires.ok c.requires.fresh c.in-Ok.ensures.bare) c.requires.running c.requires.working right calm in
+    let told = lead.1 ∙ ap (λ (xs : List Token). xs ++ lead.0)
+    (ap tokens_of (c.make_room.ensures.items ∙ c.requires.told)) in
+    let now = C.calm_now image world began formed sound old mid c.args.kept false c.requires.fresh
+    c.requires.waits c.in-Ok.ensures.keeps
+    (C.whole_bare old mid c.args.kept c.requires.ok c.requires.fresh c.in-Ok.ensures.bare)
+    c.requires.running c.requires.working right calm in
     let led = lead.2 world began formed sound now in (
       led.1,
-      subst (RightTokens image world) (sym told) (C.right_now image world began formed sound old mid c.args.kept false c.requires.fresh c.requires.waits c.in-Ok.ensures.keeps (C.whole_bare old mid c.args.kept c.requires.ok c.requires.fresh c.in-Ok.ensures.bare) c.requires.running c.requires.working right calm c.settle.new.self lead.0 led),
-      subst (λ (ts : List Token). SubmitSo image (content_of old) c.args.kept ts c.settle.result (content_of c.settle.new.self)) (sym told)
-          (C.took image world began formed sound old mid c.args.kept false c.requires.fresh c.requires.waits c.in-Ok.ensures.keeps (C.whole_bare old mid c.args.kept c.requires.ok c.requires.fresh c.in-Ok.ensures.bare) c.requires.running c.requires.working right calm c.settle.new.self lead.0 led refl c.settle.result c.settle.ensures.settled),
+      subst (RightTokens image world) (sym told)
+          (C.right_now image world began formed sound old mid c.args.kept false c.requires.fresh
+          c.requires.waits c.in-Ok.ensures.keeps
+          (C.whole_bare old mid c.args.kept c.requires.ok c.requires.fresh c.in-Ok.ensures.bare)
+          c.requires.running c.requires.working right calm c.settle.new.self lead.0 led),
+      subst (λ (ts : List Token). SubmitSo image (content_of old) c.args.kept ts c.settle.result
+          (content_of c.settle.new.self)) (sym told)
+          (C.took image world began formed sound old mid c.args.kept false c.requires.fresh c.requires.waits
+          c.in-Ok.ensures.keeps (C.whole_bare old mid c.args.kept c.requires.ok c.requires.fresh
+          c.in-Ok.ensures.bare) c.requires.running c.requires.working right calm c.settle.new.self lead.0
+          led refl c.settle.result c.settle.ensures.settled),
     )
 
 pub returns-in-Err-clause-leads : goal.returns-in-Err-clause-leads
@@ -30,7 +42,13 @@ returns-in-Err-clause-leads g c = λ world began formed sound right calm idle.
     let old = c.args.self.now in
     let new = c.keep.new.self in
     let told = ap tokens_of (c.make_room.ensures.items ∙ c.requires.told) in (
-      C.unchanged image world began old new c.in-Err.ensures.unchanged (λ w i. ap (λ (b : _). is_in b w i) c.in-Err.ensures.bare) calm,
+      C.unchanged image world began old new c.in-Err.ensures.unchanged
+          (λ w i. ap (λ (b : _). is_in b w i) c.in-Err.ensures.bare) calm,
       subst (RightTokens image world) (sym told) (λ w i p v e. absurd e),
-      inl ((c.requires.running, c.requires.working), inl c.requires.fresh, C.same_as image world began old new c.in-Err.ensures.unchanged (λ w i. ap (λ (b : _). is_in b w i) c.in-Err.ensures.bare)),
+      inl (
+        (c.requires.running, c.requires.working),
+        inl c.requires.fresh,
+        C.same_as image world began old new
+            c.in-Err.ensures.unchanged (λ w i. ap (λ (b : _). is_in b w i) c.in-Err.ensures.bare),
+      ),
     )

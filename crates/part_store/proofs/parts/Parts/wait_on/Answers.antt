@@ -11,30 +11,48 @@ use Rattle.part_store.proofs.Turning as U
 use Rattle.part_store.proofs.parts.Parts.wait_on.Goals as goal
 
 pub join-requires-clause-room : goal.join-requires-clause-room
-join-requires-clause-room g c = let s = C.some_wait (image_of c.args.program.now) c.args.self.now.order c.requires.ok.order c.args.at c.requires.may in omega (arith, s, c.requires.ok.queues)
+join-requires-clause-room g c = let s = C.some_wait
+    (image_of c.args.program.now) c.args.self.now.order c.requires.ok.order c.args.at c.requires.may in
+    omega (arith, s, c.requires.ok.queues)
 
 pub join-requires-clause-lines : goal.join-requires-clause-lines
-join-requires-clause-lines g c = let s = C.some_wait (image_of c.args.program.now) c.args.self.now.order c.requires.ok.order c.args.at c.requires.may in omega (arith, s, c.requires.ok.lines)
+join-requires-clause-lines g c = let s = C.some_wait
+    (image_of c.args.program.now) c.args.self.now.order c.requires.ok.order c.args.at c.requires.may in
+    omega (arith, s, c.requires.ok.lines)
 
 pub returns-clause-ok : goal.returns-clause-ok
 returns-clause-ok g c = let o = c.args.self.now.order in record {
   order = c.issue.ensures.ok;
   early = c.issue.ensures.room;
   printed = omega (arith, c.issue.ensures.fewer, c.requires.ok.printed);
-  queues = omega (arith, c.issue.ensures.fewer, c.requires.ok.queues, c.join.ensures.more, c.join.ensures.room);
+  queues = omega (
+    arith,
+    c.issue.ensures.fewer,
+    c.requires.ok.queues,
+    c.join.ensures.more,
+    c.join.ensures.room,
+  );
   lines = omega (arith, c.issue.ensures.fewer, c.requires.ok.lines, c.join.ensures.lines);
   counted = c.join.ensures.ok;
-  bare = λ w i e. U.still_kept (image_of c.args.program.now) o c.requires.ok.order (slice_index_or o.near.items c.args.at (length o.kept.items)) c.requires.may.place 0 c.issue.new.self.kept.items c.issue.ensures.kept w i (c.requires.ok.bare w i e);
+  bare = λ w i e. U.still_kept (image_of c.args.program.now) o c.requires.ok.order
+      (slice_index_or o.near.items c.args.at (length o.kept.items)) c.requires.may.place 0
+      c.issue.new.self.kept.items c.issue.ensures.kept w i (c.requires.ok.bare w i e);
 }
 
-row_so : (image : Image) (op : Op) (k m : Kept) (row : ℕ) → row ≡ array_of_op op - 1 → op ≡ (instr_at image k.instr).op → k ≡ m → row ≡ array_at image m.instr - 1
+row_so : (image : Image) (op : Op) (k m : Kept) (row : ℕ) → row ≡ array_of_op op - 1 →
+    op ≡ (instr_at image k.instr).op → k ≡ m → row ≡ array_at image m.instr - 1
 unfolding array_at
-row_so image op k m row e f q = e ∙ ap (λ (x : Op). array_of_op x - 1) f ∙ ap (λ (x : Kept). array_of_op (instr_at image x.instr).op - 1) q
+row_so image op k m row e f q = e ∙ ap (λ (x : Op). array_of_op x - 1) f
+    ∙ ap (λ (x : Kept). array_of_op (instr_at image x.instr).op - 1) q
 
 pub returns-clause-queued : goal.returns-clause-queued
 returns-clause-queued g c =
     let image = image_of c.args.program.now in
     let q : c.request-kept.result ≡ near_at c.args.self.now.order c.args.at = c.request-kept.ensures in
-    let r : c.row_of.result ≡ array_at image (near_at c.args.self.now.order c.args.at).instr - 1 = row_so image c.op.result c.request-kept.result (near_at c.args.self.now.order c.args.at) c.row_of.result c.row_of.ensures c.op.ensures q in
-    let n : c.note.result.seq ≡ (note_of image (near_at c.args.self.now.order c.args.at).instr).seq = ap (λ (x : _). x.seq) c.note.ensures ∙ ap (λ (x : Kept). (note_of image x.instr).seq) q in
-    c.join.ensures.entries ∙ ap (λ (e : Entry). joined e c.args.self.now.queues.entries.items) (λ j. record { wave = (q j).wave; instr = (q j).instr; seq = n j; row = r j; index = (q j).first })
+    let r : c.row_of.result ≡ array_at image (near_at c.args.self.now.order c.args.at).instr - 1 =
+    row_so image c.op.result c.request-kept.result
+    (near_at c.args.self.now.order c.args.at) c.row_of.result c.row_of.ensures c.op.ensures q in
+    let n : c.note.result.seq ≡ (note_of image (near_at c.args.self.now.order c.args.at).instr).seq =
+    ap (λ (x : _). x.seq) c.note.ensures ∙ ap (λ (x : Kept). (note_of image x.instr).seq) q in
+    c.join.ensures.entries ∙ ap (λ (e : Entry). joined e c.args.self.now.queues.entries.items)
+    (λ j. record { wave = (q j).wave; instr = (q j).instr; seq = n j; row = r j; index = (q j).first })

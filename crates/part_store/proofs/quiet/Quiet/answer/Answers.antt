@@ -1,4 +1,5 @@
-use Rattle.std.proofs.Common.{ℕ, ◌≡◌, ◌∙◌, ◌&&◌, Bool, true, false, not, cond, List, Option, None, refl, ap, subst}
+use Rattle.std.proofs.Common.{ℕ, ◌≡◌, ◌∙◌, ◌&&◌, Bool, true, false, not, cond, List, Option, None, refl, ap}
+use Rattle.std.proofs.Common.{subst}
 use Rattle.ws_isa.specs.Image.{instr_at}
 use Rattle.store_buf.specs.Requests.{issued_in}
 use Rattle.store_buf.specs.Contents.{Content, answer_of, gives_word}
@@ -16,7 +17,9 @@ returns g c =
     let inner = c.self.inside.inner in
     let b = gives_word (instr_at g.J.Job.image c.args.instr).op in
     let o = issued_in inner.kept c.args.wave c.args.instr in
-    subst (λ (x : Content). c.answer.result ≡ answer_of g.J.Job.image x c.args.wave c.args.instr) c.self.view_is
+    subst (λ (x : Content). c.answer.result ≡ answer_of g.J.Job.image x c.args.wave c.args.instr)
+    c.self.view_is
     (c.answer.ensures
-    ∙ ap (λ (es : List Entry). cond (b && not (is_queued es c.args.wave c.args.instr)) o None) (W.empty inner c.self.invariant c.facts.ensures.parted.1)
+    ∙ ap (λ (es : List Entry). cond (b && not (is_queued es c.args.wave c.args.instr)) o None)
+    (W.empty inner c.self.invariant c.facts.ensures.parted.1)
     ∙ unqueued b o)
