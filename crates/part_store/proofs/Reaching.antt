@@ -122,6 +122,21 @@ taken_on all before after way more t c e f w i p v h = elim (c w i p v h) [
       ]
 ]
 
+pub taken_first : (all before after way more : List Token) (t : Token) →
+    ((w i p v : ℕ) → IsSent all w i p v → IsSent way w i p v ⊎ IsSent before w i p v) →
+    before ≡ t ∷ after → more ≡ way ++ t ∷ [] →
+    (w i p v : ℕ) → IsSent all w i p v → IsSent more w i p v ⊎ IsSent after w i p v
+taken_first all before after way more t c e f w i p v h = elim (c w i p v h) [
+  | inl g ↦ inl (subst (λ (ts : List Token). IsSent ts w i p v) (sym f)
+      (is_sent_append_left way (t ∷ []) w i p v g))
+  | inr g ↦ elim (is_sent_append_cases (t ∷ []) after w i p v
+      (subst (λ (ts : List Token). IsSent ts w i p v) e g)) [
+        | inl k ↦ inl (subst (λ (ts : List Token). IsSent ts w i p v) (sym f)
+            (is_sent_append_right way (t ∷ []) w i p v k))
+        | inr k ↦ inr k
+      ]
+]
+
 pub all_taken : (all rest way : List Token) →
     ((w i p v : ℕ) → IsSent all w i p v → IsSent way w i p v ⊎ IsSent rest w i p v) → rest ≡ [] →
     Covers all way

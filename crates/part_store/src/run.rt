@@ -17,9 +17,9 @@ ghost use Rattle.part_store.specs.Runs.{EndingSo, IsGoing, IsWhole, Paid, PaidWh
 
 use crate::finish::{Ending, PartEnd, PartFinish, finish};
 use crate::part::PartBuffer;
-use crate::way::{offer, take, take_all};
+use crate::way::{offer, send_all, take};
 use df_core::{Code, Job, Request, Token, TokenList, start};
-use match_table::{Accept, AcceptFault, Table};
+use match_table::{Results, Table, Took};
 use port_set::{Port, Slots};
 use std::alloc::Global;
 use std::marker::Brand;
@@ -124,7 +124,7 @@ fn run_from<J: Job, P: Port>(
     let ending = match start(alloc, code) {
         Ok(pulse) => {
             run.way = pulse;
-            run_on(alloc, code, &mut run, budget)
+            run_on(code, &mut run, budget)
         }
         Err(_) => Ending::Stopped,
     };
@@ -143,12 +143,7 @@ fn stays<P: Port>(ports: Slots<P>) -> PartEnd<P>
 }
 
 // Brings tokens to the table until none is on the way, the budget is spent, or the buffer is stopped.
-fn run_on<J: Job, P: Port>(
-    alloc: Global,
-    code: &Code<'_, J>,
-    run: &mut Run<J, P>,
-    budget: u64,
-) -> Ending
+fn run_on<J: Job, P: Port>(code: &Code<'_, J>, run: &mut Run<J, P>, budget: u64) -> Ending
     requires within { length run.old.table.fired ≤ budget }
     requires paid { PaidWhile J.image (part run.old.table) run.old.buffer
         (run.old.next ++ run.old.way) }
@@ -156,7 +151,7 @@ fn run_on<J: Job, P: Port>(
     ensures ended { EndingSo J.image J.world budget run.new.table run.new.buffer result }
 {
     for _ in 0..u64::MAX {
-        if let Some(ending) = step(alloc, code, run, budget) {
+        if let Some(ending) = step(code, run, budget) {
             return ending;
         }
     }
@@ -164,12 +159,7 @@ fn run_on<J: Job, P: Port>(
 }
 
 // Brings a token of the round to the table, if the run goes on.
-fn step<J: Job, P: Port>(
-    alloc: Global,
-    code: &Code<'_, J>,
-    run: &mut Run<J, P>,
-    budget: u64,
-) -> Option<Ending>
+fn step<J: Job, P: Port>(code: &Code<'_, J>, run: &mut Run<J, P>, budget: u64) -> Option<Ending>
     requires within { length run.old.table.fired ≤ budget }
     requires paid { PaidWhile J.image (part run.old.table) run.old.buffer
         (run.old.next ++ run.old.way) }
@@ -191,7 +181,7 @@ fn step<J: Job, P: Port>(
         }
         return Some(Ending::Spent);
     }
-    match bring(alloc, code, run, token) {
+    match bring(code, run, token) {
         Ok(()) => None,
         Err(_) => Some(Ending::Stopped),
     }
@@ -199,7 +189,6 @@ fn step<J: Job, P: Port>(
 
 // Brings a token to the table, and what comes of it to the buffer. One that has come before is let go.
 fn bring<J: Job, P: Port>(
-    alloc: Global,
     code: &Code<'_, J>,
     run: &mut Run<J, P>,
     token: Token<J>,
@@ -214,16 +203,21 @@ fn bring<J: Job, P: Port>(
     let _ = code.program();
     let _ = token.wave();
     run.table.facts();
-    let address = address_of(code, &token);
-    match run.table.accept(alloc, code, token) {
-        Ok(Accept::Waits) => match address {
-            Some(token) => tell(code, &mut run.buffer, &mut run.next, token),
+    let mut results = Results::none();
+    let took = run.table.accept_into(code, &token, &mut results);
+    let Results { sent, request } = results;
+    match took {
+        Took::Waits => match address_of(code, token) {
+            Some(address) => tell(code, &mut run.buffer, &mut run.next, address),
             None => Ok(()),
         },
-        Ok(Accept::Fires(tokens)) => take_all(tokens, &mut run.next),
-        Ok(Accept::Asks(request)) => ask(code, &mut run.buffer, &mut run.next, request),
-        Err(AcceptFault::Old(_)) => Ok(()),
-        Err(AcceptFault::NoMemory(_)) => Err(NoMemory),
+        Took::Fires => send_all(sent, &mut run.next),
+        Took::Asks => match request {
+            Some(request) => ask(code, &mut run.buffer, &mut run.next, request),
+            None => unreachable!(),
+        },
+        Took::Old => Ok(()),
+        Took::NoMemory => Err(NoMemory),
     }
 }
 
@@ -262,19 +256,13 @@ fn ask<J: Job, P: Port>(
     offer(answer, next)
 }
 
-// The same token once more, where it is the address of a store.
-fn address_of<J: Job>(code: &Code<'_, J>, token: &Token<J>) -> Option<Token<J>>
-    ensures { MatchOption result (Unit {0}) (λ address. (address ≡ token.now)
-        × (is_store_op (instr_at J.image token.now.instr).op ≡ true) × (token.now.port ≡ 0)) }
+// The token, where it is the address of a store.
+fn address_of<J: Job>(code: &Code<'_, J>, token: Token<J>) -> Option<Token<J>>
+    ensures { MatchOption result (Unit {0}) (λ address. (address ≡ token)
+        × (is_store_op (instr_at J.image token.instr).op ≡ true) × (token.port ≡ 0)) }
 {
     match code.program().op(token.instr()) {
-        Op::Store(_) => {
-            if token.port() == 0 {
-                Some(token.again())
-            } else {
-                None
-            }
-        }
+        Op::Store(_) => { if token.port() == 0 { Some(token) } else { None } }
         _ => None,
     }
 }

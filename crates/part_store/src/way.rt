@@ -3,7 +3,7 @@
 ghost use Rattle.std.specs.Prelude.{◌≡◌, ◌++◌, ◌∷◌, [], MatchOption, OnOk};
 ghost use Rattle.part_store.specs.Runs.{Covers, IsOffered};
 
-use df_core::{Job, Token, TokenList};
+use df_core::{Job, Sent, Token, TokenList};
 use std::mem::swap;
 use store_buf::BufFault;
 use ws_words::NoMemory;
@@ -34,6 +34,18 @@ pub fn offer<J: Job>(
         Err(BufFault::NoMemory) => Err(NoMemory),
         Err(_) => Ok(()),
     }
+}
+
+/// Puts what an instance sent on the way.
+pub fn send_all<J: Job>(sent: Sent<'_, J>, way: &mut TokenList<J>) -> Result<(), NoMemory>
+    ensures old { OnOk result (Covers way.old way.new) }
+    ensures taken { OnOk result (Covers sent.entry way.new) }
+{
+    let mut rest = sent;
+    while let Some(token) = rest.next() {
+        way.push(token)?;
+    }
+    Ok(())
 }
 
 /// Puts all tokens of a list on the way.

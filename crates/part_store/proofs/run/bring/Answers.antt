@@ -1,4 +1,4 @@
-use Rattle.std.proofs.Common.{ℕ, ◌++◌, subst, sym}
+use Rattle.std.proofs.Common.{ℕ, ◌≡◌, ◌++◌, ◌∙◌, Some, subst, sym}
 use Rattle.match_table.specs.declared.table.Accept.TheVariants.{Waits, Fires, Asks}
 use Rattle.match_table.specs.declared.table.AcceptFault.TheVariants.{Old}
 use Rattle.match_table.specs.Matching.{Accepted, Refused}
@@ -17,13 +17,12 @@ returns-in-Some-clause-paid g c =
     let world = g.J.Job.world in
     let old = c.args.run.now.table in
     let x = c.args.token in
-    let answer : Accepted {J = g.row.J.Denot} image old x c.accept.new.self Waits =
-    subst (λ a. Accepted {J = g.row.J.Denot} image old x c.accept.new.self a) c.in-Ok-Waits.field-0-is
-    c.in-Ok-Waits.ensures.answer in
+    let answer : Accepted {J = g.row.J.Denot} image old x c.accept_into-took.new.self Waits =
+    c.in-Waits.ensures.answer.0 in
     let fresh = not_fired image world c.program.ensures.formed c.program.ensures.sound
     (part old) c.facts.ensures.part x c.wave.ensures.right answer.0.free in
-    map_ok c.tell.result (λ tell. tell (part c.accept.new.self) c.args.run.now.way
-    (taken_waits image old x c.accept.new.self answer.0 fresh c.args.run.now.buffer
+    map_ok c.tell.result (λ tell. tell (part c.accept_into-took.new.self) c.args.run.now.way
+    (taken_waits image old x c.accept_into-took.new.self answer.0 fresh c.args.run.now.buffer
     (c.args.run.now.next ++ c.args.run.now.way) c.requires.paid answer.2)) c.tell.ensures.paid
 
 pub returns-in-None-clause-paid : goal.returns-in-None-clause-paid
@@ -32,63 +31,63 @@ returns-in-None-clause-paid g c = λ going.
     let world = g.J.Job.world in
     let old = c.args.run.now.table in
     let x = c.args.token in
-    let answer : Accepted {J = g.row.J.Denot} image old x c.accept.new.self Waits =
-    subst (λ a. Accepted {J = g.row.J.Denot} image old x c.accept.new.self a) c.in-Ok-Waits.field-0-is
-    c.in-Ok-Waits.ensures.answer in
+    let answer : Accepted {J = g.row.J.Denot} image old x c.accept_into-took.new.self Waits =
+    c.in-Waits.ensures.answer.0 in
     let fresh = not_fired image world c.program.ensures.formed c.program.ensures.sound
     (part old) c.facts.ensures.part x c.wave.ensures.right answer.0.free in
-    taken_waits image old x c.accept.new.self answer.0 fresh c.args.run.now.buffer
+    taken_waits image old x c.accept_into-took.new.self answer.0 fresh c.args.run.now.buffer
     (c.args.run.now.next ++ c.args.run.now.way) c.requires.paid answer.2
 
-pub returns-in-Ok-Fires-clause-paid : goal.returns-in-Ok-Fires-clause-paid
-returns-in-Ok-Fires-clause-paid g c =
+pub returns-in-Fires-clause-paid : goal.returns-in-Fires-clause-paid
+returns-in-Fires-clause-paid g c =
     let image = g.J.Job.image in
     let world = g.J.Job.world in
     let old = c.args.run.now.table in
     let x = c.args.token in
-    let answer : Accepted {J = g.row.J.Denot} image old x c.accept.new.self (Fires c.in-Ok-Fires.tokens) =
-    subst (λ a. Accepted {J = g.row.J.Denot} image old x c.accept.new.self a) c.in-Ok-Fires.field-0-is
-    c.in-Ok-Fires.ensures.answer in
+    let answer : Accepted {J = g.row.J.Denot} image old x c.accept_into-took.new.self
+    (Fires c.accept_into-took.new.results.sent) = c.in-Fires.ensures.answer.0 in
     let fresh = not_fired image world c.program.ensures.formed c.program.ensures.sound
     (part old) c.facts.ensures.part x c.wave.ensures.right answer.0.free in
     let full = answer.1 in
-    both_ok c.take_all.result (λ keep sent going.
-    taken_fires image old x c.accept.new.self answer.0 fresh c.args.run.now.buffer
+    both_ok c.send_all.result (λ keep sent going.
+    taken_fires image old x c.accept_into-took.new.self answer.0 fresh c.args.run.now.buffer
     (c.args.run.now.next ++ c.args.run.now.way) c.requires.paid
-    (c.take_all.new.way ++ c.args.run.now.way) c.in-Ok-Fires.tokens full.0 full.1 full.2.0 full.2.1
-    (covers_beside c.args.run.now.next c.take_all.new.way c.args.run.now.way keep)
-    (covers_wider c.in-Ok-Fires.tokens c.take_all.new.way c.args.run.now.way sent)) c.take_all.ensures.old
-    c.take_all.ensures.taken
+    (c.send_all.new.way ++ c.args.run.now.way) c.accept_into-took.new.results.sent full.0 full.1 full.2.0 full.2.1
+    (covers_beside c.args.run.now.next c.send_all.new.way c.args.run.now.way keep)
+    (covers_wider c.accept_into-took.new.results.sent c.send_all.new.way c.args.run.now.way sent)) c.send_all.ensures.old
+    c.send_all.ensures.taken
 
-pub returns-in-Ok-Asks-clause-paid : goal.returns-in-Ok-Asks-clause-paid
-returns-in-Ok-Asks-clause-paid g c =
+pub returns-in-Some-request-clause-paid : goal.returns-in-Some-request-clause-paid
+returns-in-Some-request-clause-paid g c =
     let image = g.J.Job.image in
     let world = g.J.Job.world in
     let old = c.args.run.now.table in
     let x = c.args.token in
-    let answer : Accepted {J = g.row.J.Denot} image old x c.accept.new.self (Asks c.in-Ok-Asks.request) =
-    subst (λ a. Accepted {J = g.row.J.Denot} image old x c.accept.new.self a) c.in-Ok-Asks.field-0-is
-    c.in-Ok-Asks.ensures.answer in
+    let asks = c.in-Asks.ensures.answer in
+    let some : Some asks.0 ≡ Some c.in-Some-request.request = sym asks.1 ∙ c.in-Some-request.is in
+    let same : asks.0 ≡ c.in-Some-request.request = cc in
+    let answer : Accepted {J = g.row.J.Denot} image old x c.accept_into-took.new.self
+    (Asks c.in-Some-request.request) =
+    subst (λ a. Accepted {J = g.row.J.Denot} image old x c.accept_into-took.new.self (Asks a)) same asks.3 in
     let fresh = not_fired image world c.program.ensures.formed c.program.ensures.sound
     (part old) c.facts.ensures.part x c.wave.ensures.right answer.0.free in
     let full = answer.1 in
     both_ok c.ask.result (λ tell whole going.
-    taken_asks image old x c.accept.new.self answer.0 fresh c.args.run.now.buffer
+    taken_asks image old x c.accept_into-took.new.self answer.0 fresh c.args.run.now.buffer
     (c.args.run.now.next ++ c.args.run.now.way) c.requires.paid
     c.ask.new.buffer (c.ask.new.next ++ c.args.run.now.way) full.0 full.1 full.2.0
     (λ t paid. tell t c.args.run.now.way paid going)
     (subst (λ (k : ℕ × ℕ). IsWhole c.ask.new.buffer k.0 k.1) (λ j. (full.2.1 j, full.2.2 j)) (whole going)))
     c.ask.ensures.paid c.ask.ensures.asked
 
-pub returns-in-Err-Old-clause-paid : goal.returns-in-Err-Old-clause-paid
-returns-in-Err-Old-clause-paid g c = λ going.
+pub returns-in-Old-clause-paid : goal.returns-in-Old-clause-paid
+returns-in-Old-clause-paid g c = λ going.
     let image = g.J.Job.image in
     let old = c.args.run.now.table in
     let x = c.args.token in
     let way = c.args.run.now.next ++ c.args.run.now.way in
-    let refused : Refused {J = g.row.J.Denot} old x c.accept.new.self (Old c.in-Err-Old.field-0-0) =
-    subst (λ a. Refused {J = g.row.J.Denot} old x c.accept.new.self a) c.in-Err-Old.field-0-is
-    c.in-Err-Old.ensures.answer in
+    let refused : Refused {J = g.row.J.Denot} old x c.accept_into-took.new.self (Old x) =
+    c.in-Old.ensures.answer.0 in
     subst (λ t. Paid image (part t) c.args.run.now.buffer way) (sym refused.1)
     (pay_held image (part old) c.args.run.now.buffer way x
     (has_some (held old x.wave x.instr x.port) refused.2) c.requires.paid)

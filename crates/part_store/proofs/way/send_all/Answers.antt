@@ -1,0 +1,11 @@
+use Rattle.part_store.proofs.Reaching.{covers_push, taken_first}
+use Rattle.part_store.proofs.way.send_all.Goals as goal
+
+pub loop-token-preserved : goal.loop-token-preserved
+loop-token-preserved g c =
+    let t = c.in-Some.token in (
+      covers_push c.args.way.now c.loop-token.way c.push.new.self t c.loop-token.invariant.0
+          c.in_ok-push.ensures.ok,
+      taken_first c.args.sent c.loop-token.rest c.next.new.self c.loop-token.way c.push.new.self t
+          c.loop-token.invariant.1 c.in-Some.ensures c.in_ok-push.ensures.ok,
+    )
