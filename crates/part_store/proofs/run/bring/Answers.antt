@@ -52,9 +52,11 @@ returns-in-Fires-clause-paid g c =
     both_ok c.send_all.result (λ keep sent going.
     taken_fires image old x c.accept_into-took.new.self answer.0 fresh c.args.run.now.buffer
     (c.args.run.now.next ++ c.args.run.now.way) c.requires.paid
-    (c.send_all.new.way ++ c.args.run.now.way) c.accept_into-took.new.results.sent full.0 full.1 full.2.0 full.2.1
+    (c.send_all.new.way ++ c.args.run.now.way) c.accept_into-took.new.results.sent full.0 full.1 full.2.0
+    full.2.1
     (covers_beside c.args.run.now.next c.send_all.new.way c.args.run.now.way keep)
-    (covers_wider c.accept_into-took.new.results.sent c.send_all.new.way c.args.run.now.way sent)) c.send_all.ensures.old
+    (covers_wider c.accept_into-took.new.results.sent c.send_all.new.way c.args.run.now.way sent))
+    c.send_all.ensures.old
     c.send_all.ensures.taken
 
 pub returns-in-Some-request-clause-paid : goal.returns-in-Some-request-clause-paid
