@@ -3,17 +3,17 @@ use Rattle.std.proofs.Common.{ℕ, zero, suc, ◌+◌, ◌≡◌, ◌<◌, ◌�
 use Rattle.std.proofs.lemmas.Bool.{cases_eq}
 use Rattle.std.proofs.lemmas.List.{get_or-set_other, get_or-set_same}
 use Rattle.annot_check.specs.declared.worklist.Waves.{Waves}
-use Rattle.annot_check.specs.Open.{bit}
 use Rattle.annot_check.specs.Table.{MoreCome, unmarked}
 use Rattle.annot_check.proofs.Entries.{has_left, has_last, has_either}
+use Rattle.ws_words.specs.Items.{flag_at}
 
 pub read_false : (marks : List Bool) (n : ℕ) (v : Bool) → n < length marks → v ≡ get_or marks n v → v ≡ false →
-    bit marks n ≡ false
+    flag_at marks n ≡ false
 read_false [] n v l e f = absurd (omega arith)
 read_false (x ∷ marks) zero v l e f = sym e ∙ f
 read_false (x ∷ marks) (suc n) v l e f = read_false marks n v (omega arith) e f
 
-marked : (marks : List Bool) (n : ℕ) → n < length marks → bit marks n ≡ false →
+marked : (marks : List Bool) (n : ℕ) → n < length marks → flag_at marks n ≡ false →
     unmarked marks ≡ suc (unmarked (set marks n true))
 marked [] n l h = absurd (omega arith)
 marked (false ∷ marks) zero l h = refl
@@ -22,23 +22,23 @@ marked (false ∷ marks) (suc n) l h = ap suc (marked marks n (omega arith) h)
 marked (true ∷ marks) (suc n) l h = marked marks n (omega arith) h
 
 -- one more is come to
-pub come_more : (old new : Waves) (n : ℕ) → n < length old.come.items → bit old.come.items n ≡ false →
+pub come_more : (old new : Waves) (n : ℕ) → n < length old.come.items → flag_at old.come.items n ≡ false →
     new.come.items ≡ set old.come.items n true → new.todo.items ≡ old.todo.items ++ n ∷ [] → MoreCome old new
 come_more old new n l f e t = record {
   size = ap length e ∙ length-set old.come.items n true;
   keeps = λ b h. elim (cases_eq b n) [
-    | inl g ↦ ap (bit new.come.items) g ∙ there
-    | inr m ↦ ap (λ (x : List Bool). bit x b) e ∙ (get_or-set_other old.come.items n b true false m ∙ h)
+    | inl g ↦ ap (flag_at new.come.items) g ∙ there
+    | inr m ↦ ap (λ (x : List Bool). flag_at x b) e ∙ (get_or-set_other old.come.items n b true false m ∙ h)
   ];
   is_new = λ b h. elim (cases_eq b n) [
     | inl g ↦ inr (rw (t, g) (has_last old.todo.items n))
     | inr m ↦ inl (sym (get_or-set_other old.come.items n b true false m) ∙
-        (sym (ap (λ (x : List Bool). bit x b) e) ∙ h))
+        (sym (ap (λ (x : List Bool). flag_at x b) e) ∙ h))
   ];
   todo = λ b h. rw t (has_left old.todo.items (n ∷ []) b h);
   todo_come = λ b h. elim (has_either old.todo.items n b (rw t at h)) [
     | inl g ↦ inl g
-    | inr g ↦ inr (ap (bit new.come.items) (sym g) ∙ there)
+    | inr g ↦ inr (ap (flag_at new.come.items) (sym g) ∙ there)
   ];
   less = let a : unmarked old.come.items ≡ suc (unmarked (set old.come.items n true)) =
       marked old.come.items n l f in
@@ -48,19 +48,19 @@ come_more old new n l f e t = record {
       omega (arith, a, c, u);
 }
   where
-    there : bit new.come.items n ≡ true
-    there = ap (λ (x : List Bool). bit x n) e ∙ get_or-set_same old.come.items n true false l
+    there : flag_at new.come.items n ≡ true
+    there = ap (λ (x : List Bool). flag_at x n) e ∙ get_or-set_same old.come.items n true false l
 
 pub come_there : (old new : Waves) (n : ℕ) → n < length old.come.items →
-    new.come.items ≡ set old.come.items n true → bit new.come.items n ≡ true
-come_there old new n l e = ap (λ (x : List Bool). bit x n) e ∙ get_or-set_same old.come.items n true false l
+    new.come.items ≡ set old.come.items n true → flag_at new.come.items n ≡ true
+come_there old new n l e = ap (λ (x : List Bool). flag_at x n) e ∙ get_or-set_same old.come.items n true false l
 
 pub come_new : (old new : Waves) (n : ℕ) → new.come.items ≡ set old.come.items n true → (b : ℕ) →
-    bit new.come.items b ≡ true → (bit old.come.items b ≡ true) ⊎ (b ≡ n)
+    flag_at new.come.items b ≡ true → (flag_at old.come.items b ≡ true) ⊎ (b ≡ n)
 come_new old new n e b h = elim (cases_eq b n) [
   | inl g ↦ inr g
   | inr m ↦ inl (sym (get_or-set_other old.come.items n b true false m) ∙
-      (sym (ap (λ (x : List Bool). bit x b) e) ∙ h))
+      (sym (ap (λ (x : List Bool). flag_at x b) e) ∙ h))
 ]
 
 pub come_same : (w : Waves) → MoreCome w w

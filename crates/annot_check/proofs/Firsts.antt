@@ -2,9 +2,10 @@
 use Rattle.std.proofs.Common.{ℕ, zero, suc, ◌≡◌, ◌<◌, ◌≤◌, ◌⊎◌, true, false, not, List, [], ◌∷◌, length, sym, ap, ◌∙◌, inl, inr, arith, eq-eqb}
 use Rattle.std.proofs.Math.Path.{fun_ext}
 use Rattle.std.proofs.lemmas.Bool.{cases_eq, cases_lt, cases_Bool}
-use Rattle.ws_isa.specs.Image.{Block, Image, nth, or_else, no_block, block_at, is_first, IsBlock}
+use Rattle.ws_isa.specs.Image.{Block, Image, no_block, block_at, is_first, IsBlock}
 use Rattle.ws_isa.specs.Formed.{WavesFrom, WavesInOrder}
 use Rattle.ws_isa.specs.Sound.{OpenSlots, AdvancesOpen}
+use Rattle.ws_words.specs.Items.{nth, or_else}
 
 abbrev pub wave_of : List Block → ℕ → ℕ
 wave_of bs n = (or_else (nth bs n) no_block).wave

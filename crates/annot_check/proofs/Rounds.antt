@@ -5,14 +5,14 @@ use Rattle.ws_isa.specs.Formed.{WavesInOrder}
 use Rattle.ws_isa.specs.Sound.{ShapeRules, SlotRules}
 use Rattle.annot_check.specs.declared.worklist.Waves.{Waves}
 use Rattle.annot_check.specs.Done.{Begun, CameTo, WaveDone}
-use Rattle.annot_check.specs.Open.{bit}
 use Rattle.annot_check.specs.Table.{HasNumber, MoreCome}
 use Rattle.annot_check.proofs.Closed.{slot_rules}
 use Rattle.annot_check.proofs.Entries.{has_left, has_either}
 use Rattle.annot_check.proofs.Whole.{none_has, wave_among}
+use Rattle.ws_words.specs.Items.{flag_at}
 
 abbrev pub Come : Waves → ℕ → Type 0
-Come w b = bit w.come.items b ≡ true
+Come w b = flag_at w.come.items b ≡ true
 
 pub round_todo : (old new : Waves) (todo : List ℕ) (n : ℕ) → todo ≡ old.todo.items ++ n ∷ [] → MoreCome old new →
     ((b : ℕ) → HasNumber todo b → Come old b) → (b : ℕ) → HasNumber new.todo.items b → Come new b
@@ -41,7 +41,7 @@ round_done image old new todo n e m all last b h = elim (m.is_new b h) [
 pub whole_rules : (image : Image) (w : Waves) → w.todo.items ≡ [] → ShapeRules image → WavesInOrder image.blocks →
     Begun image → Come w 1 → ((b : ℕ) → Come w b → CameTo image b) →
     ((b : ℕ) → Come w b → HasNumber w.todo.items b ⊎ WaveDone image (λ c. Come w c) b) → SlotRules image
-whole_rules image w none shape order begun one came all = slot_rules image (bit w.come.items) (record {
+whole_rules image w none shape order begun one came all = slot_rules image (flag_at w.come.items) (record {
   begun = begun;
   one = one;
   came = came;

@@ -3,7 +3,8 @@
 use Rattle.std.specs.Prelude.{ℕ, suc, ◌≡◌, ◌<◌, ◌≤◌, true, false, List, Option, Some, None}
 use Rattle.ws_isa.specs.declared.instr.Link.TheVariants.{Nothing, Is}
 use Rattle.ws_isa.specs.Image.{Image, first_number, is_memory, is_writing, note_of}
-use Rattle.ws_isa.specs.Sound.{InWave, IsAmong, ComesNext, PathEnds, seq, wave_at}
+use Rattle.ws_isa.specs.Sound.{InWave, ComesNext, PathEnds, seq, wave_at}
+use Rattle.ws_words.specs.Items.{In}
 
 -- operation k follows operation j, and their notes don't allow it
 pub data Disagree (image : Image) (j k : ℕ) : Type 0 where
@@ -34,6 +35,6 @@ pub data RippleBreach (image : Image) : ℕ → ℕ → Type 0 where
   not_own : {k : ℕ} {last : Option ℕ} → ComesNext image last k → is_writing image k ≡ true →
       ((note_of image k).ripple ≡ seq image k → ⊥) → RippleBreach image k k
   below : {b k j : ℕ} {done : List ℕ} → InWave image b k done → k < first_number image (suc b) →
-      is_memory image k ≡ true → is_writing image k ≡ false → IsAmong j done →
+      is_memory image k ≡ true → is_writing image k ≡ false → In j done →
       is_writing image j ≡ true →
       (note_of image k).ripple < seq image j → RippleBreach image k j

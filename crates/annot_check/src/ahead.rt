@@ -1,12 +1,12 @@
 //! Destinations: lists lead ahead, pads to advances, and advances stand in front.
 
 ghost use Rattle.std.specs.Prelude.{◌≡◌, ◌+◌, ◌<◌, ◌≤◌, ℕ, suc, map, true, false, []};
-ghost use Rattle.ws_isa.specs.Image.{instr_at, first_number, block_at, IsBlock, IsIn, In, Pad as PlainPad};
+ghost use Rattle.ws_isa.specs.Image.{instr_at, first_number, block_at, IsBlock, IsIn, Pad as PlainPad};
 ghost use Rattle.ws_isa.specs.Formed.{Formed};
 ghost use Rattle.ws_isa.specs.View as view;
 ghost use Rattle.ws_isa.specs.Sound.{HasDest, IsAhead, FrontShape, DestShape};
 ghost use Rattle.annot_check.specs.Facts.{TableOf};
-ghost use Rattle.annot_check.specs.Open.{bit};
+ghost use Rattle.ws_words.specs.Items.{In, flag_at};
 
 use crate::facts::Facts;
 use crate::read::{block, starts_wave};
@@ -95,10 +95,10 @@ impl Facts {
     fn pads_lead(&self, pads: &[Pad], first: u32, next: u32) -> bool
         ensures yes { result ≡ true → (p : PlainPad) (j q : ℕ) → In p (map view.pad pads.now) →
             HasDest p.dests j q → (first ≤ j) × (j < next) ×
-            (bit self.now.advances.items j ≡ true) }
+            (flag_at self.now.advances.items j ≡ true) }
         ensures no { result ≡ false → ((p : PlainPad) (j q : ℕ) → In p (map view.pad pads.now) →
             HasDest p.dests j q → (first ≤ j) × (j < next) ×
-            (bit self.now.advances.items j ≡ true)) → ⊥ }
+            (flag_at self.now.advances.items j ≡ true)) → ⊥ }
     {
         for pad in pads {
             if !self.pad_leads(&pad.dests, first, next) {
@@ -110,9 +110,9 @@ impl Facts {
 
     fn pad_leads(&self, dests: &[Dest], first: u32, next: u32) -> bool
         ensures yes { result ≡ true → (j q : ℕ) → HasDest dests.now j q → (first ≤ j) × (j < next) ×
-            (bit self.now.advances.items j ≡ true) }
+            (flag_at self.now.advances.items j ≡ true) }
         ensures no { result ≡ false → ((j q : ℕ) → HasDest dests.now j q → (first ≤ j) ×
-            (j < next) × (bit self.now.advances.items j ≡ true)) → ⊥ }
+            (j < next) × (flag_at self.now.advances.items j ≡ true)) → ⊥ }
     {
         for dest in dests {
             if !self.is_advance_of(dest.instr, first, next) {
@@ -124,9 +124,9 @@ impl Facts {
 
     fn is_advance_of(&self, op: u32, first: u32, next: u32) -> bool
         ensures yes { result ≡ true → (first ≤ op) × (op < next) ×
-            (bit self.now.advances.items op ≡ true) }
+            (flag_at self.now.advances.items op ≡ true) }
         ensures no { result ≡ false → (first ≤ op) × (op < next) ×
-            (bit self.now.advances.items op ≡ true) → ⊥ }
+            (flag_at self.now.advances.items op ≡ true) → ⊥ }
     {
         first <= op && op < next && self.is_advance(op)
     }

@@ -5,7 +5,7 @@ ghost use Rattle.ws_isa.specs.Image.{is_advance, is_advance_op};
 ghost use Rattle.ws_isa.specs.View as view;
 ghost use Rattle.ws_isa.specs.declared.instr.Op.TheVariants.{Halt};
 ghost use Rattle.annot_check.specs.Facts.{ops_of, waves_of, advances_of};
-ghost use Rattle.annot_check.specs.Open.{bit};
+ghost use Rattle.ws_words.specs.Items.{flag_at};
 
 use crate::read::block;
 use std::alloc::Global;
@@ -62,7 +62,7 @@ pub(crate) fn facts_of(alloc: Global, image: &Image) -> Result<Facts, NoMemory>
 
 impl Facts {
     pub(crate) fn is_advance(&self, op: u32) -> bool
-        ensures { result ≡ bit self.now.advances.items op }
+        ensures { result ≡ flag_at self.now.advances.items op }
     {
         match self.advances.get(op as usize) {
             Some(advance) => *advance,

@@ -3,16 +3,19 @@
 //! Waves are passed one after the other, from that of block 1 on, each once, with the slots of its
 //! advances open. What is kept of a wave's blocks and slots is let go when the wave is passed.
 
-ghost use Rattle.std.specs.Prelude.{◌≡◌, ◌+◌, ◌*◌, ◌<◌, ◌⊎◌, ℕ, [], length, IfOk, OnOk, IfErr, true, false, Some, None};
+ghost use Rattle.std.specs.Prelude.{◌≡◌, ◌+◌, ◌*◌, ◌<◌, ◌⊎◌, ℕ, [], length, IfOk, OnOk, IfErr, true, false};
+ghost use Rattle.std.specs.Prelude.{Some, None};
 ghost use Rattle.ws_isa.specs.Image.{is_first, IsBlock};
 ghost use Rattle.ws_isa.specs.View as view;
 ghost use Rattle.ws_isa.specs.Sound.{none_open, ShapeRules, SlotRules};
 ghost use Rattle.ws_isa.specs.Formed.{Formed};
 ghost use Rattle.annot_check.specs.declared.trace.Entry.{Entry};
-ghost use Rattle.annot_check.specs.Open.{look, bit};
+ghost use Rattle.annot_check.specs.Open.{look};
 ghost use Rattle.annot_check.specs.Done.{Begun, CameTo, WaveDone};
-ghost use Rattle.annot_check.specs.Table.{image_of, entry_at, Ready, Grows, Shut, Between, HasNumber, MoreCome};
+ghost use Rattle.annot_check.specs.Table.{image_of, entry_at, Ready, Grows, Shut, Between, HasNumber};
+ghost use Rattle.annot_check.specs.Table.{MoreCome};
 ghost use Rattle.annot_check.specs.Faults.{SlotBreach};
+ghost use Rattle.ws_words.specs.Items.{flag_at};
 
 use crate::advances::advance_set;
 use crate::fault::{Bad, CheckFault};
@@ -94,10 +97,10 @@ impl<'a> Trace<'a> {
         ensures image { OnOk result (self.new.image.now ≡ self.old.image.now) }
         ensures between { OnOk result (Between self.new) }
         ensures more { OnOk result (MoreCome waves.old waves.new) }
-        ensures came { OnOk result ((b : ℕ) → bit waves.new.come.items b ≡ true →
-            (bit waves.old.come.items b ≡ true) ⊎ CameTo (image_of self.old) b) }
+        ensures came { OnOk result ((b : ℕ) → flag_at waves.new.come.items b ≡ true →
+            (flag_at waves.old.come.items b ≡ true) ⊎ CameTo (image_of self.old) b) }
         ensures done { OnOk result (WaveDone (image_of self.old)
-            (λ b. bit waves.new.come.items b ≡ true) first) }
+            (λ b. flag_at waves.new.come.items b ≡ true) first) }
         ensures refused { IfErr result (λ fault. SlotBreach (image_of self.old) fault) }
     {
         let passed = self.pass_wave(alloc, first)?;
@@ -132,7 +135,7 @@ impl<'a> Trace<'a> {
         requires shape { ShapeRules (image_of self.now) }
         requires blank { look self.now.held ≡ none_open }
         requires size { length waves.now.come.items ≡ length (image_of self.now).blocks + 1 }
-        requires none { (b : ℕ) → bit waves.now.come.items b ≡ false }
+        requires none { (b : ℕ) → flag_at waves.now.come.items b ≡ false }
         requires no_wave { waves.now.todo.items ≡ [] }
         ensures sound { OnOk result (SlotRules (image_of self.old)) }
         ensures refused { IfErr result (λ fault. SlotBreach (image_of self.old) fault) }

@@ -1,13 +1,15 @@
 //! The memory operations of a block, each behind what is kept of the paths that lead to it.
 
-ghost use Rattle.std.specs.Prelude.{◌≡◌, ◌+◌, ◌<◌, ℕ, suc, cond, ◌&&◌, ltb, eqb, IfOk, OnOk, IfErr, true, false, Some};
+ghost use Rattle.std.specs.Prelude.{◌≡◌, ◌+◌, ◌<◌, ℕ, suc, cond, ◌&&◌, ltb, eqb, IfOk, OnOk, IfErr, true};
+ghost use Rattle.std.specs.Prelude.{false, Some};
 ghost use Rattle.ws_isa.specs.Image.{is_memory_op, is_writing_op, first_number, block_at, IsBlock};
 ghost use Rattle.ws_isa.specs.Formed.{Formed};
 ghost use Rattle.ws_isa.specs.View as view;
 ghost use Rattle.ws_isa.specs.Sound.{ShapeRules};
 ghost use Rattle.annot_check.specs.declared.lasts.Lasts.{Lasts};
 ghost use Rattle.annot_check.specs.Order.{no_mark, LastsOk, PassOk};
-ghost use Rattle.annot_check.specs.Seen.{op_with, mark_of, stepped, StepBad, StepSeen, CameAll, PassState, OrderBreach};
+ghost use Rattle.annot_check.specs.Seen.{op_with, mark_of, stepped, StepBad, StepSeen, CameAll, PassState};
+ghost use Rattle.annot_check.specs.Seen.{OrderBreach};
 
 use crate::fault::{Bad, CheckFault};
 use crate::lasts::{Lasts, Mark, no_op, note_of, pass_fault};

@@ -2,14 +2,16 @@
 //!
 //! Steers and sends have to have it at a port, directly or by way of merges of the block.
 
-ghost use Rattle.std.specs.Prelude.{◌≡◌, ◌⊎◌, ◌+◌, ◌<◌, ◌≤◌, ℕ, List, suc, length, true, false, slice_index_or};
-ghost use Rattle.ws_isa.specs.Image.{instr_at, first_number, block_at, is_first, stops, target, IsBlock, IsIn, Landings};
+ghost use Rattle.std.specs.Prelude.{◌≡◌, ◌⊎◌, ◌+◌, ◌<◌, ◌≤◌, ℕ, List, suc, length, true, false};
+ghost use Rattle.std.specs.Prelude.{slice_index_or};
+ghost use Rattle.ws_isa.specs.Image.{instr_at, first_number, block_at, is_first, stops, target, IsBlock};
+ghost use Rattle.ws_isa.specs.Image.{IsIn, Landings};
 ghost use Rattle.ws_isa.specs.View as view;
 ghost use Rattle.ws_isa.specs.Sound.{HasPad, BringsResult, ExitShape, HangShape, DestShape};
 ghost use Rattle.annot_check.specs.Spread.{Reached, SpreadState, Hangs, op_of};
 ghost use Rattle.ws_isa.specs.declared.instr.Op.TheVariants.{Send, Halt, Merge};
 ghost use Rattle.annot_check.specs.Facts.{TableOf};
-ghost use Rattle.annot_check.specs.Open.{bit};
+ghost use Rattle.ws_words.specs.Items.{flag_at};
 
 use crate::facts::Facts;
 use crate::read::block;
@@ -37,21 +39,21 @@ impl Spread {
         requires hits { next ≤ length self.now.hits.items }
         ensures size { length self.new.marks.items ≡ length self.old.marks.items }
         ensures hit_size { length self.new.hits.items ≡ length self.old.hits.items }
-        ensures marks_stay { (m : ℕ) → bit self.old.marks.items m ≡ true →
-            bit self.new.marks.items m ≡ true }
-        ensures hits_stay { (m : ℕ) → bit self.old.hits.items m ≡ true →
-            bit self.new.hits.items m ≡ true }
-        ensures marks_new { (m : ℕ) → bit self.new.marks.items m ≡ true →
-            (bit self.old.marks.items m ≡ true) ⊎ ((m ≡ dest.instr) × (first ≤ m) × (m < next) ×
+        ensures marks_stay { (m : ℕ) → flag_at self.old.marks.items m ≡ true →
+            flag_at self.new.marks.items m ≡ true }
+        ensures hits_stay { (m : ℕ) → flag_at self.old.hits.items m ≡ true →
+            flag_at self.new.hits.items m ≡ true }
+        ensures marks_new { (m : ℕ) → flag_at self.new.marks.items m ≡ true →
+            (flag_at self.old.marks.items m ≡ true) ⊎ ((m ≡ dest.instr) × (first ≤ m) × (m < next) ×
             (dest.port ≡ 0) × (slice_index_or facts.now.ops.items m Halt ≡ Merge)) }
-        ensures hits_new { (m : ℕ) → bit self.new.hits.items m ≡ true →
-            (bit self.old.hits.items m ≡ true) ⊎ ((m ≡ dest.instr) × (first ≤ m) × (m < next) ×
+        ensures hits_new { (m : ℕ) → flag_at self.new.hits.items m ≡ true →
+            (flag_at self.old.hits.items m ≡ true) ⊎ ((m ≡ dest.instr) × (first ≤ m) × (m < next) ×
             (dest.port ≡ port)) }
         ensures hit { first ≤ dest.instr → dest.instr < next → dest.port ≡ port →
-            bit self.new.hits.items dest.instr ≡ true }
+            flag_at self.new.hits.items dest.instr ≡ true }
         ensures mark { first ≤ dest.instr → dest.instr < next → dest.port ≡ 0 →
             slice_index_or facts.now.ops.items dest.instr Halt ≡ Merge →
-            bit self.new.marks.items dest.instr ≡ true }
+            flag_at self.new.marks.items dest.instr ≡ true }
     {
         if dest.instr < first || next <= dest.instr {
             return;
@@ -146,16 +148,16 @@ impl Spread {
         requires lists { DestShape (view.image image.now) number }
         requires marks { next ≤ length self.now.marks.items }
         requires hits { next ≤ length self.now.hits.items }
-        requires no_mark { (m : ℕ) → first ≤ m → bit self.now.marks.items m ≡ false }
-        requires no_hit { (m : ℕ) → first ≤ m → bit self.now.hits.items m ≡ false }
+        requires no_mark { (m : ℕ) → first ≤ m → flag_at self.now.marks.items m ≡ false }
+        requires no_hit { (m : ℕ) → first ≤ m → flag_at self.now.hits.items m ≡ false }
         ensures size { length self.new.marks.items ≡ length self.old.marks.items }
         ensures hit_size { length self.new.hits.items ≡ length self.old.hits.items }
-        ensures no_mark { (m : ℕ) → next ≤ m → bit self.new.marks.items m ≡ false }
-        ensures no_hit { (m : ℕ) → next ≤ m → bit self.new.hits.items m ≡ false }
+        ensures no_mark { (m : ℕ) → next ≤ m → flag_at self.new.marks.items m ≡ false }
+        ensures no_hit { (m : ℕ) → next ≤ m → flag_at self.new.hits.items m ≡ false }
         ensures sound { (m : ℕ) → IsIn (view.image image.now) number m →
-            bit self.new.hits.items m ≡ true → BringsResult (view.image image.now) number source m port }
+            flag_at self.new.hits.items m ≡ true → BringsResult (view.image image.now) number source m port }
         ensures complete { (m : ℕ) → IsIn (view.image image.now) number m →
-            BringsResult (view.image image.now) number source m port → bit self.new.hits.items m ≡ true }
+            BringsResult (view.image image.now) number source m port → flag_at self.new.hits.items m ≡ true }
     {
         self.marks[source as usize] = true;
         for at in first..next {
@@ -181,9 +183,9 @@ impl Spread {
     fn all_hang(&self, facts: &Facts, first: u32, next: u32, branch: bool, landings: bool) -> bool
         requires hits { next ≤ length self.now.hits.items }
         ensures yes { result ≡ true → (k : ℕ) → first ≤ k → k < next →
-            Hangs (op_of facts.now.ops.items k) branch landings (bit self.now.hits.items k) }
+            Hangs (op_of facts.now.ops.items k) branch landings (flag_at self.now.hits.items k) }
         ensures no { result ≡ false → ((k : ℕ) → first ≤ k → k < next →
-            Hangs (op_of facts.now.ops.items k) branch landings (bit self.now.hits.items k)) → ⊥ }
+            Hangs (op_of facts.now.ops.items k) branch landings (flag_at self.now.hits.items k)) → ⊥ }
     {
         for at in first..next {
             if !hangs(facts.op(at), branch, landings, self.hits[at as usize]) {
@@ -219,12 +221,12 @@ impl Spread {
             is_first (view.image image.now) (target (view.image image.now) number r) ≡ true }
         requires marks { next ≤ length self.now.marks.items }
         requires hits { next ≤ length self.now.hits.items }
-        requires no_mark { (m : ℕ) → first ≤ m → bit self.now.marks.items m ≡ false }
-        requires no_hit { (m : ℕ) → first ≤ m → bit self.now.hits.items m ≡ false }
+        requires no_mark { (m : ℕ) → first ≤ m → flag_at self.now.marks.items m ≡ false }
+        requires no_hit { (m : ℕ) → first ≤ m → flag_at self.now.hits.items m ≡ false }
         ensures size { length self.new.marks.items ≡ length self.old.marks.items }
         ensures hit_size { length self.new.hits.items ≡ length self.old.hits.items }
-        ensures no_mark { (m : ℕ) → next ≤ m → bit self.new.marks.items m ≡ false }
-        ensures no_hit { (m : ℕ) → next ≤ m → bit self.new.hits.items m ≡ false }
+        ensures no_mark { (m : ℕ) → next ≤ m → flag_at self.new.marks.items m ≡ false }
+        ensures no_hit { (m : ℕ) → next ≤ m → flag_at self.new.hits.items m ≡ false }
         ensures yes { result ≡ true → HangShape (view.image image.now) number }
         ensures no { result ≡ false → HangShape (view.image image.now) number → ⊥ }
     {

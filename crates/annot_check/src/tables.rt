@@ -5,8 +5,9 @@ ghost use Rattle.std.specs.Prelude.{◌≡◌, ◌+◌, ◌*◌, ◌^◌, ◌<�
 ghost use Rattle.ws_isa.specs.View as view;
 ghost use Rattle.ws_isa.specs.Formed.{Formed};
 ghost use Rattle.annot_check.specs.declared.trace.Entry.{Entry};
-ghost use Rattle.annot_check.specs.Open.{bit, OpenOk};
+ghost use Rattle.annot_check.specs.Open.{OpenOk};
 ghost use Rattle.annot_check.specs.Table.{entry_at, HasNumber, StartsOf};
+ghost use Rattle.ws_words.specs.Items.{flag_at};
 
 use crate::open::Open;
 use crate::read::block;
@@ -53,7 +54,7 @@ pub fn first_numbers(alloc: Global, image: &Image) -> Result<Vec<u32>, NoMemory>
 
 pub fn blank_board(alloc: Global, size: usize) -> Result<Vec<bool>, NoMemory>
     ensures size { IfOk result (λ board. length board.items ≡ size) }
-    ensures blank { IfOk result (λ board. (key : ℕ) → bit board.items key ≡ false) }
+    ensures blank { IfOk result (λ board. (key : ℕ) → flag_at board.items key ≡ false) }
 {
     let mut board = Vec::new(alloc);
     for _ in 0..size {

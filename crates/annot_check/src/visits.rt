@@ -8,7 +8,8 @@ ghost use Rattle.annot_check.specs.declared.trace.Entry.{Entry};
 ghost use Rattle.annot_check.specs.Runs.{SameEdges};
 ghost use Rattle.annot_check.specs.Open.{look};
 ghost use Rattle.annot_check.specs.Done.{EdgeDone, Ended, BlockDone, PassedWith};
-ghost use Rattle.annot_check.specs.Table.{image_of, trace_nodes, set_slots, entry_at, known, Ready, Grows, Shut};
+ghost use Rattle.annot_check.specs.Table.{image_of, trace_nodes, set_slots, entry_at, known, Ready, Grows};
+ghost use Rattle.annot_check.specs.Table.{Shut};
 ghost use Rattle.annot_check.specs.Faults.{SlotBreach};
 
 use crate::fault::{Bad, CheckFault};

@@ -3,8 +3,8 @@
 ghost use Rattle.std.specs.Prelude.{◌≡◌, ◌+◌, ◌*◌, ◌<◌, ◌⊎◌, ◌∷◌, ◌++◌, ℕ, [], length, OnOk, true};
 ghost use Rattle.ws_isa.specs.Image.{is_first, IsBlock};
 ghost use Rattle.ws_isa.specs.View as view;
-ghost use Rattle.annot_check.specs.Open.{bit};
 ghost use Rattle.annot_check.specs.Table.{HasNumber, MoreCome};
+ghost use Rattle.ws_words.specs.Items.{flag_at};
 
 use crate::read::{block, starts_wave};
 use ws_isa::Image;
@@ -22,9 +22,9 @@ impl Waves {
     pub(crate) fn come_to(&mut self, number: u32) -> Result<(), NoMemory>
         requires { number < length self.now.come.items }
         ensures more { OnOk result (MoreCome self.old self.new) }
-        ensures there { OnOk result (bit self.new.come.items number ≡ true) }
-        ensures is_new { OnOk result ((b : ℕ) → bit self.new.come.items b ≡ true →
-            (bit self.old.come.items b ≡ true) ⊎ (b ≡ number)) }
+        ensures there { OnOk result (flag_at self.new.come.items number ≡ true) }
+        ensures is_new { OnOk result ((b : ℕ) → flag_at self.new.come.items b ≡ true →
+            (flag_at self.old.come.items b ≡ true) ⊎ (b ≡ number)) }
     {
         if self.come[number as usize] {
             return Ok(());
@@ -40,9 +40,9 @@ impl Waves {
         requires size { length self.now.come.items ≡ length (view.image image.now).blocks + 1 }
         ensures more { OnOk result (MoreCome self.old self.new) }
         ensures there { OnOk result (is_first (view.image image.now) number ≡ true →
-            bit self.new.come.items number ≡ true) }
-        ensures is_new { OnOk result ((b : ℕ) → bit self.new.come.items b ≡ true →
-            (bit self.old.come.items b ≡ true) ⊎
+            flag_at self.new.come.items number ≡ true) }
+        ensures is_new { OnOk result ((b : ℕ) → flag_at self.new.come.items b ≡ true →
+            (flag_at self.old.come.items b ≡ true) ⊎
             ((b ≡ number) × (is_first (view.image image.now) b ≡ true))) }
     {
         if !starts_wave(image, number) {
@@ -57,9 +57,9 @@ impl Waves {
         requires size { length self.now.come.items ≡ length (view.image image.now).blocks + 1 }
         ensures more { OnOk result (MoreCome self.old self.new) }
         ensures there { OnOk result ((b : ℕ) → HasNumber numbers.now b →
-            is_first (view.image image.now) b ≡ true → bit self.new.come.items b ≡ true) }
-        ensures is_new { OnOk result ((b : ℕ) → bit self.new.come.items b ≡ true →
-            (bit self.old.come.items b ≡ true) ⊎
+            is_first (view.image image.now) b ≡ true → flag_at self.new.come.items b ≡ true) }
+        ensures is_new { OnOk result ((b : ℕ) → flag_at self.new.come.items b ≡ true →
+            (flag_at self.old.come.items b ≡ true) ⊎
             (HasNumber numbers.now b × (is_first (view.image image.now) b ≡ true))) }
     {
         for number in numbers {

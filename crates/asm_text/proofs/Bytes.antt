@@ -4,7 +4,6 @@ use Rattle.std.specs.List.{list_all, flat_map}
 use Rattle.std.proofs.lemmas.Bool.{and_parts, and_from}
 use Rattle.std.proofs.lemmas.List.Folds.{list_all-append}
 use Rattle.ws_words.specs.Digits.{is_digit, is_number}
-use Rattle.ws_isa.specs.Formed.{is_letter, is_word, is_word_byte}
 use Rattle.asm_text.specs.declared.lexeme.Mark as marks
 use Rattle.asm_text.specs.declared.lexeme.Lexeme.{Lexeme}
 use Rattle.asm_text.specs.declared.lexeme.Lexeme.TheVariants.{Word, Number, Mark}
@@ -12,11 +11,9 @@ use Rattle.asm_text.specs.declared.writer.After as afters
 use Rattle.asm_text.specs.declared.writer.After.TheVariants as after
 use Rattle.asm_text.specs.Printed.{gap, bytes_of, mark_bytes, is_joined, behind, text_of, line_text}
 use Rattle.asm_text.specs.Spelled.{IsLexeme, AreLexemes, AllLexemes}
-use Rattle.asm_text.proofs.Spelt.{decimal_digits}
 use Rattle.ws_words.proofs.Bools.{or_true}
-
-letter_byte : (b : ℕ) → is_letter b ≡ true → is_word_byte b ≡ true
-letter_byte b h = ap (λ t. t || is_digit b) h
+use Rattle.ws_words.specs.Letters.{is_letter, is_word_byte, is_word}
+use Rattle.ws_words.proofs.Decimals.{decimal_digits, letter_byte}
 
 digit_byte : (b : ℕ) → is_digit b ≡ true → is_word_byte b ≡ true
 digit_byte b h = ap (λ t. is_letter b || t) h ∙ or_true (is_letter b)

@@ -3,7 +3,7 @@ use Rattle.std.proofs.Common.{◌≡◌, ◌⊎◌, inl, inr, ℕ, ◌+◌, ◌�
 use Rattle.std.proofs.lemmas.Bool.{true≢false, eq-eqb}
 use Rattle.std.proofs.lemmas.Option.{none-some}
 use Rattle.std.proofs.lemmas.Result.{IfOk-at_ok}
-use Rattle.ws_isa.specs.Image.{Image, In, flat}
+use Rattle.ws_isa.specs.Image.{Image, flat}
 use Rattle.ws_isa.specs.Formed.{total_length, Formed}
 use Rattle.asm_text.specs.declared.line.Label.{Label}
 use Rattle.asm_text.specs.declared.line.Label.TheVariants.{Named}
@@ -28,6 +28,7 @@ use Rattle.asm_text.proofs.Told.{Extends, Taken}
 use Rattle.asm_text.proofs.TextTold.{taken, still, onward, placed, counted_extends}
 use Rattle.asm_text.proofs.Accepts.{Walks, Setting, at, text_walk}
 use Rattle.asm_text.proofs.Resolves.{Counts, count_is, parts, Makes, Resolved, place_is, text_makes}
+use Rattle.ws_words.specs.Items.{In}
 
 -- Names that are given are found behind all lines.
 

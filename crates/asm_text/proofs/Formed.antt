@@ -6,7 +6,7 @@ use Rattle.std.proofs.lemmas.Result.{IfOk-at_ok}
 use Rattle.ws_isa.specs.declared.instr.Op.{Op}
 use Rattle.ws_isa.specs.declared.instr.Op.TheVariants as op
 use Rattle.ws_isa.specs.declared.instr.Dest.{Dest}
-use Rattle.ws_isa.specs.Image.{Image, Block, Pad, Instr, Exit, Goto, Branch, Landings, Stop, flat, nth, or_else, no_instr, instr_at, ports, ports_of, IsBlock, IsInstr}
+use Rattle.ws_isa.specs.Image.{Image, Block, Pad, Instr, Exit, Goto, Branch, Landings, Stop, flat, no_instr, instr_at, ports, ports_of, IsBlock, IsInstr}
 use Rattle.ws_isa.specs.Formed.{most_instrs, most_blocks, most_pads, most_dests, DestIn, DestsIn, OpIn, ExitIn, InstrWithin, BlockWithin, WavesFrom, WavesInOrder, RiseFrom, PadsRise, Formed}
 use Rattle.asm_text.specs.declared.state.Expected.{Expected}
 use Rattle.asm_text.specs.declared.state.Expected.TheVariants as place
@@ -21,6 +21,7 @@ use Rattle.asm_text.proofs.HeldNames.{NamesThere, Among, DestFor, passed_names}
 use Rattle.asm_text.proofs.Held.{DestsFor, OpFor, ExitFor, InstrHeld, PadHeld, Rises, BlockHeld, InstrsHeld, Exited, Stands, so_far}
 use Rattle.asm_text.proofs.HeldTexts.{AtEnd, nothing_held, lines_held}
 use Rattle.ws_words.proofs.Lists.{all_with, length_map}
+use Rattle.ws_words.specs.Items.{nth, or_else}
 
 -- the ports of instructions
 abbrev ports_in : List Instr → List ℕ

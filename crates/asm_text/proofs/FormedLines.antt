@@ -5,7 +5,7 @@ use Rattle.ws_isa.specs.declared.instr.Op.{Op}
 use Rattle.ws_isa.specs.declared.instr.Op.TheVariants as op
 use Rattle.ws_isa.specs.declared.instr.Note.{Note}
 use Rattle.ws_isa.specs.Image.{is_memory_op, is_silent_op}
-use Rattle.ws_isa.specs.Formed.{is_word, ConstWithin, NoteSuits, NoteWithin, LinkWithin}
+use Rattle.ws_isa.specs.Formed.{ConstWithin, NoteSuits, NoteWithin, LinkWithin}
 use Rattle.asm_text.specs.declared.lexeme.Mark as mark
 use Rattle.asm_text.specs.declared.lexeme.Mark.TheVariants.{Colon, Arrow, Bar, Dot, Comma, Less, More, Query}
 use Rattle.asm_text.specs.declared.lexeme.Lexeme.{Lexeme}
@@ -25,6 +25,7 @@ use Rattle.asm_text.specs.Forms.{◌>>=◌, mark_number, expect, number_at, word
 use Rattle.asm_text.specs.Lexing.{Lexed, lexed}
 use Rattle.asm_text.specs.Reading.{formed, read_items, read_lexed, reading}
 use Rattle.asm_text.proofs.FormedLexemes.{AllFit, either, lexed_fits}
+use Rattle.ws_words.specs.Letters.{is_word}
 
 -- an instruction without a result and a send have no list
 abbrev pub DestsGiven : Op → List Target → Type 0

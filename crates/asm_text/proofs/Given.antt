@@ -2,7 +2,6 @@
 use Rattle.std.proofs.Common.{◌≡◌, ◌⊎◌, inl, inr, ℕ, ◌+◌, ◌==◌, length, Bool, true, false, List, [], ◌∷◌, ◌++◌, Option, Some, None, if◌then◌else◌, refl, sym, ap, subst, ◌∙◌, ◌≤◌, nat_lt, ◌&&◌}
 use Rattle.std.proofs.lemmas.Bool.{false≢true, and_parts, eqb-true, leb-true}
 use Rattle.std.proofs.lemmas.Option.{none-some, same_Some}
-use Rattle.ws_isa.specs.Image.{In}
 use Rattle.ws_isa.specs.Formed.{most_name, most_blocks, most_instrs}
 use Rattle.asm_text.specs.Names.{Names, named}
 use Rattle.asm_text.specs.Words.{is}
@@ -15,6 +14,8 @@ use Rattle.asm_text.specs.declared.state.State.{State}
 use Rattle.asm_text.specs.State.{is_short, is_within_op, are_few, limit, is_within, with_name, counted}
 use Rattle.asm_text.specs.Limits.{first_most_blocks, first_most_instrs}
 use Rattle.asm_text.specs.Spelling.{GivesBlock, GivesInstr, Short}
+use Rattle.ws_words.specs.Items.{In}
+use Rattle.ws_words.proofs.Places.{in_left}
 
 -- the names of t are given by these lines
 pub record Given (t : State) (ls : List Line) : Type 0 where
@@ -22,11 +23,6 @@ pub record Given (t : State) (ls : List Line) : Type 0 where
   pub instrs : GivesInstr t.instr_names ls
   pub short_blocks : Short t.block_names
   pub short_instrs : Short t.instr_names
-
-in_front : {A : Type 0} (x : A) (xs ys : List A) → In x xs → In x (xs ++ ys)
-in_front x [] ys h = absurd h
-in_front x (y ∷ xs) ys (inl e) = inl e
-in_front x (y ∷ xs) ys (inr h) = inr (in_front x xs ys h)
 
 in_last : {A : Type 0} (x : A) (xs : List A) → In x (xs ++ x ∷ [])
 in_last x [] = inl refl
@@ -59,22 +55,22 @@ named_in_more (x ∷ names) v w m n e =
 
 blocks_on : (names : Names) (l : Line) (ls : List Line) → GivesBlock names ls
     → GivesBlock names (ls ++ l ∷ [])
-blocks_on names l ls h w n e = in_front (line.Block (Named w)) ls (l ∷ []) (h w n e)
+blocks_on names l ls h w n e = in_left (line.Block (Named w)) ls (l ∷ []) (h w n e)
 
 instrs_on : (names : Names) (l : Line) (ls : List Line) → GivesInstr names ls
     → GivesInstr names (ls ++ l ∷ [])
 instrs_on names l ls h w n e =
-    let x = h w n e in (x.0, x.1, in_front (line.Instr x.0) ls (l ∷ []) x.2)
+    let x = h w n e in (x.0, x.1, in_left (line.Instr x.0) ls (l ∷ []) x.2)
 
 block_given : (names : Names) (own : Label) (k : ℕ) (ls : List Line) → GivesBlock names ls
     → GivesBlock (with_name names own k) (ls ++ line.Block own ∷ [])
 block_given names (At m) k ls h w n e =
-    in_front (line.Block (Named w)) ls (line.Block (At m) ∷ []) (h w n e)
+    in_left (line.Block (Named w)) ls (line.Block (At m) ∷ []) (h w n e)
 block_given names (Named v) k ls h w n e = by (named_in_more names v w k n e)
   where
     by : (named names w ≡ Some n) ⊎ ((w ≡ v) × (n ≡ k)) → In (line.Block (Named w))
         (ls ++ line.Block (Named v) ∷ [])
-    by (inl f) = in_front (line.Block (Named w)) ls (line.Block (Named v) ∷ []) (h w n f)
+    by (inl f) = in_left (line.Block (Named w)) ls (line.Block (Named v) ∷ []) (h w n f)
     by (inr f) =
         subst (λ u. In (line.Block (Named u)) (ls ++ line.Block (Named v) ∷ [])) (sym f.0)
         (in_last (line.Block (Named v)) ls)

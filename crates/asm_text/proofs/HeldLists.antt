@@ -5,10 +5,9 @@ use Rattle.ws_isa.specs.Image.{Array, Block, Pad, Instr, flat, ports_of}
 use Rattle.ws_isa.specs.Formed.{most_arrays, most_length, most_cells, most_instrs, total_length, NameFormed, WavesFrom}
 use Rattle.asm_text.specs.declared.state.State.{State}
 use Rattle.asm_text.specs.State.{is_above}
-use Rattle.asm_text.proofs.Resolved.{pushed}
 use Rattle.asm_text.proofs.HeldNames.{length_snoc}
 use Rattle.asm_text.proofs.Held.{Rises, last_pad, last_wave, ArraysHeld, InstrHeld, InstrsHeld, PadHeld, PadsHeld, BlockHeld, BlocksHeld}
-use Rattle.ws_words.proofs.Lists.{all_append}
+use Rattle.ws_words.proofs.Lists.{all_append, map_push}
 
 pub all_snoc : {A : Type 0} (P : A → Type 0) (xs : List A) (x : A) → AllByRecursion P xs → P x
     → AllByRecursion P (xs ++ x ∷ [])
@@ -48,7 +47,7 @@ pub instrs_more : (s : State) (ports : List ℕ) (is : List Instr) (x : Instr) �
 instrs_more s ports is x h few k =
     let m = length_snoc ports (ports_of x.op) in
     record {
-      same = ap (λ ps. ps ++ ports_of x.op ∷ []) h.same ∙ sym (pushed (λ i. ports_of i.op) is x);
+      same = ap (λ ps. ps ++ ports_of x.op ∷ []) h.same ∙ sym (map_push (λ i. ports_of i.op) is x);
       few = omega arith;
       all = all_snoc (InstrHeld s) is x h.all k;
     }

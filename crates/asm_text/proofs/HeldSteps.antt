@@ -1,6 +1,6 @@
 -- One line at a time: what is answered, wherever it is an answer.
 use Rattle.std.proofs.Common.{◌≡◌, ℕ, ◌||◌, not, cond, Bool, true, false, IfOk, Option, Some, None, Result, Ok, Err, refl}
-use Rattle.std.proofs.lemmas.Bool.{true≢false, or_parts}
+use Rattle.std.proofs.lemmas.Bool.{or_parts}
 use Rattle.asm_text.specs.declared.line.Line.{Line}
 use Rattle.asm_text.specs.declared.state.State.{State}
 use Rattle.asm_text.specs.declared.state.Expected.{Expected}

@@ -4,7 +4,7 @@ use Rattle.std.specs.List.{AllByRecursion}
 use Rattle.std.proofs.lemmas.Bool.{le-leb, lt-ltb, eqb-true}
 use Rattle.std.proofs.lemmas.Option.{same_Some}
 use Rattle.ws_isa.specs.declared.instr.Dest.{Dest}
-use Rattle.ws_isa.specs.Image.{flat, ports, IsInstr, IsBlock, instr_at, nth, or_else, no_instr}
+use Rattle.ws_isa.specs.Image.{flat, ports, IsInstr, IsBlock, instr_at, no_instr}
 use Rattle.ws_isa.specs.Formed.{ExitIn, DestIn, DestsIn, Formed, OpIn}
 use Rattle.asm_text.specs.declared.line.Label.{Label}
 use Rattle.asm_text.specs.declared.line.Label.TheVariants.{At, Named}
@@ -26,6 +26,7 @@ use Rattle.asm_text.proofs.Labels.{halves, nil_of, cons_of, Sound}
 use Rattle.asm_text.proofs.Inside.{port_count}
 use Rattle.asm_text.proofs.Accepts.{IsIn}
 use Rattle.ws_words.proofs.Lists.{length_map}
+use Rattle.ws_words.specs.Items.{nth, or_else}
 
 -- The counts of an image, as the state behind its text has them.
 pub record Counts (image : plain.Image) (s : State) : Type 0 where

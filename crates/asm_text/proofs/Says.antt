@@ -11,8 +11,8 @@ use Rattle.ws_isa.specs.declared.instr.Link.TheVariants as link
 use Rattle.ws_isa.specs.declared.instr.Note.{Note}
 use Rattle.ws_isa.specs.declared.instr.Dest.{Dest}
 use Rattle.ws_isa.specs.Image as plain
-use Rattle.ws_isa.specs.Image.{is_giving_op, IsBlock, flat}
-use Rattle.ws_isa.specs.Formed.{most_instrs, most_blocks, most_arrays, most_length, most_pads, is_word, NameFormed, OpIn, ExitIn, SomeLanding, DestsIn, DestsSuit, OthersSuit, LinkWithin, NoteWithin, ConstWithin, SendWithin, Formed}
+use Rattle.ws_isa.specs.Image.{is_giving_op, IsBlock, flat, is_steer_op}
+use Rattle.ws_isa.specs.Formed.{most_instrs, most_blocks, most_arrays, most_length, most_pads, NameFormed, OpIn, ExitIn, SomeLanding, DestsIn, DestsSuit, OthersSuit, LinkWithin, NoteWithin, ConstWithin, SendWithin, Formed}
 use Rattle.asm_text.specs.declared.lexeme.Mark.TheVariants.{Bar}
 use Rattle.asm_text.specs.declared.lexeme.Lexeme.{Lexeme}
 use Rattle.asm_text.specs.declared.lexeme.Lexeme.TheVariants.{Word, Mark}
@@ -22,7 +22,7 @@ use Rattle.asm_text.specs.declared.line.Line.TheVariants as line
 use Rattle.asm_text.specs.declared.reading.Reading.TheVariants.{Found}
 use Rattle.asm_text.specs.declared.writer.After.TheVariants as after
 use Rattle.asm_text.specs.Words.{op_word, alu_word, number_in}
-use Rattle.asm_text.specs.Forms.{is_steer, line_of}
+use Rattle.asm_text.specs.Forms.{line_of}
 use Rattle.asm_text.specs.Printed.{dest_lexemes, numbers, link_lexeme, note_lexemes, number_lexemes, op_lexemes, list_lexemes, instr_lexemes, pad_lexemes, exit_lexemes, array_lexemes, array_by, numbered, text_of}
 use Rattle.asm_text.specs.Reading.{reading}
 use Rattle.asm_text.specs.Spelling.{array_line_of}
@@ -30,6 +30,7 @@ use Rattle.asm_text.specs.Spelled.{IsLexeme, AreLexemes}
 use Rattle.asm_text.proofs.Again.{target_of, AreNarrow, OpFits}
 use Rattle.asm_text.proofs.AgainLines.{SmallNumbers, version_again, array_again, wave_again, block_again, pad_again, instr_again, go_again, branch_again, send_again, stop_again, end_again, reading_again}
 use Rattle.asm_text.proofs.Items.{InstrIn, Small, dests_small}
+use Rattle.ws_words.specs.Letters.{is_word}
 
 -- These are lexemes, and as a line they say this.
 pub record Says (ls : List Lexeme) (x : Line) : Type 0 where
@@ -205,7 +206,7 @@ list_are_lexemes : (op : Op) (ds os : List Dest) → AreNarrow ds → AreNarrow 
 unfolding list_lexemes
 list_are_lexemes op ds os h k =
     let P : List Lexeme → Type 0 = AreLexemes in
-    (elim (is_steer op) as (λ t. is_steer op ≡ t → P (list_lexemes op ds os)) [
+    (elim (is_steer_op op) as (λ t. is_steer_op op ≡ t → P (list_lexemes op ds os)) [
       | true ↦ λ e. rw e (
         tt,
         both_lexemes (dest_lexemes ds) (Mark Bar ∷ dest_lexemes os)
@@ -217,11 +218,11 @@ list_are_lexemes op ds os h k =
       ]) refl
     ]) refl
 
-one_list : (op : Op) (os : List Dest) → OthersSuit op os → is_steer op ≡ false → os ≡ []
+one_list : (op : Op) (os : List Dest) → OthersSuit op os → is_steer_op op ≡ false → os ≡ []
 one_list Steer os h e = absurd (true≢false e)
 one_list op os h e = h
 
-no_list : (op : Op) (ds : List Dest) → DestsSuit op ds → is_steer op ≡ false → is_giving_op op ≡ false
+no_list : (op : Op) (ds : List Dest) → DestsSuit op ds → is_steer_op op ≡ false → is_giving_op op ≡ false
     → ds ≡ []
 no_list (Const k) ds h e g = absurd (true≢false g)
 no_list (Alu a) ds h e g = absurd (true≢false g)

@@ -5,7 +5,7 @@ use Rattle.std.proofs.lemmas.Option.{none-some}
 use Rattle.ws_isa.specs.declared.instr.Dest.{Dest}
 use Rattle.ws_isa.specs.Image as plain
 use Rattle.ws_isa.specs.Image.{flat}
-use Rattle.ws_isa.specs.Formed.{most_instrs, most_blocks, most_waves, most_length, most_pads, most_dests, NameFormed, DestsIn, Formed, is_word_byte}
+use Rattle.ws_isa.specs.Formed.{most_instrs, most_blocks, most_waves, most_length, most_pads, most_dests, NameFormed, DestsIn, Formed}
 use Rattle.asm_text.specs.declared.lexeme.Mark as marks
 use Rattle.asm_text.specs.declared.lexeme.Mark.TheVariants.{Colon, Arrow, Bar, Dot, Comma, Less, More, Query}
 use Rattle.asm_text.specs.declared.writer.After.TheVariants as after
@@ -26,6 +26,7 @@ use Rattle.asm_text.proofs.Spelt.{other}
 use Rattle.asm_text.proofs.Items.{InstrIn, BlockIn, blocks_formed}
 use Rattle.asm_text.proofs.Says.{Says, pad_line, instr_line, exit_line, version_says, array_says, wave_says, block_says, pad_says, instr_says, exit_says, end_says}
 use Rattle.asm_text.proofs.Completes.{spelled_read}
+use Rattle.ws_words.specs.Letters.{is_word_byte}
 
 abbrev none : Naming
 none = record { blocks = []; instrs = [] }

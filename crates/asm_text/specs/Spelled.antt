@@ -1,9 +1,9 @@
 -- Which lexemes can be printed, and the lines that are printed of them.
 use Rattle.std.specs.Prelude.{◌≡◌, ℕ, ◌^◌, ◌<◌, true, List, [], ◌∷◌}
-use Rattle.ws_isa.specs.Formed.{is_word}
 use Rattle.asm_text.specs.declared.lexeme.Lexeme.{Lexeme}
 use Rattle.asm_text.specs.declared.lexeme.Lexeme.TheVariants.{Word, Number, Mark}
 use Rattle.asm_text.specs.Printed.{start, text_of}
+use Rattle.ws_words.specs.Letters.{is_word}
 
 -- a word is one, and a number fits
 abbrev pub IsLexeme : Lexeme → Type 0

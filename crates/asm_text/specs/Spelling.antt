@@ -1,6 +1,7 @@
 -- Which items an image has, in the order of its text, and which line spells each of them: with its
 -- numbers, or with names that stand for some of them.
-use Rattle.std.specs.Prelude.{◌≡◌, ℕ, ◌+◌, ◌≤◌, ◌==◌, ◌⊎◌, true, false, List, [], ◌∷◌, ◌++◌, length, map, Option, Some, None, if◌then◌else◌}
+use Rattle.std.specs.Prelude.{◌≡◌, ℕ, ◌+◌, ◌≤◌, ◌==◌, ◌⊎◌, true, false, List, [], ◌∷◌, ◌++◌, length, map}
+use Rattle.std.specs.Prelude.{Option, Some, None, if◌then◌else◌}
 use Rattle.ws_isa.specs.declared.instr.Dest.{Dest}
 use Rattle.ws_isa.specs.Image as plain
 use Rattle.ws_isa.specs.Formed.{most_name}
@@ -15,6 +16,7 @@ use Rattle.asm_text.specs.declared.reading.Reading.TheVariants.{Blank, Wrong, Fo
 use Rattle.asm_text.specs.Names.{Names, named}
 use Rattle.asm_text.specs.Printed.{keeps_first_limits}
 use Rattle.asm_text.specs.Reading.{lines_of, reading}
+use Rattle.ws_words.specs.Items.{In}
 
 -- The items of an image. A block and an instruction stand with their number.
 pub data Item : Type 0 where
@@ -119,13 +121,13 @@ Say (text ∷ texts) lines = (more : List Line) × Says (reading text) lines mor
 -- each name of a block is given by the line of a block
 abbrev pub GivesBlock : Names → List Line → Type 0
 GivesBlock names lines =
-    (w : List ℕ) (n : ℕ) → named names w ≡ Some n → plain.In (line.Block (Named w)) lines
+    (w : List ℕ) (n : ℕ) → named names w ≡ Some n → In (line.Block (Named w)) lines
 
 -- each name of an instruction is given by the line of an instruction
 abbrev pub GivesInstr : Names → List Line → Type 0
 GivesInstr names lines =
     (w : List ℕ) (n : ℕ) → named names w ≡ Some n
-    → (i : InstrLine) × (i.own ≡ Named w) × plain.In (line.Instr i) lines
+    → (i : InstrLine) × (i.own ≡ Named w) × In (line.Instr i) lines
 
 -- names aren't longer than they may be
 abbrev pub Short : Names → Type 0

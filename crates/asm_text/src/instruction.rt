@@ -1,7 +1,7 @@
 //! The line of an instruction: its operation, its note and its lists.
 
 ghost use Rattle.std.specs.Prelude.{◌≡◌, Some};
-ghost use Rattle.ws_isa.specs.Image.{is_memory_op, is_giving_op};
+ghost use Rattle.ws_isa.specs.Image.{is_memory_op, is_giving_op, is_steer_op};
 ghost use Rattle.asm_text.specs.Gives.{Gives};
 ghost use Rattle.asm_text.specs.Forms as spec;
 
@@ -45,7 +45,7 @@ fn is_memory(op: Op) -> bool
 }
 
 pub(crate) fn is_steer(op: Op) -> bool
-    ensures { result ≡ spec.is_steer op }
+    ensures { result ≡ is_steer_op op }
 {
     matches!(op, Op::Steer)
 }

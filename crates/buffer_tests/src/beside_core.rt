@@ -1,7 +1,7 @@
 //! A buffer beside the core.
 
 ghost use Rattle.std.specs.Prelude.{◌≤◌};
-ghost use Rattle.df_core.specs.Cores.{Runs};
+ghost use Rattle.df_core.specs.Cores.{IsRunning};
 
 use crate::compiled::compiled;
 use crate::runs::{Past, let_go};
@@ -51,8 +51,8 @@ fn world(alloc: Global) -> Result<World, NoMemory> {
 
 // Makes issues while the core has any, and says how many requests were issued.
 fn issue_all(core: &mut Core<'_>) -> usize
-    requires { Runs core.old }
-    ensures { Runs core.new }
+    requires { IsRunning core.old }
+    ensures { IsRunning core.new }
 {
     let mut count = 0usize;
     for _ in 0..1_000 {
@@ -70,8 +70,8 @@ fn issue_all(core: &mut Core<'_>) -> usize
 // Whether a core can match these tokens in this order, where it issues what it can after each, and has
 // issued as many requests as is said beside each.
 fn can_match(core: &mut Core<'_>, tokens: &[(u64, u32, u8, usize)]) -> bool
-    requires { Runs core.old }
-    ensures { Runs core.new }
+    requires { IsRunning core.old }
+    ensures { IsRunning core.new }
 {
     let mut issued = 0usize;
     for (wave, instr, port, count) in tokens {
@@ -93,7 +93,7 @@ fn can_match(core: &mut Core<'_>, tokens: &[(u64, u32, u8, usize)]) -> bool
 
 // Whether a port has taken what the core's has.
 fn took_so(core: &Core<'_>, port: u8, slot: &Option<TapePort>) -> bool
-    requires core { Runs core.now }
+    requires core { IsRunning core.now }
     requires port { 1 ≤ port }
 {
     match slot {
@@ -104,7 +104,7 @@ fn took_so(core: &Core<'_>, port: u8, slot: &Option<TapePort>) -> bool
 
 // Whether a run has left what the core has.
 fn ends_so(core: &Core<'_>, past: &Past<TapePort>) -> bool
-    requires { Runs core.now }
+    requires { IsRunning core.now }
 {
     let stop = match core.fault() {
         Some(array) => Some(BufFault::Ended { array }),

@@ -1,5 +1,5 @@
 -- Two states that agree on the variables that matter do the same.
-use Rattle.std.proofs.Common.{ℕ, zero, suc, ◌-◌, ◌^◌, ◌≡◌, ◌<◌, ◌≤◌, ◌⊎◌, ◌==◌, Bool, true, false, if◌then◌else◌, List, [], ◌∷◌, ◌++◌, length, get_or, set, refl, sym, ap, ◌∙◌, subst, inl, inr, arith}
+use Rattle.std.proofs.Common.{ℕ, zero, suc, ◌-◌, ◌^◌, ◌≡◌, ◌<◌, ◌≤◌, ◌==◌, Bool, true, false, if◌then◌else◌, List, [], ◌∷◌, ◌++◌, length, get_or, set, refl, sym, ap, ◌∙◌, subst, inl, inr, arith}
 use Rattle.std.specs.List.{AllByRecursion}
 use Rattle.std.proofs.lemmas.Bool.{cases_eq}
 use Rattle.std.proofs.lemmas.List.{get_or-set_same, get_or-set_other, length-set}
@@ -9,21 +9,10 @@ use Rattle.ws_words.specs.Outside.{Act, loads, stores, reads, prints, gives, tak
 use Rattle.cfg_core.specs.Graph.{Term, Number, Var, Cell, Flip, Not, Neg, Binary, Op, Assign, Store, Print, Read, Give, Take, Choose, Tick, TickBy, Graph}
 use Rattle.cfg_core.specs.Rules.{TermIn, OpIn}
 use Rattle.cfg_core.specs.Walk.{value, loads_of, values, all_loads, value_of, values_of, Outcome, Done, Out, and_then, spend, run_op, run_ops}
-use Rattle.live_vars.specs.Live.{Mentions, OneMentions, OpReads, OpWrites}
+use Rattle.live_vars.specs.Live.{Mentions, OneMentions}
 use Rattle.call_gen.proofs.Visible.{Same, Seen, none_seen, seen_both, seen_load, seen_store, seen_read, seen_print, seen_give, seen_take, same_more, row_left, with_row_left}
 use Rattle.cfg_core.proofs.ArraysThere.{length_with_row as with_row_count}
-
--- the values of the variables below n of which P holds
-abbrev pub Agree : ℕ → (ℕ → Type 0) → List ℕ → List ℕ → Type 0
-Agree n P vs ws = (x : ℕ) → x < n → P x → get_or vs x 0 ≡ get_or ws x 0
-
--- what matters before an operation, where P matters after it
-abbrev pub Before : Op → (ℕ → Type 0) → ℕ → Type 0
-Before op P x = OpReads op x ⊎ ((OpWrites op x → ⊥) × P x)
-
-abbrev pub Needs : List Op → (ℕ → Type 0) → ℕ → Type 0
-Needs [] P x = P x
-Needs (op ∷ ops) P x = Before op (Needs ops P) x
+use Rattle.live_vars.proofs.Needed.{Agree, Before, Needs}
 
 module _ (g : Graph) (rows size : ℕ) where
   abbrev pub arrays : ℕ

@@ -16,14 +16,16 @@ use Rattle.call_gen.specs.Charged.{beside, charged}
 use Rattle.call_gen.proofs.Paths.{path_add, path_most, leaves_one}
 use Rattle.call_gen.proofs.Visible.{Same}
 use Rattle.call_gen.proofs.Agreeing.{States, Outcomes, ops_same}
-use Rattle.call_gen.proofs.Needed.{After, needed_is_live}
 use Rattle.call_gen.proofs.Slots.{Roomy}
 use Rattle.call_gen.proofs.Facts.{Given, Placed, Celled}
-use Rattle.call_gen.proofs.Standing.{run_both, total, rows, size, Stack, Alike, Relates, places, owed, Reaches, reaches_by, reaches_more, reaches_past, reaches_later, left_few, numbers_at}
+use Rattle.call_gen.proofs.Standing.{total, rows, size, Stack, Alike, Relates, places, owed, Reaches, reaches_by, reaches_more, reaches_past, reaches_later, left_few}
 use Rattle.call_gen.proofs.Leaves.{goes_on, branches}
 use Rattle.call_gen.proofs.Returning.{returns}
 use Rattle.call_gen.proofs.Calling.{calls, at_door, goes_in}
 use Rattle.ws_words.proofs.Numbers.{zero_at, zeros_count}
+use Rattle.cfg_core.proofs.Spots.{numbers_at}
+use Rattle.cfg_core.proofs.Outcomes.{run_append}
+use Rattle.live_vars.proofs.Needed.{After, needed_is_live}
 
 module _ (g : Graph) (live : List (List ℕ)) (G : Given g live) (F : Placed g live) (C : Celled g) (w : ℕ → ℕ) where
   abbrev h : Graph
@@ -72,10 +74,10 @@ module _ (g : Graph) (live : List (List ℕ)) (G : Given g live) (F : Placed g l
     at_block : (s t : State) (k : ℕ) → States g (rows g live) (size g live) v extra hidden (Live g b) s t → Reaches g live w (sum_by weight (block_left (At b s frames k) (step g (At b s frames k))) + owes callers) (step g (At b s frames k)) (At (moved g b) t [] k)
     at_block s t k st =
         let ops = (block_at g b).ops in
-        let same = ops_same g (rows g live) (size g live) v extra hidden ops (After g (block_at g b).exit) (numbers_at g live G F b).ops s t k (record { vars = λ x lt n. st.vars x lt (needed_is_live g b x n); long = st.long; longer = st.longer; more = st.more; out = st.out }) in
+        let same = ops_same g (rows g live) (size g live) v extra hidden ops (After g (block_at g b).exit) (numbers_at g G.rules b).ops s t k (record { vars = λ x lt n. st.vars x lt (needed_is_live g b x n); long = st.long; longer = st.longer; more = st.more; out = st.out }) in
         by_outcome (run_ops ops s k) (run_ops ops t k) same s t k k
         (ap (λ (p : Spot). passed h (run_ops p.block.ops t k) p.block.exit []) (F.plain b there)
-        ∙ ap (λ (o : Outcome). passed h o (left g (spot_at g b).home v b (block_at g b).exit) []) (run_both ops (saves g live (spot_at g b).home v (block_at g b).exit) t k))
+        ∙ ap (λ (o : Outcome). passed h o (left g (spot_at g b).home v b (block_at g b).exit) []) (run_append ops (saves g live (spot_at g b).home v (block_at g b).exit) t k))
 
   abbrev Passes : ℕ → State → List Frame → ℕ → List ℕ → Config → Type 0
   Passes b s frames k callers d = Reaches g live w (sum_by weight (block_left (At b s frames k) (step g (At b s frames k))) + owes callers) (step g (At b s frames k)) d

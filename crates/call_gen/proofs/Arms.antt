@@ -2,8 +2,8 @@
 use Rattle.std.proofs.Common.{ℕ, zero, suc, ◌+◌, ◌-◌, ◌≡◌, ◌<◌, ◌≤◌, Bool, true, false, if◌then◌else◌, List, [], ◌∷◌, ◌++◌, length, take, refl, sym, ap, ◌∙◌, subst, inl, inr, Option, Some, arith}
 use Rattle.std.proofs.lemmas.Bool.{cases_lt}
 use Rattle.std.proofs.lemmas.List.{length_push}
-use Rattle.cfg_core.specs.Graph.{Term, Exit, Goto, Branch, Call, Return, Send, Stop, Block, GraphProc, Graph, Spot, spots, spots_in, spots_from, nth, or_else, no_spot, no_proc, spot_at, block_at, proc_at, entry_of, entry_from}
-use Rattle.cfg_core.specs.Rules.{calls, In, Leads}
+use Rattle.cfg_core.specs.Graph.{Term, Exit, Goto, Branch, Call, Return, Send, Stop, Block, GraphProc, Graph, Spot, spots, spots_in, spots_from, no_spot, no_proc, spot_at, block_at, proc_at, entry_of, entry_from}
+use Rattle.cfg_core.specs.Rules.{calls, Leads}
 use Rattle.cfg_core.specs.Edges.{Edge}
 use Rattle.cfg_core.specs.Shape.{OnlyFrom, IsShaped, ArmsAlone}
 use Rattle.call_gen.specs.Spelled.{count_of, is_call, is_called, moved, door, landings, left, after, below, spelled_blocks, spelled_procs, spelled}
@@ -11,11 +11,13 @@ use Rattle.call_gen.specs.Keeps.{NoSend}
 use Rattle.call_gen.proofs.Facts.{Given, Placed}
 use Rattle.call_gen.proofs.Placing.{take_left, take_right, count_both, in_blocks, door_in, door_later, head_count, after_count}
 use Rattle.call_gen.proofs.Places.{all_placed}
-use Rattle.call_gen.proofs.PartWalk.{spot_is, there_from, exit_in}
+use Rattle.call_gen.proofs.PartWalk.{spot_is, exit_in}
 use Rattle.call_gen.proofs.PartRules.{none_past}
 use Rattle.call_gen.proofs.Cycles.{lands_at, moved_less, moved_apart}
-use Rattle.cfg_core.proofs.Spots.{nth_left, nth_right, spots_in_both}
+use Rattle.cfg_core.proofs.Spots.{nth_right, spots_in_both}
 use Rattle.cfg_core.proofs.Weighing.{count_in as spots_in_count}
+use Rattle.ws_words.specs.Items.{nth, or_else, In}
+use Rattle.ws_words.proofs.Places.{nth_short, nth_append_left}
 
 -- P holds of the place of each, where the first has this place
 abbrev AllFrom : {A : Type 0} → (ℕ → Type 0) → ℕ → List A → Type 0
@@ -68,7 +70,7 @@ module _ (g : Graph) (live : List (List ℕ)) (P : ℕ → Type 0) where
       let n = k + suc (length p.blocks + count_of is_call old) in
       let oc = spots_in_count f p.vars p.blocks in
       let inner : (i : ℕ) (s : Spot) → nth old i ≡ Some s → (nth (old ++ rest) i ≡ Some s) × (count_of is_call (take i (old ++ rest)) ≡ count_of is_call (take i old)) × (s.home ≡ f) =
-      λ i s e. let lt = there_from old i s e in (nth_left old rest i lt ∙ e, ap (count_of is_call) (take_left old rest i (omega arith)), (in_blocks g live f p.vars p.blocks i s e).0) in
+      λ i s e. let lt = nth_short old i s e in (nth_append_left old rest i lt ∙ e, ap (count_of is_call) (take_left old rest i (omega arith)), (in_blocks g live f p.vars p.blocks i s e).0) in
       let outer : (i : ℕ) (s : Spot) → nth rest i ≡ Some s → (nth (old ++ rest) (length old + i) ≡ Some s) × (count_of is_call (take (length old + i) (old ++ rest)) ≡ count_of is_call old + count_of is_call (take i rest)) =
       λ i s e. (nth_right old rest (length old) i (length old + i) refl refl ∙ e, ap (count_of is_call) (take_right old rest (length old) i (length old + i) refl refl) ∙ count_both is_call old (take i rest)) in (
         doors 0 k (omega arith) (let z : k ≡ k + (0 + 0 + 0) = omega arith in z),
@@ -87,7 +89,7 @@ home_before : (f : ℕ) (ps : List GraphProc) (e i : ℕ) (s : Spot) → e < len
 home_before f [] e i s lt es up = absurd (omega arith)
 home_before f (p ∷ ps) zero i s lt es up = absurd (omega arith)
 home_before f (p ∷ ps) (suc e) i s lt es up = elim (cases_lt i (length (spots_in f p.vars p.blocks))) [
-  | inl low ↦ omega (arith, first f p.vars p.blocks i s (sym (nth_left (spots_in f p.vars p.blocks) (spots_from (suc f) ps) i low) ∙ es))
+  | inl low ↦ omega (arith, first f p.vars p.blocks i s (sym (nth_append_left (spots_in f p.vars p.blocks) (spots_from (suc f) ps) i low) ∙ es))
   | inr ge ↦
       let n = length (spots_in f p.vars p.blocks) in
       let c = spots_in_count f p.vars p.blocks in
@@ -141,7 +143,7 @@ module _ (g : Graph) (live : List (List ℕ)) (G : Given g live) (S : ArmsAlone 
 
   spot_of : (i : ℕ) (s : Spot) → nth (spots g) i ≡ Some s → (i < length (spots g)) × (spot_at g i ≡ s)
   unfolding spot_at
-  spot_of i s e = (there_from (spots g) i s e, ap (λ (o : Option Spot). or_else o no_spot) e)
+  spot_of i s e = (nth_short (spots g) i s e, ap (λ (o : Option Spot). or_else o no_spot) e)
 
   everywhere : AllFrom Where 0 (spots h)
   unfolding door moved entry_of

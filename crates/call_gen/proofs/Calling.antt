@@ -5,24 +5,26 @@ use Rattle.std.proofs.lemmas.Bool.{cases_lt}
 use Rattle.std.proofs.lemmas.Bool.Decides.{nat_tests}
 use Rattle.std.proofs.lemmas.List.{get_or_append_left, get_or_push, length_push, get_or_past}
 use Rattle.ws_words.specs.Outside.{Act, Outside, State, zeros, with_acts}
-use Rattle.cfg_core.specs.Graph.{Term, Number, Goto, Call, Graph, GraphProc, Spot, nth, or_else, no_proc, spots, spot_at, block_at, proc_at, entry_of}
-use Rattle.cfg_core.specs.Rules.{In, Apart, TermIn, ProcNumbers}
+use Rattle.cfg_core.specs.Graph.{Term, Number, Goto, Call, Graph, GraphProc, Spot, no_proc, spots, spot_at, block_at, proc_at, entry_of}
+use Rattle.cfg_core.specs.Rules.{TermIn, ProcNumbers}
 use Rattle.cfg_core.specs.Walk.{Outcome, Done, and_then, run_ops, values, values_of, all_loads, Frame, At, landed, entered, leave, passed, step}
 use Rattle.live_vars.specs.Live.{Live}
 use Rattle.live_vars.specs.Marks.{has}
 use Rattle.call_gen.specs.Spelled.{is_called, is_calling, moved, door, address, cell, below, saves, left, is_unset, clear, door_block, spelled}
-use Rattle.call_gen.proofs.Visible.{Same, with_more}
+use Rattle.call_gen.proofs.Visible.{Same}
 use Rattle.call_gen.proofs.Agreeing.{States, terms_states, terms_values}
-use Rattle.call_gen.proofs.Needed.{After}
 use Rattle.call_gen.proofs.Slots.{peek, pokes, Roomy, pokes_roomy, pokes_in, pokes_other, below_all, below_count, below_at, below_apart, apart_push}
 use Rattle.call_gen.proofs.Spilling.{same_nil, Saved, saves_run, clears_run}
-use Rattle.call_gen.proofs.Landing.{landed_other, landed_at, values_push, loads_push, entered_at, entered_count}
+use Rattle.call_gen.proofs.Landing.{landed_other, landed_at, values_push, loads_push}
 use Rattle.call_gen.proofs.Facts.{Given, Placed, Celled}
 use Rattle.call_gen.proofs.Standing.{total, rows, size, Waits, Stack, owed, Reaches, reaches_by, reaches_later, exit_in, callee_earlier, SameAbove, stack_kept, stack_any}
 use Rattle.call_gen.proofs.Leaves.{kept, kept_low, kept_live, kept_address, kept_in, at, at_apart, result_not, writes}
 use Rattle.cfg_core.proofs.Spots.{filter_in, landed_count, values_count}
-use Rattle.ws_words.proofs.Numbers.{zero_at, zeros_count}
+use Rattle.ws_words.proofs.Numbers.{zero_at, zeros_count, entered_at, entered_count}
 use Rattle.ws_words.proofs.Bools.{decide}
+use Rattle.ws_words.specs.Items.{nth, or_else, In, Distinct}
+use Rattle.ws_words.proofs.Acts.{with_more}
+use Rattle.live_vars.proofs.Needed.{After}
 
 -- At the door of procedure f, from which both go on into its first block.
 module _ (g : Graph) (live : List (List ℕ)) (G : Given g live) (F : Placed g live) (f : ℕ) (there : f < length g.procs) where
@@ -238,7 +240,7 @@ module _ (g : Graph) (live : List (List ℕ)) (G : Given g live) (F : Placed g l
   abbrev fresh : List ℕ
   fresh = landed named (words ++ address g f b ∷ []) (zeros (suc (proc_at g f).vars))
 
-  named_apart : Apart named
+  named_apart : Distinct named
   named_apart = apart_push (below (proc_at g f).params) (proc_at g f).vars (below_apart (proc_at g f).params) (λ i. omega (arith, below_all (proc_at g f).params (proc_at g f).vars i, few_params))
 
   fresh_param : (x : ℕ) → x < (proc_at g f).params → get_or fresh x 0 ≡ get_or words x 0

@@ -5,8 +5,8 @@ use Rattle.std.proofs.lemmas.Bool.{cases_lt}
 use Rattle.std.proofs.lemmas.Bool.Decides.{nat_tests}
 use Rattle.std.proofs.lemmas.List.{length-map, length_push}
 use Rattle.std.proofs.lemmas.List.Sums.{sum_by-cons, sum_by-append}
-use Rattle.cfg_core.specs.Graph.{Term, Number, Var, Op, Exit, Goto, Branch, Call, Return, Send, Stop, Graph, Spot, spots, spot_at, block_at, or_else, proc_at, entry_of}
-use Rattle.cfg_core.specs.Rules.{In, calls}
+use Rattle.cfg_core.specs.Graph.{Term, Number, Var, Op, Exit, Goto, Branch, Call, Return, Send, Stop, Graph, Spot, spots, spot_at, block_at, proc_at, entry_of}
+use Rattle.cfg_core.specs.Rules.{calls}
 use Rattle.cfg_core.specs.Weights.{term_nodes, first_block}
 use Rattle.live_vars.specs.Live.{Live}
 use Rattle.live_vars.specs.Marks.{has}
@@ -21,6 +21,7 @@ use Rattle.call_gen.proofs.Alongside.{first_is, weighs}
 use Rattle.call_gen.proofs.Places.{all_placed, all_celled}
 use Rattle.call_gen.proofs.Crossing.{Known, live_there, door_live, point_live, named_door}
 use Rattle.ws_words.proofs.Bools.{and_parts as and_true}
+use Rattle.ws_words.specs.Items.{or_else, In}
 
 filter_push : (p : ℕ → Bool) (xs : List ℕ) (y : ℕ) → length (filter p (xs ++ y ∷ [])) ≡ length (filter p xs) + (if p y then 1 else 0)
 filter_push p [] y = by_test (p y)

@@ -2,15 +2,17 @@
 use Rattle.std.proofs.Common.{ℕ, zero, suc, ◌+◌, ◌-◌, ◌≡◌, ◌<◌, ◌⊎◌, Bool, true, false, if◌then◌else◌, List, [], ◌∷◌, ◌++◌, length, take, refl, ap, ◌∙◌, inl, inr, Some, arith}
 use Rattle.std.proofs.lemmas.Bool.{cases_lt}
 use Rattle.std.proofs.lemmas.List.{length-append}
-use Rattle.cfg_core.specs.Graph.{Block, GraphProc, Graph, Spot, spots, spots_in, spots_from, nth, spot_at, entry_of}
+use Rattle.cfg_core.specs.Graph.{Block, GraphProc, Graph, Spot, spots, spots_in, spots_from, spot_at, entry_of}
 use Rattle.cfg_core.specs.Rules.{calls}
 use Rattle.call_gen.specs.Spelled.{count_of, is_call, moved, door, after, spelled_blocks, spelled_procs, spelled}
 use Rattle.call_gen.specs.Charged.{IsPlaced}
 use Rattle.call_gen.proofs.Placing.{take_left, take_right, count_both, after_count, head_spots, head_count, in_blocks, door_in, door_later}
-use Rattle.call_gen.proofs.PartWalk.{spot_from, there_from}
+use Rattle.call_gen.proofs.PartWalk.{spot_from}
 use Rattle.call_gen.proofs.Standing.{places}
-use Rattle.cfg_core.proofs.Spots.{nth_left, nth_right}
+use Rattle.cfg_core.proofs.Spots.{nth_right}
 use Rattle.cfg_core.proofs.Weighing.{count_in as spots_in_count}
+use Rattle.ws_words.specs.Items.{nth}
+use Rattle.ws_words.proofs.Places.{nth_short, nth_append_left}
 
 -- Here stands a block of these, or after it the point to which its call returns.
 record AtBlock (ss : List Spot) (k : ℕ) : Type 0 where
@@ -64,8 +66,8 @@ module _ (g : Graph) (live : List (List ℕ)) where
     -- a block of the first procedure
     in_first : (k : ℕ) → AtBlock (spots_in f p.vars p.blocks) k → Covered f (p ∷ ps) (suc k)
     in_first k r =
-        let there = there_from old r.block r.spot r.is in
-        let is : nth (old ++ rest) r.block ≡ Some r.spot = nth_left old rest r.block there ∙ r.is in
+        let there = nth_short old r.block r.spot r.is in
+        let is : nth (old ++ rest) r.block ≡ Some r.spot = nth_append_left old rest r.block there ∙ r.is in
         let home = (in_blocks g live f p.vars p.blocks r.block r.spot r.is).0 in
         let same : count_of is_call (take r.block (old ++ rest)) ≡ count_of is_call (take r.block old) = ap (count_of is_call) (take_left old rest r.block (omega (arith, there))) in
         elim r.place [
@@ -116,5 +118,5 @@ module _ (g : Graph) (live : List (List ℕ)) where
     where
       go : Covered 0 g.procs c → IsPlaced g (places g live) c
       go (at_door e le is) = inr (inl (e, le, is ∙ door_place e))
-      go (at_block i s is at) = inl (i, there_from (spots g) i s is, omega (arith, at, block_place i s is))
-      go (at_point i s is call at) = inr (inr (i, there_from (spots g) i s is, ap (λ (t : Spot). calls t.block.exit) (spot_from g i s is) ∙ call, omega (arith, at, block_place i s is)))
+      go (at_block i s is at) = inl (i, nth_short (spots g) i s is, omega (arith, at, block_place i s is))
+      go (at_point i s is call at) = inr (inr (i, nth_short (spots g) i s is, ap (λ (t : Spot). calls t.block.exit) (spot_from g i s is) ∙ call, omega (arith, at, block_place i s is)))

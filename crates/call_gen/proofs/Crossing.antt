@@ -4,21 +4,23 @@ use Rattle.std.specs.List.{AllByRecursion, filter}
 use Rattle.std.proofs.lemmas.Bool.{cases_lt}
 use Rattle.std.proofs.lemmas.Bool.Decides.{nat_tests}
 use Rattle.std.proofs.lemmas.List.{length_push}
-use Rattle.cfg_core.specs.Graph.{Term, Number, Var, Cell, Flip, Not, Neg, Binary, Op, Assign, Store, Print, Read, Give, Take, Choose, Tick, TickBy, Exit, Goto, Branch, Call, Return, Send, Stop, Graph, Spot, spots, spot_at, no_spot, block_at, proc_at, entry_of, or_else}
-use Rattle.cfg_core.specs.Rules.{TermIn, OpIn, In}
+use Rattle.cfg_core.specs.Graph.{Term, Number, Var, Op, Exit, Goto, Branch, Call, Return, Send, Stop, Graph, Spot, spots, spot_at, no_spot, block_at, proc_at, entry_of}
+use Rattle.cfg_core.specs.Rules.{OpIn}
 use Rattle.cfg_core.specs.Weights.{first_block}
-use Rattle.cfg_core.proofs.Total.{each_at}
 use Rattle.live_vars.specs.Live.{Mentions, OneMentions, OpReads, OpWrites, ExitReads, ExitWrites, Carries, WrittenIn, ReadsFirst, Live, reads, passes}
 use Rattle.live_vars.specs.Marks.{has}
 use Rattle.call_gen.specs.Spelled.{is_called, moved, door, landings, address, below, is_result, is_saved, saved, save, load, saves, left, clear, is_unset, spelled}
 use Rattle.call_gen.specs.Keeps.{NoneAcross, NoneAtStart, NoneLiveAcross, SendsAtMost, ParamsAtMost}
 use Rattle.call_gen.proofs.Facts.{Given, Placed}
 use Rattle.call_gen.proofs.Slots.{in_below, below_all}
-use Rattle.call_gen.proofs.Standing.{exit_in, numbers_at}
+use Rattle.call_gen.proofs.Standing.{exit_in}
 use Rattle.call_gen.proofs.Leaves.{kept_live, kept_address}
 use Rattle.call_gen.proofs.Places.{all_placed, all_celled}
 use Rattle.call_gen.proofs.Cycles.{Sort, is_door, is_plain, is_point, is_none, every_spot, lands_at}
-use Rattle.cfg_core.proofs.Spots.{filter_in, in_filter}
+use Rattle.cfg_core.proofs.Spots.{filter_in, in_filter, each_at, numbers_at}
+use Rattle.ws_words.specs.Items.{or_else, In}
+use Rattle.live_vars.proofs.Needed.{first_exit}
+use Rattle.live_vars.proofs.Below.{low, all_low, op_low}
 
 -- read before it is written
 abbrev pub ReadsIn : List Op → ℕ → Type 0
@@ -38,44 +40,10 @@ first_in [] exit x h = absurd h
 first_in (op ∷ ops) exit x (inl r) = inl r
 first_in (op ∷ ops) exit x (inr n) = inr (n.0, first_in ops exit x n.1)
 
-first_exit : (ops : List Op) (exit : Exit) (x : ℕ) → (WrittenIn ops x → ⊥) → ExitReads exit x → ReadsFirst ops exit x
-first_exit [] exit x never r = r
-first_exit (op ∷ ops) exit x never r = inr (λ w. never (inl w), first_exit ops exit x (λ w. never (inr w)) r)
-
 written_left : (xs ys : List Op) (x : ℕ) → WrittenIn xs x → WrittenIn (xs ++ ys) x
 written_left [] ys x h = absurd h
 written_left (op ∷ xs) ys x (inl w) = inl w
 written_left (op ∷ xs) ys x (inr w) = inr (written_left xs ys x w)
-
--- what is mentioned is a variable of the procedure
-pub low : (g : Graph) (v : ℕ) (t : Term) (x : ℕ) → TermIn g v t → Mentions t x → x < v
-low g v (Number n) x i m = absurd m
-low g v (Var y) x i m = omega (arith, i, m)
-low g v (Cell a t) x i m = low g v t x i.1 m
-low g v (Flip t) x i m = low g v t x i m
-low g v (Not t) x i m = low g v t x i m
-low g v (Neg t) x i m = low g v t x i m
-low g v (Binary op a b) x i (inl m) = low g v a x i.0 m
-low g v (Binary op a b) x i (inr m) = low g v b x i.1 m
-
-pub all_low : (g : Graph) (v : ℕ) (ts : List Term) (x : ℕ) → AllByRecursion (TermIn g v) ts → OneMentions ts x → x < v
-all_low g v [] x i m = absurd m
-all_low g v (t ∷ ts) x i (inl m) = low g v t x i.0 m
-all_low g v (t ∷ ts) x i (inr m) = all_low g v ts x i.1 m
-
-op_low : (g : Graph) (v : ℕ) (op : Op) (x : ℕ) → OpIn g v op → OpReads op x → x < v
-op_low g v (Assign y t) x i m = low g v t x i.1 m
-op_low g v (Store a t u) x i (inl m) = low g v t x i.1 m
-op_low g v (Store a t u) x i (inr m) = low g v u x i.2 m
-op_low g v (Print t) x i m = low g v t x i m
-op_low g v (Read y) x i m = absurd m
-op_low g v (Give p y) x i m = absurd m
-op_low g v (Take p t) x i m = low g v t x i.1 m
-op_low g v (Choose y t a b) x i (inl m) = low g v t x i.1 m
-op_low g v (Choose y t a b) x i (inr (inl m)) = low g v a x i.2 m
-op_low g v (Choose y t a b) x i (inr (inr m)) = low g v b x i.3 m
-op_low g v (Tick n) x i m = absurd m
-op_low g v (TickBy t n m') x i m = low g v t x i m
 
 ops_low : (g : Graph) (v : ℕ) (ops : List Op) (x : ℕ) → AllByRecursion (OpIn g v) ops → ReadsIn ops x → x < v
 ops_low g v [] x i r = absurd r
@@ -165,7 +133,7 @@ module _ (g : Graph) (live : List (List ℕ)) (G : Given g live) where
 
     from_reads : (y : Exit) → (block_at g b).exit ≡ y → (x : ℕ) → ReadsFirst ((block_at g b).ops ++ saves g live home v y) (left g home v b y) x → Known b x
     from_reads y e x h = elim (split (block_at g b).ops (saves g live home v y) (left g home v b y) x h) [
-      | inl r ↦ inl (ops_low g v (block_at g b).ops x (numbers_at g live G F b).ops r, reads b x (first_in (block_at g b).ops (block_at g b).exit x r))
+      | inl r ↦ inl (ops_low g v (block_at g b).ops x (numbers_at g G.rules b).ops r, reads b x (first_in (block_at g b).ops (block_at g b).exit x r))
       | inr r ↦ after y e r.0 r.1
     ]
       where

@@ -3,17 +3,18 @@ use Rattle.std.proofs.Common.{ℕ, zero, suc, ◌+◌, ◌-◌, ◌≡◌, ◌<�
 use Rattle.std.specs.List.{AllByRecursion}
 use Rattle.std.proofs.lemmas.Bool.{cases_lt}
 use Rattle.std.proofs.lemmas.Bool.Decides.{nat_tests}
-use Rattle.cfg_core.specs.Graph.{Term, Op, Exit, Goto, Branch, Call, Return, Send, Stop, Block, GraphProc, Graph, Spot, spots, spots_in, spots_from, nth, or_else, no_spot, no_proc, spot_at, block_at, proc_at, entry_of}
-use Rattle.cfg_core.specs.Rules.{calls, In, Leads, has_turn, has_tick, takes_turn, Quiet, one, more}
-use Rattle.cfg_core.proofs.Total.{each_at}
+use Rattle.cfg_core.specs.Graph.{Term, Op, Exit, Goto, Branch, Call, Return, Send, Stop, Block, GraphProc, Graph, Spot, spots, spots_in, spots_from, no_spot, no_proc, spot_at, block_at, proc_at, entry_of}
+use Rattle.cfg_core.specs.Rules.{calls, Leads, has_turn, has_tick, takes_turn, Quiet, one, more}
 use Rattle.cfg_core.proofs.Turns.{has_tick_turns}
 use Rattle.call_gen.specs.Spelled.{callee_is, count_of, is_call, is_called, moved, landings, saves, left, spelled}
 use Rattle.call_gen.specs.Keeps.{NoSend}
 use Rattle.call_gen.proofs.Facts.{Given, Placed}
-use Rattle.call_gen.proofs.Placing.{nth_there, plain_of, point_of, door_of, home_is}
+use Rattle.call_gen.proofs.Placing.{plain_of, point_of, door_of, home_is}
 use Rattle.call_gen.proofs.Sorts.{all_spots, landing_from}
 use Rattle.call_gen.proofs.Standing.{exit_in, callee_earlier}
-use Rattle.cfg_core.proofs.Spots.{nth_left, nth_right}
+use Rattle.cfg_core.proofs.Spots.{nth_right, each_at}
+use Rattle.ws_words.specs.Items.{nth, or_else, In}
+use Rattle.ws_words.proofs.Places.{nth_there, nth_append_left}
 
 module _ (g : Graph) (live : List (List ℕ)) (G : Given g live) (F : Placed g live) where
   abbrev h : Graph
@@ -205,7 +206,7 @@ module _ (g : Graph) (live : List (List ℕ)) (G : Given g live) (F : Placed g l
   home_more : (f : ℕ) (ps : List GraphProc) (i j : ℕ) (s t : Spot) → nth (spots_from f ps) i ≡ Some s → nth (spots_from f ps) j ≡ Some t → i ≤ j → s.home ≤ t.home
   home_more f [] i j s t es et le = absurd (cc)
   home_more f (p ∷ ps) i j s t es et le = elim (cases_lt i (length (spots_in f p.vars p.blocks))) [
-    | inl lt ↦ omega (arith, front f p.vars p.blocks i s (sym (nth_left (spots_in f p.vars p.blocks) (spots_from (suc f) ps) i lt) ∙ es), (home_is g live f (p ∷ ps) j t et).home)
+    | inl lt ↦ omega (arith, front f p.vars p.blocks i s (sym (nth_append_left (spots_in f p.vars p.blocks) (spots_from (suc f) ps) i lt) ∙ es), (home_is g live f (p ∷ ps) j t et).home)
     | inr ge ↦
         let m = length (spots_in f p.vars p.blocks) in
         home_more (suc f) ps (i - m) (j - m) s t (sym (nth_right (spots_in f p.vars p.blocks) (spots_from (suc f) ps) m (i - m) i refl (omega (arith, ge))) ∙ es)

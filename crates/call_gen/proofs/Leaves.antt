@@ -5,15 +5,13 @@ use Rattle.std.proofs.lemmas.Bool.{cases_eq}
 use Rattle.std.proofs.lemmas.Bool.Decides.{nat_tests}
 use Rattle.std.proofs.lemmas.List.{get_or-set_same, get_or-set_other, length-set}
 use Rattle.ws_words.specs.Outside.{Outside, State, zeros}
-use Rattle.cfg_core.specs.Graph.{Term, Exit, Goto, Branch, Call, Graph, Spot, spots, spot_at, block_at, proc_at, or_else}
-use Rattle.cfg_core.specs.Rules.{In}
+use Rattle.cfg_core.specs.Graph.{Term, Exit, Goto, Branch, Call, Graph, Spot, spots, spot_at, block_at, proc_at}
 use Rattle.cfg_core.specs.Walk.{Outcome, run_ops, value_of, Frame, At, landed, with_result, leave, passed, step}
 use Rattle.live_vars.specs.Live.{ExitWrites, Live}
 use Rattle.live_vars.specs.Marks.{has}
 use Rattle.call_gen.specs.Spelled.{is_called, is_calling, moved, cell, below, is_result, is_saved, saved, load, spelled}
 use Rattle.call_gen.proofs.Visible.{Same}
 use Rattle.call_gen.proofs.Agreeing.{States}
-use Rattle.call_gen.proofs.Needed.{After}
 use Rattle.call_gen.proofs.Slots.{peek, Roomy, peeks_in, peeks_other, peeks_count, in_below, below_all}
 use Rattle.call_gen.proofs.Spilling.{loads_run}
 use Rattle.call_gen.proofs.Facts.{Given, Placed, Celled}
@@ -21,6 +19,8 @@ use Rattle.call_gen.proofs.Standing.{total, rows, size, Stack, Stands, owed, Rea
 use Rattle.ws_words.proofs.Numbers.{zeros_count}
 use Rattle.cfg_core.proofs.Spots.{all_from, filter_in, in_filter}
 use Rattle.ws_words.proofs.Bools.{decide}
+use Rattle.ws_words.specs.Items.{or_else, In}
+use Rattle.live_vars.proofs.Needed.{After}
 
 -- a call's result, as a test
 pub result_not : (r : Option ℕ) (f : ℕ) (ts : List Term) (back x : ℕ) → (ExitWrites (Call r f ts back) x → ⊥) → is_result r x ≡ false

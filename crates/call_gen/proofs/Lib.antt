@@ -1,7 +1,6 @@
 pub mod Visible
 pub mod Agreeing
 pub mod Slots
-pub mod Needed
 pub mod Spilling
 pub mod Landing
 pub mod Facts

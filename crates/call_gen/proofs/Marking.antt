@@ -1,19 +1,15 @@
 -- Blocks that are found, one after another.
-use Rattle.std.proofs.Common.{ℕ, zero, suc, ◌+◌, ◌-◌, ◌≡◌, ◌<◌, ◌⊎◌, Bool, true, false, if◌then◌else◌, List, [], ◌∷◌, ◌++◌, length, set, replicate, refl, sym, ◌∙◌, subst, inl, inr, Option, Result, Ok, Err, OnOk, arith}
+use Rattle.std.proofs.Common.{ℕ, zero, suc, ◌+◌, ◌-◌, ◌≡◌, ◌<◌, ◌⊎◌, Bool, true, false, if◌then◌else◌, List, [], ◌∷◌, ◌++◌, length, set, replicate, refl, sym, ◌∙◌, subst, inl, inr, Option, arith}
 use Rattle.std.proofs.lemmas.Bool.{cases_eq}
 use Rattle.std.proofs.lemmas.List.{get_or-set_same, get_or-set_other, length-set, length_push}
 use Rattle.cfg_core.specs.Graph.{Graph, Branch, Call, Stop, spots, block_at, entry_of, no_spot}
-use Rattle.cfg_core.specs.Rules.{In, IsGraph}
+use Rattle.cfg_core.specs.Rules.{IsGraph}
 use Rattle.call_gen.specs.Keeps.{HasNoSend}
 use Rattle.call_gen.specs.Reached.{Reached, start, follow, enter}
-use Rattle.call_gen.specs.Part.{flag_at, AreReached, unset, Marks, Next, Finding}
+use Rattle.call_gen.specs.Part.{AreReached, unset, Marks, Next, Finding}
 use Rattle.call_gen.proofs.PartReached.{reached_there}
-use Rattle.cfg_core.proofs.Spots.{in_left}
-
--- what follows from the fact follows where the answer is Ok
-pub on_ok : {A E : Type 0} {P Q : Type 0} (r : Result A E) → (P → Q) → OnOk r P → OnOk r Q
-on_ok (Ok x) f h = f h
-on_ok (Err e) f h = h
+use Rattle.ws_words.specs.Items.{In, flag_at}
+use Rattle.ws_words.proofs.Places.{in_left}
 
 in_last : (b : ℕ) (xs : List ℕ) → In b (xs ++ b ∷ [])
 in_last b [] = inl refl

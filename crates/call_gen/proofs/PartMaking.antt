@@ -13,13 +13,14 @@ use Rattle.call_gen.specs.Keeps.{HasNoSend}
 use Rattle.call_gen.specs.Reached.{AllReached}
 use Rattle.call_gen.specs.Sizes.{Sizes, IsWithin}
 use Rattle.call_gen.specs.Charged.{ReachedInPlace}
-use Rattle.call_gen.specs.Part.{before, part_proc, part_procs, part, ExitThere, BlocksThere, flag_at, AreReached}
+use Rattle.call_gen.specs.Part.{before, part_proc, part_procs, part, ExitThere, BlocksThere, AreReached}
 use Rattle.call_gen.proofs.Making.{split_all}
 use Rattle.call_gen.proofs.PartWalk.{walks_kept, arrays_kept, weighs_no_more}
 use Rattle.call_gen.proofs.PartRules.{kept_at, is_graph, sends_nothing, is_shaped, arms_alone}
 use Rattle.call_gen.proofs.PartSame.{does_the_same, begins_there}
 use Rattle.call_gen.proofs.PartSizing.{is_within}
 use Rattle.call_gen.proofs.PartReached.{closed, all_reached}
+use Rattle.ws_words.specs.Items.{flag_at}
 
 module _ (g : Graph) where
   exit_there : (home v : ℕ) (x : Exit) → ExitIn g home v x → ExitThere g x

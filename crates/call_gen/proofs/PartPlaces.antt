@@ -2,10 +2,12 @@
 use Rattle.std.proofs.Common.{ℕ, zero, suc, ◌+◌, ◌-◌, ◌≡◌, ◌<◌, ◌≤◌, Bool, true, false, if◌then◌else◌, List, [], ◌∷◌, ◌++◌, length, refl, sym, ap, ◌∙◌, inl, inr, Some, arith}
 use Rattle.std.specs.List.{AllByRecursion}
 use Rattle.std.proofs.lemmas.Bool.{cases_lt}
-use Rattle.cfg_core.specs.Graph.{Exit, Block, GraphProc, Spot, spots_in, spots_from, nth, or_else, no_proc, entry_from}
+use Rattle.cfg_core.specs.Graph.{Exit, Block, GraphProc, Spot, spots_in, spots_from, no_proc, entry_from}
 use Rattle.cfg_core.specs.Rules.{ProcNumbers}
 use Rattle.call_gen.specs.Part.{before, part_block, part_blocks, part_proc, part_procs}
-use Rattle.cfg_core.proofs.Spots.{nth_left, nth_right}
+use Rattle.cfg_core.proofs.Spots.{nth_right}
+use Rattle.ws_words.specs.Items.{nth, or_else}
+use Rattle.ws_words.proofs.Places.{nth_append_left}
 
 -- Counts of what is kept.
 
@@ -193,7 +195,7 @@ module _ (keep : ℕ → Bool) (name : Exit → Exit) where
         by_test false ev = refl
         by_test true ev =
             let there : i < length (spots_in f p.vars p.blocks) = bound (spots_in f p.vars p.blocks) i s e in
-            let up : kept s.home ≡ true = w.homes i s (nth_left (spots_in f p.vars p.blocks) (spots_from (suc f) ps) i there ∙ e) ev in
+            let up : kept s.home ≡ true = w.homes i s (nth_append_left (spots_in f p.vars p.blocks) (spots_from (suc f) ps) i there ∙ e) ev in
             let same : kept s.home ≡ kept f = ap kept (in_blocks f p.vars p.blocks i s e) in
             let first = whole_first f b p ps w in
             absurd (cc)

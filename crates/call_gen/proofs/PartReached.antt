@@ -4,11 +4,12 @@ use Rattle.cfg_core.specs.Graph.{Exit, Goto, Branch, Call, Return, Send, Stop, G
 use Rattle.cfg_core.specs.Rules.{StaysIn, Leads, IsGraph}
 use Rattle.call_gen.specs.Keeps.{NoSend, HasNoSend}
 use Rattle.call_gen.specs.Reached.{Enters, Reached, start, follow, enter, AllReached}
-use Rattle.call_gen.specs.Part.{before, name, part, flag_at, AreReached}
+use Rattle.call_gen.specs.Part.{before, name, part, AreReached}
 use Rattle.call_gen.proofs.Facts.{Placed}
 use Rattle.call_gen.proofs.Places.{all_placed}
 use Rattle.call_gen.proofs.PartWalk.{Closed, exit_in, block_is, entry_is, main_is}
 use Rattle.call_gen.proofs.PartRules.{kept_at}
+use Rattle.ws_words.specs.Items.{flag_at}
 
 module _ (g : Graph) (rules : IsGraph g) (no_send : HasNoSend g) where
   F : Placed g []

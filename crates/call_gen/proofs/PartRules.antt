@@ -1,21 +1,21 @@
 -- A closed part of a graph keeps the six rules, and the order of blocks and edges.
-use Rattle.std.proofs.Common.{ℕ, suc, ◌+◌, ◌-◌, ◌≡◌, ◌<◌, ◌≤◌, Bool, true, List, [], ◌∷◌, length, refl, sym, ap, ◌∙◌, subst, inl, inr, Option, Some, arith}
+use Rattle.std.proofs.Common.{ℕ, ◌+◌, ◌-◌, ◌≡◌, ◌<◌, ◌≤◌, Bool, true, List, [], ◌∷◌, length, refl, sym, ap, ◌∙◌, subst, inl, inr, Option, arith}
 use Rattle.std.specs.List.{AllByRecursion}
 use Rattle.std.proofs.lemmas.Bool.{cases_lt}
-use Rattle.cfg_core.specs.Graph.{Term, Number, Var, Cell, Flip, Not, Neg, Binary, Op, Assign, Store, Print, Read, Give, Take, Choose, Tick, TickBy, Exit, Goto, Branch, Call, Return, Send, Stop, GraphProc, Graph, Spot, spots, nth, no_spot, spot_at, block_at, entry_of}
+use Rattle.cfg_core.specs.Graph.{Term, Number, Var, Cell, Flip, Not, Neg, Binary, Op, Assign, Store, Print, Read, Give, Take, Choose, Tick, TickBy, Exit, Goto, Branch, Call, Return, Send, Stop, GraphProc, Graph, Spot, spots, no_spot, spot_at, block_at, entry_of}
 use Rattle.cfg_core.specs.Rules.{TermIn, OpIn, StaysIn, ExitIn, Leads, BlockNumbers, Lands, CallsEarlier, calls, has_tick, has_turn, ChoosesBare, Quiet, one, more, IsGraph}
 use Rattle.cfg_core.specs.Edges.{Edge, IsHeader}
 use Rattle.cfg_core.specs.Shape.{is_branch, TestsInATurn, OnlyFrom, BranchesApart, IsShaped, ArmsAlone}
-use Rattle.cfg_core.proofs.Total.{each_at}
 use Rattle.call_gen.specs.Keeps.{NoSend, HasNoSend}
 use Rattle.call_gen.specs.Reached.{Enters}
 use Rattle.call_gen.specs.Part.{before, keeps, number, name, part}
 use Rattle.call_gen.proofs.Facts.{Placed}
 use Rattle.call_gen.proofs.Places.{all_placed}
 use Rattle.call_gen.proofs.PartPlaces.{before_less, before_apart, before_order, part_spot, part_from, procs_numbered}
-use Rattle.call_gen.proofs.PartWalk.{Closed, spot_from, there_from, numbers_at, exit_in, earlier_at}
+use Rattle.call_gen.proofs.PartWalk.{Closed, spot_from, exit_in, earlier_at}
 use Rattle.call_gen.proofs.PartWalk as walks
-use Rattle.cfg_core.proofs.Spots.{past}
+use Rattle.cfg_core.proofs.Spots.{past, each_at, numbers_at}
+use Rattle.ws_words.proofs.Places.{nth_short, all_of}
 
 -- what names something names it where there are as many arrays
 module _ (g h : Graph) (same : g.arrays ≡ h.arrays) where
@@ -46,11 +46,6 @@ module _ (g h : Graph) (same : g.arrays ≡ h.arrays) where
   all_ops_in : (v : ℕ) (ops : List Op) → AllByRecursion (OpIn g v) ops → AllByRecursion (OpIn h v) ops
   all_ops_in v [] i = tt
   all_ops_in v (op ∷ ops) i = (op_in v op i.0, all_ops_in v ops i.1)
-
--- what holds at each place holds of all
-all_of : {A : Type 0} (P : A → Type 0) (xs : List A) → ((k : ℕ) (x : A) → nth xs k ≡ Some x → P x) → AllByRecursion P xs
-all_of P [] h = tt
-all_of P (x ∷ xs) h = (h 0 x refl, all_of P xs (λ k y e. h (suc k) y e))
 
 pub none_past : (h : Graph) (k : ℕ) → length (spots h) ≤ k → spot_at h k ≡ no_spot
 unfolding spot_at
@@ -94,7 +89,7 @@ module _ (g : Graph) (keep : ℕ → Bool) (rules : IsGraph g) (C : Closed g kee
   -- so what holds of each that is kept holds of all
   pub every : (P : Spot → Type 0) → ((b : ℕ) → keep b ≡ true → P (moved (spot_at g b))) → AllByRecursion P (spots h)
   every P each = all_of P (spots h) (λ k s e.
-      let f = kept_at k (there_from (spots h) k s e) in
+      let f = kept_at k (nth_short (spots h) k s e) in
       let same : moved (spot_at g f.block) ≡ s = sym (block_is f.block f.kept) ∙ ap (spot_at h) (sym f.place) ∙ spot_from h k s e in
       subst P same (each f.block f.kept))
 

@@ -1,7 +1,7 @@
 -- A closed part of a graph keeps its bounds.
 use Rattle.std.proofs.Common.{ℕ, suc, ◌+◌, ◌≡◌, ◌≤◌, Bool, true, false, if◌then◌else◌, zero, List, [], ◌∷◌, length, refl, ap, subst, Some, arith}
 use Rattle.std.specs.List.{AllByRecursion}
-use Rattle.cfg_core.specs.Graph.{Exit, Goto, Branch, Call, Return, Send, Stop, GraphProc, Graph, Spot, spots, nth, spot_at, block_at}
+use Rattle.cfg_core.specs.Graph.{Exit, Goto, Branch, Call, Return, Send, Stop, GraphProc, Graph, Spot, spots, spot_at, block_at}
 use Rattle.cfg_core.specs.Rules.{calls, IsGraph}
 use Rattle.cfg_core.specs.Weights.{exit_nodes}
 use Rattle.call_gen.specs.Keeps.{HasNoSend, SendsAtMost}
@@ -10,6 +10,7 @@ use Rattle.call_gen.specs.Part.{part_proc, part_procs, keeps, number, name, part
 use Rattle.call_gen.proofs.PartPlaces.{before_most, part_spot, part_spots}
 use Rattle.call_gen.proofs.PartWalk.{Closed, spots_are, procs_are, spot_is}
 use Rattle.call_gen.proofs.PartRules.{every}
+use Rattle.ws_words.specs.Items.{nth}
 
 module _ (keep : ℕ → Bool) (named : Exit → Exit) (home : ℕ → ℕ) (same : (x : Exit) → calls (named x) ≡ calls x) where
   fewer_spots : (b : ℕ) (ss : List Spot) → length (part_spots keep named home b ss) ≤ length ss

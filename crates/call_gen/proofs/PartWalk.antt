@@ -3,22 +3,23 @@ use Rattle.std.proofs.Common.{ℕ, zero, suc, ◌+◌, ◌-◌, ◌==◌, ◌≡
 use Rattle.std.specs.List.{AllByRecursion, sum_by}
 use Rattle.std.proofs.lemmas.List.Sums.{sum_by-append}
 use Rattle.ws_words.specs.Outside.{Outside, State, World, zeros, opening_out}
-use Rattle.cfg_core.specs.Graph.{Exit, Goto, Branch, Call, Return, Send, Stop, GraphProc, Graph, Spot, spots, nth, or_else, no_spot, no_proc, spot_at, block_at, proc_at, entry_of}
-use Rattle.cfg_core.specs.Rules.{ExitIn, Leads, BlockNumbers, CallsEarlier, IsGraph}
+use Rattle.cfg_core.specs.Graph.{Exit, Goto, Branch, Call, Return, Send, Stop, GraphProc, Graph, Spot, spots, no_spot, no_proc, spot_at, block_at, proc_at, entry_of}
+use Rattle.cfg_core.specs.Rules.{ExitIn, Leads, CallsEarlier, IsGraph}
 use Rattle.cfg_core.specs.Edges.{Edge}
 use Rattle.cfg_core.specs.Walk.{value_of, values_of, Outcome, Done, Out, run_ops, Frame, Config, At, Over, Going, entered, returned, leave, passed, step, walk, cells_of, opening, IsOver}
 use Rattle.cfg_core.specs.Shown.{SameShown, SameWalks, SameArrays, AllInside}
 use Rattle.cfg_core.specs.Weights.{block_left, path, WalksWeigh}
-use Rattle.cfg_core.proofs.Total.{each_at}
 use Rattle.cfg_core.proofs.Paired as paired
 use Rattle.cfg_core.proofs.Paired.{Match}
 use Rattle.call_gen.specs.Keeps.{NoSend, HasNoSend}
 use Rattle.call_gen.specs.Reached.{Enters}
 use Rattle.call_gen.specs.Part.{before, part_proc, keeps, number, name, part}
 use Rattle.call_gen.proofs.Facts.{Placed}
-use Rattle.call_gen.proofs.Placing.{nth_there}
 use Rattle.call_gen.proofs.Places.{all_placed}
 use Rattle.call_gen.proofs.PartPlaces.{before_kept, part_at, part_spot, part_spots, Whole, spots_part, procs_count, Stands, proc_placed}
+use Rattle.ws_words.specs.Items.{nth, or_else}
+use Rattle.ws_words.proofs.Places.{nth_there, nth_short}
+use Rattle.cfg_core.proofs.Spots.{each_at, numbers_at}
 
 -- what is kept is there; with a block are kept where it leads to, what it calls, and its procedure's first block
 pub record Closed (g : Graph) (keep : ℕ → Bool) : Type 0 where
@@ -35,16 +36,6 @@ spot_is g b lt = let r = nth_there (spots g) b lt in r.1 ∙ ap (λ (o : Option 
 pub spot_from : (g : Graph) (k : ℕ) (s : Spot) → nth (spots g) k ≡ Some s → spot_at g k ≡ s
 unfolding spot_at
 spot_from g k s e = ap (λ (o : Option Spot). or_else o no_spot) e
-
-pub there_from : {A : Type 0} (xs : List A) (k : ℕ) (x : A) → nth xs k ≡ Some x → k < length xs
-there_from [] k x e = absurd (cc)
-there_from (y ∷ xs) zero x e = omega arith
-there_from (y ∷ xs) (suc k) x e = omega (arith, there_from xs k x e)
-
--- the rules at a block
-pub numbers_at : (g : Graph) → IsGraph g → (b : ℕ) → BlockNumbers g (spot_at g b)
-unfolding spot_at no_spot
-numbers_at g rules b = each_at (BlockNumbers g) (spots g) no_spot rules.numbers.blocks (record { ops = tt; exit = tt; named = tt; once = tt }) b
 
 pub exit_in : (g : Graph) → IsGraph g → (b : ℕ) (x : Exit) → (block_at g b).exit ≡ x → ExitIn g (spot_at g b).home (spot_at g b).vars x
 exit_in g rules b x e = subst (λ (y : Exit). ExitIn g (spot_at g b).home (spot_at g b).vars y) e (numbers_at g rules b).exit
@@ -87,7 +78,7 @@ module _ (g : Graph) (keep : ℕ → Bool) (rules : IsGraph g) (C : Closed g kee
       ∙ part_at keep named (number g keep) 0 (spots g) b (place b) (spot_at g b) (spot_is g b (C.there b k)) (ap keep z ∙ k) (omega (arith, ap place z))
 
   pub block_there : (b : ℕ) → keep b ≡ true → place b < length (spots h)
-  block_there b k = there_from (spots h) (place b) _ (placed b k)
+  block_there b k = nth_short (spots h) (place b) _ (placed b k)
 
   pub block_is : (b : ℕ) → keep b ≡ true → spot_at h (place b) ≡ part_spot keep named (number g keep) (spot_at g b)
   block_is b k = spot_from h (place b) _ (placed b k)

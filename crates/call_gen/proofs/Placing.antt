@@ -3,18 +3,15 @@ use Rattle.std.proofs.Common.{ℕ, zero, suc, ◌+◌, ◌-◌, ◌||◌, ◌≡
 use Rattle.std.specs.List.{AllByRecursion}
 use Rattle.std.proofs.lemmas.Bool.{cases_lt}
 use Rattle.std.proofs.lemmas.List.{length-append}
-use Rattle.cfg_core.specs.Graph.{Term, Exit, Call, Block, GraphProc, Graph, Spot, spots_in, spots_from, nth, or_else, no_proc, entry_from}
+use Rattle.cfg_core.specs.Graph.{Term, Exit, Call, Block, GraphProc, Graph, Spot, spots_in, spots_from, no_proc, entry_from}
 use Rattle.cfg_core.specs.Rules.{calls, ProcNumbers}
 use Rattle.call_gen.specs.Spelled.{callee_is, some_of, count_of, is_call, landings_from, after, spelled_block, return_block, spelled_blocks, door_block, spelled_procs}
-use Rattle.cfg_core.proofs.Spots.{nth_left, nth_right, spots_in_both}
+use Rattle.cfg_core.proofs.Spots.{nth_right, spots_in_both}
 use Rattle.cfg_core.proofs.Weighing.{count_in as spots_in_count}
+use Rattle.ws_words.specs.Items.{nth, or_else}
+use Rattle.ws_words.proofs.Places.{nth_append_left}
 
 -- Lists by place.
-
-pub nth_there : {A : Type 0} (xs : List A) (k : ℕ) → k < length xs → (x : A) × (nth xs k ≡ Some x)
-nth_there [] k lt = absurd (omega arith)
-nth_there (x ∷ xs) zero lt = (x, refl)
-nth_there (x ∷ xs) (suc k) lt = nth_there xs k (omega arith)
 
 pub take_left : {A : Type 0} (xs ys : List A) (k : ℕ) → k ≤ length xs → take k (xs ++ ys) ≡ take k xs
 take_left xs ys zero le = refl
@@ -56,8 +53,8 @@ module _ (g : Graph) (live : List (List ℕ)) where
 
   at_front : (new more : List Spot) (k : ℕ) (s : Spot) (b : ℕ) → AtPlace new k s b → AtPlace (new ++ more) k s b
   at_front new more k s b h = record {
-    plain = nth_left new more k (nth_bound new k (plain_of s b) h.plain) ∙ h.plain;
-    point = λ r f ts back is. nth_left new more (suc k) (nth_bound new (suc k) (point_of s r back) (h.point r f ts back is)) ∙ h.point r f ts back is;
+    plain = nth_append_left new more k (nth_bound new k (plain_of s b) h.plain) ∙ h.plain;
+    point = λ r f ts back is. nth_append_left new more (suc k) (nth_bound new (suc k) (point_of s r back) (h.point r f ts back is)) ∙ h.point r f ts back is;
   }
 
   module _ (home vars : ℕ) where
@@ -137,7 +134,7 @@ module _ (g : Graph) (live : List (List ℕ)) where
   home_is f [] i s e = absurd (cc)
   home_is f (p ∷ ps) i s e = elim (cases_lt i (length (spots_in f p.vars p.blocks))) [
     | inl lt ↦
-        let r = in_blocks f p.vars p.blocks i s (sym (nth_left (spots_in f p.vars p.blocks) (spots_from (suc f) ps) i lt) ∙ e) in
+        let r = in_blocks f p.vars p.blocks i s (sym (nth_append_left (spots_in f p.vars p.blocks) (spots_from (suc f) ps) i lt) ∙ e) in
         record { place = 0; home = omega (arith, r.0); there = omega arith; vars = r.1 }
     | inr ge ↦
         let n = length (spots_in f p.vars p.blocks) in
@@ -151,7 +148,7 @@ module _ (g : Graph) (live : List (List ℕ)) where
   placed f b (p ∷ ps) i k s e ek = elim (cases_lt i (length (spots_in f p.vars p.blocks))) [
     | inl lt ↦
         let old = spots_in f p.vars p.blocks in
-        let es : nth old i ≡ Some s = sym (nth_left old (spots_from (suc f) ps) i lt) ∙ e in
+        let es : nth old i ≡ Some s = sym (nth_append_left old (spots_from (suc f) ps) i lt) ∙ e in
         let home = (in_blocks f p.vars p.blocks i s es).0 in
         let same : count_of is_call (take i (old ++ spots_from (suc f) ps)) ≡ count_of is_call (take i old) = ap (count_of is_call) (take_left old (spots_from (suc f) ps) i (omega arith)) in
         let rest = i + count_of is_call (take i old) in

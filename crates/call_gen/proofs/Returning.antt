@@ -5,14 +5,15 @@ use Rattle.ws_words.specs.Outside.{Act, Outside, State, zeros}
 use Rattle.cfg_core.specs.Graph.{Term, Var, Exit, Return, Send, Graph, spots, spot_at, block_at}
 use Rattle.cfg_core.specs.Walk.{Done, value_of, loads_of, Frame, Config, At, landed, landing, returned, passed}
 use Rattle.call_gen.specs.Spelled.{is_called, moved, landings, left, spelled}
-use Rattle.call_gen.proofs.Visible.{Same, with_more}
+use Rattle.call_gen.proofs.Visible.{Same}
 use Rattle.call_gen.proofs.Agreeing.{States, term_states, term_value}
-use Rattle.call_gen.proofs.Needed.{After}
 use Rattle.call_gen.proofs.Slots.{Roomy}
 use Rattle.call_gen.proofs.Facts.{Given, Placed, Celled}
 use Rattle.call_gen.proofs.Standing.{total, rows, size, Stack, owed, Reaches, reaches_by, exit_in}
 use Rattle.call_gen.proofs.Leaves.{comes_back}
 use Rattle.ws_words.proofs.Bools.{decide}
+use Rattle.ws_words.proofs.Acts.{with_more}
+use Rattle.live_vars.proofs.Needed.{After}
 
 module _ (g : Graph) (live : List (List ℕ)) (G : Given g live) (F : Placed g live) (C : Celled g) (b : ℕ) (there : b < length (spots g)) (term : Term) (is : (block_at g b).exit ≡ Return term) (s t : State) (k extra : ℕ) (hidden : List (List ℕ)) (roomy : Roomy (total g live) hidden) (st : States g (rows g live) (size g live) (spot_at g b).vars extra hidden (After g (Return term)) s t) where
   abbrev h : Graph

@@ -3,20 +3,20 @@ use Rattle.std.proofs.Common.{ℕ, zero, suc, ◌+◌, ◌≡◌, ◌<◌, ◌�
 use Rattle.std.specs.List.{AllByRecursion, filter}
 use Rattle.std.proofs.lemmas.Bool.{cases_lt}
 use Rattle.std.proofs.lemmas.List.{length-append, length-replicate, length_push}
-use Rattle.cfg_core.specs.Graph.{Term, Number, Var, Cell, Flip, Not, Neg, Binary, Op, Assign, Store, Print, Read, Give, Take, Choose, Tick, TickBy, Exit, Goto, Branch, Call, Return, Send, Stop, GraphProc, Graph, Spot, spots, nth, or_else, no_spot, no_proc, spot_at, block_at, proc_at, entry_of}
-use Rattle.cfg_core.specs.Rules.{IsArray, TermIn, OpIn, StaysIn, ResultIn, ExitIn, In, Apart, BlockNumbers, ProcNumbers, Lands, CallsEarlier, calls, has_tick, ChoosesBare, IsGraph}
-use Rattle.cfg_core.proofs.Total.{each_at}
+use Rattle.cfg_core.specs.Graph.{Term, Number, Var, Cell, Flip, Not, Neg, Binary, Op, Assign, Store, Print, Read, Give, Take, Choose, Tick, TickBy, Exit, Goto, Branch, Call, Return, Send, Stop, GraphProc, Graph, Spot, spots, no_spot, no_proc, spot_at, block_at, proc_at, entry_of}
+use Rattle.cfg_core.specs.Rules.{IsArray, TermIn, OpIn, StaysIn, ResultIn, ExitIn, BlockNumbers, ProcNumbers, Lands, CallsEarlier, calls, has_tick, ChoosesBare, IsGraph}
 use Rattle.call_gen.specs.Spelled.{is_called, moved, door, landings, address, cell, array_of, cells_in_all, hidden_arrays, below, saved, save, load, saves, left, clear, is_unset, spelled_procs, spelled}
 use Rattle.call_gen.specs.Keeps.{NoCall, HasNoCall}
 use Rattle.call_gen.proofs.Facts.{Given, Placed, Celled}
 use Rattle.call_gen.proofs.Slots.{below_all, below_apart, apart_push, below_count}
-use Rattle.call_gen.proofs.Standing.{exit_in, numbers_at}
+use Rattle.call_gen.proofs.Standing.{exit_in}
 use Rattle.call_gen.proofs.Leaves.{kept_low}
 use Rattle.call_gen.proofs.Calling.{unset_low}
 use Rattle.call_gen.proofs.Places.{all_placed, all_celled}
 use Rattle.call_gen.proofs.Cycles.{Sort, is_door, is_plain, is_point, is_none, every_spot, lands_at, no_cycle}
 use Rattle.ws_words.proofs.Lists.{all_append as all_both, all_have}
-use Rattle.cfg_core.proofs.Spots.{all_from as all_in, past}
+use Rattle.cfg_core.proofs.Spots.{all_from as all_in, past, each_at, numbers_at}
+use Rattle.ws_words.specs.Items.{nth, or_else, In, Distinct}
 
 map_all : {A B : Type 0} (P : B → Type 0) (f : A → B) (xs : List A) → ((x : A) → P (f x)) → AllByRecursion P (map f xs)
 map_all P f [] h = tt
@@ -145,12 +145,12 @@ module _ (g : Graph) (live : List (List ℕ)) (G : Given g live) where
           (all_in (λ x. x < suc (proc_at g f).vars) (below (proc_at g f).params) (λ x i. omega (arith, below_all (proc_at g f).params x i, few_params f lt))) (omega arith, tt)
       by_called false = tt
 
-      once : (c : Bool) → Apart (if c then below (proc_at g f).params ++ (proc_at g f).vars ∷ [] else [])
+      once : (c : Bool) → Distinct (if c then below (proc_at g f).params ++ (proc_at g f).vars ∷ [] else [])
       once true = apart_push (below (proc_at g f).params) (proc_at g f).vars (below_apart (proc_at g f).params) (λ i. omega (arith, below_all (proc_at g f).params (proc_at g f).vars i, few_params f lt))
       once false = tt
   numbers _ (is_plain b lt) = record {
     ops = all_both (OpIn h (suc (spot_at g b).vars)) (block_at g b).ops (saves g live (spot_at g b).home (spot_at g b).vars (block_at g b).exit)
-        (all_have (OpIn g (spot_at g b).vars) (OpIn h (suc (spot_at g b).vars)) (block_at g b).ops (op_in (spot_at g b).vars) (numbers_at g live G F b).ops) (saves_in b lt (block_at g b).exit refl);
+        (all_have (OpIn g (spot_at g b).vars) (OpIn h (suc (spot_at g b).vars)) (block_at g b).ops (op_in (spot_at g b).vars) (numbers_at g G.rules b).ops) (saves_in b lt (block_at g b).exit refl);
     exit = left_in b lt (block_at g b).exit refl;
     named = tt;
     once = tt;

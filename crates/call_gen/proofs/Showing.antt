@@ -5,13 +5,15 @@ use Rattle.std.proofs.lemmas.Bool.{cases_lt}
 use Rattle.std.proofs.lemmas.List.{append-nil}
 use Rattle.ws_words.specs.Operators.{flag}
 use Rattle.ws_words.specs.Outside.{Act, loads, stores, reads, prints, gives, takes, Outside}
-use Rattle.cfg_core.specs.Graph.{GraphArray, Graph, nth}
+use Rattle.cfg_core.specs.Graph.{GraphArray, Graph}
 use Rattle.cfg_core.specs.Shown.{has_name, shown_arrays, shown_cells, shown_among, hidden, cell_count, is_hidden, length_of, shown_act, shown_acts, SameShown, IsInside, AllInside}
 use Rattle.call_gen.specs.Spelled.{hidden_arrays, spelled}
 use Rattle.call_gen.specs.Visible.{visible_one, visible, OwnInside}
 use Rattle.call_gen.proofs.Visible.{load_seen, load_unseen, store_seen, store_unseen}
 use Rattle.call_gen.proofs.Standing.{rows, size, Alike}
-use Rattle.cfg_core.proofs.Spots.{nth_left, nth_right}
+use Rattle.cfg_core.proofs.Spots.{nth_right}
+use Rattle.ws_words.specs.Items.{nth}
+use Rattle.ws_words.proofs.Places.{nth_append_left}
 
 -- arrays with as many hidden ones after them
 module _ (xs : List GraphArray) (count len : ℕ) where
@@ -32,7 +34,7 @@ module _ (xs : List GraphArray) (count len : ℕ) where
   past_hidden (suc m) (suc k) = past_hidden m k
 
   same_place : (a : ℕ) → a ≤ n → (nth (xs ++ ys) (a - 1) ≡ nth xs (a - 1)) ⊎ (n ≡ 0)
-  same_place a le = elim (cases_lt (a - 1) n) [ inl lt ↦ inl (nth_left xs ys (a - 1) lt) | inr ge ↦ inr (omega (arith, ge, le)) ]
+  same_place a le = elim (cases_lt (a - 1) n) [ inl lt ↦ inl (nth_append_left xs ys (a - 1) lt) | inr ge ↦ inr (omega (arith, ge, le)) ]
 
   none : n ≡ 0 → (k : ℕ) → nth xs k ≡ None
   none e k = at xs e k

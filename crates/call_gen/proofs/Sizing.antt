@@ -5,7 +5,7 @@ use Rattle.std.proofs.lemmas.Bool.Decides.{nat_tests}
 use Rattle.std.proofs.lemmas.List.{length-append, length-map}
 use Rattle.std.proofs.lemmas.List.Sums.{sum_by-append}
 use Rattle.std.proofs.Math.Nat.{mul-le-mul_right}
-use Rattle.cfg_core.specs.Graph.{Var, Exit, Goto, Branch, Call, Return, Send, Stop, GraphArray, GraphProc, Graph, Spot, spots, nth, or_else, no_spot, no_proc, spot_at, block_at, proc_at}
+use Rattle.cfg_core.specs.Graph.{Var, Exit, Goto, Branch, Call, Return, Send, Stop, GraphArray, GraphProc, Graph, Spot, spots, no_spot, no_proc, spot_at, block_at, proc_at}
 use Rattle.cfg_core.specs.Rules.{calls}
 use Rattle.cfg_core.specs.Weights.{term_nodes, op_nodes, exit_nodes}
 use Rattle.call_gen.specs.Spelled.{callee_is, count_of, is_call, is_called, is_calling, is_saved, is_unset, address, own_cells, first_cell, cells_in_all, hidden_arrays, landings, landings_from, below, saved, save, load, saves, left, clear, spelled_procs, spelled}
@@ -21,6 +21,7 @@ use Rattle.call_gen.proofs.Cycles.{Sort, is_door, is_plain, is_point, is_none, e
 use Rattle.call_gen.proofs.Crossing.{few_at}
 use Rattle.call_gen.proofs.Ruled.{arrays_more, no_call}
 use Rattle.ws_words.proofs.Lists.{all_append as all_both, all_have, filter_few}
+use Rattle.ws_words.specs.Items.{nth, or_else}
 
 calls_counted : (ss : List Spot) → call_count ss ≡ count_of is_call ss
 calls_counted [] = refl

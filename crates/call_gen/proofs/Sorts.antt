@@ -1,12 +1,13 @@
 -- Each block of the spelled graph is a door, a block of the given graph, or a return point.
-use Rattle.std.proofs.Common.{ℕ, zero, suc, ◌+◌, ◌≡◌, ◌<◌, Bool, true, false, if◌then◌else◌, List, [], ◌∷◌, ◌++◌, length, take, refl, sym, ap, ◌∙◌, subst, inl, inr, Option, Some, arith}
+use Rattle.std.proofs.Common.{ℕ, zero, suc, ◌+◌, ◌≡◌, ◌<◌, Bool, true, false, if◌then◌else◌, List, [], ◌∷◌, length, take, refl, sym, ap, ◌∙◌, subst, inl, inr, Option, Some, arith}
 use Rattle.std.specs.List.{AllByRecursion}
-use Rattle.cfg_core.specs.Graph.{Term, Exit, Goto, Branch, Call, Return, Send, Stop, Block, GraphProc, Graph, Spot, spots_in, spots_from, nth, or_else, no_proc}
-use Rattle.cfg_core.specs.Rules.{In}
+use Rattle.cfg_core.specs.Graph.{Term, Exit, Goto, Branch, Call, Return, Send, Stop, Block, GraphProc, Graph, Spot, spots_in, spots_from, no_proc}
 use Rattle.call_gen.specs.Spelled.{callee_is, count_of, is_call, landings_from, after, spelled_blocks, spelled_procs}
 use Rattle.call_gen.proofs.Placing.{plain_of, point_of, door_of}
 use Rattle.ws_words.proofs.Lists.{all_append as all_both}
-use Rattle.cfg_core.proofs.Spots.{spots_in_both as in_both, nth_left, nth_right}
+use Rattle.cfg_core.proofs.Spots.{spots_in_both as in_both, nth_right}
+use Rattle.ws_words.specs.Items.{nth, or_else, In}
+use Rattle.ws_words.proofs.Places.{nth_append_left}
 
 module _ (g : Graph) (live : List (List ℕ)) (P : Spot → Type 0) where
   -- what holds of each kind holds of all blocks
@@ -52,8 +53,8 @@ module _ (g : Graph) (live : List (List ℕ)) (P : Spot → Type 0) where
         subst (λ n. P (door_of g live n p)) z (doors 0 (omega arith)),
         all_both P (spots_in f (suc p.vars) (spelled_blocks g live f p.vars b p.blocks)) (spots_from (suc f) (spelled_procs g live (suc f) (b + length p.blocks) ps))
             (all_blocks f p.vars b p.blocks
-            (λ i s e. plain i s (nth_left old (spots_from (suc f) ps) i (bound old i s e) ∙ e))
-            (λ i s r c ts back e is. point i s r c ts back (nth_left old (spots_from (suc f) ps) i (bound old i s e) ∙ e) is))
+            (λ i s e. plain i s (nth_append_left old (spots_from (suc f) ps) i (bound old i s e) ∙ e))
+            (λ i s r c ts back e is. point i s r c ts back (nth_append_left old (spots_from (suc f) ps) i (bound old i s e) ∙ e) is))
             (all_spots (suc f) (b + length p.blocks) ps
             (λ e lt. let m : f + suc e ≡ suc f + e = omega arith in subst (λ n. P (door_of g live n (or_else (nth ps e) no_proc))) m (doors (suc e) (omega arith)))
             (λ i s e. let m : b + (length p.blocks + i) ≡ (b + length p.blocks) + i = omega arith in

@@ -4,12 +4,13 @@ use Rattle.std.specs.List.{AllByRecursion}
 use Rattle.std.proofs.lemmas.List.{length-set, get_or-set_other}
 use Rattle.ws_words.specs.Outside.{Act, loads, stores, Outside, State, row, with_row, stored, write, with_acts}
 use Rattle.cfg_core.specs.Graph.{Graph}
-use Rattle.cfg_core.specs.Rules.{In}
 use Rattle.cfg_core.specs.Walk.{Done, run_ops}
 use Rattle.call_gen.specs.Spelled.{cell, array_of, index_of, save, load, clear}
-use Rattle.call_gen.proofs.Visible.{Same, with_more, same_unseen, load_unseen, store_unseen, row_right, with_row_right}
+use Rattle.call_gen.proofs.Visible.{Same, same_unseen, load_unseen, store_unseen, row_right, with_row_right}
 use Rattle.call_gen.proofs.Agreeing.{States}
 use Rattle.call_gen.proofs.Slots.{peek, poke, pokes, peeks}
+use Rattle.ws_words.specs.Items.{In}
+use Rattle.ws_words.proofs.Acts.{with_more}
 
 module _ (g : Graph) (total : ℕ) where
   abbrev pub n : ℕ

@@ -1,13 +1,12 @@
 -- A walk of the given graph and one of the spelled graph, at the start of a block.
-use Rattle.std.proofs.Common.{ℕ, zero, suc, ◌+◌, ◌-◌, ◌/◌, ◌≡◌, ◌<◌, ◌≤◌, ◌⊎◌, min, Bool, true, false, List, [], ◌∷◌, ◌++◌, length, get_or, refl, sym, ap, ◌∙◌, subst, inl, inr, Option, Some, None, arith}
+use Rattle.std.proofs.Common.{ℕ, zero, suc, ◌+◌, ◌-◌, ◌/◌, ◌≡◌, ◌<◌, ◌≤◌, ◌⊎◌, min, Bool, true, false, List, [], ◌∷◌, length, get_or, sym, ap, ◌∙◌, subst, inl, inr, Option, Some, None, arith}
 use Rattle.std.specs.List.{sum_by}
 use Rattle.std.proofs.lemmas.List.Sums.{sum_by-append}
 use Rattle.ws_words.specs.Outside.{Outside, State}
-use Rattle.cfg_core.specs.Graph.{Term, Exit, Goto, Branch, Call, Return, Send, Stop, Graph, Spot, no_spot, nth, or_else, spots, spot_at, block_at, proc_at, entry_of}
-use Rattle.cfg_core.specs.Rules.{ExitIn, CallsEarlier, BlockNumbers}
-use Rattle.cfg_core.specs.Walk.{Outcome, Done, Out, and_then, run_ops, Frame, Config, At, Over, Going, step, walk}
+use Rattle.cfg_core.specs.Graph.{Term, Exit, Call, Graph, Spot, no_spot, spots, spot_at, block_at, proc_at}
+use Rattle.cfg_core.specs.Rules.{ExitIn, CallsEarlier}
+use Rattle.cfg_core.specs.Walk.{Frame, Config, At, Over, Going, step, walk}
 use Rattle.cfg_core.specs.Weights.{block_left, path}
-use Rattle.cfg_core.proofs.Total.{each_at}
 use Rattle.live_vars.specs.Live.{ExitWrites, Live}
 use Rattle.call_gen.specs.Spelled.{is_called, is_calling, moved, door, address, cell, cells_in_all, spelled}
 use Rattle.call_gen.specs.Charged.{Places}
@@ -15,14 +14,7 @@ use Rattle.call_gen.proofs.Visible.{Same}
 use Rattle.call_gen.proofs.Agreeing.{States}
 use Rattle.call_gen.proofs.Slots.{peek, Roomy}
 use Rattle.call_gen.proofs.Facts.{Given, Placed}
-
-pub run_both : (xs ys : List Rattle.cfg_core.specs.Graph.Op) (s : State) (k : ℕ) → run_ops (xs ++ ys) s k ≡ and_then (run_ops xs s k) (run_ops ys)
-run_both [] ys s k = refl
-run_both (x ∷ xs) ys s k = first (Rattle.cfg_core.specs.Walk.run_op x s k) (λ s k. run_both xs ys s k)
-  where
-    first : (o : Outcome) → ((s : State) (k : ℕ) → run_ops (xs ++ ys) s k ≡ and_then (run_ops xs s k) (run_ops ys)) → and_then o (run_ops (xs ++ ys)) ≡ and_then (and_then o (run_ops xs)) (run_ops ys)
-    first (Done s k) h = h s k
-    first (Out o) h = refl
+use Rattle.cfg_core.proofs.Spots.{each_at, numbers_at}
 
 module _ (g : Graph) (live : List (List ℕ)) where
   abbrev pub total : ℕ
@@ -113,16 +105,12 @@ module _ (g : Graph) (live : List (List ℕ)) where
     reaches_later n c b s frames k r = reaches_past n (w b + n) c (At b s frames k) (omega (arith, left_few b s frames k (step (spelled g live) (At b s frames k)))) r
 
   module _ (G : Given g live) (F : Placed g live) where
-    pub numbers_at : (b : ℕ) → BlockNumbers g (spot_at g b)
-    unfolding spot_at no_spot
-    numbers_at b = each_at (BlockNumbers g) (spots g) no_spot G.rules.numbers.blocks (record { ops = tt; exit = tt; named = tt; once = tt }) b
-
     pub earlier_at : (b : ℕ) → CallsEarlier (spot_at g b).home (block_at g b).exit
     unfolding spot_at no_spot
     earlier_at b = each_at (λ (s : Spot). CallsEarlier s.home s.block.exit) (spots g) no_spot G.rules.earlier tt b
 
     pub exit_in : (b : ℕ) (x : Exit) → (block_at g b).exit ≡ x → ExitIn g (spot_at g b).home (spot_at g b).vars x
-    exit_in b x e = subst (λ (y : Exit). ExitIn g (spot_at g b).home (spot_at g b).vars y) e (numbers_at b).exit
+    exit_in b x e = subst (λ (y : Exit). ExitIn g (spot_at g b).home (spot_at g b).vars y) e (numbers_at g G.rules b).exit
 
     pub callee_earlier : (b : ℕ) (r : Option ℕ) (f : ℕ) (ts : List Term) (back : ℕ) → (block_at g b).exit ≡ Call r f ts back → f < (spot_at g b).home
     callee_earlier b r f ts back e = subst (λ (y : Exit). CallsEarlier (spot_at g b).home y) e (earlier_at b)

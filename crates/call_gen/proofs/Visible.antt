@@ -5,6 +5,7 @@ use Rattle.std.proofs.lemmas.Bool.Decides.{nat_tests}
 use Rattle.std.proofs.lemmas.List.{append-nil}
 use Rattle.ws_words.specs.Outside.{Act, loads, stores, reads, prints, gives, takes, Outside, row, with_row}
 use Rattle.call_gen.specs.Visible.{visible_one, visible, OwnInside}
+use Rattle.ws_words.proofs.Acts.{with_more}
 
 pub visible_append : (n : ℕ) (xs ys : List Act) → visible n (xs ++ ys) ≡ visible n xs ++ visible n ys
 visible_append n [] ys = refl
@@ -80,9 +81,6 @@ seen_give n rows size p = record { all = refl; own = (tt, tt) }
 
 pub seen_take : (n rows size p w : ℕ) → Seen n rows size (takes p w ∷ [])
 seen_take n rows size p w = record { all = refl; own = (tt, tt) }
-
-abbrev pub with_more : Outside → List Act → Outside
-with_more o acts = record { cells = o.cells; input = o.input; left = o.left; acts = o.acts ++ acts }
 
 module _ (n rows size : ℕ) (hidden : List (List ℕ)) (o p : Outside) (h : Same n rows size hidden o p) where
   pub same_more : (xs ys : List Act) → xs ≡ ys → Seen n rows size xs → Same n rows size hidden (with_more o xs) (with_more p ys)

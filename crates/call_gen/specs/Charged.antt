@@ -1,12 +1,15 @@
 -- What stands for the blocks of a graph in the one that a pass makes of it, and what pays for that.
-use Rattle.std.specs.Prelude.{◌≡◌, ℕ, zero, suc, ◌+◌, ◌-◌, ◌<◌, ◌≤◌, ◌⊎◌, true, List, [], ◌∷◌, ◌++◌, length, if◌then◌else◌}
+use Rattle.std.specs.Prelude.{◌≡◌, ℕ, zero, suc, ◌+◌, ◌-◌, ◌<◌, ◌≤◌, ◌⊎◌, true, List, [], ◌∷◌, ◌++◌, length}
+use Rattle.std.specs.Prelude.{if◌then◌else◌}
 use Rattle.std.specs.List.{AllByRecursion}
-use Rattle.cfg_core.specs.Graph.{Number, Var, Cell, Op, Assign, Store, Exit, Goto, Branch, Call, Return, Send, Stop, Graph, spots, spot_at, block_at, proc_at, entry_of}
-use Rattle.cfg_core.specs.Rules.{In, calls}
+use Rattle.cfg_core.specs.Graph.{Number, Var, Cell, Op, Assign, Store, Exit, Goto, Branch, Call, Return, Send}
+use Rattle.cfg_core.specs.Graph.{Stop, Graph, spots, spot_at, block_at, proc_at, entry_of}
+use Rattle.cfg_core.specs.Rules.{calls}
 use Rattle.cfg_core.specs.Weights.{first_block, WalksWeigh}
 use Rattle.live_vars.specs.Live.{Live}
 use Rattle.live_vars.specs.Marks.{has}
 use Rattle.call_gen.specs.Reached.{Reached}
+use Rattle.ws_words.specs.Items.{In}
 
 -- Where each block stands once calls are spelled out, the door of each procedure, by which its
 -- calls enter it, and the point to which the call of a block returns.

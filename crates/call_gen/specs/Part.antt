@@ -1,13 +1,16 @@
 -- Serves the code and its proof alone: no public contract cites it.
 -- The part of a graph that is kept.
-use Rattle.std.specs.Prelude.{◌≡◌, ℕ, zero, suc, ◌+◌, ◌-◌, ◌*◌, ◌<◌, ◌≤◌, ◌⊎◌, Bool, true, false, if◌then◌else◌, List, [], ◌∷◌, length, slice_index, slice_index_or}
+use Rattle.std.specs.Prelude.{◌≡◌, ℕ, zero, suc, ◌+◌, ◌-◌, ◌*◌, ◌<◌, ◌≤◌, ◌⊎◌, Bool, true, if◌then◌else◌}
+use Rattle.std.specs.Prelude.{List, [], ◌∷◌, length, slice_index}
 use Rattle.std.specs.List.{AllByRecursion}
-use Rattle.cfg_core.specs.Graph.{Exit, Goto, Branch, Call, Return, Send, Stop, Block, GraphProc, Graph, spots, block_at, entry_of}
-use Rattle.cfg_core.specs.Rules.{In, Leads}
+use Rattle.cfg_core.specs.Graph.{Exit, Goto, Branch, Call, Return, Send, Stop, Block, GraphProc, Graph, spots}
+use Rattle.cfg_core.specs.Graph.{block_at, entry_of}
+use Rattle.cfg_core.specs.Rules.{Leads}
 use Rattle.cfg_core.specs.View as view
 use Rattle.cfg_core.specs.Shows.{TableIs}
 use Rattle.call_gen.specs.Reached.{Enters, Reached}
 use Rattle.call_gen.specs.declared.part.Part.{Part}
+use Rattle.ws_words.specs.Items.{In, flag_at}
 
 -- how many of the first n are kept
 abbrev pub before : (ℕ → Bool) → ℕ → ℕ
@@ -64,10 +67,6 @@ ExitThere g _ = Unit {0}
 
 abbrev pub BlocksThere : Graph → List Block → Type 0
 BlocksThere g blocks = AllByRecursion (λ x. ExitThere g x.exit) blocks
-
--- the test of flags
-abbrev pub flag_at : List Bool → ℕ → Bool
-flag_at flags b = slice_index_or flags b false
 
 -- flags of exactly the reached blocks
 pub record AreReached (g : Graph) (flags : List Bool) : Type 0 where

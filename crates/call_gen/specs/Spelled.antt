@@ -1,12 +1,17 @@
 -- Serves the code and its proof alone: no public contract cites it.
 -- The graph in which calls are spelled out: saves into hidden cells, a Send to the callee, a Send back to
 -- the return point, and loads.
-use Rattle.std.specs.Prelude.{ℕ, zero, suc, ◌+◌, ◌%◌, ◌/◌, ◌==◌, ◌&&◌, ◌||◌, nat_lt, Bool, true, false, not, min, List, [], ◌∷◌, ◌++◌, length, map, take, replicate, Option, Some, None, if◌then◌else◌}
+use Rattle.std.specs.Prelude.{ℕ, zero, suc, ◌+◌, ◌%◌, ◌/◌, ◌==◌, ◌&&◌, ◌||◌, nat_lt, Bool, true, false, not}
+use Rattle.std.specs.Prelude.{min, List, [], ◌∷◌, ◌++◌, length, map, take, replicate, Option, Some, None}
+use Rattle.std.specs.Prelude.{if◌then◌else◌}
 use Rattle.std.specs.List.{filter}
-use Rattle.cfg_core.specs.Graph.{Number, Var, Cell, Op, Assign, Store, Exit, Goto, Branch, Call, Return, Send, Stop, Block, GraphProc, GraphArray, Graph, Spot, spots, spot_at, proc_at, entry_of, or_else}
+use Rattle.cfg_core.specs.Graph.{Number, Var, Cell, Op, Assign, Store, Exit, Goto, Branch, Call, Return, Send}
+use Rattle.cfg_core.specs.Graph.{Stop, Block, GraphProc, GraphArray, Graph, Spot, spots, spot_at, proc_at}
+use Rattle.cfg_core.specs.Graph.{entry_of}
 use Rattle.cfg_core.specs.Rules.{calls}
 use Rattle.live_vars.specs.Marks.{has}
 use Rattle.call_gen.specs.Sizes.{most_hidden_arrays}
+use Rattle.ws_words.specs.Items.{or_else}
 
 abbrev pub callee_is : Exit → ℕ → Bool
 callee_is (Call r f ts back) e = f == e

@@ -5,7 +5,8 @@ ghost use Rattle.cfg_core.specs.Graph.{spots, spot_at, block_at};
 ghost use Rattle.cfg_core.specs.Rules.{calls};
 ghost use Rattle.cfg_core.specs.View as view;
 ghost use Rattle.cfg_core.specs.Shows.{TableIs};
-ghost use Rattle.call_gen.specs.Spelled.{callee_is, callee, count_of, is_call, is_called, is_calling, address};
+ghost use Rattle.call_gen.specs.Spelled.{callee_is, callee, count_of, is_call, is_called, is_calling};
+ghost use Rattle.call_gen.specs.Spelled.{address};
 
 use cfg_core::{GraphTable, Leave};
 

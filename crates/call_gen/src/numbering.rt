@@ -1,6 +1,7 @@
 //! The numbers of a plan: homes and new places of blocks, addresses of calls, and first hidden cells.
 
-ghost use Rattle.std.specs.Prelude.{◌≡◌, ◌+◌, ◌<◌, ◌≤◌, ◌^◌, ℕ, map, length, slice_index, slice_index_or, slice_set, replicate, ◌++◌, false, IfOk, OnOk};
+ghost use Rattle.std.specs.Prelude.{◌≡◌, ◌+◌, ◌<◌, ◌≤◌, ◌^◌, ℕ, map, length, slice_index, slice_index_or};
+ghost use Rattle.std.specs.Prelude.{slice_set, replicate, ◌++◌, false, IfOk, OnOk};
 ghost use Rattle.cfg_core.specs.Graph.{spots};
 ghost use Rattle.cfg_core.specs.View as view;
 ghost use Rattle.cfg_core.specs.Shows.{TableIs};

@@ -1,6 +1,7 @@
 //! The part of a graph that a walk may come to.
 
-ghost use Rattle.std.specs.Prelude.{◌≡◌, ◌+◌, ◌++◌, ◌∷◌, [], ◌<◌, ◌≤◌, map, length, if◌then◌else◌, IfOk, OnOk};
+ghost use Rattle.std.specs.Prelude.{◌≡◌, ◌+◌, ◌++◌, ◌∷◌, [], ◌<◌, ◌≤◌, map, length, if◌then◌else◌, IfOk};
+ghost use Rattle.std.specs.Prelude.{OnOk};
 ghost use Rattle.cfg_core.specs.Graph.{spots};
 ghost use Rattle.cfg_core.specs.Rules.{IsGraph};
 ghost use Rattle.cfg_core.specs.Shape.{IsShaped, ArmsAlone};
@@ -10,7 +11,9 @@ ghost use Rattle.call_gen.specs.Keeps.{HasNoSend};
 ghost use Rattle.call_gen.specs.Reached.{AllReached};
 ghost use Rattle.call_gen.specs.Sizes.{Sizes, IsWithin};
 ghost use Rattle.call_gen.specs.Charged.{ReachedInPlace};
-ghost use Rattle.call_gen.specs.Part.{PartIs, ExitThere, BlocksThere, flag_at, before, number, name, part_block, part_blocks, part_proc, part_procs, part};
+ghost use Rattle.call_gen.specs.Part.{PartIs, ExitThere, BlocksThere, before, number, name, part_block};
+ghost use Rattle.call_gen.specs.Part.{part_blocks, part_proc, part_procs, part};
+ghost use Rattle.ws_words.specs.Items.{flag_at};
 
 use crate::copy::{arrays, numbers as copy_numbers, operations};
 use crate::find::find;

@@ -3,7 +3,8 @@
 ghost use Rattle.std.specs.Prelude.{◌≡◌, ◌+◌, ◌<◌, ℕ, length, slice_index, IfOk};
 ghost use Rattle.cfg_core.specs.View as view;
 ghost use Rattle.cfg_core.specs.Shows.{TableIs};
-ghost use Rattle.call_gen.specs.Part.{flag_at, before, number};
+ghost use Rattle.call_gen.specs.Part.{before, number};
+ghost use Rattle.ws_words.specs.Items.{flag_at};
 
 use crate::counts::one_if;
 use cfg_core::GraphTable;

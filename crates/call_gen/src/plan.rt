@@ -1,11 +1,13 @@
 //! Where the blocks and hidden cells of the spelled graph stand.
 
-ghost use Rattle.std.specs.Prelude.{◌≡◌, ◌+◌, ◌<◌, IsTrue, length, ◌++◌, ◌∷◌, [], if◌then◌else◌, false, IfOk, OnOk};
+ghost use Rattle.std.specs.Prelude.{◌≡◌, ◌+◌, ◌<◌, IsTrue, length, ◌++◌, ◌∷◌, [], if◌then◌else◌, false, IfOk};
+ghost use Rattle.std.specs.Prelude.{OnOk};
 ghost use Rattle.cfg_core.specs.Graph.{spots};
 ghost use Rattle.cfg_core.specs.Rules.{IsGraph};
 ghost use Rattle.cfg_core.specs.View as view;
 ghost use Rattle.cfg_core.specs.Shows.{TableIs};
-ghost use Rattle.call_gen.specs.Spelled.{is_called, moved, door, landings, address, first_cell, cell, array_of, index_of};
+ghost use Rattle.call_gen.specs.Spelled.{is_called, moved, door, landings, address, first_cell, cell};
+ghost use Rattle.call_gen.specs.Spelled.{array_of, index_of};
 ghost use Rattle.call_gen.specs.Plans.{Few, PlanIs};
 
 use crate::counts::{calls_before, calls_to_at, is_called};

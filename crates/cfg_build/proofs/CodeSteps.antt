@@ -1,33 +1,25 @@
 -- Steps of the code, one after another and with steps inside, and what each adds to a builder.
-use Rattle.std.proofs.Common.{rules, ◌≡◌, ℕ, ◌+◌, ◌<◌, ◌^◌, zero, suc, List, [], ◌∷◌, length, drop, slice_index_or, sym, ap, ◌∙◌, subst, arith}
+use Rattle.std.proofs.Common.{◌≡◌, ℕ, ◌+◌, ◌<◌, ◌^◌, zero, suc, List, [], ◌∷◌, length, drop, slice_index_or, sym, ap, ◌∙◌, subst, arith}
 use Rattle.std.proofs.lemmas.List.{drop_more}
 use Rattle.std.specs.Prelude.{Vec}
 use Rattle.std.specs.declared.alloc.Global.{Global}
 use Rattle.seq_run.specs.Resolved.{Do, Call, If, While, Steps, Nothing, Then}
 use Rattle.seq_run.specs.Resolved as resolved
 use Rattle.seq_run.specs.View as source
-use Rattle.seq_run.specs.View.{row_list}
 use Rattle.seq_run.specs.Weight.{weight, heft}
 use Rattle.cfg_core.specs.View as view
 use Rattle.cfg_core.specs.declared.blocks.Term.{Term}
 use Rattle.seq_run.specs.declared.tree.Step.{Step}
 use Rattle.seq_run.specs.declared.tree.Step.TheVariants as code
-use Rattle.seq_run.specs.declared.tree.Step.TheViews.{the_lemmas}
 use Rattle.cfg_core.specs.Graph.{Op, Exit}
 use Rattle.cfg_build.specs.Lowered.{begun}
 use Rattle.cfg_build.specs.Building.{Builder, number, closed, with_op, emit_one, emit, StepFits, StepsFit}
 use Rattle.cfg_build.proofs.Emitted.{number_closed, number_emit}
-use Rattle.seq_run.proofs.Follows.{heft_some}
+use Rattle.seq_run.proofs.Follows.{heft_some, if_view, while_view}
 
 -- the next step, and those after it
 next_step : (ss : List Step) (i : ℕ) (x : Step) → i < length ss → x ≡ slice_index_or ss i x → source.steps (drop i ss) ≡ Then (source.step x) (source.steps (drop (i + 1) ss))
 next_step ss i x lt is = ap source.steps (drop_more ss i x lt) ∙ ap (λ (y : Step). Then (source.step y) (source.steps (drop (i + 1) ss))) (sym is)
-
-if_view : (t : Term) (a b : Vec Step Global) → source.step (code.If t a b) ≡ If (view.term t) (source.steps a.items) (source.steps b.items)
-if_view t a b = search (rules, the_lemmas, row_list)
-
-while_view : (t : Term) (a : Vec Step Global) → source.step (code.While t a) ≡ While (view.term t) (source.steps a.items)
-while_view t a = search (rules, the_lemmas, row_list)
 
 -- the step of the code is an `if` with these arms
 pub if_is : (st : Step) (t : Term) (a b : Vec Step Global) (xs ys : List Step) → st ≡ code.If t a b → xs ≡ a.items → ys ≡ b.items → source.step st ≡ If (view.term t) (source.steps xs) (source.steps ys)

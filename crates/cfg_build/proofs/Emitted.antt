@@ -1,5 +1,5 @@
 -- What steps add to a builder is their blocks.
-use Rattle.std.proofs.Common.{suc, ◌+◌, ◌≡◌, List, [], ◌∷◌, ◌++◌, map, refl, sym, ap, ◌∙◌, append_assoc, length-append, arith}
+use Rattle.std.proofs.Common.{suc, ◌+◌, ◌≡◌, List, [], ◌∷◌, ◌++◌, refl, sym, ap, ◌∙◌, append_assoc, length-append, arith}
 use Rattle.std.proofs.lemmas.List.{append-nil}
 use Rattle.seq_run.specs.Resolved.{Do, Call, If, While, Steps, Nothing, Then}
 use Rattle.cfg_core.specs.Graph as graph

@@ -1,5 +1,5 @@
 -- The arrays of an accepted program keep the limits of the language.
-use Rattle.std.proofs.Common.{ℕ, ◌+◌, ◌≡◌, ◌<◌, ◌≤◌, nat_lt, nat_le, Bool, true, ◌&&◌, not, List, [], ◌∷◌, ◌++◌, length, Some, sym, ◌∙◌, arith}
+use Rattle.std.proofs.Common.{ℕ, ◌+◌, ◌<◌, ◌≤◌, nat_lt, nat_le, Bool, true, not, List, [], ◌∷◌, ◌++◌, length, Some, sym, ◌∙◌, arith}
 use Rattle.std.specs.List.{AllByRecursion, sum_by, list_all}
 use Rattle.std.proofs.lemmas.List.Sums.{sum_by-cons}
 use Rattle.std.proofs.lemmas.List.Folds.{list_all-append}
@@ -14,9 +14,7 @@ use Rattle.cfg_build.specs.Keeps.{arrays_of}
 use Rattle.src_ast.specs.LanguageLimits.{most_arrays, most_array_cells, most_cells}
 use Rattle.ws_words.proofs.Bools.{and_parts}
 use Rattle.src_check.proofs.Parts.{arrays_in-append as arrays_both, cells_in-append as cells_both}
-
-abbrev pub Kept : List Rule → Type 0
-Kept rules = list_all (λ r. r.kept) rules ≡ true
+use Rattle.seq_run.proofs.InBodies.{Kept}
 
 pub kept_both : (xs ys : List Rule) → Kept (xs ++ ys) → Kept xs × Kept ys
 kept_both xs ys h =

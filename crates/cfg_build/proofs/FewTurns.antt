@@ -7,8 +7,8 @@ use Rattle.src_ast.specs.LanguageLimits.{most_statements}
 use Rattle.src_ast.specs.Meaning.{procs_of}
 use Rattle.src_ast.specs.Rules.{Rule, variables, declared_by, has_main, size_of, size_of_all, size_of_ending, statements_in, part_rules, rules_after, IsAccepted}
 use Rattle.cfg_build.specs.Sizes.{sum_in, sum_over, sum_procs, ending_ops}
-use Rattle.cfg_build.proofs.FewArrays.{Kept, kept_both}
-use Rattle.seq_run.proofs.InBodies.{body_few, ending_few}
+use Rattle.cfg_build.proofs.FewArrays.{kept_both}
+use Rattle.seq_run.proofs.InBodies.{body_few, ending_few, Kept}
 use Rattle.seq_run.proofs.PartRules.{proc_kept}
 use Rattle.src_check.proofs.Parts.{statements_in-append as statements_both}
 

@@ -1,15 +1,16 @@
 -- A potential of the blocks of a program: 1, one more for each `if` around a block, and one less at a loop's header. Two blocks are paid by each turn.
-use Rattle.std.proofs.Common.{ℕ, zero, suc, ◌+◌, ◌-◌, ◌*◌, ◌≡◌, ◌<◌, ◌≤◌, max, List, [], ◌∷◌, ◌++◌, length, Option, Some, None, refl, sym, ap, subst, arith}
+use Rattle.std.proofs.Common.{ℕ, zero, suc, ◌+◌, ◌-◌, ◌*◌, ◌≡◌, ◌<◌, ◌≤◌, List, [], ◌∷◌, ◌++◌, length, Option, Some, None, refl, sym, subst, arith}
 use Rattle.std.specs.List.{sum_by}
 use Rattle.std.proofs.lemmas.List.{length-append}
 use Rattle.std.proofs.lemmas.List.Sums.{sum_by-cons}
 use Rattle.seq_run.specs.Resolved.{Action, Do, Call, If, While, Steps, Nothing, Then, Proc, ResolvedProgram}
 use Rattle.cfg_core.specs.Graph as graph
-use Rattle.cfg_core.specs.Graph.{Op, Tick, Exit, Goto, Branch, Block, Graph, Spot, nth, or_else, no_spot, spots, spots_in, spots_from, spot_at, block_at, entry_from, entry_of}
-use Rattle.cfg_core.specs.Weights.{turns_of, turns_at, handed_on, IsPotential, first_block, TwoBlocksATurn}
+use Rattle.cfg_core.specs.Graph.{Op, Tick, Exit, Goto, Branch, Block, Graph, Spot, no_spot, spots, spots_in, spots_from, spot_at, block_at, entry_from, entry_of}
+use Rattle.cfg_core.specs.Weights.{turns_of, handed_on, TwoBlocksATurn}
 use Rattle.cfg_build.specs.Lowered.{Part, leaves, goes_to, last_part, ticked, op, begun, block, whole, made, proc_blocks, procs, lowered}
 use Rattle.cfg_build.proofs.Places.{StandAt, stand_all, stand_front, stand_back}
 use Rattle.cfg_build.proofs.Stand.{proc_end, proc_spots}
+use Rattle.ws_words.specs.Items.{nth, or_else}
 
 -- of the blocks of steps with so many `if`s around them
 abbrev heights : Steps → ℕ → List ℕ

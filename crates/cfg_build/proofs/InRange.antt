@@ -1,5 +1,5 @@
 -- Each number in a lowered block names something of the graph.
-use Rattle.std.proofs.Common.{ℕ, suc, ◌+◌, ◌≡◌, ◌<◌, List, [], ◌∷◌, ◌++◌, length, map, Option, Some, None, refl, sym, ap, ◌∙◌, arith}
+use Rattle.std.proofs.Common.{ℕ, suc, ◌+◌, ◌≡◌, ◌<◌, List, [], ◌∷◌, ◌++◌, length, Option, Some, None, refl, sym, ap, ◌∙◌, arith}
 use Rattle.std.specs.List.{AllByRecursion}
 use Rattle.seq_run.specs.Resolved.{Action, Assign, Store, Print, Read, Give, Take, Do, Call, If, While, Steps, Nothing, Then, Proc, nth_proc}
 use Rattle.seq_run.specs.InRange as source

@@ -12,11 +12,12 @@ use Rattle.seq_run.specs.Resolving as resolving
 use Rattle.seq_run.specs.InRange.{ProgramIn}
 use Rattle.seq_run.specs.TurnsLeft.{AtMost}
 use Rattle.cfg_core.specs.Graph.{Graph, GraphProc, proc_at, entry_of}
-use Rattle.cfg_core.specs.Walk.{Frame, Config, At, Over, Going, IsOver, entered, step, walk, opening, cells_of}
+use Rattle.cfg_core.specs.Walk.{Frame, Config, At, Over, Going, IsOver, entered, walk, opening, cells_of}
 use Rattle.cfg_build.specs.Lowered.{last_part, made, proc_blocks, arrays, lowered}
 use Rattle.cfg_build.specs.Keeps.{KeepsRun}
 use Rattle.cfg_build.proofs.Stand.{HasAt, has_blocks, proc_is, count_procs}
 use Rattle.cfg_build.proofs.Simulation.{Reaches, FollowsCall, CallsFollow, at_whole, follow, finished}
+use Rattle.cfg_core.proofs.Cost.{one_answer}
 
 -- a run never has more turns left than it had
 abbrev pub TurnsNeverGrow : Type 0
@@ -42,12 +43,6 @@ stays g zero c h = refl
 stays g (suc n) (At b s fs k) h = absurd h
 stays g (suc n) (Over o k) h = stays g n (Over o k) tt
 stays g (suc n) (Going o) h = stays g n (Going o) tt
-
--- a walk has one end
-one_end : (g : Graph) (m n : ℕ) (c d e : Config) → IsOver d → IsOver e → walk g m c ≡ d → walk g n c ≡ e → d ≡ e
-one_end g zero n c d e h i p q = sym (stays g n d h) ∙ subst (λ (x : Config). walk g n x ≡ e) p q
-one_end g (suc m) zero c d e h i p q = sym (sym (stays g (suc m) e i) ∙ subst (λ (x : Config). walk g (suc m) x ≡ d) q p)
-one_end g (suc m) (suc n) c d e h i p q = one_end g m n (step g c) d e h i p q
 
 -- how the run of a program shows in its graph
 abbrev end_of : CallEnd → Config
@@ -127,8 +122,8 @@ lowered_keeps_run grow places parts fit =
       ends = λ world n o e. let r = follow_main grow program fit world n in (r.0, r.1 ∙ ap end_of (sym (places parts world n) ∙ e.1));
       goes = λ world n o e. let r = follow_main grow program fit world n in (r.0, r.1 ∙ ap end_of (sym (places parts world n) ∙ e));
       ends_only = λ world n o e. let r = follow_main grow program fit world n in
-          let t = returns_only (run program world n) o (one_end g r.0 e.0 (opening g world n) (end_of (run program world n)) (Over o 0) (end_over (run program world n)) tt r.1 e.1) in
+          let t = returns_only (run program world n) o (one_answer g r.0 e.0 (opening g world n) (end_of (run program world n)) (Over o 0) (end_over (run program world n)) tt r.1 e.1) in
           (t.0, places parts world n ∙ t.1);
       goes_only = λ world n o e. let r = follow_main grow program fit world n in
-          places parts world n ∙ stops_only (run program world n) o (one_end g r.0 e.0 (opening g world n) (end_of (run program world n)) (Going o) (end_over (run program world n)) tt r.1 e.1);
+          places parts world n ∙ stops_only (run program world n) o (one_answer g r.0 e.0 (opening g world n) (end_of (run program world n)) (Going o) (end_over (run program world n)) tt r.1 e.1);
     }

@@ -2,9 +2,9 @@
 use Rattle.std.proofs.Common.{ℕ, suc, ◌+◌, ◌≡◌, List, [], ◌∷◌, ◌++◌, length, Option, Some, None, refl, arith}
 use Rattle.std.proofs.lemmas.List.{length-append}
 use Rattle.seq_run.specs.Resolved.{Do, Call, If, While, Steps, Nothing, Then, Proc}
-use Rattle.cfg_core.specs.Graph.{nth, or_else}
 use Rattle.cfg_build.specs.Lowered.{begun}
 use Rattle.cfg_build.proofs.Places.{StandAt, stand_front, stand_back}
+use Rattle.ws_words.specs.Items.{nth, or_else}
 
 -- of the blocks of steps, the first of which has this number and this label
 abbrev pub labels : Steps → ℕ → Option ℕ → List (Option ℕ)

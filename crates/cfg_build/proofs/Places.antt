@@ -2,7 +2,7 @@
 use Rattle.std.proofs.Common.{ℕ, zero, suc, ◌+◌, ◌≡◌, ◌<◌, List, [], ◌∷◌, ◌++◌, length, refl, sym, ap, ◌∙◌, subst, arith}
 use Rattle.std.proofs.lemmas.List.{append_assoc, length-append}
 use Rattle.std.specs.List.{AllByRecursion}
-use Rattle.cfg_core.specs.Graph.{nth, or_else}
+use Rattle.ws_words.specs.Items.{nth, or_else}
 
 -- these items stand from this place on, among so many places with these items
 abbrev pub StandAt : {A : Type 0} → (ℕ → A) → ℕ → ℕ → List A → Type 0

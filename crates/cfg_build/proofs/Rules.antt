@@ -1,10 +1,10 @@
 -- Lowered graphs keep the rules of graphs.
-use Rattle.std.proofs.Common.{ℕ, suc, ◌+◌, ◌≡◌, ◌<◌, ◌⊎◌, true, ◌||◌, List, [], ◌∷◌, length, refl, sym, ap, subst, inl, inr, arith}
+use Rattle.std.proofs.Common.{ℕ, suc, ◌+◌, ◌≡◌, ◌<◌, ◌⊎◌, true, List, [], ◌∷◌, length, refl, sym, ap, subst, inl, inr, arith}
 use Rattle.std.specs.List.{AllByRecursion}
 use Rattle.seq_run.specs.Resolved.{Proc, nth_proc, ResolvedProgram}
 use Rattle.seq_run.specs.InRange.{ProcIn, ProgramIn}
 use Rattle.cfg_core.specs.Graph.{Op, Assign, Store, Print, Read, Give, Take, Choose, Tick, TickBy, Exit, Goto, Branch, Call, Return, Send, Stop, Block, GraphProc, Graph, Spot, spots, spots_in, block_at, proc_at}
-use Rattle.cfg_core.specs.Rules.{Leads, Lands, ChoosesBare, CallsEarlier, calls, has_tick, has_turn, Quiet, one, more, ProcNumbers, BlockNumbers, Apart, IsGraph}
+use Rattle.cfg_core.specs.Rules.{Leads, Lands, ChoosesBare, CallsEarlier, calls, has_tick, has_turn, Quiet, one, more, ProcNumbers, BlockNumbers, IsGraph}
 use Rattle.cfg_build.specs.Lowered.{begun, last_part, proc_blocks, arrays, procs, lowered}
 use Rattle.cfg_build.specs.Keeps.{IsFirstOp, IsFirstExit}
 use Rattle.cfg_build.proofs.Stand.{proc_is, count_procs, proc_spots, SpotsAt, proc_at_front, procs_after, all_spots_at}
@@ -14,7 +14,9 @@ use Rattle.cfg_build.proofs.Shaped.{labels_of, each_fine, fine_at}
 use Rattle.cfg_build.proofs.InRange.{BlockIn, made_in, last_in}
 use Rattle.ws_words.proofs.Lists.{all_append as all_both, all_with as all_have}
 use Rattle.cfg_core.proofs.Turns.{has_tick_turns as turns}
-use Rattle.cfg_core.proofs.Forward.{no_both, starts_quiet}
+use Rattle.cfg_core.proofs.Forward.{starts_quiet}
+use Rattle.ws_words.specs.Items.{Distinct}
+use Rattle.ws_words.proofs.Bools.{no_both}
 
 -- Of an operation or an exit of the first form.
 
@@ -90,7 +92,7 @@ module _ (g : Graph) (count : ℕ) (same : length g.arrays ≡ count) (all : Lis
     ops = h.ops;
     exit = h.exit;
     named = subst (λ xs. AllByRecursion (λ x. x < s.vars) xs) (sym h.named) tt;
-    once = subst (λ xs. Apart xs) (sym h.named) tt;
+    once = subst (λ xs. Distinct xs) (sym h.named) tt;
   }
 
 pub is_graph : (program : ResolvedProgram) → ProgramIn program → IsGraph (lowered program)

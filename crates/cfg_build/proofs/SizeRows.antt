@@ -1,10 +1,9 @@
 -- The sizes of small programs, and the paths of their walks, by computing.
 use Rattle.std.proofs.Common.{◌≡◌, List, [], ◌∷◌, length, refl, Some, None}
 use Rattle.ws_words.specs.declared.alu.Alu.TheVariants.{Add, Lt}
-use Rattle.ws_words.specs.Outside.{World}
 use Rattle.src_ast.specs.declared.lexeme.Place.{Place}
 use Rattle.src_ast.specs.declared.lexeme.Name.{Name}
-use Rattle.src_ast.specs.Syntax.{Number, Variable, Binary, Assign, Print, Read, Call, If, While, Statements, Nothing, Then, Procedure, Part, Proc}
+use Rattle.src_ast.specs.Syntax.{Number, Variable, Binary, Assign, Print, Read, Call, If, While, Nothing, Then, Procedure, Part, Proc}
 use Rattle.src_ast.specs.Meaning.{procs_of}
 use Rattle.seq_run.specs.Resolving.{program}
 use Rattle.cfg_core.specs.Graph.{Graph, spots, spot_at, proc_at, entry_of}

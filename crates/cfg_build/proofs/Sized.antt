@@ -1,5 +1,5 @@
 -- What the graph of a program measures, and that the turns of its blocks pay for their work.
-use Rattle.std.proofs.Common.{ℕ, zero, suc, ◌+◌, ◌*◌, ◌≡◌, ◌<◌, ◌≤◌, max, List, [], ◌∷◌, ◌++◌, length, Option, Some, None, refl, sym, ap, ◌∙◌, subst, arith}
+use Rattle.std.proofs.Common.{ℕ, suc, ◌+◌, ◌*◌, ◌≡◌, ◌<◌, ◌≤◌, List, [], ◌∷◌, ◌++◌, length, Option, Some, None, refl, sym, ap, ◌∙◌, subst, arith}
 use Rattle.std.specs.List.{AllByRecursion, sum_by}
 use Rattle.std.proofs.lemmas.List.Sums.{sum_by-cons}
 use Rattle.std.proofs.Math.Nat.{mul-add}
@@ -9,7 +9,7 @@ use Rattle.src_ast.specs.declared.tree.Unary.{Unary}
 use Rattle.src_ast.specs.declared.tree.Unary.TheVariants.{Flip, Not, Neg}
 use Rattle.src_ast.specs.Syntax as source
 use Rattle.src_ast.specs.Syntax.{Expression, Statement, Statements, Last, Procedure, Part as Item}
-use Rattle.src_ast.specs.Bound.{nodes, nodes_of, most_nodes, most_nodes_of, ending_nodes, widest, most_variables}
+use Rattle.src_ast.specs.Bound.{nodes, nodes_of, most_nodes_of, ending_nodes, widest, most_variables}
 use Rattle.src_ast.specs.Meaning.{Scope, scope_of, procs_of}
 use Rattle.src_ast.specs.Rules.{statements_in}
 use Rattle.seq_run.specs.Resolved as resolved
@@ -18,17 +18,17 @@ use Rattle.seq_run.specs.Resolving as resolving
 use Rattle.seq_run.specs.InRange.{steps_in, ProgramIn}
 use Rattle.cfg_core.specs.Graph as graph
 use Rattle.cfg_core.specs.Graph.{Term, Op, Tick, Exit, Goto, Branch, Return, Block, GraphProc, GraphArray, Graph, Spot, no_spot, spots, spots_in, spot_at, block_at}
-use Rattle.cfg_core.specs.Weights.{turns_of, turns_at, acts_of, jumps_of, term_nodes, op_nodes, exit_nodes, block_nodes, TurnsPayWork}
-use Rattle.cfg_core.proofs.Total.{each_at}
+use Rattle.cfg_core.specs.Weights.{turns_of, acts_of, jumps_of, term_nodes, op_nodes, exit_nodes, block_nodes, TurnsPayWork}
 use Rattle.cfg_build.specs.Lowered.{Part, op, begun, block, ticked, leaves, goes_to, last_part, whole, made, proc_blocks, procs, lowered}
 use Rattle.src_ast.specs.LanguageLimits.{most_procedures, most_statements, most_parameters, most_array_cells}
-use Rattle.cfg_build.specs.Sizes.{sum_procs, own_blocks, own_ops, ending_ops, own_nodes, result_nodes, IsSized, IsSmall}
+use Rattle.cfg_build.specs.Sizes.{own_blocks, own_ops, ending_ops, own_nodes, result_nodes, IsSized, IsSmall}
 use Rattle.cfg_build.specs.Keeps.{arrays_of}
 use Rattle.cfg_build.proofs.FewArrays.{FewArrays}
 use Rattle.cfg_build.proofs.FewTurns.{turns_are}
 use Rattle.cfg_build.proofs.Stand.{proc_spots, count_procs}
 use Rattle.cfg_build.proofs.Totals.{total_procs, EachAtMost, ProcAtMost, procs_most, IsMeasure, own_of, procs_total, procs_same}
 use Rattle.ws_words.proofs.Lists.{all_append as all_both}
+use Rattle.cfg_core.proofs.Spots.{each_at}
 
 -- Nodes of terms are those of expressions.
 

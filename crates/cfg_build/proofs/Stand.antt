@@ -2,11 +2,12 @@
 use Rattle.std.proofs.Common.{ℕ, zero, suc, ◌+◌, ◌≡◌, ◌<◌, List, [], ◌∷◌, ◌++◌, length, refl, sym, ap, subst, arith}
 use Rattle.std.proofs.lemmas.List.{length-append}
 use Rattle.seq_run.specs.Resolved.{Do, Call, If, While, Steps, Nothing, Then, Proc, nth_proc, ResolvedProgram}
-use Rattle.cfg_core.specs.Graph.{Block, Graph, Spot, spots, spots_in, spots_from, nth, or_else, spot_at, proc_at, entry_from, entry_of, no_spot, no_proc}
+use Rattle.cfg_core.specs.Graph.{Block, Graph, Spot, spots, spots_in, spots_from, spot_at, proc_at, entry_from, entry_of, no_spot, no_proc}
 use Rattle.cfg_build.specs.Lowered.{Part, goes_to, begun, whole, made, proc, procs, proc_blocks, last_part, lowered}
 use Rattle.cfg_build.proofs.Places.{StandAt, stand_all, stand_front, stand_back, Each, each_both}
 use Rattle.cfg_core.proofs.Weighing.{count_in as count_spots}
 use Rattle.cfg_core.proofs.Spots.{spots_in_both as spots_both}
+use Rattle.ws_words.specs.Items.{nth, or_else}
 
 -- how many blocks stand after the first one
 pub length_made : (st : Steps) (c : ℕ) (rest : Part) → length (made st c rest).blocks ≡ begun st

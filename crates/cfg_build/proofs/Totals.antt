@@ -1,8 +1,7 @@
 -- Sums over the blocks of a lowered graph are sums over the statements of its program.
-use Rattle.std.proofs.Common.{ℕ, zero, suc, ◌+◌, ◌*◌, ◌≡◌, ◌<◌, ◌≤◌, List, [], ◌∷◌, ◌++◌, length, Option, Some, None, refl, sym, ap, ◌∙◌, arith}
+use Rattle.std.proofs.Common.{ℕ, suc, ◌+◌, ◌*◌, ◌≡◌, ◌≤◌, List, [], ◌∷◌, ◌++◌, length, Option, refl, arith}
 use Rattle.std.specs.List.{AllByRecursion, sum_by}
 use Rattle.std.proofs.lemmas.List.Sums.{sum_by-cons, sum_by-append}
-use Rattle.std.proofs.lemmas.Nat.{mul-le}
 use Rattle.std.proofs.Math.Nat.{mul-add}
 use Rattle.src_ast.specs.declared.lexeme.Name.{Name}
 use Rattle.src_ast.specs.Syntax as source
@@ -14,7 +13,7 @@ use Rattle.seq_run.specs.InRange.{size_all, steps_in}
 use Rattle.cfg_core.specs.Graph as graph
 use Rattle.cfg_core.specs.Graph.{Term, Op, Exit, Goto, Branch, Block, Spot, spots_in}
 use Rattle.cfg_build.specs.Lowered.{Part, op, begun, block, ticked, leaves, goes_to, last_part, whole, made, proc_blocks}
-use Rattle.cfg_build.specs.Sizes.{sum_in, sum_over, sum_procs}
+use Rattle.cfg_build.specs.Sizes.{sum_over, sum_procs}
 use Rattle.cfg_build.proofs.Stand.{proc_spots}
 
 -- the sum over steps, with those inside them

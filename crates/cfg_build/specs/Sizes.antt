@@ -1,10 +1,11 @@
 -- How large the graph of a program is.
-use Rattle.std.specs.Prelude.{◌≡◌, ℕ, suc, ◌+◌, ◌*◌, ◌≤◌, List, [], ◌∷◌, length, Option, Some, None}
+use Rattle.std.specs.Prelude.{◌≡◌, ℕ, ◌+◌, ◌*◌, ◌≤◌, List, [], ◌∷◌, length, Option, Some, None}
 use Rattle.std.specs.List.{AllByRecursion, sum_by}
-use Rattle.src_ast.specs.Syntax.{Statement, Assign, Store, Print, Read, Give, Take, Call, If, While, Statements, Nothing, Then, Last, Procedure, Part}
-use Rattle.src_ast.specs.Bound.{nodes, nodes_of, ending_nodes, widest, most_variables}
-use Rattle.src_ast.specs.LanguageLimits.{most_procedures, most_statements, most_parameters, most_arrays, most_array_cells, most_cells}
-use Rattle.src_ast.specs.Meaning.{procs_of}
+use Rattle.src_ast.specs.Syntax.{Statement, Assign, Store, Print, Read, Give, Take, Call, If, While}
+use Rattle.src_ast.specs.Syntax.{Statements, Nothing, Then, Last, Procedure, Part}
+use Rattle.src_ast.specs.Bound.{nodes, nodes_of, widest, most_variables}
+use Rattle.src_ast.specs.LanguageLimits.{most_procedures, most_statements, most_parameters, most_arrays}
+use Rattle.src_ast.specs.LanguageLimits.{most_array_cells, most_cells}
 use Rattle.cfg_core.specs.Graph.{Graph, spots}
 use Rattle.cfg_core.specs.Weights.{turns_of, ops_in, nodes_in}
 

@@ -2,11 +2,12 @@
 use Rattle.std.proofs.Common.{ℕ, zero, suc, ◌-◌, ◌≡◌, ◌<◌, ◌≤◌, Bool, true, false, List, [], ◌∷◌, ◌++◌, length, if◌then◌else◌, refl, ap, ◌∙◌, arith}
 use Rattle.ws_words.specs.Operators.{flag}
 use Rattle.ws_words.specs.Outside.{Act, loads, stores, reads, prints, gives, takes, Outside, World}
-use Rattle.cfg_core.specs.Graph.{GraphArray, Graph, nth}
+use Rattle.cfg_core.specs.Graph.{GraphArray, Graph}
 use Rattle.cfg_core.specs.Walk.{Ends, Goes}
 use Rattle.cfg_core.specs.Rules.{IsArray, IsGraph}
 use Rattle.cfg_core.specs.Shown.{has_name, shown_cells, shown_among, hidden, is_hidden, shown_act, shown_acts, IsInside, AllInside, StaysInside, NoneHidden, ShowsAll}
 use Rattle.cfg_core.proofs.ArraysThere.{ActIn, ActsIn, OutIn, ended_in, going_in}
+use Rattle.ws_words.specs.Items.{nth}
 
 named_at : (arrays : List GraphArray) → NoneHidden arrays → (k : ℕ) → k < length arrays → hidden (nth arrays k) ≡ false
 named_at [] h k lt = absurd (omega arith)

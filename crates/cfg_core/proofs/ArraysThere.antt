@@ -5,7 +5,7 @@ use Rattle.ws_words.specs.Outside.{Act, loads, stores, reads, prints, gives, tak
 use Rattle.cfg_core.specs.Graph.{Term, Number, Var, Cell, Flip, Not, Neg, Binary, Op, Assign, Store, Print, Read, Give, Take, Choose, Tick, TickBy, Exit, Goto, Branch, Call, Return, Send, Stop, GraphArray, Graph, no_spot, spots, spot_at, block_at}
 use Rattle.cfg_core.specs.Walk.{loads_of, all_loads, value_of, values_of, Outcome, Done, Out, and_then, spend, run_op, run_ops, Frame, Config, At, Over, Going, returned, leave, passed, step, walk, cells_of, opening, Ends, Goes}
 use Rattle.cfg_core.specs.Rules.{IsArray, TermIn, OpIn, ExitIn, BlockNumbers, Numbers}
-use Rattle.cfg_core.proofs.Total.{each_at}
+use Rattle.cfg_core.proofs.Spots.{each_at}
 
 -- an act on an array of the graph, or on none
 abbrev pub ActIn : Graph → Act → Type 0

@@ -1,9 +1,10 @@
 -- Where each edge leads forward, or to a block that takes a turn, no cycle is without one.
 use Rattle.std.proofs.Common.{ℕ, zero, suc, ◌+◌, ◌≡◌, ◌<◌, ◌⊎◌, nat_lt, Bool, true, false, ◌&&◌, ◌||◌, List, [], ◌∷◌, refl, sym, subst, inl, inr, arith}
 use Rattle.std.proofs.lemmas.Bool.Decides.{nat_tests}
-use Rattle.cfg_core.specs.Graph.{Exit, Goto, Branch, Call, Return, Send, Stop, Graph, Spot, nth, or_else, no_spot, spots, spot_at, block_at}
-use Rattle.cfg_core.specs.Rules.{In, Leads, has_turn, Quiet, one, more}
-use Rattle.ws_words.proofs.Bools.{and_left, and_right}
+use Rattle.cfg_core.specs.Graph.{Exit, Goto, Branch, Call, Return, Send, Stop, Graph, Spot, no_spot, spots, spot_at, block_at}
+use Rattle.cfg_core.specs.Rules.{Leads, has_turn, Quiet, one, more}
+use Rattle.ws_words.proofs.Bools.{and_left, and_right, no_both}
+use Rattle.ws_words.specs.Items.{nth, or_else, In}
 
 -- each edge of an exit leads to a later block or to one that takes a turn
 abbrev pub OnlyOn : Graph → ℕ → Exit → Type 0
@@ -13,9 +14,6 @@ OnlyOn g c exit = (d : ℕ) → Leads exit d → (c < d) ⊎ (has_turn (block_at
 abbrev pub AllOn : Graph → ℕ → List Spot → Type 0
 AllOn g c [] = Unit {0}
 AllOn g c (s ∷ xs) = OnlyOn g c s.block.exit × AllOn g (suc c) xs
-
-pub no_both : {v : Bool} → v ≡ true → v ≡ false → ⊥
-no_both h i = absurd (cc)
 
 pub starts_quiet : (g : Graph) (b c : ℕ) → Quiet g b c → has_turn (block_at g b).ops ≡ false
 starts_quiet g b c (one _ _ h l) = h

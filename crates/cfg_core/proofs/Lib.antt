@@ -16,3 +16,4 @@ pub mod AllShown
 pub mod Paired
 pub mod Weighing
 pub mod Spots
+pub mod Outcomes

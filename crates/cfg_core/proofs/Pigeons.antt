@@ -1,6 +1,7 @@
 -- Numbers below a bound, all different, are no more than the bound.
-use Rattle.std.proofs.Common.{ℕ, zero, suc, ◌≡◌, ◌<◌, ◌≤◌, ◌⊎◌, List, [], ◌∷◌, length, refl, sym, ap, ◌∙◌, subst, inl, inr, arith}
-use Rattle.cfg_core.specs.Rules.{In, Apart}
+use Rattle.std.proofs.Common.{ℕ, suc, ◌≡◌, ◌<◌, ◌≤◌, ◌⊎◌, List, [], ◌∷◌, length, refl, sym, ap, ◌∙◌, subst, inl, inr, arith}
+use Rattle.ws_words.specs.Items.{In, Distinct}
+use Rattle.ws_words.proofs.Places.{down, in_down, down_length}
 
 record Less (ys : List ℕ) (x : ℕ) : Type 0 where
   rest : List ℕ
@@ -20,7 +21,7 @@ take_out (y ∷ ys) x (inr h) = let r = take_out ys x h in
 in_same : (ys : List ℕ) (a b : ℕ) → a ≡ b → In a ys → In b ys
 in_same ys a b e h = subst (λ (n : ℕ). In n ys) e h
 
-within : (xs ys : List ℕ) → Apart xs → ((a : ℕ) → In a xs → In a ys) → length xs ≤ length ys
+within : (xs ys : List ℕ) → Distinct xs → ((a : ℕ) → In a xs → In a ys) → length xs ≤ length ys
 within [] ys o f = omega arith
 within (x ∷ xs) ys o f =
     let l : Less ys x = take_out ys x (f x (inl refl)) in
@@ -31,26 +32,6 @@ within (x ∷ xs) ys o f =
     let s : suc (length l.rest) ≡ length ys = l.shorter in
     omega arith
 
-down : ℕ → List ℕ
-down zero = []
-down (suc n) = n ∷ down n
-
-down_length : (n : ℕ) → length (down n) ≡ n
-unfolding down
-down_length zero = refl
-down_length (suc n) = ap suc (down_length n)
-
-in_down : (n a : ℕ) → a < n → In a (down n)
-unfolding down
-in_down zero a h = absurd (omega arith)
-in_down (suc n) a h = elim (split a n (omega arith)) [ inl e ↦ inl e | inr l ↦ inr (in_down n a l) ]
-  where
-    split : (a n : ℕ) → a ≤ n → (a ≡ n) ⊎ (a < n)
-    split zero zero le = inl refl
-    split zero (suc n) le = inr (omega arith)
-    split (suc a) zero le = absurd (omega arith)
-    split (suc a) (suc n) le = elim (split a n (omega arith)) [ inl e ↦ inl (ap suc e) | inr l ↦ inr (omega arith) ]
-
 -- numbers below n that stand apart are at most n
-pub pigeons : (xs : List ℕ) (n : ℕ) → Apart xs → ((a : ℕ) → In a xs → a < n) → length xs ≤ n
+pub pigeons : (xs : List ℕ) (n : ℕ) → Distinct xs → ((a : ℕ) → In a xs → a < n) → length xs ≤ n
 pigeons xs n o f = subst (λ (m : ℕ). length xs ≤ m) (down_length n) (within xs (down n) o (λ a h. in_down n a (f a h)))

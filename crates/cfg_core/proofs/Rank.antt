@@ -1,8 +1,10 @@
 -- The rank of a block: how many edges a path from it has at most before a turn. It falls along such a path.
 use Rattle.std.proofs.Common.{ℕ, zero, suc, ◌+◌, ◌≡◌, ◌<◌, ◌≤◌, max, Bool, true, false, List, [], ◌∷◌, length, if◌then◌else◌, refl, sym, ap, ◌∙◌, subst, inl, inr, arith}
-use Rattle.cfg_core.specs.Graph.{Exit, Goto, Branch, Call, Return, Send, Stop, Graph, Spot, nth, or_else, no_spot, spots, spot_at, block_at}
-use Rattle.cfg_core.specs.Rules.{In, Apart, Leads, has_turn, Quiet, one, more}
+use Rattle.cfg_core.specs.Graph.{Exit, Goto, Branch, Call, Return, Send, Stop, Graph, Spot, no_spot, spots, spot_at, block_at}
+use Rattle.cfg_core.specs.Rules.{Leads, has_turn, Quiet, one, more}
 use Rattle.cfg_core.proofs.Pigeons.{pigeons}
+use Rattle.ws_words.specs.Items.{nth, or_else, In, Distinct}
+use Rattle.ws_words.proofs.Bools.{by_bool}
 
 -- one more than the most of a number over blocks, or 0 of none
 abbrev pub most_over : (ℕ → ℕ) → List ℕ → ℕ
@@ -84,10 +86,6 @@ there : (g : Graph) (b c : ℕ) → Leads (block_at g b).exit c → b < length (
 unfolding spot_at no_spot
 there g b c h = nth_there (spots g) b (λ (x : Spot). Leads x.block.exit c) no_spot (λ z. z) h
 
-by_bool : (b : Bool) (P : Type 0) → (b ≡ true → P) → (b ≡ false → P) → P
-by_bool true P f h = f refl
-by_bool false P f h = h refl
-
 module _ (g : Graph) where
   edges_turn : (n b : ℕ) → has_turn (block_at g b).ops ≡ true → edges g n b ≡ 0
   edges_turn zero b e = refl
@@ -109,8 +107,8 @@ module _ (g : Graph) where
 
   module _ (cycles : (b : ℕ) → Quiet g b b → ⊥) where
     -- `seen` are the blocks passed on the path
-    module _ (seen : List ℕ) (b : ℕ) (apart : Apart seen) (below : (y : ℕ) → In y seen → y < length (spots g)) (quiet : (y : ℕ) → In y seen → Quiet g y b) where
-      longer_apart : Apart (b ∷ seen)
+    module _ (seen : List ℕ) (b : ℕ) (apart : Distinct seen) (below : (y : ℕ) → In y seen → y < length (spots g)) (quiet : (y : ℕ) → In y seen → Quiet g y b) where
+      longer_apart : Distinct (b ∷ seen)
       longer_apart = ((λ i. cycles b (quiet b i)), apart)
 
       longer_below : (c : ℕ) → Leads (block_at g b).exit c → (y : ℕ) → In y (b ∷ seen) → y < length (spots g)
@@ -128,7 +126,7 @@ module _ (g : Graph) where
           (λ e. edges_turn (suc n) b e)
           (λ e. edges_quiet n b e ∙ over_none (edges g n) (block_at g b).exit (no_room full e))
 
-    stable : (room : ℕ) (seen : List ℕ) (b : ℕ) → length (spots g) ≤ length seen + room → Apart seen → ((y : ℕ) → In y seen → y < length (spots g)) → ((y : ℕ) → In y seen → Quiet g y b) → (n : ℕ) → room ≤ n → edges g (suc n) b ≡ edges g n b
+    stable : (room : ℕ) (seen : List ℕ) (b : ℕ) → length (spots g) ≤ length seen + room → Distinct seen → ((y : ℕ) → In y seen → y < length (spots g)) → ((y : ℕ) → In y seen → Quiet g y b) → (n : ℕ) → room ≤ n → edges g (suc n) b ≡ edges g n b
     stable zero seen b much apart below quiet n le =
         let full : length (spots g) ≤ length seen = omega arith in
         none_left seen b apart below quiet full (suc n) ∙ sym (none_left seen b apart below quiet full n)

@@ -1,13 +1,14 @@
 -- Lemmas on the blocks of a graph and their lists.
-use Rattle.std.proofs.Common.{◌≡◌, length, map, ap, arith, ℕ, List, [], ◌∷◌, set, refl, ◌∙◌, suc, inl, inr, ◌++◌, zero, ◌≤◌, ◌<◌, ◌+◌, Bool, true, false, if◌then◌else◌}
+use Rattle.std.proofs.Common.{◌≡◌, length, map, ap, arith, ℕ, List, [], ◌∷◌, set, refl, ◌∙◌, suc, inl, inr, ◌++◌, zero, ◌≤◌, ◌+◌, Bool, true, false, if◌then◌else◌}
 use Rattle.std.proofs.lemmas.List.{length-map, length-set}
-use Rattle.cfg_core.specs.Graph.{spots, Term, Spot, nth, or_else, no_spot, Block, spots_in}
+use Rattle.cfg_core.specs.Graph.{spots, Term, Spot, no_spot, Block, spots_in, Graph, GraphProc, spot_at}
 use Rattle.cfg_core.specs.View as view
-use Rattle.cfg_core.specs.Shows.{TableIs, spot_in_code, spot_in_graph}
+use Rattle.cfg_core.specs.Shows.{TableIs, spot_in_code, spot_in_graph, rooms_from}
 use Rattle.cfg_core.specs.declared.table.GraphTable.{GraphTable}
 use Rattle.cfg_core.specs.Walk.{landed, values}
 use Rattle.std.specs.List.{AllByRecursion, filter}
-use Rattle.cfg_core.specs.Rules.{In}
+use Rattle.ws_words.specs.Items.{nth, or_else, In}
+use Rattle.cfg_core.specs.Rules.{BlockNumbers, IsGraph}
 
 pub count_is : (table : GraphTable) → TableIs table → length table.spots.items ≡ length (spots (view.graph table.graph.now))
 count_is table h =
@@ -27,20 +28,10 @@ pub all_from : (P : ℕ → Type 0) (xs : List ℕ) → ((x : ℕ) → In x xs �
 all_from P [] h = tt
 all_from P (x ∷ xs) h = (h x (inl refl), all_from P xs (λ y i. h y (inr i)))
 
-pub in_left : (b : ℕ) (xs ys : List ℕ) → In b xs → In b (xs ++ ys)
-in_left b [] ys i = absurd i
-in_left b (x ∷ xs) ys (inl e) = inl e
-in_left b (x ∷ xs) ys (inr i) = inr (in_left b xs ys i)
-
 pub past : (xs : List Spot) (k : ℕ) → length xs ≤ k → or_else (nth xs k) no_spot ≡ no_spot
 past [] k le = refl
 past (x ∷ xs) zero le = absurd (omega arith)
 past (x ∷ xs) (suc k) le = past xs k (omega arith)
-
-pub nth_left : {A : Type 0} (xs ys : List A) (k : ℕ) → k < length xs → nth (xs ++ ys) k ≡ nth xs k
-nth_left [] ys k lt = absurd (omega arith)
-nth_left (x ∷ xs) ys zero lt = refl
-nth_left (x ∷ xs) ys (suc k) lt = nth_left xs ys k (omega arith)
 
 pub nth_right : {A : Type 0} (xs ys : List A) (n k m : ℕ) → length xs ≡ n → m ≡ n + k → nth (xs ++ ys) m ≡ nth ys k
 nth_right [] ys n k m e em = ap (nth ys) (omega (arith, e, em))
@@ -70,3 +61,25 @@ filter_in p (y ∷ xs) x h = by_test (p y) refl h (λ i. filter_in p xs x i)
     by_test true ey (inl same) rest = (inl same, ap p same ∙ ey)
     by_test true ey (inr i) rest = let r = rest i in (inr r.0, r.1)
     by_test false ey i rest = let r = rest i in (inr r.0, r.1)
+
+pub spot_beyond : (g : Graph) (b : ℕ) → length (spots g) ≤ b → spot_at g b ≡ no_spot
+unfolding spot_at
+spot_beyond g b le = past (spots g) b le
+
+rooms_count : (first : ℕ) (procs : List GraphProc) → length (rooms_from first procs) ≡ length procs
+rooms_count first [] = refl
+rooms_count first (p ∷ procs) = ap suc (rooms_count (first + length p.blocks) procs)
+
+pub rooms_are : (table : GraphTable) → TableIs table → length table.rooms.items ≡ length (view.graph table.graph.now).procs
+rooms_are table h = ap length h.rooms ∙ rooms_count 0 (view.graph table.graph.now).procs
+
+-- what is kept of all items is kept of the one at a place, and of what stands for one that isn't there
+pub each_at : {A : Type 0} (P : A → Type 0) (xs : List A) (none : A) → AllByRecursion P xs → P none → (k : ℕ) → P (or_else (nth xs k) none)
+each_at P [] none h p k = p
+each_at P (x ∷ xs) none h p zero = h.0
+each_at P (x ∷ xs) none h p (suc k) = each_at P xs none h.1 p k
+
+-- what a block names exists
+pub numbers_at : (g : Graph) → IsGraph g → (b : ℕ) → BlockNumbers g (spot_at g b)
+unfolding spot_at no_spot
+numbers_at g rules b = each_at (BlockNumbers g) (spots g) no_spot rules.numbers.blocks (record { ops = tt; exit = tt; named = tt; once = tt }) b

@@ -2,7 +2,7 @@
 use Rattle.std.proofs.Common.{ℕ, zero, suc, ◌+◌, ◌≡◌, ◌<◌, ◌≤◌, List, [], ◌∷◌, ◌++◌, length, drop, map, slice_index_or, refl, sym, ap, ◌∙◌, subst, append_assoc, length-append, arith}
 use Rattle.std.proofs.lemmas.List.{length-map}
 use Rattle.cfg_core.specs.Graph as plain
-use Rattle.cfg_core.specs.Graph.{Block, nth, or_else, no_spot, no_proc, spots_in, spots_from, entry_from}
+use Rattle.cfg_core.specs.Graph.{Block, no_spot, no_proc, spots_in, spots_from, entry_from}
 use Rattle.cfg_core.specs.View as view
 use Rattle.cfg_core.specs.Shows.{SpotIs, spot_in_code, spot_in_graph, rooms_from}
 use Rattle.cfg_core.specs.declared.blocks.GraphBlock.{GraphBlock}
@@ -10,6 +10,7 @@ use Rattle.cfg_core.specs.declared.blocks.GraphProc.{GraphProc}
 use Rattle.cfg_core.specs.declared.table.Spot.{Spot}
 use Rattle.cfg_core.specs.declared.table.Room.{Room}
 use Rattle.ws_words.proofs.Lists.{map_append}
+use Rattle.ws_words.specs.Items.{nth, or_else}
 
 -- the block of the table with a number is that of the graph
 pub spot_in : (xs : List Spot) (ys : List plain.Spot) (b : ℕ) (x : Spot) → map spot_in_code xs ≡ map spot_in_graph ys → b < length xs → x ≡ slice_index_or xs b x → SpotIs (or_else (nth ys b) no_spot) x

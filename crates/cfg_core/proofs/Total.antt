@@ -1,24 +1,15 @@
 -- A walk of any number of turns comes to an answer: each block makes it lighter.
-use Rattle.std.proofs.Common.{ℕ, zero, suc, ◌+◌, ◌-◌, ◌*◌, ◌≡◌, ◌<◌, ◌≤◌, ◌==◌, min, Bool, true, false, List, [], ◌∷◌, length, if◌then◌else◌, slice_index, refl, ap, inl, inr, arith}
-use Rattle.std.specs.List.{AllByRecursion}
+use Rattle.std.proofs.Common.{ℕ, zero, suc, ◌+◌, ◌-◌, ◌*◌, ◌≡◌, ◌<◌, ◌≤◌, ◌==◌, min, Bool, true, false, List, [], ◌∷◌, length, if◌then◌else◌, refl, ap, inl, inr, arith}
 use Rattle.ws_words.specs.Outside.{Outside, State}
-use Rattle.cfg_core.specs.Graph.{Exit, Goto, Branch, Call, Return, Send, Stop, Graph, Spot, nth, or_else, no_spot, spots, spot_at, block_at, entry_of}
+use Rattle.cfg_core.specs.Graph.{Exit, Goto, Branch, Call, Return, Send, Stop, Graph, Spot, no_spot, spots, spot_at, block_at, entry_of}
 use Rattle.cfg_core.specs.Walk.{value_of, values_of, Outcome, Done, Out, run_ops, Frame, Config, At, Over, Going, landing, returned, leave, passed, step, walk, IsOver}
-use Rattle.cfg_core.specs.Rules.{In, Leads, has_turn, has_tick, calls, Lands, IsGraph}
+use Rattle.cfg_core.specs.Rules.{Leads, has_turn, has_tick, calls, Lands, IsGraph}
 use Rattle.cfg_core.proofs.Turns.{AtMost, Fewer, ops_most, ops_fewer, has_tick_turns}
 use Rattle.cfg_core.proofs.Rank.{rank, rank_most, rank_falls}
-use Rattle.cfg_core.proofs.Forward.{no_both}
-
--- what holds of all items and of the one past the end holds at each place
-pub each_at : {A : Type 0} (P : A → Type 0) (xs : List A) (none : A) → AllByRecursion P xs → P none → (k : ℕ) → P (or_else (nth xs k) none)
-each_at P [] none h p k = p
-each_at P (x ∷ xs) none h p zero = h.0
-each_at P (x ∷ xs) none h p (suc k) = each_at P xs none h.1 p k
-
-in_place : (ls : List ℕ) (k : ℕ) → k < length ls → In (slice_index ls k) ls
-in_place [] k lt = absurd (omega arith)
-in_place (l ∷ ls) zero lt = inl refl
-in_place (l ∷ ls) (suc k) lt = inr (in_place ls k (omega arith))
+use Rattle.ws_words.specs.Items.{In}
+use Rattle.ws_words.proofs.Bools.{by_bool, no_both}
+use Rattle.cfg_core.proofs.Spots.{each_at}
+use Rattle.ws_words.proofs.Places.{in_place}
 
 pub in_landing : (a : ℕ) (ls : List ℕ) → 1 ≤ length ls → In (landing a ls) ls
 in_landing a ls some = in_place ls (min a (length ls - 1)) (omega arith)
@@ -38,10 +29,6 @@ more_rows n a b r q lt le = grind arith
 
 no_more_rows : (n a b r q : ℕ) → a ≤ b → r < q → a * suc n + r < b * suc n + q
 no_more_rows n a b r q le lt = grind arith
-
-by_bool : (b : Bool) (P : Type 0) → (b ≡ true → P) → (b ≡ false → P) → P
-by_bool true P f h = f refl
-by_bool false P f h = h refl
 
 module _ (g : Graph) where
   fewer_rounds : (f k e j b c : ℕ) → e + 2 * j < f + 2 * k → weight g e j c < weight g f k b

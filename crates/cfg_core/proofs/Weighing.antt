@@ -8,9 +8,11 @@ use Rattle.std.proofs.lemmas.List.Sums.{sum_by-cons, sum_by-append}
 use Rattle.ws_words.specs.Outside.{Outside, State, zeros}
 use Rattle.cfg_core.specs.Graph.{Op, Assign, Store, Print, Read, Give, Take, Choose, Tick, TickBy, Exit, Goto, Branch, Call, Return, Send, Stop, Block, GraphProc, Graph, no_spot, spots_in, spots_from, spots, spot_at, block_at, proc_at, entry_from, entry_of}
 use Rattle.cfg_core.specs.Walk.{value_of, values_of, Outcome, Done, Out, and_then, spend, run_op, run_ops, Frame, Config, At, Over, Going, landed, landing, with_result, entered, returned, leave, passed, step, opening}
-use Rattle.cfg_core.specs.Rules.{In, Lands, ExitIn, ProcNumbers, BlockNumbers, IsGraph}
+use Rattle.cfg_core.specs.Rules.{Lands, ExitIn, ProcNumbers, BlockNumbers, IsGraph}
 use Rattle.cfg_core.specs.Weights.{turns_of, turns_at, block_left, path, highest, handed_on, IsPotential, WeighsAtMost, first_block, WalksWeigh}
-use Rattle.cfg_core.proofs.Total.{each_at, in_landing, lands_at}
+use Rattle.cfg_core.proofs.Total.{in_landing, lands_at}
+use Rattle.ws_words.specs.Items.{In}
+use Rattle.cfg_core.proofs.Spots.{each_at}
 
 -- Operations take at least the turns that are counted for them.
 

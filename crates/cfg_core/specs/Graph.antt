@@ -1,6 +1,7 @@
 -- The control graph as plain data, without boxes and buffers.
-use Rattle.std.specs.Prelude.{ℕ, zero, suc, ◌+◌, List, [], ◌∷◌, ◌++◌, length, Option, Some, None}
+use Rattle.std.specs.Prelude.{ℕ, zero, suc, ◌+◌, List, [], ◌∷◌, ◌++◌, length, Option}
 use Rattle.ws_words.specs.declared.alu.Alu.{Alu}
+use Rattle.ws_words.specs.Items.{nth, or_else}
 
 pub data Term : Type 0 where
   Number : (n : ℕ) → Term
@@ -69,16 +70,6 @@ spots_from home (p ∷ procs) = spots_in home p.vars p.blocks ++ spots_from (suc
 -- all blocks, numbered from 0, procedure after procedure
 abbrev pub spots : Graph → List Spot
 spots g = spots_from 0 g.procs
-
--- the item at a place
-abbrev pub nth : {A : Type 0} → List A → ℕ → Option A
-nth [] k = None
-nth (x ∷ xs) zero = Some x
-nth (x ∷ xs) (suc k) = nth xs k
-
-abbrev pub or_else : {A : Type 0} → Option A → A → A
-or_else None d = d
-or_else (Some x) d = x
 
 -- what stands past the last block and the last procedure
 unfoldable pub no_spot : Spot

@@ -1,7 +1,11 @@
 -- What every graph keeps.
-use Rattle.std.specs.Prelude.{◌≡◌, ℕ, suc, ◌⊎◌, ◌<◌, ◌≤◌, Bool, true, false, ◌||◌, List, [], ◌∷◌, length, Option, Some, None}
+use Rattle.std.specs.Prelude.{◌≡◌, ℕ, suc, ◌⊎◌, ◌<◌, ◌≤◌, Bool, true, false, ◌||◌, List, [], ◌∷◌, length}
+use Rattle.std.specs.Prelude.{Option, Some, None}
 use Rattle.std.specs.List.{AllByRecursion}
-use Rattle.cfg_core.specs.Graph.{Term, Number, Var, Cell, Flip, Not, Neg, Binary, Op, Assign, Store, Print, Read, Give, Take, Choose, Tick, TickBy, Exit, Goto, Branch, Call, Return, Send, Stop, GraphProc, Graph, Spot, spots, spot_at, block_at, proc_at}
+use Rattle.cfg_core.specs.Graph.{Term, Number, Var, Cell, Flip, Not, Neg, Binary, Op, Assign, Store, Print}
+use Rattle.cfg_core.specs.Graph.{Read, Give, Take, Choose, Tick, TickBy, Exit, Goto, Branch, Call, Return}
+use Rattle.cfg_core.specs.Graph.{Send, Stop, GraphProc, Graph, Spot, spots, spot_at, block_at, proc_at}
+use Rattle.ws_words.specs.Items.{In, Distinct}
 
 -- Rule 1: each number names something that exists.
 
@@ -53,20 +57,11 @@ ExitIn g home vars (Send t ts ls) =
     AllByRecursion (λ l. l < length (spots g)) ls
 ExitIn g home vars Stop = Unit {0}
 
-abbrev pub In : ℕ → List ℕ → Type 0
-In x [] = ⊥
-In x (y ∷ ys) = (x ≡ y) ⊎ In x ys
-
--- no number twice
-abbrev pub Apart : List ℕ → Type 0
-Apart [] = Unit {0}
-Apart (x ∷ xs) = (In x xs → ⊥) × Apart xs
-
 pub record BlockNumbers (g : Graph) (spot : Spot) : Type 0 where
   pub ops : AllByRecursion (OpIn g spot.vars) spot.block.ops
   pub exit : ExitIn g spot.home spot.vars spot.block.exit
   pub named : AllByRecursion (λ x. x < spot.vars) spot.block.named
-  pub once : Apart spot.block.named
+  pub once : Distinct spot.block.named
 
 pub record ProcNumbers (p : GraphProc) : Type 0 where
   pub some_block : 1 ≤ length p.blocks

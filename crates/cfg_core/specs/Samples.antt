@@ -1,7 +1,9 @@
 -- Small graphs, for tests and worked walks.
 use Rattle.std.specs.Prelude.{ℕ, List, [], ◌∷◌, Some, None}
 use Rattle.ws_words.specs.declared.alu.Alu.TheVariants.{Add, Sub, Mul}
-use Rattle.cfg_core.specs.Graph.{Number, Var, Cell, Binary, Op, Assign, Store, Print, Read, Give, Take, Choose, Tick, TickBy, Exit, Goto, Branch, Call, Return, Send, Stop, Block, GraphProc, GraphArray, Graph}
+use Rattle.cfg_core.specs.Graph.{Number, Var, Cell, Binary, Op, Assign, Store, Print, Read, Give, Take}
+use Rattle.cfg_core.specs.Graph.{Choose, Tick, TickBy, Exit, Goto, Branch, Call, Return, Send, Stop, Block}
+use Rattle.cfg_core.specs.Graph.{GraphProc, GraphArray, Graph}
 
 abbrev pub block : List ℕ → List Op → Exit → Block
 block named ops exit = record { named = named; ops = ops; exit = exit }

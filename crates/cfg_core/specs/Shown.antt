@@ -1,12 +1,14 @@
 -- What the acts of a walk show to others: all but those on hidden arrays, with the shown arrays
 -- numbered anew.
-use Rattle.std.specs.Prelude.{◌≡◌, ℕ, zero, suc, ◌+◌, ◌-◌, ◌<◌, Bool, true, false, List, [], ◌∷◌, ◌++◌, Option, Some, None, if◌then◌else◌}
+use Rattle.std.specs.Prelude.{◌≡◌, ℕ, zero, suc, ◌+◌, ◌-◌, ◌<◌, Bool, true, false, List, [], ◌∷◌, ◌++◌}
+use Rattle.std.specs.Prelude.{Option, Some, None, if◌then◌else◌}
 use Rattle.std.specs.List.{AllByRecursion, filter}
 use Rattle.std.specs.Option.{is_some}
 use Rattle.ws_words.specs.Operators.{flag}
 use Rattle.ws_words.specs.Outside.{Act, loads, stores, Outside, World}
-use Rattle.cfg_core.specs.Graph.{GraphArray, Graph, nth}
+use Rattle.cfg_core.specs.Graph.{GraphArray, Graph}
 use Rattle.cfg_core.specs.Walk.{Ends, Goes}
+use Rattle.ws_words.specs.Items.{nth}
 
 abbrev pub has_name : GraphArray → Bool
 has_name array = is_some array.name

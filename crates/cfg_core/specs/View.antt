@@ -4,7 +4,8 @@ use Rattle.cfg_core.specs.Graph as plain
 use Rattle.cfg_core.specs.declared.blocks.Term.{Term}
 use Rattle.cfg_core.specs.declared.blocks.Term.TheVariants.{Number, Var, Cell', Flip', Not', Neg', Binary'}
 use Rattle.cfg_core.specs.declared.blocks.GraphOp.{GraphOp}
-use Rattle.cfg_core.specs.declared.blocks.GraphOp.TheVariants.{Assign, Store, Print, Read, Give, Take, Choose, Tick, TickBy}
+use Rattle.cfg_core.specs.declared.blocks.GraphOp.TheVariants.{Assign, Store, Print, Read, Give, Take, Choose}
+use Rattle.cfg_core.specs.declared.blocks.GraphOp.TheVariants.{Tick, TickBy}
 use Rattle.cfg_core.specs.declared.blocks.Leave.{Leave}
 use Rattle.cfg_core.specs.declared.blocks.Leave.TheVariants.{Goto, Branch, Call, Return, Send, Stop}
 use Rattle.cfg_core.specs.declared.blocks.GraphBlock.{GraphBlock}

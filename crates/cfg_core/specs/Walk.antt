@@ -1,9 +1,14 @@
 -- The walk of a graph: whole blocks, one after another. Calls wait in frames.
-use Rattle.std.specs.Prelude.{◌≡◌, ℕ, zero, suc, ◌-◌, ◌^◌, ◌==◌, List, [], ◌∷◌, ◌++◌, length, min, Option, Some, None, if◌then◌else◌, slice_index, slice_set}
+use Rattle.std.specs.Prelude.{◌≡◌, ℕ, zero, suc, ◌-◌, ◌^◌, ◌==◌, List, [], ◌∷◌, ◌++◌, length, min, Option}
+use Rattle.std.specs.Prelude.{Some, None, if◌then◌else◌, slice_index, slice_set}
 use Rattle.ws_words.specs.declared.alu.Alu.TheVariants.{Sub}
 use Rattle.ws_words.specs.Operators.{applied, flag}
-use Rattle.ws_words.specs.Outside.{Outside, State, World, Act, loads, row, write, with_acts, stored, printed, taken, has_read, given, zeros, opening_out}
-use Rattle.cfg_core.specs.Graph.{Term, Number, Var, Cell, Flip, Not, Neg, Binary, Op, Assign, Store, Print, Read, Give, Take, Choose, Tick, TickBy, Exit, Goto, Branch, Call, Return, Send, Stop, GraphProc, GraphArray, Graph, spot_at, block_at, proc_at, entry_of}
+use Rattle.ws_words.specs.Outside.{Outside, State, World, Act, loads, row, write, with_acts, stored, printed}
+use Rattle.ws_words.specs.Outside.{taken, has_read, given, zeros, opening_out}
+use Rattle.cfg_core.specs.Graph.{Term, Number, Var, Cell, Flip, Not, Neg, Binary, Op, Assign, Store, Print}
+use Rattle.cfg_core.specs.Graph.{Read, Give, Take, Choose, Tick, TickBy, Exit, Goto, Branch, Call, Return}
+use Rattle.cfg_core.specs.Graph.{Send, Stop, GraphProc, GraphArray, Graph, spot_at, block_at, proc_at}
+use Rattle.cfg_core.specs.Graph.{entry_of}
 
 -- the value of a term on these variables and arrays
 abbrev pub value : Term → List ℕ → List (List ℕ) → ℕ

@@ -5,7 +5,7 @@ use Rattle.ws_words.specs.Outside.{World}
 use Rattle.ws_isa.specs.declared.instr.Op.{Op}
 use Rattle.ws_isa.specs.declared.instr.Op.TheVariants.{Alu, Steer, Phi, Send, Store}
 use Rattle.ws_isa.specs.Image as plain
-use Rattle.ws_isa.specs.Image.{Image, or_else, instr_at, ports, ports_of, is_memory, is_memory_op, is_advance, is_advance_op, result_of, result_of_op, selector, selector_of, block_of, now_dests, edge_dests, tokens_to, sends}
+use Rattle.ws_isa.specs.Image.{Image, instr_at, ports, ports_of, is_memory, is_memory_op, is_advance, is_advance_op, result_of, result_of_op, selector, selector_of, block_of, now_dests, edge_dests, tokens_to, sends}
 use Rattle.ws_isa.specs.Formed.{Formed}
 use Rattle.ws_isa.specs.Walk.{Ports, gather}
 use Rattle.ws_isa.specs.Sound.{Sound}
@@ -27,8 +27,10 @@ use Rattle.df_core.specs.Partial.{partial_of, listed}
 use Rattle.df_core.specs.Places.{destinations}
 use Rattle.df_core.specs.Ways.{token_of, way_of, SentTo}
 use Rattle.df_core.specs.Chains.{chain_of}
-use Rattle.df_core.specs.Flows.{request_of, all_of, Holds}
+use Rattle.df_core.specs.Flows.{request_of, all_of, FlowIs}
 use Rattle.ws_isa.proofs.Images.{tokens_append, nth_below}
+use Rattle.ws_words.specs.Items.{or_else}
+use Rattle.ws_words.proofs.Lists.{map_push}
 
 -- the operands beyond an operation's ports don't matter
 pub same_result : (op : Op) (o : Operands) → is_memory_op op ≡ false → result_of_op op (listed (ports_of op) o) ≡ result_of_op op (all_of o)
@@ -59,7 +61,7 @@ pub ports_is_op : (image : Image) (k : ℕ) → ports image k ≡ ports_of (inst
 unfolding ports
 ports_is_op image k = refl
 
-result_is_op : (image : Image) (k : ℕ) (xs : List ℕ) → result_of image k xs ≡ result_of_op (instr_at image k).op xs
+pub result_is_op : (image : Image) (k : ℕ) (xs : List ℕ) → result_of image k xs ≡ result_of_op (instr_at image k).op xs
 unfolding result_of
 result_is_op image k xs = refl
 
@@ -87,10 +89,6 @@ pushed_once (x ∷ a) r o = (
 
 pub pushed : (a : List Request) (r : Request) → Alike (r ∷ a) (a ++ r ∷ [])
 pushed a r = record { to = pushed_to a r; from = pushed_from a r; once = pushed_once a r }
-
-map_push : {A B : Type 0} (f : A → B) (xs : List A) (x : A) → map f (xs ++ x ∷ []) ≡ map f xs ++ f x ∷ []
-map_push f [] x = refl
-map_push f (y ∷ xs) x = ap (λ ys. f y ∷ ys) (map_push f xs x)
 
 -- tokens that were sent stand on the way
 pub sent_on : (image : Image) (world : World) (f : Ports) (old new : Way) (ts : List plain.Token) (asked : List Request) (early : List ℕ) (t : State) → SentTo old new ts → Stands image world f (way_of old ++ ts) asked early t → Stands image world f (way_of new) asked early t
@@ -123,12 +121,12 @@ module _ (image : Image) (world : World) (formed : Formed image) (sound : Sound 
   facts : WalkFacts image world
   facts = facts_of image world (ports_there image formed) sound
 
-  module _ (tok : Token) (old new : Flow) (s : State) (h : Holds image world (token_of tok ∷ beside) old s) where
+  module _ (tok : Token) (old new : Flow) (s : State) (h : FlowIs image world (token_of tok ∷ beside) old s) where
     -- its instance isn't full
     pub arrived_waits : ((a b q : ℕ) → partial_of new.slots.slots.items new.slots.spill a b q ≡ with_at tok.wave tok.instr tok.port (Some tok.value) (partial_of old.slots.slots.items old.slots.spill) a b q) →
         is_full (partial_of new.slots.slots.items new.slots.spill) tok.wave tok.instr (ports image tok.instr) ≡ false →
         new.way ≡ old.way → new.asked ≡ old.asked → new.early ≡ old.early → new.chain ≡ old.chain → new.fault ≡ old.fault → new.memory ≡ old.memory → new.fired ≡ old.fired →
-        (t : State) × Step image s (Match tok.wave tok.instr tok.port) t × Holds image world beside new t
+        (t : State) × Step image s (Match tok.wave tok.instr tok.port) t × FlowIs image world beside new t
     arrived_waits f_is less way asked early chain stopped memory fired =
         let m = waits image world facts s (partial_of old.slots.slots.items old.slots.spill) (beside ++ way_of old.way) (map (request_of image) old.asked.items) old.early.items tok.wave tok.instr tok.port tok.value h.stands
         (partial_of new.slots.slots.items new.slots.spill) f_is less in
@@ -153,7 +151,7 @@ module _ (image : Image) (world : World) (formed : Formed image) (sound : Sound 
         (is_memory_op op ≡ true → new.asked.items ≡ old.asked.items ++ record { wave = tok.wave; instr = tok.instr; operands = o } ∷ []) → (is_memory_op op ≡ true → new.way ≡ old.way) →
         (is_memory_op op ≡ false → new.asked ≡ old.asked) →
         (is_memory_op op ≡ false → SentTo old.way new.way (tokens_to (cond (is_advance_op op) (suc tok.wave) tok.wave) (result_of_op op (all_of o)) (destinations image tok.instr (selector_of op (all_of o))))) →
-        (t : State) × Step image s (Match tok.wave tok.instr tok.port) t × Holds image world beside new t
+        (t : State) × Step image s (Match tok.wave tok.instr tok.port) t × FlowIs image world beside new t
     arrived_fires f f_is full g_is op op_is o o_are early chain stopped memory fired asked not_sent not_asked sent = elim (cases_Bool (is_memory image tok.instr)) [
       | inl mem ↦ (let me : is_memory_op op ≡ true = ap is_memory_op op_is ∙ sym (memory_is_op image tok.instr) ∙ mem in
           let m = calls image world facts s (partial_of old.slots.slots.items old.slots.spill) (beside ++ way_of old.way) (map (request_of image) old.asked.items) old.early.items tok.wave tok.instr tok.port tok.value h.stands
@@ -211,7 +209,7 @@ module _ (image : Image) (world : World) (formed : Formed image) (sound : Sound 
             ∙ ap (λ (x : Op). tokens_to (cond (is_advance_op x) (suc tok.wave) tok.wave) (result_of image tok.instr (listed (ports image tok.instr) o)) (destinations image tok.instr (selector_of (instr_at image tok.instr).op (listed (ports image tok.instr) o)))) e
             ∙ sends_are image tok.wave tok.instr (listed (ports image tok.instr) o) (result_of image tok.instr (listed (ports image tok.instr) o))
 
-  module _ (tok : Token) (old : Flow) (s : State) (h : Holds image world (token_of tok ∷ beside) old s) where
+  module _ (tok : Token) (old : Flow) (s : State) (h : FlowIs image world (token_of tok ∷ beside) old s) where
     partial : Ports
     partial = partial_of old.slots.slots.items old.slots.spill
 
@@ -283,7 +281,7 @@ module _ (image : Image) (world : World) (formed : Formed image) (sound : Sound 
         (is_memory_op op ≡ true → new.asked.items ≡ old.asked.items ++ record { wave = tok.wave; instr = tok.instr; operands = record { first = tok.value; second = 0; third = 0 } } ∷ []) → (is_memory_op op ≡ true → new.way ≡ old.way) →
         (is_memory_op op ≡ false → new.asked ≡ old.asked) →
         (is_memory_op op ≡ false → SentTo old.way new.way (tokens_to (cond (is_advance_op op) (suc tok.wave) tok.wave) (result_of_op op (tok.value ∷ 0 ∷ 0 ∷ [])) (destinations image tok.instr (selector_of op (tok.value ∷ 0 ∷ 0 ∷ []))))) →
-        (t : State) × Step image s (Match tok.wave tok.instr tok.port) t × Holds image world beside new t
+        (t : State) × Step image s (Match tok.wave tok.instr tok.port) t × FlowIs image world beside new t
     single_fires new one slots op op_is early chain stopped memory fired asked not_sent not_asked sent =
         let f : Ports = with_at tok.wave tok.instr tok.port (Some tok.value) (partial_of old.slots.slots.items old.slots.spill) in
         let e : with_at tok.wave tok.instr tok.port (Some tok.value) (partial_of old.slots.slots.items old.slots.spill) tok.wave tok.instr 0 ≡ Some tok.value = ap (λ (q : ℕ). with_at tok.wave tok.instr tok.port (Some tok.value) (partial_of old.slots.slots.items old.slots.spill) tok.wave tok.instr q) (sym (single_port one)) ∙ here in

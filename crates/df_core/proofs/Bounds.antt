@@ -12,7 +12,7 @@ use Rattle.df_core.specs.declared.flow.Flow.{Flow}
 use Rattle.df_core.specs.Stands.{HasRequest}
 use Rattle.df_core.specs.Partial.{listed}
 use Rattle.df_core.specs.Ways.{token_of}
-use Rattle.df_core.specs.Flows.{request_of, GoingBeside, no_asked, asked_at, MayAt}
+use Rattle.df_core.specs.Flows.{request_of, GoingBeside, no_asked, asked_at, AskedMay}
 
 pub arrival_wave : (image : Image) (tok : Token) (flow : Flow) → GoingBeside image (token_of tok ∷ []) flow → tok.wave ≤ flow.fired
 arrival_wave image tok flow b =
@@ -29,7 +29,7 @@ has_asked image [] k l = absurd (omega arith)
 has_asked image (a ∷ held) zero l = inl (refl, refl, refl)
 has_asked image (a ∷ held) (suc k) l = inr (has_asked image held k (omega arith))
 
-pub issue_wave : (image : Image) (flow : Flow) (k : ℕ) → GoingBeside image [] flow → k < length flow.asked.items → MayAt image flow k → flow.chain.wave < flow.fired
+pub issue_wave : (image : Image) (flow : Flow) (k : ℕ) → GoingBeside image [] flow → k < length flow.asked.items → AskedMay image flow k → flow.chain.wave < flow.fired
 issue_wave image flow k b l may =
     let g = b.going in
     let st = g.holds.stands in

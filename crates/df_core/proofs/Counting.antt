@@ -10,6 +10,7 @@ use Rattle.ws_isa.specs.Operations.{operations}
 use Rattle.df_core.proofs.Facts.{WalkFacts}
 use Rattle.df_core.proofs.Pauses.{cases_fires}
 use Rattle.ws_isa.proofs.Images.{nth_below}
+use Rattle.ws_isa.proofs.Ending.{walk_silent}
 
 abbrev pub keys_of : List Inst → List Key
 keys_of [] = []
@@ -75,10 +76,6 @@ once_push (x ∷ xs) y o n = (
 )
 
 module _ (image : Image) (world : World) (facts : WalkFacts image world) where
-  walk_none : (t : ℕ) → fires image world t ≡ None → walk image world (suc t) ≡ walk image world t
-  unfolding walk
-  walk_none t e = rw e refl
-
   walk_some : (t : ℕ) (x : Inst) → fires image world t ≡ Some x → walk image world (suc t) ≡ walk image world t ++ x ∷ []
   unfolding walk
   walk_some t x e = rw e refl
@@ -92,7 +89,7 @@ module _ (image : Image) (world : World) (facts : WalkFacts image world) where
   walk_has (suc t) k x l fx = elim (cases_fires image world t) [
     | inl e ↦ elim (cases_eq k t) [
       | inl g ↦ absurd (let h : None ≡ Some x = sym e ∙ ap (fires image world) (sym g) ∙ fx in cc)
-      | inr n ↦ rw (walk_none t e) (walk_has t k x (omega arith) fx)
+      | inr n ↦ rw (walk_silent image world t e) (walk_has t k x (omega arith) fx)
     ]
     | inr y ↦ rw (walk_some t y.0 y.1) (elim (cases_eq k t) [
       | inl g ↦ (let h : Some x ≡ Some y.0 = sym fx ∙ ap (fires image world) g ∙ y.1 in
@@ -116,7 +113,7 @@ module _ (image : Image) (world : World) (facts : WalkFacts image world) where
   pub walk_from : (t w i : ℕ) → HasFired (keys_of (walk image world t)) w i → InWalk t w i
   walk_from zero w i h = absurd (rw walk_start at h)
   walk_from (suc t) w i h = elim (cases_fires image world t) [
-    | inl e ↦ in_later t w i (walk_from t w i (rw (walk_none t e) at h))
+    | inl e ↦ in_later t w i (walk_from t w i (rw (walk_silent image world t e) at h))
     | inr y ↦ elim (has_append (walk image world t) (y.0 ∷ []) w i (rw (walk_some t y.0 y.1) at h)) [
       | inl g ↦ in_later t w i (walk_from t w i g)
       | inr g ↦ elim g [ inl e ↦ record { time = t; inst = y.0; earlier = omega arith; fires = y.1; wave = e.0; instr = e.1 } | inr e ↦ absurd e ]
@@ -126,7 +123,7 @@ module _ (image : Image) (world : World) (facts : WalkFacts image world) where
   pub walk_once : (t : ℕ) → Once (keys_of (walk image world t))
   walk_once zero = rw walk_start tt
   walk_once (suc t) = elim (cases_fires image world t) [
-    | inl e ↦ rw (walk_none t e) (walk_once t)
+    | inl e ↦ rw (walk_silent image world t e) (walk_once t)
     | inr y ↦ rw (walk_some t y.0 y.1) (once_push (walk image world t) y.0 (walk_once t) (λ h.
         let r : InWalk t y.0.wave y.0.instr = walk_from t y.0.wave y.0.instr h in
         let e : r.time ≡ t = facts.once r.time t r.inst y.0 r.fires y.1 r.wave r.instr in

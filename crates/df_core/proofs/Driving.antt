@@ -19,12 +19,12 @@ use Rattle.df_core.specs.declared.plain.Asked.{Asked}
 use Rattle.df_core.specs.declared.slots.Slot.{Slot}
 use Rattle.df_core.specs.declared.way.Way.{Way}
 use Rattle.df_core.specs.declared.flow.Flow.{Flow}
-use Rattle.df_core.specs.Partial.{partial_of, slotted, first_some, listed}
+use Rattle.df_core.specs.Partial.{partial_of, slotted, listed}
 use Rattle.df_core.specs.Ways.{token_of, way_of, TakenFrom}
 use Rattle.df_core.specs.Chains.{chain_of, next_flag, may_flag}
-use Rattle.df_core.specs.Flows.{request_of, Holds, Going, GoingBeside, EventLeads, NoneMay, SameParts, Reaches, stays, steps, RunsOn, no_asked}
+use Rattle.df_core.specs.Flows.{request_of, Going, GoingBeside, EventLeads, SameParts, Reaches, stays, steps, RunsOn, no_asked, NoneAskedMay, FlowIs}
 use Rattle.df_core.specs.declared.memory.Memory.{Memory}
-use Rattle.df_core.specs.Outdoors.{OutIs, SameOut}
+use Rattle.df_core.specs.Outdoors.{SameOut, MemoryIs}
 use Rattle.df_core.specs.Finishes.{IsSpent, FinishIs, Ended, is_budget, stopped_at}
 use Rattle.df_core.specs.declared.drive.Finish.{Finish}
 use Rattle.df_core.specs.declared.drive.Finish.TheVariants as finish
@@ -32,6 +32,7 @@ use Rattle.df_core.proofs.Nexts.{is_next_flag}
 use Rattle.df_core.proofs.Issuing.{same_past}
 use Rattle.df_core.proofs.Arriving.{ports_is_op}
 use Rattle.ws_words.proofs.Bools.{or_left, or_right}
+use Rattle.ws_words.specs.Items.{first_some}
 
 reaches_on : (image : Image) (s t u : State) → Reaches image s t → Reaches image t u → Reaches image s u
 reaches_on image s t u stays r = r
@@ -49,7 +50,7 @@ follows_none image a world s formed sound h = (s, stays, h)
 pub going_on : (image : Image) (a b : Flow) → Going image [] a → RunsOn image a b → Going image [] b
 going_on image a b g f = let r = f g.world g.state g.formed g.sound g.holds in record { world = g.world; state = r.0; formed = g.formed; sound = g.sound; holds = r.2 }
 
-out_same : (o : Outside) (old new : Memory) → SameOut old new → OutIs o old → OutIs o new
+out_same : (o : Outside) (old new : Memory) → SameOut old new → MemoryIs o old → MemoryIs o new
 out_same o old new e h = record {
   same_cells = h.same_cells ∙ sym e.cells;
   same_input = h.same_input ∙ sym e.input;
@@ -59,7 +60,7 @@ out_same o old new e h = record {
 }
 
 -- the same parts stand for the same
-pub same_holds : (image : Image) (world : World) (taken : List plain.Token) (a b : Flow) (s : State) → SameParts a b → Holds image world taken a s → Holds image world taken b s
+pub same_holds : (image : Image) (world : World) (taken : List plain.Token) (a b : Flow) (s : State) → SameParts a b → FlowIs image world taken a s → FlowIs image world taken b s
 same_holds image world taken a b s e h = record {
   stands = rw (e.now, e.later, e.asked, e.early) (stands_alike image world (partial_of a.slots.slots.items a.slots.spill) (partial_of b.slots.slots.items b.slots.spill) (taken ++ way_of a.way) (map (request_of image) a.asked.items) a.early.items s
       (λ w i p. ap (λ (slots : List Slot). partial_of slots b.slots.spill w i p) e.slots ∙ ap (first_some (slotted a.slots.slots.items w i p)) (e.spill w i p)) h.stands);
@@ -84,7 +85,7 @@ taken_way image world old new tok f asked early s (inr e) st =
     stands_reordered image world f ((map token_of new.now.items ++ token_of tok ∷ []) ++ map token_of new.later.items) (token_of tok ∷ way_of new) asked early s (to_front (map token_of new.now.items) (token_of tok) (map token_of new.later.items)) (subst (λ ws. Stands image world f ws asked early s) a st)
 
 pub taken_holds : (image : Image) (world : World) (old new : Flow) (tok : Token) (s : State) → TakenFrom old.way new.way tok → new.slots ≡ old.slots → new.asked ≡ old.asked → new.early ≡ old.early → new.chain ≡ old.chain → new.fault ≡ old.fault → new.memory ≡ old.memory → new.fired ≡ old.fired →
-    Holds image world [] old s → Holds image world (token_of tok ∷ []) new s
+    FlowIs image world [] old s → FlowIs image world (token_of tok ∷ []) new s
 taken_holds image world old new tok s taken slots asked early chain stopped memory fired h = record {
   stands = rw (slots, asked, early) (taken_way image world old.way new.way tok (partial_of old.slots.slots.items old.slots.spill) (map (request_of image) old.asked.items) old.early.items s taken h.stands);
   chain_is = h.chain_is ∙ ap chain_of (sym chain);
@@ -118,7 +119,7 @@ flagged image issued c stopped a m = and_from _ _ (eq-eqb a.wave c.wave m.curren
   | inr l ↦ or_right (next_flag c (note_of image a.instr)) _ (and_from _ _ (and_from _ _ (sym (load_is_op image a.instr) ∙ l.0) (false_not _ (sym (past_is image a) ∙ l.1))) (le-leb _ _ l.2))
 ])
 
-pub none_issuable : (image : Image) (world : World) (taken : List plain.Token) (flow : Flow) (s : State) → Holds image world taken flow s → NoneMay image flow → (w i : ℕ) (xs : List ℕ) → HasRequest (map (request_of image) flow.asked.items) w i xs → Issuable image s.issued s.chain s.stopped w i xs → ⊥
+pub none_issuable : (image : Image) (world : World) (taken : List plain.Token) (flow : Flow) (s : State) → FlowIs image world taken flow s → NoneAskedMay image flow → (w i : ℕ) (xs : List ℕ) → HasRequest (map (request_of image) flow.asked.items) w i xs → Issuable image s.issued s.chain s.stopped w i xs → ⊥
 none_issuable image world taken flow s h none w i xs has may =
     let r = has_at image flow.asked.items w i xs has in
     let a : Asked = slice_index_or flow.asked.items r.0 no_asked in
@@ -126,12 +127,12 @@ none_issuable image world taken flow s h none w i xs has may =
     let m2 : Issuable image s.issued (chain_of flow.chain) s.stopped (slice_index_or flow.asked.items r.0 no_asked).wave (slice_index_or flow.asked.items r.0 no_asked).instr (listed (ports image (slice_index_or flow.asked.items r.0 no_asked).instr) (slice_index_or flow.asked.items r.0 no_asked).operands) = rw (r.2, r.4, r.3) m1 in
     both_ways _ (none r.0 r.1) (flagged image s.issued (chain_of flow.chain) s.stopped (slice_index_or flow.asked.items r.0 no_asked) m2)
 
-pub rests : (image : Image) (world : World) (flow : Flow) (s : State) → Formed image → Sound image → Holds image world [] flow s → way_of flow.way ≡ [] → NoneMay image flow → Rest image s
+pub rests : (image : Image) (world : World) (flow : Flow) (s : State) → Formed image → Sound image → FlowIs image world [] flow s → way_of flow.way ≡ [] → NoneAskedMay image flow → Rest image s
 rests image world flow s formed sound h empty none = at_rest image world (facts_of image world (ports_there image formed) sound) s (partial_of flow.slots.slots.items flow.slots.spill) (map (request_of image) flow.asked.items) flow.early.items
     (subst (λ (ws : List plain.Token). Stands image world (partial_of flow.slots.slots.items flow.slots.spill) ws (map (request_of image) flow.asked.items) flow.early.items s) empty h.stands)
     (none_issuable image world [] flow s h none)
 
-pub none_enabled : (image : Image) (world : World) (taken : List plain.Token) (flow : Flow) (s : State) → Holds image world taken flow s → NoneMay image flow → (w i : ℕ) → Enabled image s (Issue w i) → ⊥
+pub none_enabled : (image : Image) (world : World) (taken : List plain.Token) (flow : Flow) (s : State) → FlowIs image world taken flow s → NoneAskedMay image flow → (w i : ℕ) → Enabled image s (Issue w i) → ⊥
 none_enabled image world taken flow s h none w i e = none_issuable image world taken flow s h none w i e.0 (h.stands.asked_to w i e.0 e.1.waits) e.1.issuable
 
 -- an event leads on
@@ -185,7 +186,7 @@ some_way w n = some w.now.items w.later.items n
     some [] (y ∷ ys) n = first (token_of y) (map token_of ys)
     some [] [] n = absurd (n (omega arith))
 
-pub spent : (image : Image) (world : World) (flow : Flow) (s : State) (budget : ℕ) → Holds image world [] flow s → is_some flow.fault ≡ false → flow.fired ≡ budget → (length flow.way.now.items + length flow.way.later.items ≡ 0 → ⊥) → NoneMay image flow → IsSpent image budget s
+pub spent : (image : Image) (world : World) (flow : Flow) (s : State) (budget : ℕ) → FlowIs image world [] flow s → is_some flow.fault ≡ false → flow.fired ≡ budget → (length flow.way.now.items + length flow.way.later.items ≡ 0 → ⊥) → NoneAskedMay image flow → IsSpent image budget s
 spent image world flow s budget h going fired some none =
     let t : SomeToken (way_of flow.way) = some_way flow.way some in
     record {
@@ -200,7 +201,7 @@ spent image world flow s budget h going fired some none =
     }
 
 -- where no more instances may fire, and no request may be issued
-pub stands_still : (image : Image) (world : World) (flow : Flow) (s : State) (budget : ℕ) → Formed image → Sound image → Holds image world [] flow s → is_some flow.fault ≡ false → NoneMay image flow → flow.fired ≤ budget
+pub stands_still : (image : Image) (world : World) (flow : Flow) (s : State) (budget : ℕ) → Formed image → Sound image → FlowIs image world [] flow s → is_some flow.fault ≡ false → NoneAskedMay image flow → flow.fired ≤ budget
     → (vec_len flow.way.now + vec_len flow.way.later ≡ 0) ⊎ (budget ≤ flow.fired) → FinishIs image world budget (stopped_at flow) s
 stands_still image world flow s budget formed sound h going none within still = by_way (vec_len flow.way.now + vec_len flow.way.later == 0) refl
   where
@@ -216,7 +217,7 @@ stands_still image world flow s budget formed sound h going none within still = 
         ] in
         spent image world flow s budget h going fired some none
 
-pub none_may : (image : Image) (flow : Flow) → is_some flow.fault ≡ false → (is_some flow.fault ≡ true) ⊎ NoneMay image flow → NoneMay image flow
+pub none_may : (image : Image) (flow : Flow) → is_some flow.fault ≡ false → (is_some flow.fault ≡ true) ⊎ NoneAskedMay image flow → NoneAskedMay image flow
 none_may image flow going (inl e) = absurd (both_ways (is_some flow.fault) going e)
 none_may image flow going (inr n) = n
 

@@ -15,8 +15,9 @@ use Rattle.df_core.proofs.Effects.{effect_is}
 use Rattle.df_core.proofs.Pauses.{no_op_no_write, mem_same}
 use Rattle.df_core.proofs.Progress.{rest_done}
 use Rattle.df_core.proofs.OpsPassed.{none_left}
-use Rattle.df_core.proofs.OpsCount.{count_op, count_up, count_same}
+use Rattle.df_core.proofs.OpsCount.{count_same}
 use Rattle.df_core.proofs.MatchKept.{same_inst}
+use Rattle.ws_isa.proofs.OneEffect.{fired_more, ops_up}
 
 module _ (image : Image) (world : World) (facts : WalkFacts image world) where
   -- two first faults are one
@@ -54,19 +55,19 @@ module _ (image : Image) (world : World) (facts : WalkFacts image world) where
     first_below : (t u : ℕ) (x : Inst) → fires image world u ≡ Some x → is_memory image x.instr ≡ true → length (ops image world u) < length (ops image world t) → u < t
     first_below t u x fx mx l = elim (cases_lt u t) [
       | inl k ↦ k
-      | inr k ↦ (let c : length (ops image world t) ≤ length (ops image world u) = count_up image world t u k in absurd (omega arith))
+      | inr k ↦ (let c : length (ops image world t) ≤ length (ops image world u) = ops_up image world t u k in absurd (omega arith))
     ]
 
     few_left : (t : ℕ) → NoOp image world fit.legal.cut t → length (ops image world t) ≤ length (ops image world fit.legal.cut)
     few_left t n = elim (cases_lt t fit.legal.cut) [
-      | inl l ↦ count_up image world t fit.legal.cut (omega arith)
+      | inl l ↦ ops_up image world t fit.legal.cut (omega arith)
       | inr l ↦ (let e : length (ops image world t) ≡ length (ops image world fit.legal.cut) = count_same image world fit.legal.cut t l n in omega arith)
     ]
 
     below_first : (t u : ℕ) (x : Inst) → u < t → fires image world u ≡ Some x → is_memory image x.instr ≡ true → length (ops image world u) < length (ops image world t)
     below_first t u x l fx mx =
-        let a : length (ops image world (suc u)) ≡ suc (length (ops image world u)) = count_op image world u x fx mx in
-        let b : length (ops image world (suc u)) ≤ length (ops image world t) = count_up image world (suc u) t l in
+        let a : length (ops image world (suc u)) ≡ suc (length (ops image world u)) = fired_more image world u x fx mx in
+        let b : length (ops image world (suc u)) ≤ length (ops image world t) = ops_up image world (suc u) t l in
         omega arith
 
     -- no operation that is passed is past the end
@@ -126,9 +127,9 @@ module _ (image : Image) (world : World) (facts : WalkFacts image world) where
     where
       quiet : (t u : ℕ) → t ≤ u → length (ops image world t) ≡ length (ops image world u) → NoOp image world t u
       quiet t u l e k x c d fx mx =
-          let f : length (ops image world (suc k)) ≡ suc (length (ops image world k)) = count_op image world k x fx mx in
-          let g : length (ops image world t) ≤ length (ops image world k) = count_up image world t k c in
-          let h : length (ops image world (suc k)) ≤ length (ops image world u) = count_up image world (suc k) u d in
+          let f : length (ops image world (suc k)) ≡ suc (length (ops image world k)) = fired_more image world k x fx mx in
+          let g : length (ops image world t) ≤ length (ops image world k) = ops_up image world t k c in
+          let h : length (ops image world (suc k)) ≤ length (ops image world u) = ops_up image world (suc k) u d in
           omega arith
 
       between : effect_at image world a.steps ≡ effect_at image world b.steps

@@ -1,11 +1,12 @@
 -- What the core asks of a walk.
 use Rattle.std.proofs.Common.{ℕ, suc, ◌≡◌, ◌<◌, ◌≤◌, ◌⊎◌, true, false, length, Some, None}
 use Rattle.ws_words.specs.Outside.{World}
-use Rattle.ws_isa.specs.Image.{Image, nth, ports, is_memory, is_load, note_of, result_of, answer, sends}
+use Rattle.ws_isa.specs.Image.{Image, ports, is_memory, is_load, note_of, result_of, answer, sends}
 use Rattle.ws_isa.specs.Walk.{Inst, fires, start_tokens}
 use Rattle.df_core.specs.Effect.{effect_at, effect_after}
 use Rattle.df_core.specs.Core.{Apart, IsSent, IsNext, position_after}
 use Rattle.df_core.specs.Fit.{RightToken, chain_at, NoWrite, NoOp}
+use Rattle.ws_words.specs.Items.{nth}
 
 -- the token came from an instance that fires before step t
 pub record Maker (image : Image) (world : World) (t w i p v : ℕ) : Type 0 where

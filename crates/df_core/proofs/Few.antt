@@ -5,14 +5,10 @@ use Rattle.std.proofs.lemmas.Bool.{cond_both}
 use Rattle.ws_isa.specs.declared.instr.Op.{Op}
 use Rattle.ws_isa.specs.declared.instr.Op.TheVariants.{Steer, Send}
 use Rattle.ws_isa.specs.declared.instr.Dest.{Dest}
-use Rattle.ws_isa.specs.Image.{Image, Instr, Pad, Block, nth, or_else, flat, pad_of, instr_at, block_at, block_of, no_instr, no_block, now_of, now_dests, edge_of, edge_dests, target}
+use Rattle.ws_isa.specs.Image.{Image, Instr, Pad, Block, flat, pad_of, instr_at, block_at, block_of, no_instr, no_block, now_of, now_dests, edge_of, edge_dests, target}
 use Rattle.ws_isa.specs.Formed.{Formed, InstrWithin, BlockWithin, most_dests, most_pads}
 use Rattle.df_core.specs.Places.{destinations}
-
-all_nth : {A : Type 0} (P : A → Type 0) (xs : List A) (k : ℕ) (d : A) → P d → AllByRecursion P xs → P (or_else (nth xs k) d)
-all_nth P [] k d p h = p
-all_nth P (x ∷ xs) zero d p h = h.0
-all_nth P (x ∷ xs) (suc k) d p h = all_nth P xs k d p h.1
+use Rattle.ws_isa.proofs.There.{all_nth}
 
 pads_few : (pads : List Pad) (k : ℕ) → AllByRecursion (λ (p : Pad). (p.number < most_pads) × (length p.dests ≤ most_dests)) pads → length (pad_of pads k) ≤ 8
 unfolding most_dests

@@ -1,21 +1,17 @@
 -- How many instances the first steps of a walk have, and which steps fire those that have fired.
-use Rattle.std.proofs.Common.{ℕ, zero, suc, ◌+◌, ◌≡◌, ◌≤◌, List, [], ◌∷◌, ◌++◌, length, Some, None, refl, sym, ap, ◌∙◌, subst, inl, inr, arith, length-append}
-use Rattle.std.proofs.lemmas.Bool.{cases_eq}
+use Rattle.std.proofs.Common.{ℕ, suc, ◌+◌, ◌≡◌, ◌≤◌, List, [], ◌∷◌, ◌++◌, length, Some, refl, sym, ap, ◌∙◌, subst, inl, inr, arith, length-append}
 use Rattle.ws_words.specs.Outside.{World}
-use Rattle.ws_isa.specs.Image.{Image, In}
+use Rattle.ws_isa.specs.Image.{Image}
 use Rattle.ws_isa.specs.Walk.{Inst, fires, walk, CostAtMost}
 use Rattle.df_core.specs.Core.{Key, HasFired, Once}
 use Rattle.df_core.specs.Fit.{FiresAt, NoOp}
 use Rattle.df_core.proofs.Facts.{WalkFacts}
 use Rattle.df_core.proofs.Passing.{same_fired}
-use Rattle.df_core.proofs.Pauses.{cases_fires}
 use Rattle.df_core.specs.Answer.{FiringSteps}
+use Rattle.ws_words.specs.Items.{In}
+use Rattle.ws_isa.proofs.Ending.{goes_up}
 
 module _ (image : Image) (world : World) where
-  walk_none : (t : ℕ) → fires image world t ≡ None → walk image world (suc t) ≡ walk image world t
-  unfolding walk
-  walk_none t e = rw e refl
-
   walk_some : (t : ℕ) (x : Inst) → fires image world t ≡ Some x → walk image world (suc t) ≡ walk image world t ++ x ∷ []
   unfolding walk
   walk_some t x e = rw e refl
@@ -23,26 +19,12 @@ module _ (image : Image) (world : World) where
   one_more : (t : ℕ) (x : Inst) → fires image world t ≡ Some x → length (walk image world (suc t)) ≡ suc (length (walk image world t))
   one_more t x e = ap length (walk_some t x e) ∙ (let l : length (walk image world t ++ x ∷ []) ≡ length (walk image world t) + 1 = length-append (walk image world t) (x ∷ []) in omega arith)
 
-  step_up : (t : ℕ) → length (walk image world t) ≤ length (walk image world (suc t))
-  step_up t = elim (cases_fires image world t) [
-    | inl e ↦ (let l : length (walk image world (suc t)) ≡ length (walk image world t) = ap length (walk_none t e) in omega arith)
-    | inr x ↦ (let l : length (walk image world (suc t)) ≡ suc (length (walk image world t)) = one_more t x.0 x.1 in omega arith)
-  ]
-
-  pub walk_up : (t u : ℕ) → t ≤ u → length (walk image world t) ≤ length (walk image world u)
-  walk_up t zero l = let e : t ≡ zero = omega arith in rw e (omega arith)
-  walk_up t (suc u) l = elim (cases_eq t (suc u)) [
-    | inl e ↦ rw e (omega arith)
-    | inr n ↦ (let a : length (walk image world t) ≤ length (walk image world u) = walk_up t u (omega arith) in
-        let b : length (walk image world u) ≤ length (walk image world (suc u)) = step_up u in omega arith)
-  ]
-
   -- where the whole walk has fired nothing more does
   pub none_fires : (n t u : ℕ) → CostAtMost image world n → n ≤ length (walk image world t) → NoOp image world t u
   none_fires n t u cost l k x a b fx mx =
       let c : length (walk image world (suc k)) ≤ n = cost (suc k) in
       let d : length (walk image world (suc k)) ≡ suc (length (walk image world k)) = one_more k x fx in
-      let e : length (walk image world t) ≤ length (walk image world k) = walk_up t k a in
+      let e : length (walk image world t) ≤ length (walk image world k) = goes_up image world t k a in
       omega arith
 
   -- the steps at which instances fire

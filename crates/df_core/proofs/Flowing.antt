@@ -2,7 +2,7 @@
 use Rattle.std.proofs.Common.{ℕ, zero, suc, ◌+◌, ◌-◌, ◌≡◌, ◌<◌, ◌≤◌, true, false, cond, length, Option, Some, sym, ap, ◌∙◌, subst, inl, inr, arith}
 use Rattle.std.proofs.lemmas.Bool.{cases_Bool, cases_eq, both_ways, cond-true, cond-false}
 use Rattle.ws_words.specs.Outside.{World}
-use Rattle.ws_isa.specs.Image.{Image, nth, or_else, ports, is_advance, first_number, target, is_first}
+use Rattle.ws_isa.specs.Image.{Image, ports, is_advance, first_number, target, is_first}
 use Rattle.ws_isa.specs.Walk.{Pos, pos, fires, choice, wave_of, operands_at, inst_at}
 use Rattle.ws_isa.specs.Sound.{PortsThere, ShapeRules, SlotRules}
 use Rattle.df_core.specs.Fit.{RightToken}
@@ -11,6 +11,7 @@ use Rattle.ws_isa.proofs.Flow.{Stays, number_ahead, number_else, number_same, sl
 use Rattle.ws_isa.proofs.Steps.{first_le, StepCase, stands, turns, ends, leaves, step_case, Place, place}
 use Rattle.ws_isa.proofs.Along.{path_end}
 use Rattle.ws_isa.proofs.Slots.{gather_nth}
+use Rattle.ws_words.specs.Items.{nth, or_else}
 
 -- the token's instance fires from step t on
 abbrev pub RightFrom : Image → World → ℕ → ℕ → ℕ → ℕ → ℕ → Type 0

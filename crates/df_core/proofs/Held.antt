@@ -5,14 +5,14 @@ use Rattle.ws_words.specs.Plain.{took_by_ports}
 use Rattle.ws_isa.specs.declared.instr.Op.{Op}
 use Rattle.ws_isa.specs.declared.instr.Op.TheVariants.{Load, Store, Input, Output, Give}
 use Rattle.df_core.specs.declared.memory.Memory.{Memory}
-use Rattle.df_core.specs.Outdoors.{OutIs, CarriesOut, rows_of}
+use Rattle.df_core.specs.Outdoors.{CarriesOut, rows_of, MemoryIs}
 use Rattle.ws_words.proofs.Acts.{printed_append, took_more, took_none, took_same, printed_same}
 
 -- an operation of the code is this one
 pub from_op : (x y : Op) (xs : List ℕ) (o : Outside) (word : ℕ) (m : Memory) → y ≡ x → CarriesOut x xs o word m → CarriesOut y xs o word m
 from_op x y xs o word m e h = subst (λ (z : Op). CarriesOut z xs o word m) (sym e) h
 
-module _ (o : Outside) (m : Memory) (h : OutIs o m) where
+module _ (o : Outside) (m : Memory) (h : MemoryIs o m) where
   pub load_is : (a i v w word : ℕ) → word ≡ slice_index (row m.cells (a - 1)) i → CarriesOut (Load a) (i ∷ v ∷ w ∷ []) o word m
   load_is a i v w word e = record {
     answer = e ∙ ap (λ (cs : List (List ℕ)). slice_index (row cs (a - 1)) i) (sym h.same_cells);
@@ -73,7 +73,7 @@ module _ (o : Outside) (m : Memory) (h : OutIs o m) where
     };
   }
 
-  pub taken_is : (p v : ℕ) (now : Vec (Vec ℕ Global) Global) → 0 < p → rows_of now.items ≡ with_row (rows_of m.took.items) (p - 1) (row (rows_of m.took.items) (p - 1) ++ v ∷ []) → OutIs (with_act o (takes p v)) (record m { took = now })
+  pub taken_is : (p v : ℕ) (now : Vec (Vec ℕ Global) Global) → 0 < p → rows_of now.items ≡ with_row (rows_of m.took.items) (p - 1) (row (rows_of m.took.items) (p - 1) ++ v ∷ []) → MemoryIs (with_act o (takes p v)) (record m { took = now })
   taken_is p v now lt e = record {
     same_cells = h.same_cells;
     same_input = h.same_input;
@@ -82,7 +82,7 @@ module _ (o : Outside) (m : Memory) (h : OutIs o m) where
     same_took = took_more p v o.acts lt ∙ ap (λ (rs : List (List ℕ)). with_row rs (p - 1) (row rs (p - 1) ++ v ∷ [])) h.same_took ∙ sym e;
   }
 
-  pub taken_by_none : (p v : ℕ) → p ≡ 0 → OutIs (with_act o (takes p v)) m
+  pub taken_by_none : (p v : ℕ) → p ≡ 0 → MemoryIs (with_act o (takes p v)) m
   taken_by_none p v e = record {
     same_cells = h.same_cells;
     same_input = h.same_input;

@@ -8,7 +8,7 @@ use Rattle.ws_words.specs.Plain.{took_words, took_by_ports}
 use Rattle.ws_isa.specs.declared.instr.Op.{Op}
 use Rattle.ws_isa.specs.declared.instr.Op.TheVariants.{Alu, Advance, Steer, Phi, Send, Load, Store}
 use Rattle.ws_isa.specs.Image as plain
-use Rattle.ws_isa.specs.Image.{Image, Array, In, instr_at, array_at, array_of_op, note_of, ports, ports_of, is_memory, is_memory_op, is_load, is_load_op, is_past, is_past_op, is_advance_op, answer, answer_op, after, after_op, selector_of, tokens_to, sends}
+use Rattle.ws_isa.specs.Image.{Image, Array, instr_at, array_at, array_of_op, note_of, ports, ports_of, is_memory, is_memory_op, is_load, is_load_op, is_past, is_past_op, is_advance_op, answer, answer_op, after, after_op, selector_of, tokens_to, sends}
 use Rattle.ws_isa.specs.Formed.{Formed}
 use Rattle.ws_isa.specs.Walk.{Ports}
 use Rattle.ws_isa.specs.Operations.{without_loads, effect_of}
@@ -17,7 +17,6 @@ use Rattle.df_core.specs.Effect.{effect_after}
 use Rattle.df_core.specs.Core as law
 use Rattle.df_core.specs.Core.{State, Issue, Step, IsNext, Issuable, position_after}
 use Rattle.df_core.specs.Stands.{Request, left_after, Settles, Stands}
-use Rattle.df_core.specs.Moves.{Moves}
 use Rattle.df_core.specs.Ends.{Meets}
 use Rattle.df_core.proofs.IssueKept.{stop_fault}
 use Rattle.df_core.proofs.Facts.{WalkFacts}
@@ -33,12 +32,14 @@ use Rattle.df_core.specs.Partial.{partial_of, listed}
 use Rattle.df_core.specs.Places.{destinations}
 use Rattle.df_core.specs.Ways.{way_of, SentTo}
 use Rattle.df_core.specs.Chains.{chain_of, next_flag, may_flag, PassedOn}
-use Rattle.df_core.specs.Outdoors.{OutIs, CarriesOut}
-use Rattle.df_core.specs.Flows.{request_of, all_of, Holds}
+use Rattle.df_core.specs.Outdoors.{CarriesOut, MemoryIs}
+use Rattle.df_core.specs.Flows.{request_of, all_of, FlowIs}
 use Rattle.df_core.proofs.Nexts.{next_is}
 use Rattle.df_core.proofs.Arriving.{same_selector, sends_are, memory_is_op, ports_is_op, sent_beside}
 use Rattle.ws_words.proofs.Lists.{map_append}
 use Rattle.ws_words.proofs.Bools.{or_comes as either}
+use Rattle.ws_words.specs.Items.{In}
+use Rattle.df_core.specs.Moves.{StateMoves}
 
 -- the operands beyond an operation's ports don't matter
 pub same_answer : (op : Op) (o : Operands) (m : Outside) → answer_op op (listed (ports_of op) o) m ≡ answer_op op (all_of o) m
@@ -96,7 +97,7 @@ took_alike q (takes p v ∷ acts) = ap (λ (ws : List ℕ). cond (p == q) (v ∷
 pub ports_alike : (acts : List Act) → took_by_ports (without_loads acts) ≡ took_by_ports acts
 ports_alike acts = rw (took_alike 1 acts, took_alike 2 acts, took_alike 3 acts, took_alike 4 acts, took_alike 5 acts, took_alike 6 acts, took_alike 7 acts) refl
 
-out_effect : (o : Outside) (m : Memory) → OutIs o m → OutIs (effect_of o) m
+out_effect : (o : Outside) (m : Memory) → MemoryIs o m → MemoryIs (effect_of o) m
 out_effect o m h = record {
   same_cells = h.same_cells;
   same_input = h.same_input;
@@ -180,7 +181,7 @@ taken_out image (x ∷ y ∷ ys) (suc k) a l e =
     (both_cons (request_of image x) (map (request_of image) (y ∷ ys)) (request_of image a ∷ left) (taken_out image (y ∷ ys) k a (omega arith) e))
     (both_picked (request_of image x ∷ []) left (request_of image a)))
 
-module _ (image : Image) (world : World) (formed : Formed image) (sound : Sound image) (beside : List plain.Token) (old : Flow) (s : State) (h : Holds image world beside old s) (k : ℕ) (a : Asked) (l : k < length old.asked.items) (a_is : a ≡ slice_index_or old.asked.items k a)
+module _ (image : Image) (world : World) (formed : Formed image) (sound : Sound image) (beside : List plain.Token) (old : Flow) (s : State) (h : FlowIs image world beside old s) (k : ℕ) (a : Asked) (l : k < length old.asked.items) (a_is : a ≡ slice_index_or old.asked.items k a)
     (running : is_some old.fault ≡ false) (flag : may_flag image (chain_of old.chain) a.wave a.instr a.operands.first ≡ true) where
   facts : WalkFacts image world
   facts = facts_of image world (ports_there image formed) sound
@@ -239,7 +240,7 @@ module _ (image : Image) (world : World) (formed : Formed image) (sound : Sound 
 
   -- past the end the chain stops
   pub issue_stops : (op : Op) → op ≡ (instr_at image a.instr).op → is_past_op image.arrays op (a.operands.first ∷ []) ≡ true → (array : ℕ) → array ≡ array_of_op op → (new : Flow) → new.slots ≡ old.slots → new.way ≡ old.way → new.asked ≡ old.asked → new.early ≡ old.early → new.chain ≡ old.chain → new.fault ≡ Some array →
-      new.memory ≡ old.memory → new.fired ≡ old.fired → (t : State) × Step image s (Issue a.wave a.instr) t × Holds image world beside new t
+      new.memory ≡ old.memory → new.fired ≡ old.fired → (t : State) × Step image s (Issue a.wave a.instr) t × FlowIs image world beside new t
   issue_stops op op_is past array array_is new slots way asked early chain stopped memory fired =
       let p : is_past image a.instr xs ≡ true = past_is_op ∙ ap (λ (o : Op). is_past_op image.arrays o (a.operands.first ∷ [])) (sym op_is) ∙ past in
       let meet : Meets image world a.wave a.instr = stop_fault image world facts s h.stands.fit a.wave a.instr xs (I.waits image world facts s partial (beside ++ way_of old.way) a.wave a.instr xs rest old.early.items st) may p in
@@ -267,7 +268,7 @@ module _ (image : Image) (world : World) (formed : Formed image) (sound : Sound 
 
   -- else it takes its effect
   module _ (op : Op) (op_is' : op ≡ (instr_at image a.instr).op) (within : is_past_op image.arrays op (a.operands.first ∷ []) ≡ false) (word : ℕ) (new : Flow)
-      (answers : (o : Outside) (third : ℕ) → OutIs o old.memory → CarriesOut op (a.operands.first ∷ a.operands.second ∷ third ∷ []) o word new.memory)
+      (answers : (o : Outside) (third : ℕ) → MemoryIs o old.memory → CarriesOut op (a.operands.first ∷ a.operands.second ∷ third ∷ []) o word new.memory)
       (slots : new.slots ≡ old.slots) (asked : new.asked.items ≡ swap_remove old.asked.items k a) (stopped : new.fault ≡ old.fault) (fired : new.fired ≡ old.fired)
       (passed : PassedOn image (chain_of old.chain) a.instr old.early.items (chain_of new.chain) new.early.items)
       (sent : SentTo old.way new.way (tokens_to a.wave word (destinations image a.instr (selector_of op (all_of a.operands))))) where
@@ -284,10 +285,10 @@ module _ (image : Image) (world : World) (formed : Formed image) (sound : Sound 
     unfolding answer
     answer_is = done.answer ∙ sym (same_answer op a.operands s.memory) ∙ ap (λ (ys : List ℕ). answer_op op ys s.memory) xs_is ∙ ap (λ (o : Op). answer_op o xs s.memory) op_is'
 
-    after_is : OutIs (effect_after image a.instr xs s.memory) new.memory
+    after_is : MemoryIs (effect_after image a.instr xs s.memory) new.memory
     unfolding effect_after after
     after_is = out_effect (after_op (instr_at image a.instr).op xs s.memory) new.memory
-        (subst (λ (o : Outside). OutIs o new.memory) (sym (same_after op a.operands s.memory) ∙ ap (λ (ys : List ℕ). after_op op ys s.memory) xs_is ∙ ap (λ (o : Op). after_op o xs s.memory) op_is') done.after)
+        (subst (λ (o : Outside). MemoryIs o new.memory) (sym (same_after op a.operands s.memory) ∙ ap (λ (ys : List ℕ). after_op op ys s.memory) xs_is ∙ ap (λ (o : Op). after_op o xs s.memory) op_is') done.after)
 
     sent_is : tokens_to a.wave word (destinations image a.instr (selector_of op (all_of a.operands))) ≡ sends image a.wave a.instr xs (answer image a.instr xs s.memory)
     sent_is =
@@ -301,8 +302,8 @@ module _ (image : Image) (world : World) (formed : Formed image) (sound : Sound 
     rest_is : rest ≡ map (request_of image) new.asked.items
     rest_is = ap (map (request_of image)) (sym asked)
 
-    finish : (left : List ℕ) → Moves image world s (Issue a.wave a.instr) partial ((beside ++ way_of old.way) ++ sends image a.wave a.instr xs (answer image a.instr xs s.memory)) rest left (chain_of new.chain) s.stopped (effect_after image a.instr xs s.memory) (length s.fired) →
-        ((j : ℕ) → In j left → In j new.early.items) → ((j : ℕ) → In j new.early.items → In j left) → (t : State) × Step image s (Issue a.wave a.instr) t × Holds image world beside new t
+    finish : (left : List ℕ) → StateMoves image world s (Issue a.wave a.instr) partial ((beside ++ way_of old.way) ++ sends image a.wave a.instr xs (answer image a.instr xs s.memory)) rest left (chain_of new.chain) s.stopped (effect_after image a.instr xs s.memory) (length s.fired) →
+        ((j : ℕ) → In j left → In j new.early.items) → ((j : ℕ) → In j new.early.items → In j left) → (t : State) × Step image s (Issue a.wave a.instr) t × FlowIs image world beside new t
     finish left m to from =
         let e1 : Stands image world partial (beside ++ way_of new.way) rest left m.new = sent_beside image world partial beside old.way new.way (sends image a.wave a.instr xs (answer image a.instr xs s.memory)) rest left m.new (subst (SentTo old.way new.way) sent_is sent) m.stands in
         let e2 : Stands image world partial (beside ++ way_of new.way) (map (request_of image) new.asked.items) left m.new = subst (λ (rs : List Request). Stands image world partial (beside ++ way_of new.way) rs left m.new) rest_is e1 in
@@ -322,7 +323,7 @@ module _ (image : Image) (world : World) (formed : Formed image) (sound : Sound 
     by_load : (IsNext s.chain (note_of image a.instr) → ⊥) → is_load image a.instr ≡ true
     by_load n = elim turn [ inl e ↦ absurd (n e) | inr e ↦ e.0 ]
 
-    pub issue_goes : (t : State) × Step image s (Issue a.wave a.instr) t × Holds image world beside new t
+    pub issue_goes : (t : State) × Step image s (Issue a.wave a.instr) t × FlowIs image world beside new t
     issue_goes = elim passed [
       | inl p ↦ (let nx : IsNext s.chain (note_of image a.instr) = subst (λ (c : law.Chain). IsNext c (note_of image a.instr)) same_chain p.0 in
           let se : Settles image (law.pass s.chain (note_of image a.instr)) (left_after (note_of image a.instr) old.early.items) (chain_of new.chain) new.early.items =
@@ -332,6 +333,6 @@ module _ (image : Image) (world : World) (formed : Formed image) (sound : Sound 
           let m = goes_early image world facts s partial (beside ++ way_of old.way) a.wave a.instr xs rest old.early.items st may inside n (by_load n) in
           let c : s.chain ≡ chain_of new.chain = h.chain_is ∙ sym p.1 in
           finish (a.instr ∷ old.early.items)
-          (subst (λ (d : law.Chain). Moves image world s (Issue a.wave a.instr) partial ((beside ++ way_of old.way) ++ sends image a.wave a.instr xs (answer image a.instr xs s.memory)) rest (a.instr ∷ old.early.items) d s.stopped (effect_after image a.instr xs s.memory) (length s.fired)) c m)
+          (subst (λ (d : law.Chain). StateMoves image world s (Issue a.wave a.instr) partial ((beside ++ way_of old.way) ++ sends image a.wave a.instr xs (answer image a.instr xs s.memory)) rest (a.instr ∷ old.early.items) d s.stopped (effect_after image a.instr xs s.memory) (length s.fired)) c m)
           (λ j g. subst (In j) (sym p.2) (in_end a.instr j old.early.items g)) (λ j g. end_in a.instr j old.early.items (subst (In j) p.2 g)))
     ]

@@ -1,15 +1,16 @@
 -- What is looked up in an image.
-use Rattle.std.proofs.Common.{ℕ, suc, ◌-◌, ◌≡◌, ◌<◌, ◌≤◌, cond, eqb, List, [], ◌∷◌, ◌++◌, length, map, Option, Some, None, slice_index_or, unwrap_or, refl, sym, ap, ◌∙◌, arith}
+use Rattle.std.proofs.Common.{ℕ, suc, ◌≡◌, ◌<◌, ◌≤◌, cond, eqb, List, [], ◌++◌, length, map, Option, Some, None, slice_index_or, unwrap_or, refl, sym, ap, ◌∙◌, arith}
 use Rattle.std.proofs.lemmas.List.{append-nil}
 use Rattle.ws_isa.specs.declared.instr.Op.{Op}
 use Rattle.ws_isa.specs.declared.instr.Op.TheVariants.{Steer, Send}
 use Rattle.ws_isa.specs.declared.instr.Note.{Note}
-use Rattle.ws_isa.specs.Image.{Image, Instr, Block, instr_at, block_at, block_of, note_of, no_note, no_instr, no_block, nth, or_else, now_of, now_dests, edge_of, edge_dests, pad_of, target, leave_to}
+use Rattle.ws_isa.specs.Image.{Image, Instr, Block, instr_at, block_at, block_of, note_of, no_note, no_instr, no_block, now_of, now_dests, edge_of, edge_dests, pad_of, target, leave_to}
 use Rattle.ws_isa.specs.View as view
 use Rattle.ws_isa.specs.declared.image.Block as code
 use Rattle.df_core.specs.Places.{destinations}
 use Rattle.df_core.proofs.Placed.{nth_of, nth_none}
 use Rattle.ws_words.proofs.Lists.{length_map}
+use Rattle.ws_words.specs.Items.{nth, or_else}
 
 pub op_none : (image : Image) (k : ℕ) → instr_at image k ≡ no_instr → (instr_at image k).op ≡ no_instr.op
 op_none image k e = ap (λ (i : Instr). i.op) e

@@ -3,7 +3,7 @@ use Rattle.std.proofs.Common.{ℕ, zero, suc, ◌+◌, ◌≡◌, ◌<◌, ◌�
 use Rattle.std.proofs.lemmas.Bool.{cases_Bool, both_ways, cond-true, cond-false}
 use Rattle.ws_words.specs.Outside.{World}
 use Rattle.ws_isa.specs.declared.instr.Dest.{Dest}
-use Rattle.ws_isa.specs.Image.{Image, nth, or_else, ports, is_advance, first_number, block_of, target, now_dests, edge_dests, selector, tokens_to, sends, is_first, start_dests, size_of, IsIn}
+use Rattle.ws_isa.specs.Image.{Image, ports, is_advance, first_number, block_of, target, now_dests, edge_dests, selector, tokens_to, sends, is_first, start_dests, size_of, IsIn}
 use Rattle.ws_isa.specs.Walk.{Inst, Pos, pos, fires, choice, wave_of, result_at, operands_at, inst_at, start_tokens}
 use Rattle.ws_isa.specs.Sound.{OpenSlots, none_open, closed, opens_at, HasDest, PortsThere, ShapeRules, SlotRules}
 use Rattle.df_core.specs.Core.{IsSent}
@@ -15,6 +15,7 @@ use Rattle.df_core.proofs.SentTokens.{sends_wave, now_number, start_number, star
 use Rattle.ws_isa.proofs.Images.{nth_below}
 use Rattle.ws_isa.proofs.Slots.{all_opened_from, closed_cases, gather_length, gather_nth, with_tokens_lands, edge_all_from}
 use Rattle.ws_isa.proofs.Steps.{first_up, StepCase, stands, turns, ends, leaves, step_case, Turn, turn_at, inst_instr}
+use Rattle.ws_words.specs.Items.{nth, or_else}
 
 module _ (image : Image) (world : World) (formed : PortsThere image) (shape : ShapeRules image) (slots : SlotRules image) where
   abbrev P : ℕ → Pos

@@ -5,7 +5,7 @@ use Rattle.ws_words.specs.Outside.{Outside, World}
 use Rattle.ws_isa.specs.declared.instr.Link.{Link}
 use Rattle.ws_isa.specs.declared.instr.Link.TheVariants.{Unknown, Nothing, Is}
 use Rattle.ws_isa.specs.declared.instr.Note.{Note}
-use Rattle.ws_isa.specs.Image.{Image, Block, In, is_memory, note_of, first_of, first_number, answer, is_past}
+use Rattle.ws_isa.specs.Image.{Image, Block, is_memory, note_of, first_of, first_number, answer, is_past}
 use Rattle.ws_isa.specs.Walk.{Inst, pos, fires}
 use Rattle.ws_isa.specs.Sound.{ShapeRules}
 use Rattle.df_core.specs.Effect.{effect_after}
@@ -16,10 +16,9 @@ use Rattle.df_core.proofs.Passing.{same_fired, ordered_next}
 use Rattle.ws_isa.proofs.Steps.{turn_at, inst_instr}
 use Rattle.df_core.proofs.Ports.{with_key_same}
 use Rattle.df_core.proofs.BufferKept as B
-
--- a state answers like itself, and two that answer like a third answer alike
-same_self : (s : State) → Same s s
-same_self s = record { held = λ w i p. refl; way = λ w i p. refl; fired = refl; waiting = λ w i. refl; issued = λ w i. refl; chain = refl; stopped = refl; memory = refl }
+use Rattle.ws_words.specs.Items.{In}
+use Rattle.df_core.proofs.Same.{same_refl}
+use Rattle.ws_words.proofs.Places.{down, in_down}
 
 same_both : (s t m : State) → Same s m → Same t m → Same s t
 same_both s t m a b = record {
@@ -92,15 +91,6 @@ without (x ∷ xs) i (inl h) = record { rest = xs; shorter = refl; keeps = λ j 
 without (x ∷ xs) i (inr h) = let r = without xs i h in
     record { rest = x ∷ r.rest; shorter = ap suc r.shorter; keeps = λ j g. elim g [ inl e ↦ inr (inl e) | inr e ↦ elim (r.keeps j e) [ inl f ↦ inl f | inr f ↦ inr (inr f) ] ] }
 
-below : ℕ → List ℕ
-below zero = []
-below (suc n) = n ∷ below n
-
-in_below : (n i : ℕ) → i < n → In i (below n)
-unfolding below
-in_below zero i l = absurd (omega arith)
-in_below (suc n) i l = elim (cases_eq i n) [ inl e ↦ inl e | inr h ↦ inr (in_below n i (omega arith)) ]
-
 -- numbers of instructions are bounded
 first_most : (bs : List Block) (n : ℕ) → first_of bs n ≤ first_of bs (length bs)
 first_most [] zero = omega arith
@@ -131,9 +121,9 @@ module _ (image : Image) (world : World) (facts : WalkFacts image world) (shape 
   Covers : (ℕ → ℕ → Option ℕ) → Chain → ℕ → List ℕ → Type 0
   Covers issued c cut xs = (i a : ℕ) → issued c.wave i ≡ Some a → (op : IssuedOp image world cut c.wave i a) → cut ≤ op.time → In i xs
 
-  covers_all : (issued : ℕ → ℕ → Option ℕ) (c : Chain) (cut : ℕ) → Covers issued c cut (below (most image))
+  covers_all : (issued : ℕ → ℕ → Option ℕ) (c : Chain) (cut : ℕ) → Covers issued c cut (down (most image))
   unfolding Covers
-  covers_all issued c cut i a e op l = in_below (most image) i (let b : op.inst.instr < most image = bounded op.time op.inst op.at.fires in let n : op.inst.instr ≡ i = op.at.instr in omega arith)
+  covers_all issued c cut i a e op l = in_down (most image) i (let b : op.inst.instr < most image = bounded op.time op.inst op.at.fires in let n : op.inst.instr ≡ i = op.at.instr in omega arith)
 
   same_time : (w i t u : ℕ) (x y : Inst) → FiresAt image world w i t x → FiresAt image world w i u y → t ≡ u
   same_time w i t u x y a b = facts.once t u x y a.fires b.fires (a.wave ∙ sym b.wave) (a.instr ∙ sym b.instr)
@@ -236,9 +226,9 @@ module _ (image : Image) (world : World) (facts : WalkFacts image world) (shape 
 
       chain_behind : (c : Chain) × Passes image (issued_with image s.issued s.memory w i xs) s.chain c
       chain_behind = elim ready.issuable.turn [
-        | inl nx ↦ (let r = pass_all (length (below (most image))) (issued_with image s.issued s.memory w i xs) (pass s.chain (note_of image i)) (effect_after image i xs s.memory) (suc right.time) (below (most image)) (omega arith) (at_next nx) (covers_all (issued_with image s.issued s.memory w i xs) (pass s.chain (note_of image i)) (suc right.time)) in
+        | inl nx ↦ (let r = pass_all (length (down (most image))) (issued_with image s.issued s.memory w i xs) (pass s.chain (note_of image i)) (effect_after image i xs s.memory) (suc right.time) (down (most image)) (omega arith) (at_next nx) (covers_all (issued_with image s.issued s.memory w i xs) (pass s.chain (note_of image i)) (suc right.time)) in
             (r.0, passes i (answer image i xs s.memory) here nx r.1))
-        | inr l ↦ pass_all (length (below (most image))) (issued_with image s.issued s.memory w i xs) s.chain (effect_after image i xs s.memory) fit.legal.cut (below (most image)) (omega arith)
+        | inr l ↦ pass_all (length (down (most image))) (issued_with image s.issued s.memory w i xs) s.chain (effect_after image i xs s.memory) fit.legal.cut (down (most image)) (omega arith)
             (B.early_ordered image world facts s.issued s.chain s.stopped s.memory fit.legal.settled w i xs ready.issuable right.time right.inst right.at right.operands right.memory fit.legal.cut fit.legal.ordered inside s.waiting l.0)
             (covers_all (issued_with image s.issued s.memory w i xs) s.chain fit.legal.cut)
       ]
@@ -266,11 +256,11 @@ module _ (image : Image) (world : World) (facts : WalkFacts image world) (shape 
               (subst (λ (n : ℕ). Passes image (issued_with image s.issued s.memory w i xs) (pass s.chain (note_of image n)) d) (sym (this k b f nk)) q) (at_next nx)
 
     pub makes : (e : Event) → Enabled image s e → (t : State) × Step image s e t
-    makes (Match w i p) on = (matched image s w i p on.0, record { value = on.0; on_way = on.1; becomes = same_self (matched image s w i p on.0) })
+    makes (Match w i p) on = (matched image s w i p on.0, record { value = on.0; on_way = on.1; becomes = same_refl (matched image s w i p on.0) })
     makes (Issue w i) on = elim (cases_Bool (is_past image i on.0)) [
-      | inl b ↦ (record s { stopped = true }, inl (record { operands = on.0; ready = on.1; past = b; becomes = same_self (record s { stopped = true }) }))
+      | inl b ↦ (record s { stopped = true }, inl (record { operands = on.0; ready = on.1; past = b; becomes = same_refl (record s { stopped = true }) }))
       | inr b ↦ (let c = chain_behind w i on.0 on.1 b in
-          (issue image s w i on.0 c.0, inr (record { operands = on.0; ready = on.1; within = b; chain = c.0; passed = c.1; becomes = same_self (issue image s w i on.0 c.0) })))
+          (issue image s w i on.0 c.0, inr (record { operands = on.0; ready = on.1; within = b; chain = c.0; passed = c.1; becomes = same_refl (issue image s w i on.0 c.0) })))
     ]
 
     one_some : {A : Type 0} (x y : A) (o : Option A) → o ≡ Some x → o ≡ Some y → x ≡ y

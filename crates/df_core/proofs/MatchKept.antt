@@ -2,13 +2,14 @@
 use Rattle.std.proofs.Common.{ℕ, ◌+◌, ◌≡◌, ◌<◌, ◌⊎◌, true, false, cond, List, length, Some, None, refl, sym, ap, ◌∙◌, subst, inl, inr, arith}
 use Rattle.std.proofs.lemmas.Bool.{cases_Bool, cases_eq, cond_both, both_ways}
 use Rattle.ws_words.specs.Outside.{World}
-use Rattle.ws_isa.specs.Image.{Image, Token, nth, ports, is_memory, result_of, sends}
+use Rattle.ws_isa.specs.Image.{Image, Token, ports, is_memory, result_of, sends}
 use Rattle.ws_isa.specs.Walk.{Inst, Ports, fires, start_tokens, gather}
 use Rattle.df_core.specs.Core.{State, HasFired, IsSent, with_key, put_all, is_full, operands_in, arrived, asks, tells, matched}
 use Rattle.df_core.specs.Fit.{FiresAt, RightToken, RightRequest, IsThere, IsFilled, Fit, StoppedAt, FromInst, Grounded}
 use Rattle.df_core.proofs.Facts.{WalkFacts}
 use Rattle.df_core.proofs.Ports.{SamePlace, SameKey, with_at_cases, with_key_cases, put_all_keeps, put_all_held, put_all_from, put_all_lands, full_all, all_full, gather_is}
 use Rattle.ws_isa.proofs.Images.{nth_below}
+use Rattle.ws_words.specs.Items.{nth}
 
 module _ (image : Image) (world : World) (facts : WalkFacts image world) where
   -- one instance, one value at each port

@@ -7,7 +7,6 @@ use Rattle.df_core.specs.Effect.{effect_after}
 use Rattle.df_core.specs.Core.{Apart, State, Chain, Match, Issue, IsSent, IsNext, Same, pass, with_at, is_full, arrived, asks, tells, matched, Issuable, issue, Rest, core_opening}
 use Rattle.df_core.specs.Fit.{FiresAt, RightRequest}
 use Rattle.df_core.specs.Stands.{AllOnce, Request, HasRequest, cleared, left_after, Settles, Stands}
-use Rattle.df_core.specs.Moves.{Moves}
 use Rattle.df_core.proofs.Facts.{WalkFacts}
 use Rattle.df_core.proofs.SlotLists.{is_sent_append_left, is_sent_append_right, is_sent_append_cases}
 use Rattle.df_core.proofs.Ports.{with_at_cases}
@@ -15,6 +14,7 @@ use Rattle.df_core.proofs.Reachable.{opening_fit, opening_grounded, start_sent, 
 use Rattle.df_core.proofs.StandsMatch as M
 use Rattle.df_core.proofs.StandsMatch.{apart_append, full_agree, gather_agree}
 use Rattle.df_core.proofs.StandsIssue as I
+use Rattle.df_core.specs.Moves.{StateMoves}
 
 pub same_of : (s t : State) → s ≡ t → Same s t
 same_of s t e = subst (Same s) e (record { held = λ w i p. refl; way = λ w i p. refl; fired = refl; waiting = λ w i. refl; issued = λ w i. refl; chain = refl; stopped = refl; memory = refl })
@@ -277,7 +277,7 @@ module _ (image : Image) (world : World) (facts : WalkFacts image world) (s : St
     operands_are : gather f w i 0 (ports image i) ≡ gather (with_at w i p (Some v) partial) w i 0 (ports image i)
     operands_are = gather_agree f (with_at w i p (Some v) partial) w i 0 (ports image i) (λ q. f_is w i q)
 
-    pub waits : is_full f w i (ports image i) ≡ false → Moves image world s (Match w i p) f rest asked early s.chain s.stopped s.memory (length s.fired)
+    pub waits : is_full f w i (ports image i) ≡ false → StateMoves image world s (Match w i p) f rest asked early s.chain s.stopped s.memory (length s.fired)
     waits less = record {
       new = arrived s w i p v;
       step = record {
@@ -296,7 +296,7 @@ module _ (image : Image) (world : World) (facts : WalkFacts image world) (s : St
       gone : (a b q : ℕ) → g a b q ≡ cleared w i partial a b q
       gone a b q = g_is a b q ∙ cleared_same w i f (with_at w i p (Some v) partial) f_is a b q ∙ cleared_with w i p (Some v) partial a b q
 
-      pub calls : is_memory image i ≡ true → Moves image world s (Match w i p) g rest (record { wave = w; instr = i; operands = xs } ∷ asked) early s.chain s.stopped s.memory (suc (length s.fired))
+      pub calls : is_memory image i ≡ true → StateMoves image world s (Match w i p) g rest (record { wave = w; instr = i; operands = xs } ∷ asked) early s.chain s.stopped s.memory (suc (length s.fired))
       calls memory = record {
         new = asks image w i (arrived s w i p v);
         step = record {
@@ -313,7 +313,7 @@ module _ (image : Image) (world : World) (facts : WalkFacts image world) (s : St
         count_is = refl;
       }
 
-      pub fires_on : is_memory image i ≡ false → Moves image world s (Match w i p) g (rest ++ sends image w i xs (result_of image i xs)) asked early s.chain s.stopped s.memory (suc (length s.fired))
+      pub fires_on : is_memory image i ≡ false → StateMoves image world s (Match w i p) g (rest ++ sends image w i xs (result_of image i xs)) asked early s.chain s.stopped s.memory (suc (length s.fired))
       unfolding M.listed
       fires_on plain = record {
         new = tells image w i (arrived s w i p v);
@@ -332,7 +332,7 @@ module _ (image : Image) (world : World) (facts : WalkFacts image world) (s : St
       }
 
   module _ (way : List Token) (w i : ℕ) (xs : List ℕ) (rest : List Request) (early : List ℕ) (st : Stands image world partial way (record { wave = w; instr = i; operands = xs } ∷ rest) early s) (may : Issuable image s.issued s.chain s.stopped w i xs) where
-    pub stops_at : is_past image i xs ≡ true → Moves image world s (Issue w i) partial way (record { wave = w; instr = i; operands = xs } ∷ rest) early s.chain true s.memory (length s.fired)
+    pub stops_at : is_past image i xs ≡ true → StateMoves image world s (Issue w i) partial way (record { wave = w; instr = i; operands = xs } ∷ rest) early s.chain true s.memory (length s.fired)
     stops_at beyond = record {
       new = record s { stopped = true };
       step = inl (record { operands = xs; ready = record { waits = I.waits image world facts s partial way w i xs rest early st; issuable = may }; past = beyond; becomes = same_of _ _ refl });
@@ -345,7 +345,7 @@ module _ (image : Image) (world : World) (facts : WalkFacts image world) (s : St
 
     takes_effect : (inside : is_past image i xs ≡ false) (u : ℕ) (x : Inst) (at : FiresAt image world w i u x) (xs_are : x.operands ≡ xs) (mi : is_memory image i ≡ true) (d : Chain) (left : List ℕ) →
         I.Ends image world facts s partial way w i xs rest early st may inside u x at xs_are mi d left →
-        Moves image world s (Issue w i) partial (way ++ sends image w i xs (answer image i xs s.memory)) rest left d s.stopped (effect_after image i xs s.memory) (length s.fired)
+        StateMoves image world s (Issue w i) partial (way ++ sends image w i xs (answer image i xs s.memory)) rest left d s.stopped (effect_after image i xs s.memory) (length s.fired)
     unfolding issue I.listed
     takes_effect inside u x at xs_are mi d left ends = record {
       new = issue image s w i xs d;
@@ -358,13 +358,13 @@ module _ (image : Image) (world : World) (facts : WalkFacts image world) (s : St
     }
 
     pub goes_next : is_past image i xs ≡ false → IsNext s.chain (note_of image i) → (d : Chain) (left : List ℕ) → Settles image (pass s.chain (note_of image i)) (left_after (note_of image i) early) d left →
-        Moves image world s (Issue w i) partial (way ++ sends image w i xs (answer image i xs s.memory)) rest left d s.stopped (effect_after image i xs s.memory) (length s.fired)
+        StateMoves image world s (Issue w i) partial (way ++ sends image w i xs (answer image i xs s.memory)) rest left d s.stopped (effect_after image i xs s.memory) (length s.fired)
     goes_next inside nx d left settles =
         let r : RightRequest image world w i xs = st.fit.request_right w i xs (I.waits image world facts s partial way w i xs rest early st) in
         takes_effect inside r.time r.inst r.at r.operands r.memory d left (I.next_ends image world facts s partial way w i xs rest early st may inside r.time r.inst r.at r.operands r.memory d left nx settles)
 
     pub goes_early : is_past image i xs ≡ false → (IsNext s.chain (note_of image i) → ⊥) → is_load image i ≡ true →
-        Moves image world s (Issue w i) partial (way ++ sends image w i xs (answer image i xs s.memory)) rest (i ∷ early) s.chain s.stopped (effect_after image i xs s.memory) (length s.fired)
+        StateMoves image world s (Issue w i) partial (way ++ sends image w i xs (answer image i xs s.memory)) rest (i ∷ early) s.chain s.stopped (effect_after image i xs s.memory) (length s.fired)
     goes_early inside not_next load =
         let r : RightRequest image world w i xs = st.fit.request_right w i xs (I.waits image world facts s partial way w i xs rest early st) in
         takes_effect inside r.time r.inst r.at r.operands r.memory s.chain (i ∷ early) (I.early_ends image world facts s partial way w i xs rest early st may inside r.time r.inst r.at r.operands r.memory not_next load)

@@ -1,5 +1,5 @@
 -- What the test for the next operation says.
-use Rattle.std.proofs.Common.{ℕ, ◌≡◌, ◌⊎◌, true, false, ◌||◌, Option, Some, None, refl, ap, inl, inr, eqb-true, eq-eqb}
+use Rattle.std.proofs.Common.{ℕ, ◌≡◌, true, false, Option, Some, None, refl, ap, inl, inr, eqb-true, eq-eqb}
 use Rattle.std.proofs.lemmas.Bool.{both_ways}
 use Rattle.ws_isa.specs.declared.instr.Link.{Link}
 use Rattle.ws_isa.specs.declared.instr.Link.TheVariants.{Unknown, Nothing, Is}

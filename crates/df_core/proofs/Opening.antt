@@ -18,9 +18,9 @@ use Rattle.df_core.specs.declared.flow.Flow.{Flow}
 use Rattle.df_core.specs.Partial.{Spill, empty_slot, port_of, partial_of}
 use Rattle.df_core.specs.Ways.{token_of, way_of, SentTo}
 use Rattle.df_core.specs.Chains.{chain_of}
-use Rattle.df_core.specs.Outdoors.{OutIs}
-use Rattle.df_core.specs.Flows.{Holds}
 use Rattle.df_core.proofs.Few.{pad_few}
+use Rattle.df_core.specs.Flows.{FlowIs}
+use Rattle.df_core.specs.Outdoors.{MemoryIs}
 
 no_port : (p : ℕ) → port_of empty_slot p ≡ None
 no_port zero = refl
@@ -52,8 +52,8 @@ sent_first old new ts a b (inl h) = ap (λ xs. xs ++ map token_of new.later.item
 sent_first old new ts a b (inr h) = ap (λ ys. map token_of ys ++ map token_of new.later.items) (h.0 ∙ a) ∙ h.1 ∙ ap (λ ys. map token_of ys ++ ts) b
 
 pub opens_so : (image : Image) (world : World) (old : Way) (new : Flow) (n : ℕ) → new.slots.slots.items ≡ replicate n empty_slot → IsEmpty new.slots.spill → old.now.items ≡ [] → old.later.items ≡ [] →
-    SentTo old new.way (tokens_to 0 0 (start_dests image)) → new.asked.items ≡ [] → new.early.items ≡ [] → chain_of new.chain ≡ record { wave = 1; last = None } → new.fault ≡ None → OutIs (opening_out (cells_of image.arrays) world) new.memory → new.fired ≡ 0 →
-    Sound image → Formed image → Holds image world [] new (core_opening image world)
+    SentTo old new.way (tokens_to 0 0 (start_dests image)) → new.asked.items ≡ [] → new.early.items ≡ [] → chain_of new.chain ≡ record { wave = 1; last = None } → new.fault ≡ None → MemoryIs (opening_out (cells_of image.arrays) world) new.memory → new.fired ≡ 0 →
+    Sound image → Formed image → FlowIs image world [] new (core_opening image world)
 unfolding core_opening start_tokens opening_memory
 opens_so image world old new n slots spill now later sent asked early chain stopped memory fired sound formed =
     let st = opens image world (facts_of image world (ports_there image formed) sound) in

@@ -8,11 +8,13 @@ use Rattle.ws_isa.specs.declared.instr.Link.TheVariants.{Unknown, Nothing, Is}
 use Rattle.ws_isa.specs.declared.instr.Note.{Note}
 use Rattle.ws_isa.specs.Image.{Image, note_of, is_memory, is_memory_op, is_load, is_writing, is_advance, is_advance_op, instr_at, first_number, stops, target, is_first, IsBlock}
 use Rattle.ws_isa.specs.Walk.{Inst, Pos, pos, opening, fires, is_within, choice, inst_at}
-use Rattle.ws_isa.specs.Sound.{InWave, first, turn, edge, last_op, ComesNext, PathEnds, seq, ShapeRules, LinkRules, IsAmong, RippleRules}
+use Rattle.ws_isa.specs.Sound.{InWave, first, turn, edge, last_op, ComesNext, PathEnds, seq, ShapeRules, LinkRules, RippleRules}
 use Rattle.df_core.specs.Core.{Chain, NextAfter, IsNext, pass, pass_by, position_after}
 use Rattle.df_core.specs.Fit.{chain_at, NoWrite, NoOp}
-use Rattle.df_core.proofs.Pauses.{writing_memory, load_memory, load_quiet, chain_op, chain_plain, chain_none, cases_fires, chain_same, chain_up}
+use Rattle.df_core.proofs.Pauses.{load_memory, load_quiet, chain_op, chain_plain, chain_none, cases_fires, chain_same, chain_up}
 use Rattle.ws_isa.proofs.Steps.{first_up, first_le, StepCase, stands, turns, ends, leaves, step_case, Place, place, pos_start, running, Turn, turn_at, inst_wave, inst_instr}
+use Rattle.ws_words.specs.Items.{In}
+use Rattle.ws_isa.proofs.Images.{writing_memory}
 
 link_cases : (l : Link) → (l ≡ Nothing) ⊎ (l ≡ Nothing → ⊥)
 link_cases Nothing = inl refl
@@ -178,7 +180,7 @@ module _ (image : Image) (world : World) where
     rise_of w None k f = links.positive k None f
     rise_of w (Some j) k f = rw (pass_goes (record { wave = w; last = None }) (note_of image j) (λ e. links.succ_ends j k e f)) (links.rise j k f)
 
-    rise_at : (t : ℕ) (x : Inst) → fires image world t ≡ Some x → is_memory image x.instr ≡ true → position_after (chain_at image world t).last < seq image x.instr
+    pub rise_at : (t : ℕ) (x : Inst) → fires image world t ≡ Some x → is_memory image x.instr ≡ true → position_after (chain_at image world t).last < seq image x.instr
     rise_at t x fx m = rw (chain_is t (op_over t x fx)) (rise_of (P t).wave (L t) x.instr (follows t x fx m))
 
     -- after an operation, while the chain stays in its wave
@@ -375,7 +377,7 @@ module _ (image : Image) (world : World) where
     ]
 
     among_step : (k u : ℕ) (z : Inst) → fires image world k ≡ Some z → k < suc u → (P (suc u)).over ≡ false → (P (suc u)).wave ≡ (P k).wave → StepCase image world u →
-        (k < u → (P u).over ≡ false → (P u).wave ≡ (P k).wave → IsAmong z.instr (done_in image world u)) → IsAmong z.instr (done_in image world (suc u))
+        (k < u → (P u).over ≡ false → (P u).wave ≡ (P k).wave → In z.instr (done_in image world u)) → In z.instr (done_in image world (suc u))
     among_step k u z fz l o e (stands a p f) ih = absurd (both_ways true (sym a ∙ ap (λ (p : Pos). p.over) (sym p) ∙ o) refl)
     among_step k u z fz l o e (ends a w s p f) ih = absurd (both_ways true (ap (λ (p : Pos). p.over) (sym p) ∙ o) refl)
     among_step k u z fz l o e (turns a w p f) ih = rw (done_turn u a w) (elim (cases_eq k u) [
@@ -391,7 +393,7 @@ module _ (image : Image) (world : World) where
           | inr h ↦ rw (done_edge u a w h) (ih (omega arith) a (sym (wv ∙ cond-false (is_first image (target image (P u).block (choice image (P u)))) _ _ h) ∙ e))
         ]
 
-    among : (k u : ℕ) (z : Inst) → fires image world k ≡ Some z → k < u → (P u).over ≡ false → (P u).wave ≡ (P k).wave → IsAmong z.instr (done_in image world u)
+    among : (k u : ℕ) (z : Inst) → fires image world k ≡ Some z → k < u → (P u).over ≡ false → (P u).wave ≡ (P k).wave → In z.instr (done_in image world u)
     among k zero z fz l o e = absurd (omega arith)
     among k (suc u) z fz l o e = among_step k u z fz l o e (step_case image world u) (λ l' o' e'. among k u z fz l' o' e')
 
@@ -407,7 +409,7 @@ module _ (image : Image) (world : World) where
         let zp : z.wave ≡ (P k).wave = op_wave k z fz mz in
         let yp : y.wave ≡ (P u).wave = op_wave u y fy my in
         let o : (P u).over ≡ false = op_over u y fy in
-        let am : IsAmong z.instr (done_in image world u) = among k u z fz b o (omega arith) in
+        let am : In z.instr (done_in image world u) = among k u z fz b o (omega arith) in
         let i : y.instr ≡ (P u).next = inst_instr image world shape u y fy in
         let r : seq image z.instr ≤ (note_of image (P u).next).ripple = ripples.above (P u).block (P u).next z.instr (done_in image world u) (wave_path u o) (turn_at image world shape u y fy).within
         (ap (is_memory image) (sym i) ∙ my) (ap (is_writing image) (sym i) ∙ load_quiet image y.instr ly) am wz in

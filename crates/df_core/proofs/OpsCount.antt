@@ -1,5 +1,5 @@
 -- How many operations the first steps of the walk have.
-use Rattle.std.proofs.Common.{ℕ, zero, suc, ◌+◌, ◌≡◌, ◌≤◌, ◌⊎◌, true, false, List, [], ◌∷◌, ◌++◌, length, Some, None, refl, ap, ◌∙◌, inl, inr, arith, length-append}
+use Rattle.std.proofs.Common.{ℕ, zero, suc, ◌≡◌, ◌≤◌, ◌⊎◌, true, false, List, [], ◌∷◌, ◌++◌, length, Some, None, refl, ap, ◌∙◌, inl, inr, arith}
 use Rattle.std.proofs.lemmas.Bool.{cases_Bool, cases_eq}
 use Rattle.ws_words.specs.Outside.{World}
 use Rattle.ws_isa.specs.Image.{Image, is_memory}
@@ -7,6 +7,7 @@ use Rattle.ws_isa.specs.Walk.{Inst, fires, walk}
 use Rattle.ws_isa.specs.Operations.{operations, ops}
 use Rattle.df_core.specs.Fit.{NoOp}
 use Rattle.df_core.proofs.Pauses.{cases_fires}
+use Rattle.ws_isa.proofs.OneEffect.{fired_none, fired_more, fired_other}
 
 operations_more : (image : Image) (xs ys : List Inst) → operations image (xs ++ ys) ≡ operations image xs ++ operations image ys
 operations_more image [] ys = refl
@@ -35,30 +36,13 @@ module _ (image : Image) (world : World) where
       one : is_memory image x.instr ≡ true → operations image (x ∷ []) ≡ x ∷ []
       one m = rw m refl
 
-  pub count_none : (t : ℕ) → fires image world t ≡ None → length (ops image world (suc t)) ≡ length (ops image world t)
-  count_none t e = ap length (none_more t e)
-
-  pub count_plain : (t : ℕ) (x : Inst) → fires image world t ≡ Some x → is_memory image x.instr ≡ false → length (ops image world (suc t)) ≡ length (ops image world t)
-  count_plain t x e m = ap length (plain_more t x e m) ∙ (let l : length (ops image world t ++ []) ≡ length (ops image world t) + 0 = length-append (ops image world t) [] in omega arith)
-
-  pub count_op : (t : ℕ) (x : Inst) → fires image world t ≡ Some x → is_memory image x.instr ≡ true → length (ops image world (suc t)) ≡ suc (length (ops image world t))
-  count_op t x e m = ap length (op_more t x e m) ∙ (let l : length (ops image world t ++ x ∷ []) ≡ length (ops image world t) + 1 = length-append (ops image world t) (x ∷ []) in omega arith)
-
   count_step : (t : ℕ) → length (ops image world t) ≤ length (ops image world (suc t))
   count_step t = elim (cases_fires image world t) [
-    | inl e ↦ (let f : length (ops image world (suc t)) ≡ length (ops image world t) = count_none t e in omega arith)
+    | inl e ↦ (let f : length (ops image world (suc t)) ≡ length (ops image world t) = fired_none image world t e in omega arith)
     | inr r ↦ elim (cases_Bool (is_memory image r.0.instr)) [
-      | inl m ↦ (let f : length (ops image world (suc t)) ≡ suc (length (ops image world t)) = count_op t r.0 r.1 m in omega arith)
-      | inr m ↦ (let f : length (ops image world (suc t)) ≡ length (ops image world t) = count_plain t r.0 r.1 m in omega arith)
+      | inl m ↦ (let f : length (ops image world (suc t)) ≡ suc (length (ops image world t)) = fired_more image world t r.0 r.1 m in omega arith)
+      | inr m ↦ (let f : length (ops image world (suc t)) ≡ length (ops image world t) = fired_other image world t r.0 r.1 m in omega arith)
     ]
-  ]
-
-  pub count_up : (t u : ℕ) → t ≤ u → length (ops image world t) ≤ length (ops image world u)
-  count_up t zero l = let e : t ≡ zero = omega arith in rw e (omega arith)
-  count_up t (suc u) l = elim (cases_eq t (suc u)) [
-    | inl e ↦ rw e (omega arith)
-    | inr n ↦ (let a : length (ops image world t) ≤ length (ops image world u) = count_up t u (omega arith) in
-        let b : length (ops image world u) ≤ length (ops image world (suc u)) = count_step u in omega arith)
   ]
 
   pub count_same : (t u : ℕ) → t ≤ u → NoOp image world t u → length (ops image world u) ≡ length (ops image world t)
@@ -67,10 +51,10 @@ module _ (image : Image) (world : World) where
     | inl e ↦ rw e refl
     | inr n ↦ (let a : length (ops image world u) ≡ length (ops image world t) = count_same t u (omega arith) (λ k x b c. h k x b (omega arith)) in
         (elim (cases_fires image world u) [
-          | inl e ↦ count_none u e
+          | inl e ↦ fired_none image world u e
           | inr r ↦ elim (cases_Bool (is_memory image r.0.instr)) [
             | inl m ↦ absurd (h u r.0 (omega arith) (omega arith) r.1 m)
-            | inr m ↦ count_plain u r.0 r.1 m
+            | inr m ↦ fired_other image world u r.0 r.1 m
           ]
         ]) ∙ a)
   ]

@@ -14,11 +14,7 @@ use Rattle.df_core.specs.Core.{Chain, pass, pass_by}
 use Rattle.df_core.specs.Fit.{chain_at, NoWrite, NoOp}
 use Rattle.df_core.proofs.Facts.{WalkFacts}
 use Rattle.df_core.proofs.Effects.{effect_quiet}
-use Rattle.ws_isa.proofs.Images.{writing_memory_op}
-
-pub writing_memory : (image : Image) (k : ℕ) → is_writing image k ≡ true → is_memory image k ≡ true
-unfolding is_writing is_memory
-writing_memory image k e = writing_memory_op (instr_at image k).op e
+use Rattle.ws_isa.proofs.Images.{writing_memory}
 
 load_quiet_op : (o : Op) → is_load_op o ≡ true → is_writing_op o ≡ false
 load_quiet_op (Load a) e = refl

@@ -11,8 +11,8 @@ use Rattle.df_core.proofs.Passing.{same_fired}
 use Rattle.df_core.proofs.Counting.{ops_count}
 use Rattle.ws_isa.specs.Operations.{operations, ops, FaultsAt}
 use Rattle.df_core.proofs.Past.{past_is, past_memory}
-use Rattle.df_core.proofs.OpsCount.{count_op}
 use Rattle.df_core.proofs.Ends.{one_fault}
+use Rattle.ws_isa.proofs.OneEffect.{fired_more}
 
 module _ (image : Image) (world : World) (facts : WalkFacts image world) (s : State) (fit : Fit image world s) (grounded : Grounded image world s) where
   fired_to : (h : StoppedAt image world fit.legal.cut s.waiting s.chain) (u : ℕ) (y : Inst) → u < suc h.time → fires image world u ≡ Some y → is_memory image y.instr ≡ true → HasFired s.fired y.wave y.instr
@@ -36,5 +36,5 @@ module _ (image : Image) (world : World) (facts : WalkFacts image world) (s : St
       let all : length (operations image (walk image world (suc h.time))) ≤ length s.fired = ops_count image world facts s (suc h.time) (fired_to h) in
       let u : length (ops image world (suc h.time)) ≡ length (operations image (walk image world (suc h.time))) = ap length (unfolded (suc h.time)) in
       let mx : is_memory image h.fault.inst.instr ≡ true = past_memory image h.fault.inst.instr h.fault.inst.operands (sym (past_is image h.fault.inst) ∙ h.fault.is_past) in
-      let c : length (ops image world (suc h.time)) ≡ suc (length (ops image world h.time)) = count_op image world h.time h.fault.inst h.fault.fired mx in
+      let c : length (ops image world (suc h.time)) ≡ suc (length (ops image world h.time)) = fired_more image world h.time h.fault.inst h.fault.fired mx in
       subst (λ (n : ℕ). length (ops image world n) < length s.fired) same (omega arith)

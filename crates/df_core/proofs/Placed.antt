@@ -1,14 +1,15 @@
 -- Instructions by number.
 use Rattle.std.proofs.Common.{ℕ, zero, suc, ◌+◌, ◌-◌, ◌≡◌, ◌<◌, ◌≤◌, List, [], ◌∷◌, ◌++◌, length, map, Option, Some, None, slice_index_or, refl, sym, ap, ◌∙◌, subst, inl, inr, arith, append_assoc, length-append}
 use Rattle.std.proofs.lemmas.Bool.{cases_lt, lt-ltb, le-ltb}
-use Rattle.ws_isa.specs.Image.{Image, Instr, Block, nth, or_else, flat, holder, instr_at, block_of, no_instr}
+use Rattle.ws_isa.specs.Image.{Image, Instr, Block, flat, holder, instr_at, block_of, no_instr}
 use Rattle.ws_isa.specs.View as view
 use Rattle.ws_isa.specs.declared.instr.Instr as code
 use Rattle.ws_isa.specs.declared.image.Block as code_block
 use Rattle.df_core.specs.declared.program.PlacedInstr.{PlacedInstr}
 use Rattle.df_core.specs.Places.{place_in_code, places, PlaceIs}
 use Rattle.ws_words.proofs.Lists.{length_map}
-use Rattle.ws_isa.proofs.Blocks.{nth_append_left as nth_front}
+use Rattle.ws_words.specs.Items.{nth, or_else}
+use Rattle.ws_words.proofs.Places.{nth_append_left}
 
 nth_behind : {A : Type 0} (xs ys : List A) (k : ℕ) → length xs ≤ k → nth (xs ++ ys) k ≡ nth ys (k - length xs)
 nth_behind [] ys k l = let e : k ≡ k - 0 = omega arith in ap (nth ys) e
@@ -25,9 +26,9 @@ pub placed : (bs : List Block) (n k : ℕ) (i : Instr) (b : ℕ) → nth (places
 placed [] n k i b e = cc
 placed (x ∷ bs) n k i b e = elim (cases_lt k (length x.instrs)) [
   | inl l ↦ (let len : length (map (λ (j : Instr). pair j n) x.instrs) ≡ length x.instrs = length_map (λ (j : Instr). pair j n) x.instrs in
-      let f : nth (map (λ (j : Instr). pair j n) x.instrs) k ≡ Some (i, b) = sym (nth_front (map (λ (j : Instr). pair j n) x.instrs) (places bs (suc n)) k (omega arith)) ∙ e in
+      let f : nth (map (λ (j : Instr). pair j n) x.instrs) k ≡ Some (i, b) = sym (nth_append_left (map (λ (j : Instr). pair j n) x.instrs) (places bs (suc n)) k (omega arith)) ∙ e in
       let r = nth_map (λ (j : Instr). pair j n) x.instrs k (i, b) f in (
-        nth_front x.instrs (flat bs) k l ∙ r.1 ∙ ap (λ (y : Instr × ℕ). Some (y.0)) r.2,
+        nth_append_left x.instrs (flat bs) k l ∙ r.1 ∙ ap (λ (y : Instr × ℕ). Some (y.0)) r.2,
         rw (lt-ltb k (length x.instrs) l) (ap (λ (y : Instr × ℕ). y.1) r.2),
       ))
   | inr l ↦ (let len : length (map (λ (j : Instr). pair j n) x.instrs) ≡ length x.instrs = length_map (λ (j : Instr). pair j n) x.instrs in

@@ -1,10 +1,11 @@
 -- Lemmas on ports: one value changed, tokens put on the way, a full instance, its operands.
 use Rattle.std.proofs.Common.{ℕ, zero, suc, ◌+◌, ◌≡◌, ◌<◌, ◌⊎◌, true, false, List, [], ◌∷◌, length, Option, Some, None, refl, sym, ap, ◌∙◌, inl, inr, arith, eq-eqb, ne_eqb, add-suc, add-zero, suc-add}
 use Rattle.std.proofs.lemmas.Bool.{cases_eq, and_parts, and_from}
-use Rattle.ws_isa.specs.Image.{Token, nth}
+use Rattle.ws_isa.specs.Image.{Token}
 use Rattle.ws_isa.specs.Walk.{Ports, gather}
 pub use Rattle.ws_isa.proofs.Slots.{SamePlace}
 use Rattle.df_core.specs.Core.{IsSent, same_place, with_at, with_key, or_put, put_one, put_all, has, is_full}
+use Rattle.ws_words.specs.Items.{nth}
 
 pub same_place_cases : (w i p a b q : ℕ) → ((same_place w i p a b q ≡ true) × SamePlace w i p a b q) ⊎ ((same_place w i p a b q ≡ false) × (SamePlace w i p a b q → ⊥))
 same_place_cases w i p a b q = go (cases_eq w a) (cases_eq i b) (cases_eq p q)

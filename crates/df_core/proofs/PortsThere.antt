@@ -5,7 +5,7 @@ use Rattle.std.proofs.lemmas.Bool.{cond_both}
 use Rattle.ws_isa.specs.declared.instr.Op.{Op}
 use Rattle.ws_isa.specs.declared.instr.Op.TheVariants.{Steer, Send}
 use Rattle.ws_isa.specs.declared.instr.Dest.{Dest}
-use Rattle.ws_isa.specs.Image.{Image, Instr, Pad, Block, nth, or_else, flat, ports, pad_of, instr_at, block_at, no_instr, no_block, now_of, now_dests, edge_of, edge_dests, target, start_dests}
+use Rattle.ws_isa.specs.Image.{Image, Instr, Pad, Block, flat, ports, pad_of, instr_at, block_at, no_instr, no_block, now_of, now_dests, edge_of, edge_dests, target, start_dests}
 use Rattle.ws_isa.specs.Formed.{Formed, DestsIn}
 use Rattle.ws_isa.specs.Sound.{HasDest, PortsThere}
 use Rattle.ws_isa.proofs.There.{all_nth}

@@ -2,13 +2,14 @@
 use Rattle.std.proofs.Common.{ℕ, zero, suc, ◌≡◌, ◌<◌, ◌≤◌, true, false, length, Option, Some, None, refl, sym, ap, ◌∙◌, inl, inr, arith}
 use Rattle.std.proofs.lemmas.Bool.{cases_lt}
 use Rattle.ws_words.specs.Outside.{World}
-use Rattle.ws_isa.specs.Image.{Image, nth, ports, is_memory}
+use Rattle.ws_isa.specs.Image.{Image, ports, is_memory}
 use Rattle.ws_isa.specs.Walk.{Inst, fires}
 use Rattle.df_core.specs.Core.{Chain, State, HasFired, Match, Issue, Rest}
 use Rattle.df_core.specs.Fit.{chain_at, NoOp, IsThere, Fit}
 use Rattle.df_core.proofs.Facts.{WalkFacts}
 use Rattle.df_core.proofs.Pauses.{chain_same}
 use Rattle.ws_isa.proofs.Images.{nth_within}
+use Rattle.ws_words.specs.Items.{nth}
 
 -- the instance has fired, and was issued if it is a memory one
 pub record IsDone (image : Image) (s : State) (x : Inst) : Type 0 where

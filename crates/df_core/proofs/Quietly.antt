@@ -9,8 +9,7 @@ use Rattle.ws_isa.specs.Image.{Image, ports, is_memory}
 use Rattle.ws_isa.specs.Formed.{Formed}
 use Rattle.ws_isa.specs.Walk.{Ports}
 use Rattle.ws_isa.specs.Sound.{Sound}
-use Rattle.df_core.specs.Core.{State, Key, Match, Issue, Same, Step, MatchStep, Enabled, IsSent, has, is_full, with_at, same_place, arrived, asks, tells, matched, issue}
-use Rattle.df_core.specs.Fit.{Fit}
+use Rattle.df_core.specs.Core.{State, Key, Match, Issue, Step, Enabled, IsSent, has, is_full, with_at, same_place, arrived, asks, tells, matched, issue, Event}
 use Rattle.df_core.proofs.FromSound.{facts_of}
 use Rattle.df_core.proofs.PortsThere.{ports_there}
 use Rattle.df_core.specs.declared.plain.Token.{Token}
@@ -21,11 +20,12 @@ use Rattle.df_core.specs.declared.engine.Core.{Core}
 use Rattle.df_core.specs.Places.{image_of}
 use Rattle.df_core.specs.Partial.{partial_of}
 use Rattle.df_core.specs.Ways.{token_of, way_of, no_token}
-use Rattle.df_core.specs.Flows.{Holds, NoneMay}
+use Rattle.df_core.specs.Flows.{NoneAskedMay, FlowIs}
 use Rattle.df_core.specs.Cores.{IsAt}
 use Rattle.df_core.specs.Quiet.{IsQuiet, IsQuietly, OnlyFires, fills, AllFill}
 use Rattle.df_core.proofs.StandsMatch.{full_agree, way_unfired}
 use Rattle.df_core.proofs.Driving.{none_enabled}
+use Rattle.df_core.proofs.Same.{same_refl}
 
 eqb_same : (n : ℕ) → eqb n n ≡ true
 eqb_same n = eq-eqb n n refl
@@ -100,13 +100,10 @@ fills_sent image slots (t ∷ ts) w i p v a (inl h) = subst (λ (u : plain.Token
 fills_sent image slots (t ∷ ts) w i p v a (inr h) = fills_sent image slots ts w i p v a.1 h
 
 -- an issue fires nothing
-issue_quiet : (image : Image) (s : State) (w i : ℕ) → IsQuiet image s (Issue w i)
+pub issue_quiet : (image : Image) (s : State) (w i : ℕ) → IsQuiet image s (Issue w i)
 unfolding issue
 issue_quiet image s w i t (inl st) = st.becomes.fired
 issue_quiet image s w i t (inr st) = st.becomes.fired
-
-same_refl : (s : State) → Same s s
-same_refl s = record { held = λ w i p. refl; way = λ w i p. refl; fired = refl; waiting = λ w i. refl; issued = λ w i. refl; chain = refl; stopped = refl; memory = refl }
 
 pub value_is : (a b : ℕ) (o : Option ℕ) → o ≡ Some a → o ≡ Some b → a ≡ b
 value_is a b o e f = let g : Some a ≡ Some b = sym e ∙ f in cc
@@ -114,7 +111,7 @@ value_is a b o e f = let g : Some a ≡ Some b = sym e ∙ f in cc
 longer : (k : Key) (ks : List Key) → k ∷ ks ≡ ks → ⊥
 longer k ks e = let l : length (k ∷ ks) ≡ length ks = ap length e in omega arith
 
-module _ (image : Image) (world : World) (formed : Formed image) (sound : Sound image) (taken : List plain.Token) (flow : Flow) (s : State) (h : Holds image world taken flow s) (w i p v : ℕ) (on_way : s.way w i p ≡ Some v) where
+module _ (image : Image) (world : World) (formed : Formed image) (sound : Sound image) (taken : List plain.Token) (flow : Flow) (s : State) (h : FlowIs image world taken flow s) (w i p v : ℕ) (on_way : s.way w i p ≡ Some v) where
   pub full_is : is_full (arrived s w i p v).held w i (ports image i) ≡ fills image flow.slots (record { wave = w; instr = i; port = p; value = v })
   full_is = full_agree (arrived s w i p v).held (with_at w i p (Some v) (partial_of flow.slots.slots.items flow.slots.spill)) w i (ports image i)
       (λ q. ap (λ (o : Option ℕ). cond (same_place w i p w i q) (Some v) o) (h.stands.held w i q (way_unfired image world (facts_of image world (ports_there image formed) sound) s h.stands.fit w i p v on_way)))
@@ -140,8 +137,8 @@ module _ (image : Image) (world : World) (formed : Formed image) (sound : Sound 
   match_fires e quiet = longer (record { wave = w; instr = i }) s.fired
       (sym (fires_fired e) ∙ quiet (matched image s w i p v) (record { value = v; on_way = on_way; becomes = same_refl (matched image s w i p v) }))
 
-pub holds_here : (image : Image) (world : World) (core : Core) (s : State) → IsAt image world core s → Holds (image_of core.program) world [] core.flow s
-holds_here image world core s at = subst (λ (im : Image). Holds im world [] core.flow s) (sym at.image_is) at.holds
+pub holds_here : (image : Image) (world : World) (core : Core) (s : State) → IsAt image world core s → FlowIs (image_of core.program) world [] core.flow s
+holds_here image world core s at = subst (λ (im : Image). FlowIs im world [] core.flow s) (sym at.image_is) at.holds
 
 pub issue_quietly : (core : Core) (w i : ℕ) → ((image : Image) (world : World) (s : State) → IsAt image world core s → Enabled image s (Issue w i)) → IsQuietly (Issue w i) core
 issue_quietly core w i enabled image world s at = (enabled image world s at, issue_quiet image s w i)
@@ -154,7 +151,7 @@ match_quietly core w i p v sent e image world s at =
       subst (λ (im : Image). IsQuiet im s (Match w i p)) at.image_is (match_quiet (image_of core.program) world (subst Formed (sym at.image_is) at.formed) (subst Sound (sym at.image_is) at.sound) [] core.flow s h w i p v on_way e),
     )
 
-pub only_fires : (core : Core) → AllFill (image_of core.program) core.flow.slots (way_of core.flow.way) → (is_some core.flow.fault ≡ true) ⊎ NoneMay (image_of core.program) core.flow → OnlyFires core
+pub only_fires : (core : Core) → AllFill (image_of core.program) core.flow.slots (way_of core.flow.way) → (is_some core.flow.fault ≡ true) ⊎ NoneAskedMay (image_of core.program) core.flow → OnlyFires core
 only_fires core all none image world s at (Match w i p) on quiet =
     let h = holds_here image world core s at in
     match_fires (image_of core.program) world (subst Formed (sym at.image_is) at.formed) (subst Sound (sym at.image_is) at.sound) [] core.flow s h w i p on.0 on.1
@@ -163,3 +160,9 @@ only_fires core all none image world s at (Match w i p) on quiet =
 only_fires core all (inl f) image world s at (Issue w i) on quiet = both_ways _ on.1.issuable.going (at.holds.stopped_is ∙ f)
 only_fires core all (inr none) image world s at (Issue w i) on quiet =
     none_enabled (image_of core.program) world [] core.flow s (holds_here image world core s at) none w i (subst (λ (im : Image). Enabled im s (Issue w i)) (sym at.image_is) on)
+
+-- what steps is enabled
+pub step_enabled : (image : Image) (s t : State) (e : Event) → Step image s e t → Enabled image s e
+step_enabled image s t (Match w i p) st = (st.value, st.on_way)
+step_enabled image s t (Issue w i) (inl st) = (st.operands, st.ready)
+step_enabled image s t (Issue w i) (inr st) = (st.operands, st.ready)

@@ -1,4 +1,4 @@
--- Room for what is left to happen.
+-- FlowRoom for what is left to happen.
 use Rattle.std.proofs.Common.{ℕ, suc, ◌+◌, ◌≡◌, ◌≤◌, true, false, [], ◌∷◌, ◌++◌, Vec, Global, vec_len, vec_capacity, ap, inl, inr, arith}
 use Rattle.std.proofs.lemmas.Bool.{cases_Bool}
 use Rattle.std.specs.HashMap.{spare}
@@ -9,7 +9,7 @@ use Rattle.df_core.specs.declared.memory.Memory.{Memory}
 use Rattle.df_core.specs.declared.slots.MatchStore.{MatchStore}
 use Rattle.df_core.specs.declared.flow.Flow.{Flow}
 use Rattle.df_core.specs.Outdoors.{Space}
-use Rattle.df_core.specs.Flows.{Room, AskedMore}
+use Rattle.df_core.specs.Flows.{AskedMore, FlowRoom}
 
 pub space_less : (m : Memory) (a b : ℕ) → b ≤ a → Space m a → Space m b
 space_less m a b l s = record {
@@ -20,7 +20,7 @@ space_less m a b l s = record {
 -- tokens were sent, and the instance that sent them is no more to fire
 pub room_sent : (old new : Flow) (k n : ℕ) → k ≤ 8 → new.slots ≡ old.slots → new.asked ≡ old.asked → new.early ≡ old.early → new.memory ≡ old.memory →
     vec_len new.way.now + vec_len new.way.later ≡ vec_len old.way.now + vec_len old.way.later + k → vec_capacity new.way.now ≡ vec_capacity old.way.now → vec_capacity new.way.later ≡ vec_capacity old.way.later →
-    Room old 0 (suc n) → Room new 0 n
+    FlowRoom old 0 (suc n) → FlowRoom new 0 n
 room_sent old new k n l slots asked early memory both now later r =
     let cs : spare new.slots.spill ≡ spare old.slots.spill = ap (λ (s : MatchStore). spare s.spill) slots in
     let la : vec_len new.asked ≡ vec_len old.asked = ap (λ (v : Vec Asked Global). vec_len v) asked in
@@ -38,7 +38,7 @@ room_sent old new k n l slots asked early memory both now later r =
 
 -- the token in hand was put down, or is forgotten
 pub room_put : (old new : Flow) (n m : ℕ) → n ≡ m → spare old.slots.spill ≤ spare new.slots.spill + 1 → new.way ≡ old.way → new.asked ≡ old.asked → new.early ≡ old.early → new.memory ≡ old.memory →
-    Room old 1 n → Room new 0 m
+    FlowRoom old 1 n → FlowRoom new 0 m
 room_put old new n m nm cs way asked early memory r = rw (way, asked, early, memory) (record {
   now = omega (arith, r.now);
   later = omega (arith, r.later);
@@ -52,7 +52,7 @@ room_put old new n m nm cs way asked early memory r = rw (way, asked, early, mem
 pub room_issued : (old new : Flow) (k n : ℕ) → k ≤ 8 → new.slots ≡ old.slots → vec_len new.asked + 1 ≡ vec_len old.asked → vec_capacity new.asked ≡ vec_capacity old.asked → vec_len new.early ≤ vec_len old.early + 1 → vec_capacity new.early ≡ vec_capacity old.early →
     ((q : ℕ) → Space old.memory (suc q) → Space new.memory q) →
     vec_len new.way.now + vec_len new.way.later ≡ vec_len old.way.now + vec_len old.way.later + k → vec_capacity new.way.now ≡ vec_capacity old.way.now → vec_capacity new.way.later ≡ vec_capacity old.way.later →
-    Room old 0 n → Room new 0 n
+    FlowRoom old 0 n → FlowRoom new 0 n
 room_issued old new k n l slots la ca le ce memory both now later r =
     let cs : spare new.slots.spill ≡ spare old.slots.spill = ap (λ (s : MatchStore). spare s.spill) slots in
     record {

@@ -1,5 +1,5 @@
 -- What is true of a state is true of one that answers alike.
-use Rattle.std.proofs.Common.{ℕ, sym, ap, ◌∙◌, subst, inl, inr}
+use Rattle.std.proofs.Common.{ℕ, sym, ap, ◌∙◌, subst, inl, inr, refl}
 use Rattle.ws_words.specs.Outside.{World}
 use Rattle.ws_isa.specs.Image.{Image, ports, note_of}
 use Rattle.ws_isa.specs.Walk.{Inst}
@@ -84,3 +84,7 @@ module _ (image : Image) (world : World) (s t : State) (same : Same s t) where
     requests = λ w i xs e. fired_back w i (g.requests w i xs (sym (same.waiting w i) ∙ e));
     issued = λ w i a e. fired_back w i (g.issued w i a (sym (same.issued w i) ∙ e));
   }
+
+-- a state answers like itself
+pub same_refl : (s : State) → Same s s
+same_refl s = record { held = λ w i p. refl; way = λ w i p. refl; fired = refl; waiting = λ w i. refl; issued = λ w i. refl; chain = refl; stopped = refl; memory = refl }

@@ -24,13 +24,13 @@ use Rattle.df_core.proofs.Place.{fault_place}
 use Rattle.df_core.specs.declared.drive.Finish.{Finish}
 use Rattle.df_core.specs.declared.drive.Finish.TheVariants as finish
 use Rattle.df_core.specs.declared.flow.Flow.{Flow}
-use Rattle.df_core.specs.Outdoors.{OutIs}
-use Rattle.df_core.specs.Flows.{IsFault, Holds}
+use Rattle.df_core.specs.Flows.{IsFault, FlowIs}
 use Rattle.df_core.specs.Finishes.{FinishIs, IsSpent, Ended, is_budget}
 use Rattle.df_core.specs.Told.{done_of, run_of}
 use Rattle.df_core.specs.Answer.{Tells, Rested, CutShort, Faulted, RunSo}
 use Rattle.df_core.proofs.Issuing.{printed_alike, ports_alike}
 use Rattle.df_core.proofs.Firings.{none_fires}
+use Rattle.df_core.specs.Outdoors.{MemoryIs}
 
 pub no_fault_at : (image : Image) (world : World) → NoFault image world → (t : ℕ) → FaultsAt image world t → ⊥
 no_fault_at image world none t f = both_ways _ (none t f.inst f.fired) f.is_past
@@ -40,16 +40,16 @@ going_rest image world s going (inl w) = w
 going_rest image world s going (inr f) = absurd (both_ways _ going f.stopped)
 
 -- an effect tells what is outside: loads neither print, nor store, nor give words to ports
-tells : (o : Outside) (flow : Flow) → OutIs (effect_of o) flow.memory → Tells o (done_of flow)
+tells : (o : Outside) (flow : Flow) → MemoryIs (effect_of o) flow.memory → Tells o (done_of flow)
 tells o flow h = record {
   printed = sym h.same_printed ∙ printed_alike o.acts;
   arrays = sym h.same_cells;
   took = sym h.same_took ∙ ports_alike o.acts;
 }
 
-module _ (image : Image) (world : World) (facts : WalkFacts image world) (budget : ℕ) (taken : List plain.Token) (flow : Flow) (s : State) (k : Kept image world s) (h : Holds image world taken flow s) where
+module _ (image : Image) (world : World) (facts : WalkFacts image world) (budget : ℕ) (taken : List plain.Token) (flow : Flow) (s : State) (k : Kept image world s) (h : FlowIs image world taken flow s) where
   tells_at : (t : ℕ) → effect_at image world t ≡ s.memory → Tells (mem image world t) (done_of flow)
-  tells_at t e = tells (mem image world t) flow (subst (λ (o : Outside). OutIs o flow.memory) (sym e ∙ effect_is image world t) h.memory_is)
+  tells_at t e = tells (mem image world t) flow (subst (λ (o : Outside). MemoryIs o flow.memory) (sym e ∙ effect_is image world t) h.memory_is)
 
   rested : flow.fired ≤ budget → Whole image world s → Rested image world budget (done_of flow)
   rested within w =
@@ -126,15 +126,15 @@ module _ (image : Image) (world : World) (facts : WalkFacts image world) (budget
       record { told = w; rests = (λ e. absurd (both_ways false refl e), λ e. absurd (no_fault_at image world e.0 w.time w.fault)); faults = λ t at c. refl }
 
 -- a run from what was opened
-pub opened_none : (image : Image) (world : World) (flow : Flow) → Holds image world [] flow (core_opening image world) → flow.fired ≡ 0
+pub opened_none : (image : Image) (world : World) (flow : Flow) → FlowIs image world [] flow (core_opening image world) → flow.fired ≡ 0
 unfolding core_opening
 opened_none image world flow h = sym h.count_is
 
 -- a run from wherever the parts stood
-pub answers : (image : Image) (world : World) (budget : ℕ) (finish : Finish) (old new : Flow) (s : State) → Formed image → Sound image → Holds image world [] old s → new.fired ≤ budget → Ended image budget old new finish → RunSo image world budget (run_of finish new)
+pub answers : (image : Image) (world : World) (budget : ℕ) (finish : Finish) (old new : Flow) (s : State) → Formed image → Sound image → FlowIs image world [] old s → new.fired ≤ budget → Ended image budget old new finish → RunSo image world budget (run_of finish new)
 answers image world budget finish old new s formed sound h le f =
     let r = f world s formed sound h in
-    let held : Holds image world [] new r.0 = r.2 in
+    let held : FlowIs image world [] new r.0 = r.2 in
     let k : Kept image world r.0 = record { fit = held.stands.fit; grounded = held.stands.grounded; once = held.stands.once } in
     says image world (facts_of image world (ports_there image formed) sound) budget [] new r.0 k held finish le r.3
 

@@ -5,7 +5,7 @@ use Rattle.ws_words.specs.Outside.{World}
 use Rattle.ws_isa.specs.declared.instr.Op.{Op}
 use Rattle.ws_isa.specs.declared.instr.Op.TheVariants.{Merge, Steer, Send}
 use Rattle.ws_isa.specs.declared.instr.Dest.{Dest}
-use Rattle.ws_isa.specs.Image.{Image, Instr, Exit, Branch, Landings, nth, ports, instr_at, is_memory, is_advance, is_advance_op, is_memory_op, first_number, block_at, block_of, stops, is_stop, target, now_dests, edge_dests, edge_of, selector, selector_of, result_of, result_of_op, tokens_to, sends, is_first, start_dests, size_of, IsIn, IsBlock}
+use Rattle.ws_isa.specs.Image.{Image, Instr, Exit, Branch, Landings, ports, instr_at, is_memory, is_advance, is_advance_op, is_memory_op, first_number, block_at, block_of, stops, is_stop, target, now_dests, edge_dests, edge_of, selector, selector_of, result_of, result_of_op, tokens_to, sends, is_first, start_dests, size_of, IsIn, IsBlock}
 use Rattle.ws_isa.specs.Walk.{Inst, Pos, no_ports, pos, opening, fire, fires, choice, choice_of, result_at, operands_at, inst_at, start_tokens, with_tokens, edge_tokens}
 use Rattle.ws_isa.specs.Sound.{OpenSlots, none_open, closed, opens_at, HasDest, PortsThere, BringsResult, direct, through, ShapeRules, SlotRules}
 use Rattle.df_core.specs.Core.{IsSent}
@@ -18,6 +18,7 @@ use Rattle.ws_isa.specs.Standing.{turn_number, slots_at}
 use Rattle.ws_isa.proofs.Along.{path_end}
 use Rattle.ws_isa.proofs.Slots.{all_opened_has, closed_cases, edge_lands, fresh_apart, with_tokens_lands, edge_all_has, has_at}
 use Rattle.ws_isa.proofs.Firing.{advance_port as advance_ports_op}
+use Rattle.ws_words.specs.Items.{nth}
 
 pub advance_ports : (image : Image) (j : ℕ) → is_advance image j ≡ true → ports image j ≡ 1
 unfolding is_advance ports

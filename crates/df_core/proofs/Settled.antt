@@ -5,21 +5,18 @@ use Rattle.std.proofs.lemmas.Bool.{both_ways}
 use Rattle.ws_isa.specs.declared.instr.Link.{Link}
 use Rattle.ws_isa.specs.declared.instr.Link.TheVariants.{Unknown, Nothing, Is}
 use Rattle.ws_isa.specs.declared.instr.Note.{Note}
-use Rattle.ws_isa.specs.Image.{Image, In, note_of}
+use Rattle.ws_isa.specs.Image.{Image, note_of}
 use Rattle.df_core.specs.Core.{Chain, IsNext, pass, pass_by}
 use Rattle.df_core.specs.Stands.{left_by, left_after, Settles, done, goes}
 use Rattle.df_core.specs.Chains.{is_nothing, next_flag, PassedOn}
 use Rattle.df_core.proofs.Nexts.{next_is, next_not}
+use Rattle.ws_words.specs.Items.{In}
+use Rattle.ws_words.proofs.Places.{in_place}
 
 pub in_at : (xs : List ℕ) (i : ℕ) → In i xs → (k : ℕ) × (k < length xs) × (slice_index xs k ≡ i)
 in_at [] i h = absurd h
 in_at (x ∷ xs) i (inl h) = (0, omega arith, sym h)
 in_at (x ∷ xs) i (inr h) = let r = in_at xs i h in (suc r.0, (let l : r.0 < length xs = r.1 in omega arith), r.2)
-
-pub at_in : (xs : List ℕ) (k : ℕ) → k < length xs → In (slice_index xs k) xs
-at_in [] k l = absurd (omega arith)
-at_in (x ∷ xs) zero l = inl refl
-at_in (x ∷ xs) (suc k) l = inr (at_in xs k (omega arith))
 
 remove_back : (xs : List ℕ) (k j : ℕ) → In j (remove xs k) → In j xs
 remove_back [] k j h = nothing k h
@@ -43,7 +40,7 @@ pub one_more : (image : Image) (c d new : Chain) (early rest left : List ℕ) (k
     rest ≡ left_after n (remove early k) → new ≡ pass c n → Settles image new rest d left → Settles image c early d left
 one_more image c d new early rest left k n l nx e f g s =
     let i = slice_index early k in
-    goes i (remove early k) (at_in early k l) nx (λ j h. remove_back early k j h) (λ j h. remove_forth early k j l h)
+    goes i (remove early k) (in_place early k l) nx (λ j h. remove_back early k j h) (λ j h. remove_forth early k j l h)
     (subst (λ (m : Note). Settles image (pass c m) (left_after m (remove early k)) d left) e
     (subst (λ (xs : List ℕ). Settles image (pass c n) xs d left) f (subst (λ (x : Chain). Settles image x rest d left) g s)))
 

@@ -5,22 +5,19 @@ use Rattle.ws_words.specs.Outside.{Outside, World}
 use Rattle.ws_isa.specs.declared.instr.Link.{Link}
 use Rattle.ws_isa.specs.declared.instr.Link.TheVariants.{Unknown, Nothing, Is}
 use Rattle.ws_isa.specs.declared.instr.Note.{Note}
-use Rattle.ws_isa.specs.Image.{Image, In, is_memory, note_of}
+use Rattle.ws_isa.specs.Image.{Image, is_memory, note_of}
 use Rattle.ws_isa.specs.Walk.{Inst}
 use Rattle.df_core.specs.Core.{Chain, IsNext, Passes, stays, passes, pass, pass_by}
 use Rattle.df_core.specs.Fit.{FiresAt, chain_at, NoOp, IssuedOp, Ordered}
-use Rattle.df_core.specs.Stands.{left_by, left_after, HasEarly, Settles, done, goes}
+use Rattle.df_core.specs.Stands.{left_by, left_after, HasEarly, Settles, done, goes, EarlyIssued}
 use Rattle.df_core.proofs.Facts.{WalkFacts}
 use Rattle.df_core.proofs.Pauses.{chain_same}
 use Rattle.df_core.proofs.Passing.{ordered_next}
+use Rattle.ws_words.specs.Items.{In}
 
 -- the same at one cut
 abbrev pub EarlyAt : Image → World → (ℕ → ℕ → Option ℕ) → ℕ → List ℕ → Type 0
 EarlyAt image world issued cut early = (w i a t : ℕ) → issued w i ≡ Some a → (x : Inst) → FiresAt image world w i t x → is_memory image i ≡ true → cut ≤ t → In i early
-
--- these are issued in the chain's wave
-abbrev pub EarlyIssued : (ℕ → ℕ → Option ℕ) → Chain → List ℕ → Type 0
-EarlyIssued issued c early = (i : ℕ) → In i early → (a : ℕ) × (issued c.wave i ≡ Some a)
 
 module _ (image : Image) (world : World) (facts : WalkFacts image world) where
   -- one instance fires at one step

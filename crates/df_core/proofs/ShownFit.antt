@@ -2,7 +2,7 @@
 use Rattle.std.proofs.Common.{ℕ, ◌≡◌, ◌⊎◌, Bool, true, false, cond, ◌&&◌, List, [], ◌∷◌, ◌++◌, Option, Some, None, refl, sym, ap, ◌∙◌, inl, inr, eq-eqb, eqb-true}
 use Rattle.std.proofs.lemmas.Bool.{cases_Bool, both_ways, cond-true, cond-false, and_parts, and_from}
 use Rattle.ws_words.specs.Outside.{World}
-use Rattle.ws_isa.specs.Image.{Image, Token, or_else, is_memory, result_of, sends}
+use Rattle.ws_isa.specs.Image.{Image, Token, is_memory, result_of, sends}
 use Rattle.ws_isa.specs.Walk.{Ports, no_ports, Inst, start_tokens}
 use Rattle.df_core.specs.Core.{Key, HasFired, IsSent, same_key, put_all, operands_in}
 use Rattle.df_core.specs.Fit.{FiresAt, RightToken, RightRequest, StoppedAt, Fit}
@@ -11,6 +11,7 @@ use Rattle.df_core.proofs.Facts.{WalkFacts}
 use Rattle.df_core.proofs.Ports.{put_all_held, put_all_from, put_all_lands}
 use Rattle.df_core.proofs.SlotLists.{is_sent_append_left, is_sent_append_right, is_sent_append_cases}
 use Rattle.df_core.proofs.MatchKept.{same_inst, same_value, right_operands}
+use Rattle.ws_words.specs.Items.{or_else}
 
 pub lists_true : (ks : List Key) (w i : ℕ) → lists ks w i ≡ true → HasFired ks w i
 lists_true [] w i e = both_ways true (sym e) refl

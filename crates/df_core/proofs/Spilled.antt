@@ -1,12 +1,13 @@
 -- Tokens that are spilled.
-use Rattle.std.proofs.Common.{ℕ, zero, suc, ◌<◌, ◌≡◌, ◌⊎◌, Bool, true, false, cond, ◌&&◌, ◌==◌, eqb, List, [], ◌∷◌, length, Option, Some, None, unwrap_or, refl, sym, ap, subst, ◌∙◌, inl, inr, eq-eqb, ne_eqb, arith}
+use Rattle.std.proofs.Common.{ℕ, zero, suc, ◌<◌, ◌≡◌, ◌⊎◌, true, false, cond, ◌&&◌, ◌==◌, eqb, List, [], ◌∷◌, length, Option, Some, None, unwrap_or, refl, sym, ap, subst, ◌∙◌, inl, inr, eq-eqb, ne_eqb, arith}
 use Rattle.std.proofs.lemmas.Bool.{cases_eq, cases_Bool, cond-true, cond-false}
 use Rattle.std.specs.HashMap.{get, hash_map_len}
-use Rattle.df_core.specs.Core.{same_key, same_place, with_at}
+use Rattle.df_core.specs.Core.{same_key, with_at}
 use Rattle.df_core.specs.Stands.{cleared}
 use Rattle.df_core.proofs.Ports.{same_place_cases}
 use Rattle.df_core.specs.declared.slots.Slot.{Slot}
-use Rattle.df_core.specs.Partial.{Spill, empty_slot, port_of, with_port, slotted, in_slot, slot_at, spilled_at, spilled, first_some, partial_of}
+use Rattle.df_core.specs.Partial.{Spill, empty_slot, port_of, with_port, slotted, in_slot, slot_at, spilled_at, spilled, partial_of}
+use Rattle.ws_words.specs.Items.{first_some}
 
 -- what is spilled of an instance, if anything
 abbrev kept_at : Spill → ℕ × ℕ → Option Slot

@@ -7,14 +7,14 @@ use Rattle.ws_isa.specs.Walk.{Inst, Ports}
 use Rattle.df_core.specs.Effect.{effect_after}
 use Rattle.df_core.specs.Core.{Apart, Chain, State, IsSent, IsNext, Passes, stays, passes, pass, Issuable, issued_with, issue}
 use Rattle.df_core.specs.Fit.{FiresAt, IssuedOp, Ordered, IsThere, HasTold, Fit}
-use Rattle.df_core.specs.Stands.{Request, HasRequest, left_after, HasEarly, Settles, Stands}
+use Rattle.df_core.specs.Stands.{Request, HasRequest, left_after, HasEarly, Settles, Stands, EarlyIssued}
 use Rattle.df_core.proofs.Facts.{WalkFacts}
 use Rattle.df_core.proofs.Ports.{SameKey, with_key_cases, with_key_same, put_all_keeps, put_all_from}
 use Rattle.df_core.proofs.SlotLists.{is_sent_append_left, is_sent_append_right, is_sent_append_cases}
 use Rattle.df_core.proofs.BufferKept as B
 use Rattle.df_core.proofs.IssueKept.{issue_fit, issue_grounded, stop_fit, stop_grounded}
 use Rattle.df_core.proofs.StandsMatch.{apart_append, new_place}
-use Rattle.df_core.proofs.Settling.{EarlyAt, EarlyIssued, settle, early_any, one_time, pass_early, pass_issued}
+use Rattle.df_core.proofs.Settling.{EarlyAt, settle, early_any, one_time, pass_early, pass_issued}
 
 module _ (image : Image) (world : World) (facts : WalkFacts image world) (s : State) (partial : Ports) (way : List Token) (w i : ℕ) (xs : List ℕ) (rest : List Request) (early : List ℕ)
     (st : Stands image world partial way (record { wave = w; instr = i; operands = xs } ∷ rest) early s) where

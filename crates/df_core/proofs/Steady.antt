@@ -2,7 +2,7 @@
 use Rattle.std.proofs.Common.{ℕ, ◌+◌, ◌*◌, ◌≡◌, ◌≤◌, vec_len, vec_capacity, refl, arith}
 use Rattle.df_core.specs.declared.flow.Flow.{Flow}
 use Rattle.df_core.proofs.Rooms.{space_less}
-use Rattle.df_core.specs.Flows.{Room, SameParts}
+use Rattle.df_core.specs.Flows.{SameParts, FlowRoom}
 
 pub same_parts : (a : Flow) → SameParts a a
 same_parts a = record {
@@ -22,7 +22,7 @@ same_parts a = record {
 pub room_taken : (old new : Flow) (n : ℕ) → new.slots ≡ old.slots → new.asked ≡ old.asked → new.early ≡ old.early → new.memory ≡ old.memory →
     vec_len new.way.now + vec_len new.way.later + 1 ≡ vec_len old.way.now + vec_len old.way.later →
     ((m : ℕ) → m ≤ vec_capacity old.way.now → m ≤ vec_capacity old.way.later → (m ≤ vec_capacity new.way.now) × (m ≤ vec_capacity new.way.later)) →
-    Room old 0 n → Room new 1 n
+    FlowRoom old 0 n → FlowRoom new 1 n
 room_taken old new n slots asked early memory fewer caps r =
     let f = caps (vec_len old.way.now + vec_len old.way.later + 0 + 8 * (vec_len old.asked + n)) r.now r.later in
     rw (slots, asked, early, memory) (record {
@@ -35,7 +35,7 @@ room_taken old new n slots asked early memory fewer caps r =
     })
 
 -- room for more firings is room for fewer
-pub room_less : (flow : Flow) (n m : ℕ) → m ≤ n → Room flow 0 n → Room flow 0 m
+pub room_less : (flow : Flow) (n m : ℕ) → m ≤ n → FlowRoom flow 0 n → FlowRoom flow 0 m
 room_less flow n m l r = record {
   now = omega (arith, r.now);
   later = omega (arith, r.later);

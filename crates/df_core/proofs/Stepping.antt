@@ -19,8 +19,8 @@ use Rattle.df_core.specs.Partial.{partial_of, listed}
 use Rattle.df_core.specs.Places.{image_of}
 use Rattle.df_core.specs.Chains.{chain_of, may_flag}
 use Rattle.df_core.specs.Ways.{token_of, way_of, NoneAt, TakenAt}
-use Rattle.df_core.specs.Flows.{request_of, Holds, Going, GoingBeside, EventLeads, SameParts, NotReady, NoneMay, no_asked}
-use Rattle.df_core.specs.Cores.{Keeps, IsAt, Runs, Makes, NotEnabled, IsEnabled, IsAtRest}
+use Rattle.df_core.specs.Flows.{request_of, Going, GoingBeside, EventLeads, SameParts, NotReady, no_asked, NoneAskedMay, FlowIs}
+use Rattle.df_core.specs.Cores.{IsAt, Makes, NotEnabled, IsEnabled, IsAtRest, SameStates, IsRunning}
 use Rattle.df_core.proofs.Moving.{Reordered, stands_reordered, to_front}
 use Rattle.df_core.proofs.Driving.{same_holds, has_at, flagged, none_enabled, alone}
 use Rattle.df_core.proofs.Bounds.{has_asked}
@@ -29,14 +29,14 @@ use Rattle.df_core.proofs.Issuing.{or_any}
 use Rattle.ws_words.proofs.Lists.{append_on}
 
 -- the same parts stand for the same
-pub kept_same : (core : Core) (flow : Flow) → SameParts core.flow flow → Keeps core (record { program = core.program; flow = flow })
+pub kept_same : (core : Core) (flow : Flow) → SameParts core.flow flow → SameStates core (record { program = core.program; flow = flow })
 kept_same core flow same image world s at = record { program = at.program; image_is = at.image_is; formed = at.formed; sound = at.sound; holds = same_holds image world [] core.flow flow s same at.holds }
 
-pub runs_same : (core : Core) (flow : Flow) → SameParts core.flow flow → Runs core → Runs (record { program = core.program; flow = flow })
+pub runs_same : (core : Core) (flow : Flow) → SameParts core.flow flow → IsRunning core → IsRunning (record { program = core.program; flow = flow })
 runs_same core flow same r = record { image = r.image; world = r.world; state = r.state; at = kept_same core flow same r.image r.world r.state r.at }
 
 -- an event was made, or nothing
-pub runs_on : {A E : Type 0} (event : Event) (old new : Core) (r : Result A E) → Runs old → OnOk r (Makes event old new) → OnErr r (Keeps old new) → Runs new
+pub runs_on : {A E : Type 0} (event : Event) (old new : Core) (r : Result A E) → IsRunning old → OnOk r (Makes event old new) → OnErr r (SameStates old new) → IsRunning new
 runs_on event old new (Ok x) r made kept = let m = made r.image r.world r.state r.at in record { image = r.image; world = r.world; state = m.0; at = m.2 }
 runs_on event old new (Err x) r made kept = record { image = r.image; world = r.world; state = r.state; at = kept r.image r.world r.state r.at }
 
@@ -53,7 +53,7 @@ taken_way image world old new w i p tok f asked early s e st =
     (subst (λ (ts : List plain.Token). Stands image world f ts asked early s) e.old_is st))
 
 taken_at : (image : Image) (world : World) (old new : Flow) (w i p : ℕ) (tok : Token) (s : State) → TakenAt old.way new.way w i p tok → new.slots ≡ old.slots → new.asked ≡ old.asked → new.early ≡ old.early → new.chain ≡ old.chain → new.fault ≡ old.fault → new.memory ≡ old.memory → new.fired ≡ old.fired →
-    Holds image world [] old s → Holds image world (token_of tok ∷ []) new s
+    FlowIs image world [] old s → FlowIs image world (token_of tok ∷ []) new s
 taken_at image world old new w i p tok s taken slots asked early chain stopped memory fired h = record {
   stands = rw (slots, asked, early) (taken_way image world old.way new.way w i p tok (partial_of old.slots.slots.items old.slots.spill) (map (request_of image) old.asked.items) old.early.items s taken h.stands);
   chain_is = h.chain_is ∙ ap chain_of (sym chain);
@@ -65,11 +65,11 @@ taken_at image world old new w i p tok s taken slots asked early chain stopped m
 
 module _ (core : Core) (prepared mid : Flow) (w i p : ℕ) (tok : Token) (same : SameParts core.flow prepared) (taken : TakenAt prepared.way mid.way w i p tok)
     (slots : mid.slots ≡ prepared.slots) (asked : mid.asked ≡ prepared.asked) (early : mid.early ≡ prepared.early) (chain : mid.chain ≡ prepared.chain) (stopped : mid.fault ≡ prepared.fault) (memory : mid.memory ≡ prepared.memory) (fired : mid.fired ≡ prepared.fired) where
-  holds_mid : (image : Image) (world : World) (s : State) → IsAt image world core s → Holds (image_of core.program) world (token_of tok ∷ []) mid s
+  holds_mid : (image : Image) (world : World) (s : State) → IsAt image world core s → FlowIs (image_of core.program) world (token_of tok ∷ []) mid s
   holds_mid image world s at = taken_at (image_of core.program) world prepared mid w i p tok s taken slots asked early chain stopped memory fired
-      (same_holds (image_of core.program) world [] core.flow prepared s same (subst (λ (im : Image). Holds im world [] core.flow s) (sym at.image_is) at.holds))
+      (same_holds (image_of core.program) world [] core.flow prepared s same (subst (λ (im : Image). FlowIs im world [] core.flow s) (sym at.image_is) at.holds))
 
-  pub going_match : Runs core → Going (image_of core.program) (token_of tok ∷ []) mid
+  pub going_match : IsRunning core → Going (image_of core.program) (token_of tok ∷ []) mid
   going_match r = record {
     world = r.world;
     state = r.state;
@@ -89,7 +89,7 @@ module _ (core : Core) (prepared mid : Flow) (w i p : ℕ) (tok : Token) (same :
           image_is = ap image_of program ∙ at.image_is;
           formed = at.formed;
           sound = at.sound;
-          holds = subst (λ (im : Image). Holds im world [] new.flow r.0) at.image_is r.2;
+          holds = subst (λ (im : Image). FlowIs im world [] new.flow r.0) at.image_is r.2;
         },
       )
 
@@ -97,7 +97,7 @@ pub not_ready : (core : Core) (w i : ℕ) → NotReady (image_of core.program) c
 not_ready core w i (inl e) image world s at on = both_ways _ on.1.issuable.going (at.holds.stopped_is ∙ e)
 not_ready core w i (inr f) image world s at on =
     let here : Image = image_of core.program in
-    let holds : Holds (image_of core.program) world [] core.flow s = subst (λ (im : Image). Holds im world [] core.flow s) (sym at.image_is) at.holds in
+    let holds : FlowIs (image_of core.program) world [] core.flow s = subst (λ (im : Image). FlowIs im world [] core.flow s) (sym at.image_is) at.holds in
     let ready : Ready (image_of core.program) s w i on.0 = subst (λ (im : Image). Ready im s w i on.0) (sym at.image_is) on.1 in
     let r = has_at (image_of core.program) core.flow.asked.items w i on.0 (holds.stands.asked_to w i on.0 ready.waits) in
     let m1 : Issuable (image_of core.program) s.issued (chain_of core.flow.chain) s.stopped w i on.0 = subst (λ (c : law.Chain). Issuable (image_of core.program) s.issued c s.stopped w i on.0) holds.chain_is ready.issuable in
@@ -107,7 +107,7 @@ not_ready core w i (inr f) image world s at on =
 -- a request that may be issued
 pub may_enabled : (core : Core) (k : ℕ) (a : Asked) → k < length core.flow.asked.items → a ≡ slice_index_or core.flow.asked.items k a → is_some core.flow.fault ≡ false → may_flag (image_of core.program) (chain_of core.flow.chain) a.wave a.instr a.operands.first ≡ true → IsEnabled (Issue a.wave a.instr) core
 may_enabled core k a l is running flag image world s at =
-    let holds : Holds (image_of core.program) world [] core.flow s = subst (λ (im : Image). Holds im world [] core.flow s) (sym at.image_is) at.holds in
+    let holds : FlowIs (image_of core.program) world [] core.flow s = subst (λ (im : Image). FlowIs im world [] core.flow s) (sym at.image_is) at.holds in
     let has = subst (λ (b : Asked). HasRequest (map (request_of (image_of core.program)) core.flow.asked.items) b.wave b.instr (listed (ports (image_of core.program) b.instr) b.operands)) (sym (or_any core.flow.asked.items k a no_asked l is)) (has_asked (image_of core.program) core.flow.asked.items k l) in
     subst (λ (im : Image). Enabled im s (Issue a.wave a.instr)) at.image_is (
       listed (ports (image_of core.program) a.instr) a.operands,
@@ -119,10 +119,10 @@ may_enabled core k a l is running flag image world s at =
 
 -- room was made, and a request is issued
 module _ (core : Core) (prepared : Flow) (same : SameParts core.flow prepared) where
-  holds_prepared : (image : Image) (world : World) (s : State) → IsAt image world core s → Holds (image_of core.program) world [] prepared s
-  holds_prepared image world s at = same_holds (image_of core.program) world [] core.flow prepared s same (subst (λ (im : Image). Holds im world [] core.flow s) (sym at.image_is) at.holds)
+  holds_prepared : (image : Image) (world : World) (s : State) → IsAt image world core s → FlowIs (image_of core.program) world [] prepared s
+  holds_prepared image world s at = same_holds (image_of core.program) world [] core.flow prepared s same (subst (λ (im : Image). FlowIs im world [] core.flow s) (sym at.image_is) at.holds)
 
-  pub going_prepared : Runs core → GoingBeside (image_of core.program) [] prepared
+  pub going_prepared : IsRunning core → GoingBeside (image_of core.program) [] prepared
   going_prepared r = alone (image_of core.program) [] prepared (record {
     world = r.world;
     state = r.state;
@@ -142,15 +142,15 @@ module _ (core : Core) (prepared : Flow) (same : SameParts core.flow prepared) w
           image_is = ap image_of program ∙ at.image_is;
           formed = at.formed;
           sound = at.sound;
-          holds = subst (λ (im : Image). Holds im world [] new.flow r.0) at.image_is r.2;
+          holds = subst (λ (im : Image). FlowIs im world [] new.flow r.0) at.image_is r.2;
         },
       )
 
 pub token_enabled : (core : Core) (tok : Token) → IsSent (way_of core.flow.way) tok.wave tok.instr tok.port tok.value → IsEnabled (Match tok.wave tok.instr tok.port) core
 token_enabled core tok h image world s at = (tok.value, at.holds.stands.way_from tok.wave tok.instr tok.port tok.value h)
 
-pub core_rests : (core : Core) → way_of core.flow.way ≡ [] → (is_some core.flow.fault ≡ true) ⊎ NoneMay (image_of core.program) core.flow → IsAtRest core
+pub core_rests : (core : Core) → way_of core.flow.way ≡ [] → (is_some core.flow.fault ≡ true) ⊎ NoneAskedMay (image_of core.program) core.flow → IsAtRest core
 core_rests core empty none image world s at (Match w i p) e = subst (λ (ts : List plain.Token). IsSent ts w i p e.0) empty (at.holds.stands.way_to w i p e.0 e.1)
 core_rests core empty (inl f) image world s at (Issue w i) e = both_ways _ e.1.issuable.going (at.holds.stopped_is ∙ f)
 core_rests core empty (inr none) image world s at (Issue w i) e =
-    none_enabled (image_of core.program) world [] core.flow s (subst (λ (im : Image). Holds im world [] core.flow s) (sym at.image_is) at.holds) none w i (subst (λ (im : Image). Enabled im s (Issue w i)) (sym at.image_is) e)
+    none_enabled (image_of core.program) world [] core.flow s (subst (λ (im : Image). FlowIs im world [] core.flow s) (sym at.image_is) at.holds) none w i (subst (λ (im : Image). Enabled im s (Issue w i)) (sym at.image_is) e)

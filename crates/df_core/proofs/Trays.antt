@@ -1,8 +1,8 @@
 -- Rows of words, each with room for more.
 use Rattle.std.proofs.Common.{ℕ, zero, suc, ◌+◌, ◌≡◌, ◌<◌, ◌≤◌, List, [], ◌∷◌, ◌++◌, length, Some, Vec, Global, vec_len, vec_capacity, slice_set, slice_index_or, refl, sym, ap, ◌∙◌, subst, inl, inr, ◌⊎◌, arith}
 use Rattle.ws_words.specs.Outside.{row, with_row}
-use Rattle.ws_isa.specs.Image.{nth}
 use Rattle.df_core.specs.Outdoors.{HasSpace, rows_of}
+use Rattle.ws_words.specs.Items.{nth}
 
 pub set_rows : (rows : List (Vec ℕ Global)) (k : ℕ) (v : Vec ℕ Global) → rows_of (slice_set rows k v) ≡ with_row (rows_of rows) k v.items
 set_rows [] k v = refl

@@ -9,10 +9,10 @@ use Rattle.df_core.specs.Stands.{Stands}
 use Rattle.df_core.specs.Partial.{partial_of}
 use Rattle.df_core.specs.Chains.{chain_of}
 use Rattle.df_core.specs.Ways.{way_of}
-use Rattle.df_core.specs.Flows.{request_of, Holds, EventLeads}
+use Rattle.df_core.specs.Flows.{request_of, EventLeads, FlowIs}
 
 module _ (old mid new : Flow) (way : way_of new.way ≡ way_of mid.way) (slots : new.slots ≡ mid.slots) (asked : new.asked ≡ mid.asked) (early : new.early ≡ mid.early) (chain : new.chain ≡ mid.chain) (stopped : new.fault ≡ mid.fault) (memory : new.memory ≡ mid.memory) (fired : new.fired ≡ mid.fired) where
-  holds_turned : (image : Image) (world : World) (beside : List plain.Token) (s : State) → Holds image world beside mid s → Holds image world beside new s
+  holds_turned : (image : Image) (world : World) (beside : List plain.Token) (s : State) → FlowIs image world beside mid s → FlowIs image world beside new s
   holds_turned image world beside s h = record {
     stands = subst (λ (ts : List plain.Token). Stands image world (partial_of new.slots.slots.items new.slots.spill) (beside ++ ts) (map (request_of image) new.asked.items) new.early.items s) (sym way)
         (rw (slots, asked, early) h.stands);

@@ -4,10 +4,11 @@ use Rattle.std.proofs.Math.Logic.{∥∥₁_elim}
 use mathlib.Core.HLevel.{Σ_prop_path}
 use Rattle.std.proofs.Props.{props}
 use Rattle.ws_words.specs.Outside.{World}
-use Rattle.ws_isa.specs.Image.{Image, nth}
+use Rattle.ws_isa.specs.Image.{Image}
 use Rattle.ws_isa.specs.Walk.{Inst, fires}
 use Rattle.df_core.specs.Fit.{FiresAt, RightToken}
 use Rattle.df_core.proofs.Facts.{WalkFacts}
+use Rattle.ws_words.specs.Items.{nth}
 
 abbrev HasOperand : Option Inst → ℕ → ℕ → ℕ → ℕ → Type 0
 HasOperand None w i p v = ⊥

@@ -2,7 +2,7 @@
 use Rattle.std.proofs.Common.{ℕ, zero, suc, ◌≡◌, ◌<◌, ◌≤◌, ◌⊎◌, Bool, true, false, cond, List, [], ◌∷◌, length, Some, refl, sym, ap, subst, inl, inr, arith}
 use Rattle.std.proofs.lemmas.Bool.{cases_eq}
 use Rattle.ws_words.specs.Outside.{World}
-use Rattle.ws_isa.specs.Image.{Image, nth, is_advance, now_dests, edge_dests, block_of, selector, sends, start_dests}
+use Rattle.ws_isa.specs.Image.{Image, is_advance, now_dests, edge_dests, block_of, selector, sends, start_dests}
 use Rattle.ws_isa.specs.Walk.{Inst, fires, start_tokens}
 use Rattle.df_core.specs.Core.{Key, State, HasFired, IsSent, Once}
 use Rattle.df_core.specs.Fit.{RightToken, Fit, Grounded}
@@ -11,6 +11,7 @@ use Rattle.df_core.proofs.Counting.{once_length, has_same}
 use Rattle.df_core.proofs.MatchKept.{same_inst}
 use Rattle.df_core.proofs.Passing.{same_fired}
 use Rattle.df_core.proofs.SlotLists.{sent_from, is_sent_append_cases}
+use Rattle.ws_words.specs.Items.{nth}
 
 start_wave : (image : Image) (w i p v : ℕ) → IsSent (start_tokens image) w i p v → w ≡ 0
 unfolding start_tokens

@@ -2,7 +2,7 @@
 use Rattle.std.specs.Prelude.{ℕ, ◌≡◌, ◌<◌, ◌≤◌, ◌↔◌, Some, Bool, true, false, List, [], ◌∷◌, length}
 use Rattle.ws_words.specs.Outside.{Outside, World, printed_words}
 use Rattle.ws_words.specs.Plain.{took_by_ports}
-use Rattle.ws_isa.specs.Image.{Image, In, is_memory, array_at}
+use Rattle.ws_isa.specs.Image.{Image, is_memory, array_at}
 use Rattle.ws_isa.specs.Walk.{Inst, fires, mem, walk, CostAtMost}
 use Rattle.ws_isa.specs.Operations.{ops, FaultsAt, NoFault}
 use Rattle.df_core.specs.Core.{State, Once}
@@ -11,6 +11,7 @@ use Rattle.df_core.specs.Ends.{FirstWithin, AfterFired}
 use Rattle.df_core.specs.declared.answer.Done.{Done}
 use Rattle.df_core.specs.declared.answer.Run.{Run}
 use Rattle.df_core.specs.declared.answer.Run.TheVariants.{Rest, Budget, Fault}
+use Rattle.ws_words.specs.Items.{In}
 
 -- the words printed, all cells and the words that ports took are those of what is outside
 pub record Tells (o : Outside) (d : Done) : Type 0 where

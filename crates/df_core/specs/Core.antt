@@ -1,10 +1,12 @@
 -- The core: its state, its events, and the chain.
-use Rattle.std.specs.Prelude.{ℕ, zero, suc, ◌≡◌, ◌≤◌, ◌⊎◌, Bool, true, false, cond, ◌&&◌, List, [], ◌∷◌, Option, Some, None, eqb}
+use Rattle.std.specs.Prelude.{ℕ, zero, suc, ◌≡◌, ◌≤◌, ◌⊎◌, Bool, true, false, cond, ◌&&◌, List, [], ◌∷◌}
+use Rattle.std.specs.Prelude.{Option, Some, None, eqb}
 use Rattle.ws_words.specs.Outside.{Outside, World}
 use Rattle.ws_isa.specs.declared.instr.Link.{Link}
 use Rattle.ws_isa.specs.declared.instr.Link.TheVariants.{Nothing, Is}
 use Rattle.ws_isa.specs.declared.instr.Note.{Note}
-use Rattle.ws_isa.specs.Image.{Image, Token, ports, is_memory, is_load, note_of, result_of, answer, sends, is_past}
+use Rattle.ws_isa.specs.Image.{Image, Token, ports, is_memory, is_load, note_of, result_of, answer, sends}
+use Rattle.ws_isa.specs.Image.{is_past}
 use Rattle.ws_isa.specs.Walk.{Ports, no_ports, is_at, gather, start_tokens, opening_memory}
 use Rattle.df_core.specs.Effect.{effect_after}
 

@@ -13,7 +13,7 @@ use Rattle.df_core.specs.declared.engine.Event.TheVariants as code
 use Rattle.df_core.specs.declared.engine.StepFault.{StepFault}
 use Rattle.df_core.specs.declared.engine.StepFault.TheVariants as fault
 use Rattle.df_core.specs.Places.{ProgramIs, image_of}
-use Rattle.df_core.specs.Flows.{Holds, Room, Reaches}
+use Rattle.df_core.specs.Flows.{Reaches, FlowIs, FlowRoom}
 use Rattle.df_core.specs.Told.{done_of}
 use Rattle.df_core.specs.Ends.{AfterFired}
 use Rattle.df_core.specs.declared.drive.Finish.{Finish}
@@ -25,10 +25,10 @@ pub record IsAt (image : Image) (world : World) (core : Core) (s : State) : Type
   pub image_is : image_of core.program ≡ image
   pub formed : Formed image
   pub sound : Sound image
-  pub holds : Holds image world [] core.flow s
+  pub holds : FlowIs image world [] core.flow s
 
 -- it stands at some state
-pub record Runs (core : Core) : Type 0 where
+pub record IsRunning (core : Core) : Type 0 where
   pub image : Image
   pub world : World
   pub state : State
@@ -67,18 +67,18 @@ IsAtRest core = (image : Image) (world : World) (s : State) → IsAt image world
     Rest image s
 
 -- the core stands at the same states
-abbrev pub Keeps : Core → Core → Type 0
-Keeps old new = (image : Image) (world : World) (s : State) → IsAt image world old s →
+abbrev pub SameStates : Core → Core → Type 0
+SameStates old new = (image : Image) (world : World) (s : State) → IsAt image world old s →
     IsAt image world new s
 
 -- some events lead on
-abbrev pub LeadsTo : Core → Core → Type 0
-LeadsTo old new = (image : Image) (world : World) (s : State) → IsAt image world old s →
+abbrev pub EventsLead : Core → Core → Type 0
+EventsLead old new = (image : Image) (world : World) (s : State) → IsAt image world old s →
     (t : State) × Reaches image s t × IsAt image world new t
 
 -- there is room for one more firing, and for the events around it
 abbrev pub HasRoom : Core → Type 0
-HasRoom core = Room core.flow 0 1 × ((done core).fired < 2 ^ 64 - 2)
+HasRoom core = FlowRoom core.flow 0 1 × ((done core).fired < 2 ^ 64 - 2)
 
 -- where the budget is spent, the most operations of the walk that have all fired have been passed, and
 -- memory is what they leave
@@ -90,4 +90,4 @@ SpendsAll finish old new = (image : Image) (world : World) (s : State) → IsAt 
 -- no more than the budget have fired, and there is room for a run until then
 pub record Prepared (core : Core) (budget : ℕ) : Type 0 where
   pub fired : (done core).fired ≤ budget
-  pub room : Room core.flow 0 (budget - (done core).fired)
+  pub room : FlowRoom core.flow 0 (budget - (done core).fired)

@@ -6,7 +6,7 @@ use Rattle.ws_isa.specs.Formed.{Formed}
 use Rattle.ws_isa.specs.Sound.{Sound}
 use Rattle.df_core.specs.Core.{State, Issue, Enabled, Rest}
 use Rattle.df_core.specs.declared.flow.Flow.{Flow}
-use Rattle.df_core.specs.Flows.{IsFault, Holds, Reaches}
+use Rattle.df_core.specs.Flows.{IsFault, Reaches, FlowIs}
 use Rattle.df_core.specs.declared.drive.Finish.{Finish}
 use Rattle.df_core.specs.declared.drive.Finish.TheVariants as finish
 
@@ -30,8 +30,8 @@ FinishIs image world budget (finish.Fault array) s = (s.stopped ≡ true) × IsF
 -- a run leads on to such an end
 abbrev pub Ended : Image → ℕ → Flow → Flow → Finish → Type 0
 Ended image budget old new ended = (world : World) (s : State) → Formed image → Sound image →
-    Holds image world [] old s →
-    (t : State) × Reaches image s t × Holds image world [] new t
+    FlowIs image world [] old s →
+    (t : State) × Reaches image s t × FlowIs image world [] new t
     × FinishIs image world budget ended t
 
 abbrev pub is_budget : Finish → Bool

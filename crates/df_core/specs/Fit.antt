@@ -1,11 +1,13 @@
 -- What is true of every state that core events reach.
-use Rattle.std.specs.Prelude.{ℕ, zero, suc, ◌≡◌, ◌<◌, ◌≤◌, ◌⊎◌, Bool, true, false, cond, List, Option, Some, None}
+use Rattle.std.specs.Prelude.{ℕ, zero, suc, ◌≡◌, ◌<◌, ◌≤◌, ◌⊎◌, Bool, true, false, cond, List, Option, Some}
+use Rattle.std.specs.Prelude.{None}
 use Rattle.ws_words.specs.Outside.{Outside, World}
-use Rattle.ws_isa.specs.Image.{Image, nth, ports, is_memory, is_load, is_writing, note_of, sends, is_past}
+use Rattle.ws_isa.specs.Image.{Image, ports, is_memory, is_load, is_writing, note_of, sends, is_past}
 use Rattle.ws_isa.specs.Walk.{Inst, fires, start_tokens}
 use Rattle.ws_isa.specs.Operations.{FaultsAt}
 use Rattle.df_core.specs.Effect.{effect_at}
 use Rattle.df_core.specs.Core.{Chain, State, HasFired, IsSent, IsNext, NoneNext, pass}
+use Rattle.ws_words.specs.Items.{nth}
 
 -- the walk's step t fires the instance of instruction i in wave w
 pub record FiresAt (image : Image) (world : World) (w i t : ℕ) (x : Inst) : Type 0 where

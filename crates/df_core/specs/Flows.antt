@@ -1,5 +1,6 @@
 -- The state for which a run's parts stand.
-use Rattle.std.specs.Prelude.{◌≡◌, ◌<◌, ◌≤◌, ◌+◌, ◌*◌, ◌⊎◌, ℕ, cond, List, [], ◌∷◌, ◌++◌, length, map, true, false, slice_index_or, Option, Some, None, is_some, vec_len, vec_capacity}
+use Rattle.std.specs.Prelude.{◌≡◌, ◌<◌, ◌≤◌, ◌+◌, ◌*◌, ◌⊎◌, ℕ, cond, List, [], ◌∷◌, ◌++◌, length, map, true}
+use Rattle.std.specs.Prelude.{false, slice_index_or, Option, Some, None, is_some, vec_len, vec_capacity}
 use Rattle.std.specs.HashMap.{spare}
 use Rattle.ws_words.specs.Outside.{World}
 use Rattle.ws_isa.specs.Image as plain
@@ -15,7 +16,7 @@ use Rattle.df_core.specs.declared.flow.Flow.{Flow}
 use Rattle.df_core.specs.Partial.{partial_of, spilled, listed}
 use Rattle.df_core.specs.Chains.{chain_of, may_flag}
 use Rattle.df_core.specs.Ways.{way_of}
-use Rattle.df_core.specs.Outdoors.{OutIs, Space, SameOut}
+use Rattle.df_core.specs.Outdoors.{Space, SameOut, MemoryIs}
 
 abbrev pub request_of : Image → Asked → Request
 request_of image a =
@@ -31,19 +32,19 @@ pub record IsFault (image : Image) (world : World) (array : ℕ) : Type 0 where
   pub fault : FaultsAt image world time
   pub array_is : array ≡ array_at image fault.inst.instr
 
-abbrev pub FaultIs : Image → World → Option ℕ → Type 0
-FaultIs image world None = Unit {0}
-FaultIs image world (Some array) = IsFault image world array
+abbrev pub FlowFaultIs : Image → World → Option ℕ → Type 0
+FlowFaultIs image world None = Unit {0}
+FlowFaultIs image world (Some array) = IsFault image world array
 
 -- these parts, and tokens that were taken off the way, stand for the state
-pub record Holds (image : Image) (world : World) (taken : List plain.Token) (flow : Flow)
+pub record FlowIs (image : Image) (world : World) (taken : List plain.Token) (flow : Flow)
     (s : State) : Type 0 where
   pub stands : Stands image world (partial_of flow.slots.slots.items flow.slots.spill)
       (taken ++ way_of flow.way) (map (request_of image) flow.asked.items) flow.early.items s
   pub chain_is : s.chain ≡ chain_of flow.chain
   pub stopped_is : s.stopped ≡ is_some flow.fault
-  pub fault_is : FaultIs image world flow.fault
-  pub memory_is : OutIs s.memory flow.memory
+  pub fault_is : FlowFaultIs image world flow.fault
+  pub memory_is : MemoryIs s.memory flow.memory
   pub count_is : length s.fired ≡ flow.fired
 
 -- they stand for some state of a formed, sound image
@@ -52,7 +53,7 @@ pub record Going (image : Image) (taken : List plain.Token) (flow : Flow) : Type
   pub state : State
   pub formed : Formed image
   pub sound : Sound image
-  pub holds : Holds image world taken flow state
+  pub holds : FlowIs image world taken flow state
 
 -- they stand for one where other tokens are on the way too, which lie elsewhere
 pub record GoingBeside (image : Image) (taken : List plain.Token) (flow : Flow) : Type 0 where
@@ -63,8 +64,8 @@ pub record GoingBeside (image : Image) (taken : List plain.Token) (flow : Flow) 
 -- whichever tokens lie elsewhere
 abbrev pub EventLeads : Image → Event → List plain.Token → Flow → Flow → Type 0
 EventLeads image event taken old new = (beside : List plain.Token) (world : World) (s : State) →
-    Formed image → Sound image → Holds image world (taken ++ beside) old s →
-    (t : State) × Step image s event t × Holds image world beside new t
+    Formed image → Sound image → FlowIs image world (taken ++ beside) old s →
+    (t : State) × Step image s event t × FlowIs image world beside new t
 
 abbrev pub no_asked : Asked
 no_asked = record { wave = 0; instr = 0; operands = record { first = 0; second = 0; third = 0 } }
@@ -74,19 +75,19 @@ abbrev pub asked_at : Flow → ℕ → Asked
 asked_at flow k = slice_index_or flow.asked.items k no_asked
 
 -- it may be issued, where the chain isn't stopped
-abbrev pub MayAt : Image → Flow → ℕ → Type 0
-MayAt image flow k =
+abbrev pub AskedMay : Image → Flow → ℕ → Type 0
+AskedMay image flow k =
     may_flag image (chain_of flow.chain)
     (asked_at flow k).wave (asked_at flow k).instr (asked_at flow k).operands.first ≡ true
 
 -- the chain is stopped, or no request of the instance may be issued
 abbrev pub NotReady : Image → Flow → ℕ → ℕ → Type 0
 NotReady image flow w i = (is_some flow.fault ≡ true) ⊎ ((k : ℕ) → k < length flow.asked.items →
-    (asked_at flow k).wave ≡ w → (asked_at flow k).instr ≡ i → MayAt image flow k → ⊥)
+    (asked_at flow k).wave ≡ w → (asked_at flow k).instr ≡ i → AskedMay image flow k → ⊥)
 
 -- no request may
-abbrev pub NoneMay : Image → Flow → Type 0
-NoneMay image flow = (k : ℕ) → k < length flow.asked.items →
+abbrev pub NoneAskedMay : Image → Flow → Type 0
+NoneAskedMay image flow = (k : ℕ) → k < length flow.asked.items →
     may_flag image (chain_of flow.chain)
     (asked_at flow k).wave (asked_at flow k).instr (asked_at flow k).operands.first ≡ false
 
@@ -97,7 +98,7 @@ flight flow hand more =
     vec_len flow.way.now + vec_len flow.way.later + hand + 8 * (vec_len flow.asked + more)
 
 -- there is room for some tokens in hand, so many more firings, and all that comes of them
-pub record Room (flow : Flow) (hand more : ℕ) : Type 0 where
+pub record FlowRoom (flow : Flow) (hand more : ℕ) : Type 0 where
   pub now : flight flow hand more ≤ vec_capacity flow.way.now
   pub later : flight flow hand more ≤ vec_capacity flow.way.later
   pub spill : flight flow hand more ≤ spare flow.slots.spill
@@ -138,9 +139,9 @@ pub data Reaches (image : Image) : State → State → Type 0 where
 -- some events lead on, for each state for which the parts stood
 abbrev pub RunsOn : Image → Flow → Flow → Type 0
 RunsOn image old new = (world : World) (s : State) → Formed image → Sound image →
-    Holds image world [] old s → (t : State) × Reaches image s t × Holds image world [] new t
+    FlowIs image world [] old s → (t : State) × Reaches image s t × FlowIs image world [] new t
 
 -- the parts stand for the opening state
 abbrev pub StandsForOpening : Image → World → Flow → Type 0
 StandsForOpening image world flow = Sound image → Formed image →
-    Holds image world [] flow (core_opening image world)
+    FlowIs image world [] flow (core_opening image world)

@@ -6,7 +6,7 @@ use Rattle.ws_isa.specs.Walk.{Ports}
 use Rattle.df_core.specs.Core.{State, Chain, Event, Step}
 use Rattle.df_core.specs.Stands.{Request, Stands}
 
-pub record Moves (image : Image) (world : World) (s : State) (event : Event) (partial : Ports)
+pub record StateMoves (image : Image) (world : World) (s : State) (event : Event) (partial : Ports)
     (way : List Token) (asked : List Request) (early : List ℕ) (chain : Chain) (stopped : Bool)
     (memory : Outside) (count : ℕ) : Type 0 where
   pub new : State

@@ -4,15 +4,16 @@ use Rattle.std.specs.declared.alloc.Global.{Global}
 use Rattle.ws_words.specs.Outside.{Outside, printed_words}
 use Rattle.ws_words.specs.Plain.{took_by_ports}
 use Rattle.ws_isa.specs.declared.instr.Op.{Op}
-use Rattle.ws_isa.specs.Image.{nth, answer_op, after_op}
+use Rattle.ws_isa.specs.Image.{answer_op, after_op}
 use Rattle.df_core.specs.declared.memory.Memory.{Memory}
+use Rattle.ws_words.specs.Items.{nth}
 
 abbrev pub rows_of : List (Vec ℕ Global) → List (List ℕ)
 rows_of rows = map (λ (row : Vec ℕ Global). row.items) rows
 
 -- what is outside is what the code holds, but for the acts, of which it holds the words printed and
 -- taken
-pub record OutIs (o : Outside) (m : Memory) : Type 0 where
+pub record MemoryIs (o : Outside) (m : Memory) : Type 0 where
   pub same_cells : o.cells ≡ m.cells
   pub same_input : o.input ≡ m.input
   pub same_left : o.left ≡ m.left.items
@@ -22,7 +23,7 @@ pub record OutIs (o : Outside) (m : Memory) : Type 0 where
 -- the answer of a memory operation, and what it leaves
 pub record CarriesOut (op : Op) (xs : List ℕ) (o : Outside) (word : ℕ) (m : Memory) : Type 0 where
   pub answer : word ≡ answer_op op xs o
-  pub after : OutIs (after_op op xs o) m
+  pub after : MemoryIs (after_op op xs o) m
 
 -- each row has room for so many more words
 abbrev pub HasSpace : List (Vec ℕ Global) → ℕ → Type 0

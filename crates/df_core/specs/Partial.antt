@@ -1,12 +1,14 @@
 -- The tokens that have arrived at instances that aren't full: each instruction has a slot for one
 -- instance, and others are spilled.
-use Rattle.std.specs.Prelude.{ℕ, zero, suc, Bool, cond, ◌&&◌, ◌==◌, eqb, List, [], ◌∷◌, Option, Some, None, is_none, unwrap_or, slice_index_or}
+use Rattle.std.specs.Prelude.{ℕ, zero, suc, Bool, cond, ◌&&◌, ◌==◌, eqb, List, [], ◌∷◌, Option, Some, None}
+use Rattle.std.specs.Prelude.{is_none, unwrap_or, slice_index_or}
 use Rattle.std.specs.declared.hash.FoldHasher.{FoldHasher}
 use Rattle.std.specs.declared.hash.BuildHasherDefault.{BuildHasherDefault}
 use Rattle.std.specs.HashMap.{get, HashMap}
 use Rattle.ws_isa.specs.Walk.{Ports}
 use Rattle.df_core.specs.declared.plain.Operands.{Operands}
 use Rattle.df_core.specs.declared.slots.Slot.{Slot}
+use Rattle.ws_words.specs.Items.{first_some}
 
 abbrev pub empty_slot : Slot
 empty_slot = record { wave = 0; first = None; second = None; third = None }
@@ -49,10 +51,6 @@ spilled_at spill w i =
 -- the tokens that are spilled
 abbrev pub spilled : Spill → Ports
 spilled spill w i p = port_of (spilled_at spill w i) p
-
-abbrev pub first_some : Option ℕ → Option ℕ → Option ℕ
-first_some (Some x) o = Some x
-first_some None o = o
 
 abbrev pub partial_of : List Slot → Spill → Ports
 partial_of slots spill w i p = first_some (slotted slots w i p) (spilled spill w i p)

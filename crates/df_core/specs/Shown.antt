@@ -1,10 +1,12 @@
 -- The state that tables and a buffer stand for.
-use Rattle.std.specs.Prelude.{ℕ, ◌≡◌, ◌<◌, ◌↔◌, Bool, true, false, cond, ◌&&◌, List, [], ◌∷◌, ◌++◌, Option, Some, None}
+use Rattle.std.specs.Prelude.{ℕ, ◌≡◌, ◌<◌, ◌↔◌, Bool, true, false, cond, ◌&&◌, List, [], ◌∷◌, ◌++◌, Option}
+use Rattle.std.specs.Prelude.{Some, None}
 use Rattle.ws_words.specs.Outside.{Outside, World}
-use Rattle.ws_isa.specs.Image.{Image, Token, or_else, ports, is_memory, result_of, sends}
+use Rattle.ws_isa.specs.Image.{Image, Token, ports, is_memory, result_of, sends}
 use Rattle.ws_isa.specs.Walk.{Ports, no_ports, start_tokens}
 use Rattle.df_core.specs.Core.{Chain, Key, State, HasFired, IsSent, Issuable, same_key, put_all, operands_in}
 use Rattle.df_core.specs.Fit.{RightToken, RightRequest, Legal}
+use Rattle.ws_words.specs.Items.{or_else}
 
 -- what the 16 tables hold and list together
 pub record Tables : Type 0 where

@@ -5,10 +5,11 @@ use Rattle.ws_words.specs.Outside.{World}
 use Rattle.ws_isa.specs.declared.instr.Link.{Link}
 use Rattle.ws_isa.specs.declared.instr.Link.TheVariants.{Nothing}
 use Rattle.ws_isa.specs.declared.instr.Note.{Note}
-use Rattle.ws_isa.specs.Image.{Image, Token, In, is_memory, note_of}
+use Rattle.ws_isa.specs.Image.{Image, Token, is_memory, note_of}
 use Rattle.ws_isa.specs.Walk.{Ports, Inst}
 use Rattle.df_core.specs.Core.{State, Apart, Chain, HasFired, IsSent, Once, same_key, IsNext, pass}
 use Rattle.df_core.specs.Fit.{FiresAt, chain_at, Fit, Grounded}
+use Rattle.ws_words.specs.Items.{In}
 
 -- a request that waits
 pub record Request : Type 0 where
@@ -73,3 +74,7 @@ pub data Settles (image : Image) : Chain → List ℕ → Chain → List ℕ →
       ((j : ℕ) → In j early → (i ≡ j) ⊎ In j mid) →
       Settles image (pass c (note_of image i)) (left_after (note_of image i) mid) d left →
       Settles image c early d left
+
+-- these are issued, in the chain's wave
+abbrev pub EarlyIssued : (ℕ → ℕ → Option ℕ) → Chain → List ℕ → Type 0
+EarlyIssued issued c early = (i : ℕ) → In i early → (a : ℕ) × (issued c.wave i ≡ Some a)

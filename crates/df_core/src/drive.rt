@@ -1,12 +1,13 @@
 //! The core: events until none is left.
 
-ghost use Rattle.std.specs.Prelude.{◌≡◌, ◌<◌, ◌≤◌, ◌+◌, ◌-◌, ◌*◌, ◌^◌, ℕ, [], List, length, true, false, is_some, ◌⊎◌, IfOk, OnOk, vec_len};
+ghost use Rattle.std.specs.Prelude.{◌≡◌, ◌<◌, ◌≤◌, ◌+◌, ◌-◌, ◌*◌, ◌^◌, ℕ, [], List, length, true, false};
+ghost use Rattle.std.specs.Prelude.{is_some, ◌⊎◌, IfOk, OnOk, vec_len};
 ghost use Rattle.ws_words.specs.Outside.{World};
 ghost use Rattle.ws_isa.specs.Formed.{Formed};
 ghost use Rattle.ws_isa.specs.Sound.{Sound};
 ghost use Rattle.df_core.specs.Core.{State};
 ghost use Rattle.df_core.specs.Places.{ProgramIs, image_of};
-ghost use Rattle.df_core.specs.Flows.{Going, RunsOn, Room, weight};
+ghost use Rattle.df_core.specs.Flows.{Going, RunsOn, weight, FlowRoom};
 ghost use Rattle.df_core.specs.Finishes.{Ended, is_budget, is_fault, stopped_at};
 
 use crate::flow::Flow;
@@ -34,7 +35,7 @@ pub fn run(program: &Program<'_>, flow: &mut Flow<'_>, budget: u64) -> Finish
     requires program { ProgramIs program.now }
     requires going { Going (image_of program.now) [] flow.old }
     requires fired { flow.old.fired ≤ budget }
-    requires room { Room flow.old 0 (budget - flow.old.fired) }
+    requires room { FlowRoom flow.old 0 (budget - flow.old.fired) }
     ensures within { flow.new.fired ≤ budget }
     ensures spent { is_budget result ≡ true → flow.new.fired ≡ budget }
     ensures stopped { is_some flow.new.fault ≡ is_fault result }
@@ -110,10 +111,10 @@ fn match_next(program: &Program<'_>, flow: &mut Flow<'_>)
     requires fired { flow.old.fired + 1 < 2 ^ 64 }
     requires some { 0 < vec_len flow.old.way.now + vec_len flow.old.way.later }
     requires running { is_some flow.old.fault ≡ false }
-    requires room { Room flow.old 0 1 }
+    requires room { FlowRoom flow.old 0 1 }
     ensures follows { RunsOn (image_of program.now) flow.old flow.new }
-    ensures room { (n m : ℕ) → m + flow.new.fired ≡ n + flow.old.fired → Room flow.old 0 n →
-        Room flow.new 0 m }
+    ensures room { (n m : ℕ) → m + flow.new.fired ≡ n + flow.old.fired → FlowRoom flow.old 0 n →
+        FlowRoom flow.new 0 m }
     ensures weight { weight flow.new + 9 * flow.old.fired < weight flow.old + 9 * flow.new.fired }
     ensures count { (flow.old.fired ≤ flow.new.fired) × (flow.new.fired ≤ flow.old.fired + 1) }
 {
@@ -135,9 +136,9 @@ fn issue_last(program: &Program<'_>, flow: &mut Flow<'_>)
     requires fired { flow.old.fired < 2 ^ 64 }
     requires running { is_some flow.old.fault ≡ false }
     requires some { 0 < length flow.old.asked.items }
-    requires room { Room flow.old 0 0 }
+    requires room { FlowRoom flow.old 0 0 }
     ensures follows { RunsOn (image_of program.now) flow.old flow.new }
-    ensures room { (n : ℕ) → Room flow.old 0 n → Room flow.new 0 n }
+    ensures room { (n : ℕ) → FlowRoom flow.old 0 n → FlowRoom flow.new 0 n }
     ensures weight { weight flow.new ≤ weight flow.old }
     ensures count { flow.new.fired ≡ flow.old.fired }
 {
@@ -152,9 +153,9 @@ fn issue_next(program: &Program<'_>, flow: &mut Flow<'_>)
     requires program { ProgramIs program.now }
     requires going { Going (image_of program.now) [] flow.old }
     requires fired { flow.old.fired < 2 ^ 64 }
-    requires room { Room flow.old 0 0 }
+    requires room { FlowRoom flow.old 0 0 }
     ensures follows { RunsOn (image_of program.now) flow.old flow.new }
-    ensures room { (n : ℕ) → Room flow.old 0 n → Room flow.new 0 n }
+    ensures room { (n : ℕ) → FlowRoom flow.old 0 n → FlowRoom flow.new 0 n }
     ensures weight { weight flow.new ≤ weight flow.old }
     ensures count { flow.new.fired ≡ flow.old.fired }
 {

@@ -1,6 +1,7 @@
 //! The core, event by event.
 
-ghost use Rattle.std.specs.Prelude.{◌≡◌, true, ◌≤◌, ◌-◌, ℕ, [], List, length, ◌⊎◌, map, is_some, IfOk, OnOk, OnErr, IfErr, MatchOption};
+ghost use Rattle.std.specs.Prelude.{◌≡◌, true, ◌≤◌, ◌-◌, ℕ, [], List, length, ◌⊎◌, map, is_some, IfOk, OnOk};
+ghost use Rattle.std.specs.Prelude.{OnErr, IfErr, MatchOption};
 ghost use Rattle.ws_words.specs.Outside.{World as Given, printed_words, row};
 ghost use Rattle.ws_words.specs.Plain.{took_by_ports, world_of};
 ghost use Rattle.ws_isa.specs.Image.{Image};
@@ -9,9 +10,11 @@ ghost use Rattle.df_core.specs.Answer.{RunSo};
 ghost use Rattle.df_core.specs.Told.{run_from};
 ghost use Rattle.df_core.specs.Finishes.{is_fault};
 ghost use Rattle.df_core.specs.Places.{image_of};
-ghost use Rattle.df_core.specs.Flows.{FaultIs, NoneMay};
+ghost use Rattle.df_core.specs.Flows.{NoneAskedMay, FlowFaultIs};
 ghost use Rattle.df_core.specs.Quiet.{IsQuietly, OnlyFires};
-ghost use Rattle.df_core.specs.Cores.{IsAt, Runs, Prepared, Makes, NotEnabled, IsEnabled, IsAtRest, Keeps, LeadsTo, SpendsAll, HasRoom, done, event_of, is_not_ready};
+ghost use Rattle.df_core.specs.Cores.{IsAt, Prepared, Makes, NotEnabled, IsEnabled, IsAtRest, SpendsAll};
+ghost use Rattle.df_core.specs.Cores.{HasRoom, done, event_of, is_not_ready, EventsLead, IsRunning};
+ghost use Rattle.df_core.specs.Cores.{SameStates};
 
 use crate::drive::{Finish, run};
 use crate::flow::Flow;
@@ -47,7 +50,7 @@ pub struct Core<'i> {
 impl<'i> Core<'i> {
     /// The opening state: the start pulse is on the way.
     pub fn begin(alloc: Global, image: &'i Checked, world: &'i World) -> Result<Core<'i>, NoMemory>
-        ensures core { IfOk result Runs }
+        ensures core { IfOk result IsRunning }
         ensures opening { IfOk result (λ core. IsAt image.now (world_of world.now) core
             (core_opening image.now (world_of world.now))) }
     {
@@ -58,12 +61,12 @@ impl<'i> Core<'i> {
 
     /// Makes an event. After an error the state is as before.
     pub fn step(&mut self, event: Event) -> Result<(), StepFault>
-        requires { Runs self.old }
-        ensures core { Runs self.new }
+        requires { IsRunning self.old }
+        ensures core { IsRunning self.new }
         ensures made { OnOk result (Makes (event_of event) self.old self.new) }
         ensures refused { IfErr result (λ fault. is_not_ready fault ≡ true →
             NotEnabled (event_of event) self.old) }
-        ensures kept { OnErr result (Keeps self.old self.new) }
+        ensures kept { OnErr result (SameStates self.old self.new) }
         ensures memory { HasRoom self.old → IfErr result (λ fault. is_not_ready fault ≡ true) }
     {
         match event {
@@ -74,7 +77,7 @@ impl<'i> Core<'i> {
 
     /// An event that is enabled, if there is one.
     pub fn pick(&self) -> Option<Event>
-        requires { Runs self.now }
+        requires { IsRunning self.now }
         ensures { MatchOption result (IsAtRest self.now)
             (λ event. IsEnabled (event_of event) self.now) }
     {
@@ -89,7 +92,7 @@ impl<'i> Core<'i> {
 
     /// An event that is enabled and fires no instance, if there is one.
     pub fn pick_quiet(&self) -> Option<Event>
-        requires { Runs self.now }
+        requires { IsRunning self.now }
         ensures { MatchOption result (OnlyFires self.now)
             (λ event. IsQuietly (event_of event) self.now) }
     {
@@ -105,9 +108,9 @@ impl<'i> Core<'i> {
     /// Makes room for a run until so many instances have fired in all.
     pub fn prepare(&mut self, budget: u64) -> Result<(), NoMemory>
         requires fired { (done self.old).fired ≤ budget }
-        ensures core { Runs self.old → Runs self.new }
+        ensures core { IsRunning self.old → IsRunning self.new }
         ensures prepared { OnOk result (Prepared self.new budget) }
-        ensures kept { Keeps self.old self.new }
+        ensures kept { SameStates self.old self.new }
     {
         let fired = self.flow.fired;
         self.flow.prepare(budget - fired)
@@ -116,10 +119,10 @@ impl<'i> Core<'i> {
     /// Makes events until none is enabled or so many instances have fired in all, and then issues
     /// what may be issued. Takes no memory.
     pub fn run(&mut self, budget: u64) -> Finish
-        requires core { Runs self.old }
+        requires core { IsRunning self.old }
         requires prepared { Prepared self.old budget }
-        ensures core { Runs self.new }
-        ensures leads { LeadsTo self.old self.new }
+        ensures core { IsRunning self.new }
+        ensures leads { EventsLead self.old self.new }
         ensures answer { (image : Image) (world : Given) (state : State) →
             IsAt image world self.old state →
             RunSo image world budget (run_from result (done self.new)) }
@@ -178,16 +181,16 @@ impl<'i> Core<'i> {
     pub fn fault(&self) -> Option<u32>
         ensures { (image : Image) (world : Given) (state : State) →
             IsAt image world self.now state → (state.stopped ≡ is_some result)
-            × FaultIs image world result }
+            × FlowFaultIs image world result }
     {
         self.flow.fault
     }
 
     // The issue of a request that may be issued, if there is one.
     fn issue(&self) -> Option<Event>
-        requires { Runs self.now }
+        requires { IsRunning self.now }
         ensures { MatchOption result ((is_some self.now.flow.fault ≡ true)
-            ⊎ NoneMay (image_of self.now.program) self.now.flow)
+            ⊎ NoneAskedMay (image_of self.now.program) self.now.flow)
             (λ event. IsQuietly (event_of event) self.now) }
     {
         match self.flow.issuable(&self.program) {
@@ -203,11 +206,11 @@ impl<'i> Core<'i> {
     }
 
     fn make_match(&mut self, wave: u64, instr: u32, port: u8) -> Result<(), StepFault>
-        requires { Runs self.old }
+        requires { IsRunning self.old }
         ensures made { OnOk result (Makes (Match wave instr port) self.old self.new) }
         ensures refused { IfErr result (λ fault. is_not_ready fault ≡ true →
             NotEnabled (Match wave instr port) self.old) }
-        ensures kept { OnErr result (Keeps self.old self.new) }
+        ensures kept { OnErr result (SameStates self.old self.new) }
         ensures memory { HasRoom self.old → IfErr result (λ fault. is_not_ready fault ≡ true) }
     {
         if !self.flow.way.has(wave, instr, port) {
@@ -227,11 +230,11 @@ impl<'i> Core<'i> {
     }
 
     fn make_issue(&mut self, wave: u64, instr: u32) -> Result<(), StepFault>
-        requires { Runs self.old }
+        requires { IsRunning self.old }
         ensures made { OnOk result (Makes (Issue wave instr) self.old self.new) }
         ensures refused { IfErr result (λ fault. is_not_ready fault ≡ true →
             NotEnabled (Issue wave instr) self.old) }
-        ensures kept { OnErr result (Keeps self.old self.new) }
+        ensures kept { OnErr result (SameStates self.old self.new) }
         ensures memory { HasRoom self.old → IfErr result (λ fault. is_not_ready fault ≡ true) }
     {
         match self.flow.ready(&self.program, wave, instr) {

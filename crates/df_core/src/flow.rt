@@ -1,15 +1,19 @@
 //! The state of a run, and its two kinds of event: a match and an issue.
 
-ghost use Rattle.std.specs.Prelude.{◌≡◌, ◌<◌, ◌≤◌, ◌+◌, ◌*◌, ◌^◌, ℕ, suc, [], ◌∷◌, ◌++◌, List, length, map, vec_len, vec_capacity, true, false, is_some, cond, ◌⊎◌, MatchOption, OnOk, IfSome, IsOk, IfNone};
-ghost use Rattle.ws_isa.specs.Image.{array_of_op, is_memory_op, is_load_op, result_of_op, selector_of, tokens_to, instr_at, ports_of, is_advance_op};
+ghost use Rattle.std.specs.Prelude.{◌≡◌, ◌<◌, ◌≤◌, ◌+◌, ◌*◌, ◌^◌, ℕ, suc, [], ◌∷◌, ◌++◌, length, vec_len};
+ghost use Rattle.std.specs.Prelude.{vec_capacity, true, false, is_some, cond, ◌⊎◌, MatchOption, OnOk, IfSome};
+ghost use Rattle.std.specs.Prelude.{IsOk, IfNone};
+ghost use Rattle.ws_isa.specs.Image.{is_memory_op, result_of_op, selector_of, tokens_to, is_advance_op};
 ghost use Rattle.ws_isa.specs.Formed.{Formed};
 ghost use Rattle.df_core.specs.Core.{Match, Issue};
 ghost use Rattle.df_core.specs.Chains.{chain_of, may_flag};
 ghost use Rattle.df_core.specs.Places.{ProgramIs, image_of, destinations};
 ghost use Rattle.df_core.specs.Ways.{token_of, SentTo};
-ghost use Rattle.df_core.specs.Flows.{GoingBeside, EventLeads, Room, flight, AskedMore, all_of, asked_at, MayAt, NoneMay, NotReady, SameParts, weight};
+ghost use Rattle.df_core.specs.Flows.{GoingBeside, EventLeads, flight, AskedMore, all_of, asked_at, NotReady};
+ghost use Rattle.df_core.specs.Flows.{SameParts, weight, FlowRoom, NoneAskedMay, AskedMay};
 
 use crate::chain::Chain;
+use crate::choices::{array_of, selector};
 use crate::hints::Hints;
 use crate::memory::Memory;
 use crate::order::pass_on;
@@ -18,7 +22,7 @@ use crate::program::Program;
 use crate::slots::MatchStore;
 use crate::way::Way;
 use ws_isa::Op;
-use ws_words::{NoMemory, apply};
+use ws_words::NoMemory;
 
 // So many firings that there is room for are counted without overflow.
 const MOST: u64 = 1 << 56;
@@ -45,12 +49,12 @@ impl<'w> Flow<'w> {
     pub fn arrive(&mut self, program: &Program<'_>, token: Token)
         requires program { ProgramIs program.now }
         requires going { GoingBeside (image_of program.now) (token_of token ∷ []) self.old }
-        requires room { Room self.old 1 1 }
+        requires room { FlowRoom self.old 1 1 }
         requires fired { self.old.fired + 1 < 2 ^ 64 }
         ensures leads { EventLeads (image_of program.now) (Match token.wave token.instr token.port)
             (token_of token ∷ []) self.old self.new }
-        ensures room { (n m : ℕ) → m + self.new.fired ≡ n + self.old.fired → Room self.old 1 n →
-            Room self.new 0 m }
+        ensures room { (n m : ℕ) → m + self.new.fired ≡ n + self.old.fired → FlowRoom self.old 1 n →
+            FlowRoom self.new 0 m }
         ensures asked { AskedMore self.old self.new }
         ensures chain { self.new.chain ≡ self.old.chain }
         ensures fault { self.new.fault ≡ self.old.fault }
@@ -59,7 +63,7 @@ impl<'w> Flow<'w> {
             ≤ weight self.old + 9 * self.new.fired }
     {
         let op = program.op(token.instr);
-        let ports = ports_of(op);
+        let ports = op.ports();
         if ports == 1 {
             let operands = Operands {
                 first: token.value,
@@ -79,9 +83,9 @@ impl<'w> Flow<'w> {
 
     /// Makes room for so many more firings and all events around them.
     pub fn prepare(&mut self, more: u64) -> Result<(), NoMemory>
-        ensures room { OnOk result (Room self.new 0 more) }
+        ensures room { OnOk result (FlowRoom self.new 0 more) }
         ensures same { SameParts self.old self.new }
-        ensures succeeds { more < 2 ^ 56 → Room self.old 0 more → IsOk result }
+        ensures succeeds { more < 2 ^ 56 → FlowRoom self.old 0 more → IsOk result }
     {
         if more > MOST {
             return Err(NoMemory);
@@ -116,9 +120,9 @@ impl<'w> Flow<'w> {
     pub fn issuable(&self, program: &Program<'_>) -> Option<usize>
         requires { ProgramIs program.now }
         ensures { MatchOption result ((is_some self.now.fault ≡ true)
-            ⊎ NoneMay (image_of program.now) self.now)
+            ⊎ NoneAskedMay (image_of program.now) self.now)
             (λ place. (place < length self.now.asked.items) × (is_some self.now.fault ≡ false)
-            × MayAt (image_of program.now) self.now place) }
+            × AskedMay (image_of program.now) self.now place) }
     {
         if self.fault.is_some() {
             return None;
@@ -138,7 +142,7 @@ impl<'w> Flow<'w> {
         requires { ProgramIs program.now }
         ensures { IfSome result (λ place. (place < length self.now.asked.items)
             × (is_some self.now.fault ≡ false)
-            × MayAt (image_of program.now) self.now place) }
+            × AskedMay (image_of program.now) self.now place) }
     {
         let place = self.hints.next(&self.chain) as usize;
         if self.fault.is_none()
@@ -160,7 +164,7 @@ impl<'w> Flow<'w> {
         let op = program.op(asked.instr);
         asked.wave == self.chain.wave
             && (self.chain.is_next(note)
-                || (is_load(op)
+                || (op.is_load()
                     && !program.is_past(op, asked.operands.first)
                     && note.ripple <= self.chain.position()))
     }
@@ -170,7 +174,7 @@ impl<'w> Flow<'w> {
         requires { ProgramIs program.now }
         ensures { MatchOption result (NotReady (image_of program.now) self.now wave instr)
             (λ place. (place < length self.now.asked.items) × (is_some self.now.fault ≡ false)
-            × MayAt (image_of program.now) self.now place
+            × AskedMay (image_of program.now) self.now place
             × (asked_at self.now place).wave ≡ wave × (asked_at self.now place).instr ≡ instr) }
     {
         if self.fault.is_some() {
@@ -193,13 +197,13 @@ impl<'w> Flow<'w> {
         requires going { GoingBeside (image_of program.now) [] self.old }
         requires place { place < length self.old.asked.items }
         requires running { is_some self.old.fault ≡ false }
-        requires may { MayAt (image_of program.now) self.old place }
-        requires room { Room self.old 0 0 }
+        requires may { AskedMay (image_of program.now) self.old place }
+        requires room { FlowRoom self.old 0 0 }
         requires fired { self.old.fired < 2 ^ 64 }
         ensures leads { EventLeads (image_of program.now)
             (Issue (asked_at self.old place).wave (asked_at self.old place).instr)
             [] self.old self.new }
-        ensures room { (n : ℕ) → Room self.old 0 n → Room self.new 0 n }
+        ensures room { (n : ℕ) → FlowRoom self.old 0 n → FlowRoom self.new 0 n }
         ensures count { self.new.fired ≡ self.old.fired }
         ensures weight { weight self.new < weight self.old }
     {
@@ -234,7 +238,7 @@ impl<'w> Flow<'w> {
         ensures chain { self.new.chain ≡ self.old.chain }
         ensures fault { self.new.fault ≡ self.old.fault }
         ensures memory { self.new.memory ≡ self.old.memory }
-        ensures room { (n : ℕ) → Room self.old 0 (suc n) → Room self.new 0 n }
+        ensures room { (n : ℕ) → FlowRoom self.old 0 (suc n) → FlowRoom self.new 0 n }
         ensures weight { weight self.new ≤ weight self.old + 9 }
         ensures asked { is_memory_op op ≡ true →
             self.new.asked.items
@@ -248,7 +252,7 @@ impl<'w> Flow<'w> {
             (destinations (image_of program.now) instr (selector_of op (all_of operands)))) }
     {
         self.fired += 1;
-        if is_memory(op) {
+        if op.is_memory() {
             self.hints.set(program.note(instr), self.asked.len());
             self.asked.push_reserved(Asked {
                 wave,
@@ -256,9 +260,9 @@ impl<'w> Flow<'w> {
                 operands,
             });
         } else {
-            let word = result_of(op, operands);
+            let word = op.result_on(operands.first, operands.second, operands.third);
             let dests = program.destinations(instr, selector(op, operands));
-            let number = if is_advance(op) { wave + 1 } else { wave };
+            let number = if op.is_advance() { wave + 1 } else { wave };
             self.way.send(dests, number, word);
         }
     }
@@ -270,90 +274,5 @@ fn look_again(program: &Program<'_>, asked: &[Asked], hints: &mut Hints, place: 
 {
     if place < asked.len() {
         hints.set(program.note(asked[place].instr), place);
-    }
-}
-
-/// How many ports an operation has.
-pub fn ports_of(op: Op) -> u8
-    ensures { result ≡ ports_of op }
-{
-    match op {
-        Op::Alu(_) | Op::Steer | Op::Send(_) | Op::Store(_) => 2,
-        Op::Phi => 3,
-        _ => 1,
-    }
-}
-
-fn is_memory(op: Op) -> bool
-    ensures { result ≡ is_memory_op op }
-{
-    match op {
-        Op::Load(_)
-        | Op::Store(_)
-        | Op::Input
-        | Op::Output
-        | Op::Give(_)
-        | Op::Take(_)
-        | Op::Nop
-        | Op::Halt => true,
-        _ => false,
-    }
-}
-
-fn is_load(op: Op) -> bool
-    ensures { result ≡ is_load_op op }
-{
-    match op {
-        Op::Load(_) => true,
-        _ => false,
-    }
-}
-
-// The array of a load or store.
-fn array_of(op: Op) -> u32
-    ensures { result ≡ array_of_op op }
-{
-    match op {
-        Op::Load(array) | Op::Store(array) => array,
-        _ => 0,
-    }
-}
-
-fn is_advance(op: Op) -> bool
-    ensures { result ≡ is_advance_op op }
-{
-    match op {
-        Op::Advance => true,
-        _ => false,
-    }
-}
-
-// The operand by which an instance chooses where its result goes.
-fn selector(op: Op, operands: Operands) -> u64
-    ensures { result ≡ selector_of op (all_of operands) }
-{
-    match op {
-        Op::Steer => operands.second,
-        Op::Send(_) => operands.first,
-        _ => 0,
-    }
-}
-
-// The result of an operation that isn't memory's.
-fn result_of(op: Op, operands: Operands) -> u64
-    ensures { result ≡ result_of_op op (all_of operands) }
-{
-    match op {
-        Op::Const(word) => word,
-        Op::Alu(alu) => apply(alu, operands.first, operands.second),
-        Op::Phi => {
-            if operands.third == 0 {
-                operands.second
-            } else {
-                operands.first
-            }
-        }
-        Op::Send(_) => operands.second,
-        _ => operands.first,
     }
 }

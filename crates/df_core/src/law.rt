@@ -15,7 +15,8 @@ ghost use Rattle.ws_isa.specs.Formed.{Formed};
 ghost use Rattle.ws_isa.specs.Walk.{Inst, fires, walk};
 ghost use Rattle.ws_isa.specs.Operations.{ops, Effect, FaultsAt};
 ghost use Rattle.ws_isa.specs.Sound.{Sound};
-ghost use Rattle.df_core.specs.Core.{State, Same, Event, Ready, Issue, Enabled, Reach, Step, Rest, HasFired, Once, core_opening};
+ghost use Rattle.df_core.specs.Core.{State, Same, Event, Ready, Issue, Enabled, Reach, Step, Rest, HasFired};
+ghost use Rattle.df_core.specs.Core.{Once, core_opening};
 ghost use Rattle.df_core.specs.Fit.{Fit, Grounded};
 ghost use Rattle.df_core.specs.Ends.{Whole, AtFault, Meets, Passed, AfterFired};
 

@@ -29,6 +29,7 @@
 
 pub mod answer;
 pub mod chain;
+mod choices;
 pub mod code;
 mod drive;
 mod engine;

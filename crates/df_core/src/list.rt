@@ -1,6 +1,7 @@
 //! Lists of tokens.
 
-ghost use Rattle.std.specs.Prelude.{◌≡◌, ◌+◌, ◌<◌, ◌≤◌, ◌∷◌, ◌++◌, ℕ, [], All, length, take, IsOk, OnOk, OnErr, MatchOption};
+ghost use Rattle.std.specs.Prelude.{◌≡◌, ◌+◌, ◌<◌, ◌≤◌, ◌∷◌, ◌++◌, ℕ, [], All, length, take, IsOk, OnOk};
+ghost use Rattle.std.specs.Prelude.{OnErr, MatchOption};
 ghost use Rattle.ws_isa.specs.Image.{tokens_to};
 ghost use Rattle.df_core.specs.Core.{IsSent};
 ghost use Rattle.df_core.specs.Fit.{RightToken};

@@ -1,11 +1,13 @@
 //! What a run has outside: cells, input, ports.
 
-ghost use Rattle.std.specs.Prelude.{◌≡◌, ◌-◌, ◌+◌, ◌<◌, ◌≤◌, ℕ, suc, List, [], ◌∷◌, ◌++◌, map, vec_len, vec_capacity, IfOk, OnOk, OnErr, IsOk};
-ghost use Rattle.ws_words.specs.Outside.{Outside, opening_out, with_act, takes, head_or_zero, rest_of, row, with_row};
+ghost use Rattle.std.specs.Prelude.{◌≡◌, ◌-◌, ◌+◌, ◌<◌, ◌≤◌, ℕ, suc, List, [], ◌∷◌, ◌++◌, map, vec_len};
+ghost use Rattle.std.specs.Prelude.{vec_capacity, IfOk, OnOk, OnErr, IsOk};
+ghost use Rattle.ws_words.specs.Outside.{Outside, opening_out, with_act, takes, head_or_zero, rest_of, row};
+ghost use Rattle.ws_words.specs.Outside.{with_row};
 ghost use Rattle.ws_words.specs.Plain.{took_by_ports, world_of};
 ghost use Rattle.ws_isa.specs.Image.{cells_of};
 ghost use Rattle.ws_isa.specs.View as view;
-ghost use Rattle.df_core.specs.Outdoors.{OutIs, CarriesOut, Space, HasSpace, rows_of, SameOut};
+ghost use Rattle.df_core.specs.Outdoors.{CarriesOut, Space, HasSpace, rows_of, SameOut, MemoryIs};
 
 use std::alloc::Global;
 use ws_isa::{ArrayDecl, Op};
@@ -28,7 +30,7 @@ impl<'a> Memory<'a> {
         arrays: &[ArrayDecl],
         world: &'a World,
     ) -> Result<Memory<'a>, NoMemory>
-        ensures { IfOk result (OutIs
+        ensures { IfOk result (MemoryIs
             (opening_out (cells_of (map view.array arrays.now)) (world_of world.now))) }
     {
         Ok(Memory {
@@ -54,7 +56,7 @@ impl<'a> Memory<'a> {
     /// do nothing.
     pub fn run(&mut self, op: Op, first: u64, second: u64) -> u64
         requires { Space self.old 1 }
-        ensures answer { (o : Outside) (third : ℕ) → OutIs o self.old →
+        ensures answer { (o : Outside) (third : ℕ) → MemoryIs o self.old →
             CarriesOut op (first ∷ second ∷ third ∷ []) o result self.new }
         ensures space { (n : ℕ) → Space self.old (suc n) → Space self.new n }
     {
@@ -81,8 +83,8 @@ impl<'a> Memory<'a> {
     // A port takes a word.
     fn take(&mut self, port: u8, word: u64)
         requires { Space self.old 1 }
-        ensures taken { (o : Outside) → OutIs o self.old →
-            OutIs (with_act o (takes port word)) self.new }
+        ensures taken { (o : Outside) → MemoryIs o self.old →
+            MemoryIs (with_act o (takes port word)) self.new }
         ensures space { (n : ℕ) → Space self.old (suc n) → Space self.new n }
     {
         if port > 0 {

@@ -1,11 +1,13 @@
 //! Issued loads that the chain hasn't passed.
 
-ghost use Rattle.std.specs.Prelude.{◌≡◌, ◌<◌, ◌≤◌, ◌+◌, ◌^◌, ℕ, List, length, vec_len, vec_capacity, slice_index, MatchOption};
-ghost use Rattle.ws_isa.specs.Image.{In, note_of};
+ghost use Rattle.std.specs.Prelude.{◌≡◌, ◌<◌, ◌≤◌, ◌+◌, ◌^◌, ℕ, List, length, vec_len, vec_capacity};
+ghost use Rattle.std.specs.Prelude.{slice_index, MatchOption};
+ghost use Rattle.ws_isa.specs.Image.{note_of};
 ghost use Rattle.df_core.specs.Core.{IsNext};
 ghost use Rattle.df_core.specs.Stands.{Settles, left_after};
 ghost use Rattle.df_core.specs.Chains.{chain_of, PassedOn};
 ghost use Rattle.df_core.specs.Places.{ProgramIs, image_of};
+ghost use Rattle.ws_words.specs.Items.{In};
 
 use crate::chain::{Chain, is_nothing};
 use crate::program::Program;

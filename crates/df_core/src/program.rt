@@ -1,7 +1,10 @@
 //! The instructions of an image by number.
 
-ghost use Rattle.std.specs.Prelude.{◌≡◌, ◌++◌, ◌∷◌, ℕ, suc, [], List, map, IfOk, OnOk, MatchOption, length, ◌<◌, ◌^◌, ◌+◌, ◌-◌};
-ghost use Rattle.ws_isa.specs.Image.{instr_at, block_at, block_of, note_of, no_note, no_instr, no_block, pad_of, leave_to, landing_of, target, is_past_op, array_length, start_dests};
+ghost use Rattle.std.specs.Prelude.{◌≡◌, ◌++◌, ◌∷◌, ℕ, suc, [], List, map, IfOk, OnOk, MatchOption, length};
+ghost use Rattle.std.specs.Prelude.{◌<◌, ◌^◌, ◌+◌, ◌-◌};
+ghost use Rattle.ws_isa.specs.Image.{instr_at, block_at, block_of, note_of, no_note, no_instr, no_block};
+ghost use Rattle.ws_isa.specs.Image.{pad_of, leave_to, landing_of, target, is_past_op, array_length};
+ghost use Rattle.ws_isa.specs.Image.{start_dests};
 ghost use Rattle.ws_isa.specs.View as view;
 ghost use Rattle.df_core.specs.Places.{ProgramIs, PlaceIs, place_in_code, places, image_of, destinations};
 
@@ -89,6 +92,7 @@ impl<'i> Program<'i> {
     }
 
     /// Where it sends its result, if this is the operand by which it chooses.
+    #[inline(always)]
     pub fn destinations(&self, number: u32, selector: u64) -> &'i [Dest]
         requires { ProgramIs self.now }
         ensures { result.now ≡ destinations (image_of self.now) number selector }
@@ -135,6 +139,7 @@ impl<'i> Program<'i> {
     }
 
     // The destinations of a pad of the block to which the exit of another goes.
+    #[inline(never)]
     fn landed(&self, number: u32, answer: u64, pad: u8) -> &'i [Dest]
         ensures { result.now
             ≡ pad_of (block_at (image_of self.now)

@@ -7,7 +7,7 @@ ghost use Rattle.df_core.specs.Partial.{partial_of};
 ghost use Rattle.df_core.specs.Ways.{token_of, way_of};
 ghost use Rattle.df_core.specs.Quiet as spec;
 
-use crate::flow::{Flow, ports_of};
+use crate::flow::Flow;
 use crate::plain::Token;
 use crate::program::Program;
 use crate::slots::MatchStore;
@@ -50,7 +50,7 @@ pub fn fills(program: &Program<'_>, slots: &MatchStore, token: Token) -> bool
     requires { ProgramIs program.now }
     ensures { result ≡ spec.fills (image_of program.now) slots.now (token_of token) }
 {
-    is_filled(slots, token, ports_of(program.op(token.instr)))
+    is_filled(slots, token, program.op(token.instr).ports())
 }
 
 // Whether the instance of a token has all of so many ports with it.

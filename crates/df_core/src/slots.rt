@@ -1,11 +1,13 @@
 //! Where tokens wait for their partners.
 
-ghost use Rattle.std.specs.Prelude.{◌≡◌, ◌<◌, ◌≤◌, ℕ, ◌+◌, Option, Some, None, length, is_some, ◌&&◌, ◌==◌, not, replicate, IfOk, IsOk, OnOk, MatchOption, true, false};
+ghost use Rattle.std.specs.Prelude.{◌≡◌, ◌<◌, ◌≤◌, ℕ, ◌+◌, Option, Some, None, length, is_some, ◌&&◌, ◌==◌};
+ghost use Rattle.std.specs.Prelude.{not, replicate, IfOk, IsOk, OnOk, MatchOption, true, false};
 ghost use Rattle.std.specs.HashMap.{IsEmpty, spare};
 ghost use Rattle.ws_isa.specs.Walk.{gather};
 ghost use Rattle.df_core.specs.Core.{is_full, with_at};
 ghost use Rattle.df_core.specs.Stands.{cleared};
-ghost use Rattle.df_core.specs.Partial.{empty_slot, is_empty_slot, port_of, with_port, slotted, spilled, spilled_at, partial_of, listed};
+ghost use Rattle.df_core.specs.Partial.{empty_slot, is_empty_slot, port_of, with_port, slotted, spilled};
+ghost use Rattle.df_core.specs.Partial.{spilled_at, partial_of, listed};
 
 use crate::plain::{Operands, Token};
 use std::alloc::Global;

@@ -9,7 +9,7 @@ use Rattle.match_table.specs.declared.table.Results.{Results}
 use Rattle.match_table.specs.declared.table.Took.{Took}
 use Rattle.match_table.specs.declared.table.Took.TheVariants as took
 use Rattle.match_table.specs.Matching.{Answered, Arrives, FiresSo, will_fire}
-use Rattle.match_table.specs.Tables.{Content, held}
+use Rattle.match_table.specs.Tables.{held, TableContent}
 use Rattle.match_table.specs.Growth.{AllGrow, Grows, content_at}
 use Rattle.match_table.specs.Limits.{Serves}
 use Rattle.match_table.proofs.Growth.{all_grow_same, all_grows}
@@ -17,22 +17,22 @@ use Rattle.match_table.proofs.Served.{all_ok}
 use Rattle.fire_crew.specs.Together.{ServeFrom, all_fired, together}
 use Rattle.fire_crew.specs.Coming.{BroughtSo, Came, served}
 
-serve_at : (n : ℕ) (cs : List Content) (k : ℕ) → ServeFrom n cs → k < length cs → Serves (n + k) (content_at cs k)
+serve_at : (n : ℕ) (cs : List TableContent) (k : ℕ) → ServeFrom n cs → k < length cs → Serves (n + k) (content_at cs k)
 serve_at n [] k s lt = absurd (omega (arith, lt))
 serve_at n (c ∷ cs) zero s lt = subst (λ (m : ℕ). Serves m c) (let e : n ≡ n + 0 = omega arith in e) s.0
 serve_at n (c ∷ cs) (suc k) s lt = subst (λ (m : ℕ). Serves m (content_at cs k)) (let e : suc n + k ≡ n + suc k = omega arith in e) (serve_at (suc n) cs k s.1 (omega (arith, lt)))
 
-set_serve : (n : ℕ) (cs : List Content) (k : ℕ) (c : Content) → ServeFrom n cs → Serves (n + k) c → ServeFrom n (slice_set cs k c)
+set_serve : (n : ℕ) (cs : List TableContent) (k : ℕ) (c : TableContent) → ServeFrom n cs → Serves (n + k) c → ServeFrom n (slice_set cs k c)
 set_serve n [] k c s x = tt
 set_serve n (d ∷ cs) zero c s x = (subst (λ (m : ℕ). Serves m c) (let e : n + 0 ≡ n = omega arith in e) x, s.1)
 set_serve n (d ∷ cs) (suc k) c s x = (s.0, set_serve (suc n) cs k c s.1 (subst (λ (m : ℕ). Serves m c) (let e : n + suc k ≡ suc n + k = omega arith in e) x))
 
-set_grow : (cs : List Content) (k : ℕ) (c : Content) → Grows (content_at cs k) c → AllGrow cs (slice_set cs k c)
+set_grow : (cs : List TableContent) (k : ℕ) (c : TableContent) → Grows (content_at cs k) c → AllGrow cs (slice_set cs k c)
 set_grow [] k c g = tt
 set_grow (d ∷ cs) zero c g = (g, all_grow_same cs)
 set_grow (d ∷ cs) (suc k) c g = ((all_grow_same (d ∷ cs)).0, set_grow cs k c g)
 
-set_count : (cs : List Content) (k : ℕ) (c : Content) → length c.fired ≤ length (content_at cs k).fired + 1 → length (all_fired (slice_set cs k c)) ≤ length (all_fired cs) + 1
+set_count : (cs : List TableContent) (k : ℕ) (c : TableContent) → length c.fired ≤ length (content_at cs k).fired + 1 → length (all_fired (slice_set cs k c)) ≤ length (all_fired cs) + 1
 set_count [] k c le = omega arith
 set_count (d ∷ cs) zero c le =
     let a = length-append c.fired (all_fired cs) in
@@ -44,23 +44,23 @@ set_count (d ∷ cs) (suc k) c le =
     let r = set_count cs k c le in
     omega (arith, a, b, r)
 
-arrives_there : (old new : Content) (t : Token) → Arrives old t new → has (held new t.wave t.instr t.port) ≡ true
+arrives_there : (old new : TableContent) (t : Token) → Arrives old t new → has (held new t.wave t.instr t.port) ≡ true
 arrives_there old new t a = ap has (a.more t.wave t.instr t.port ∙ with_at_same t.wave t.instr t.port (Some t.value) (held old))
 
 module _ {J : Type 0} where
-  there : (image : Image) (old new : Content) (t : Token) (rs : Results J) (answer : Took) → Answered image old t new rs answer → (answer ≡ took.NoMemory → ⊥) → has (held new t.wave t.instr t.port) ≡ true
+  there : (image : Image) (old new : TableContent) (t : Token) (rs : Results J) (answer : Took) → Answered image old t new rs answer → (answer ≡ took.NoMemory → ⊥) → has (held new t.wave t.instr t.port) ≡ true
   there image old new t rs took.Waits m some = arrives_there old new t m.0.0
   there image old new t rs took.Fires m some = arrives_there old new t m.0.0
   there image old new t rs took.Asks m some = arrives_there old new t m.3.0
-  there image old new t rs took.Old m some = ap (λ (c : Content). has (held c t.wave t.instr t.port)) m.0.1 ∙ m.0.2
+  there image old new t rs took.Old m some = ap (λ (c : TableContent). has (held c t.wave t.instr t.port)) m.0.1 ∙ m.0.2
   there image old new t rs took.NoMemory m some = absurd (some refl)
 
-  module _ (image : Image) (old new : List Content) (count : length old ≡ 16) (t : Token) (rs : Results J) (answer : Took) (b : BroughtSo image old t new rs answer) where
+  module _ (image : Image) (old new : List TableContent) (count : length old ≡ 16) (t : Token) (rs : Results J) (answer : Took) (b : BroughtSo image old t new rs answer) where
     abbrev k : ℕ
     k = served t
 
     pub brought_grow : AllGrow old new
-    brought_grow = subst (λ (cs : List Content). AllGrow old cs) (sym b.0) (set_grow old k (content_at new k) (all_grows image (content_at old k) (content_at new k) t rs answer b.1))
+    brought_grow = subst (λ (cs : List TableContent). AllGrow old cs) (sym b.0) (set_grow old k (content_at new k) (all_grows image (content_at old k) (content_at new k) t rs answer b.1))
 
     module _ (s : ServeFrom 0 old) where
       below : k < length old
@@ -73,22 +73,22 @@ module _ {J : Type 0} where
       ok = all_ok image (content_at old k) (content_at new k) t rs answer k (length (content_at old k).fired + 1) served_old (omega arith) refl (λ f. omega arith) b.1 b.2
 
       pub brought_serve : ServeFrom 0 new
-      brought_serve = subst (λ (cs : List Content). ServeFrom 0 cs) (sym b.0) (set_serve 0 old k (content_at new k) s (subst (λ (m : ℕ). Serves m (content_at new k)) (let e : k ≡ 0 + k = omega arith in e) ok.0))
+      brought_serve = subst (λ (cs : List TableContent). ServeFrom 0 cs) (sym b.0) (set_serve 0 old k (content_at new k) s (subst (λ (m : ℕ). Serves m (content_at new k)) (let e : k ≡ 0 + k = omega arith in e) ok.0))
 
       pub brought_one : length (all_fired new) ≤ length (all_fired old) + 1
-      brought_one = subst (λ (cs : List Content). length (all_fired cs) ≤ length (all_fired old) + 1) (sym b.0) (set_count old k (content_at new k) ok.1)
+      brought_one = subst (λ (cs : List TableContent). length (all_fired cs) ≤ length (all_fired old) + 1) (sym b.0) (set_count old k (content_at new k) ok.1)
 
     pub brought_there : (answer ≡ took.NoMemory → ⊥) → has ((together new).held t.wave t.instr t.port) ≡ true
     brought_there some = there image (content_at old k) (content_at new k) t rs answer b.1 some
 
 -- the same said at the number of the table
 module _ {J : Type 0} where
-  pub brought_at : (image : Image) (old new : List Content) (t : Token) (rs : Results J) (answer : Took) (n : ℕ) → served t ≡ n → new ≡ slice_set old n (content_at new n) → Answered image (content_at old n) t (content_at new n) rs answer → FiresSo answer (will_fire image (content_at old n) t) → BroughtSo image old t new rs answer
+  pub brought_at : (image : Image) (old new : List TableContent) (t : Token) (rs : Results J) (answer : Took) (n : ℕ) → served t ≡ n → new ≡ slice_set old n (content_at new n) → Answered image (content_at old n) t (content_at new n) rs answer → FiresSo answer (will_fire image (content_at old n) t) → BroughtSo image old t new rs answer
   brought_at image old new t rs answer n is same a f =
       subst (λ (k : ℕ). (new ≡ slice_set old k (content_at new k)) × Answered image (content_at old k) t (content_at new k) rs answer × FiresSo answer (will_fire image (content_at old k) t)) (sym is) (same, a, f)
 
 -- what tables held that have grown they hold
-grow_at : (olds news : List Content) (k w i p v : ℕ) → AllGrow olds news → held (content_at olds k) w i p ≡ Some v → held (content_at news k) w i p ≡ Some v
+grow_at : (olds news : List TableContent) (k w i p v : ℕ) → AllGrow olds news → held (content_at olds k) w i p ≡ Some v → held (content_at news k) w i p ≡ Some v
 grow_at [] [] k w i p v g e = e
 grow_at [] (n ∷ news) k w i p v g e = absurd g
 grow_at (o ∷ olds) [] k w i p v g e = absurd g
@@ -98,7 +98,7 @@ grow_at (o ∷ olds) (n ∷ news) (suc k) w i p v g e = grow_at olds news k w i 
 abbrev pub Keep : Ports → Ports → Type 0
 Keep old new = (w i p v : ℕ) → old w i p ≡ Some v → new w i p ≡ Some v
 
-pub grow_keep : (olds news : List Content) → AllGrow olds news → Keep (together olds).held (together news).held
+pub grow_keep : (olds news : List TableContent) → AllGrow olds news → Keep (together olds).held (together news).held
 grow_keep olds news g w i p v e = grow_at olds news ((w + i) % 16) w i p v g e
 
 free_before : (old mid : Ports) (w i p : ℕ) → Keep old mid → mid w i p ≡ None → old w i p ≡ None

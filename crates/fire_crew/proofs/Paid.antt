@@ -6,7 +6,7 @@ use Rattle.std.proofs.lemmas.List.Elements.{All-get_or, All-more, All-push}
 use Rattle.std.specs.Borrow.{Bor}
 use Rattle.ws_words.specs.Outside.{Outside}
 use Rattle.ws_isa.specs.declared.instr.Dest.{Dest}
-use Rattle.ws_isa.specs.Image.{Image, Token, or_else, ports, is_memory, result_of, sends, tokens_to}
+use Rattle.ws_isa.specs.Image.{Image, Token, ports, is_memory, result_of, sends, tokens_to}
 use Rattle.ws_isa.specs.Walk.{Ports}
 use Rattle.df_core.specs.Core.{Key, HasFired, has, operands_in}
 use Rattle.ws_isa.specs.Walk.{start_tokens}
@@ -15,7 +15,7 @@ use Rattle.df_core.proofs.SlotLists.{is_sent_append_cases}
 use Rattle.df_core.specs.Rights.{operands_of}
 use Rattle.match_table.specs.declared.table.Fired.{Fired}
 use Rattle.match_table.specs.Ports.{listed}
-use Rattle.match_table.specs.Tables.{Content, held, key_of, of_memory}
+use Rattle.match_table.specs.Tables.{held, key_of, of_memory, TableContent}
 use Rattle.store_buf.specs.declared.kept.Kept.{Kept}
 use Rattle.store_buf.specs.Requests.{entry_of, issued_keys, key_if, operands_if, answer_if}
 use Rattle.store_buf.specs.Contents as buf
@@ -23,10 +23,11 @@ use Rattle.store_buf.specs.Contents.{buffer_in}
 use Rattle.store_buf.specs.Ordering.{no_request}
 use Rattle.fire_crew.specs.Together.{all_fired, behind, together}
 use Rattle.match_table.specs.Growth.{content_at, no_content}
-use Rattle.fire_crew.specs.Owing.{HaveCome, IsMissing, IsKnown, AllKnown, HasTold, ToldIn, HasAnswered}
+use Rattle.fire_crew.specs.Owing.{HaveCome, IsMissing, IsKnown, AllKnown, HasTold, HasToldAt, ToldIn, HasAnswered}
 use Rattle.fire_crew.proofs.Listed.{none_fired, fired_place, asked_there}
 use Rattle.fire_crew.proofs.Union.{listed_at}
 use Rattle.match_table.proofs.Held.{has_none}
+use Rattle.ws_words.specs.Items.{or_else}
 
 pub has_some : (o : Option ℕ) → has o ≡ true → (u : ℕ) × (o ≡ Some u)
 has_some (Some u) e = (u, refl)
@@ -93,43 +94,48 @@ one_more {X} P fs all k d is lt a p = All-more P all k d (subst (λ (l : List X)
 pub all_done : {X : Type 0} (P : X → Type 0) (all : List X) (k : ℕ) → length all ≤ k → All P (take k all) → All P all
 all_done {X} P all k le a = subst (λ (l : List X). All P l) (take_all k all le) a
 
+-- the one that a table lists at a place has told, by its key or as the code finds it
+pub told_key : (image : Image) (all : Ports) (place : ℕ) (c : TableContent) (k : Key) → ((d : Key) → slice_index_or c.fired place d ≡ k) → HasTold image all (operands_in image (held c) k.wave k.instr) k → HasToldAt image all place c
+told_key image all place c k at now d = subst (λ (y : Key). HasTold image all (operands_in image (held c) y.wave y.instr) y) (sym (at d)) now
+
+pub told_at : (image : Image) (all : Ports) (place : ℕ) (c : TableContent) (f : Fired) → ((d : Key) → slice_index_or c.fired place d ≡ key_of f) → listed f.operands ≡ operands_in image (held c) f.wave f.instr → HasTold image all (listed f.operands) (key_of f) → HasToldAt image all place c
+told_at image all place c f at operands now = told_key image all place c (key_of f) at (subst (λ (xs : List ℕ). HasTold image all xs (key_of f)) operands now)
+
 -- one more of a stretch is done
-pub told_more : (image : Image) (all : Ports) (from place : ℕ) (c : Content) (f : Fired) → ((d : Key) → slice_index_or c.fired place d ≡ key_of f) → listed f.operands ≡ operands_in image (held c) f.wave f.instr → ToldIn image all from place c → HasTold image all (listed f.operands) (key_of f) → ToldIn image all from (place + 1) c
-told_more image all from place c f at operands before now k d low high within = elim (cases_lt k place) [
+pub told_more : (image : Image) (all : Ports) (from place : ℕ) (c : TableContent) → ToldIn image all from place c → HasToldAt image all place c → ToldIn image all from (place + 1) c
+told_more image all from place c before now k d low high within = elim (cases_lt k place) [
   | inl x ↦ before k d low x within
   | inr x ↦ (let same : place ≡ k = omega (arith, high, x) in
-      let key : key_of f ≡ slice_index_or c.fired k d = sym (at d) ∙ ap (λ (j : ℕ). slice_index_or c.fired j d) same in
-      subst (λ (y : Key). HasTold image all (operands_in image (held c) y.wave y.instr) y) key
-      (subst (λ (xs : List ℕ). HasTold image all xs (key_of f)) operands now))
+      subst (λ (j : ℕ). HasTold image all (operands_in image (held c) (slice_index_or c.fired j d).wave (slice_index_or c.fired j d).instr) (slice_index_or c.fired j d)) same (now d))
 ]
 
 -- one stretch after another
-pub told_join : (image : Image) (all : Ports) (from mid to : ℕ) (c : Content) → ToldIn image all from mid c → ToldIn image all mid to c → ToldIn image all from to c
+pub told_join : (image : Image) (all : Ports) (from mid to : ℕ) (c : TableContent) → ToldIn image all from mid c → ToldIn image all mid to c → ToldIn image all from to c
 told_join image all from mid to c a b k d low high within = elim (cases_lt k mid) [
   | inl x ↦ a k d low x within
   | inr x ↦ b k d x high within
 ]
 
 -- each that the table lists has told so
-abbrev pub AllTold : Image → Ports → Content → Type 0
+abbrev pub AllTold : Image → Ports → TableContent → Type 0
 AllTold image all c = All (λ (k : Key). HasTold image all (operands_in image (held c) k.wave k.instr) k) c.fired
 
 -- all of a list are done
-pub told_all : (image : Image) (all : Ports) (to : ℕ) (c : Content) → length c.fired ≤ to → ToldIn image all 0 to c → AllTold image all c
+pub told_all : (image : Image) (all : Ports) (to : ℕ) (c : TableContent) → length c.fired ≤ to → ToldIn image all 0 to c → AllTold image all c
 told_all image all to c le told k d lt = told k d (omega arith) (omega (arith, lt, le)) lt
 
 -- one more table is done
-pub next_table : (P : Content → Type 0) (cs : List Content) (n : ℕ) (c : Content) → c ≡ content_at cs n → ((k : ℕ) → k < n → P (content_at cs k)) → P c → (k : ℕ) → k < n + 1 → P (content_at cs k)
+pub next_table : (P : TableContent → Type 0) (cs : List TableContent) (n : ℕ) (c : TableContent) → c ≡ content_at cs n → ((k : ℕ) → k < n → P (content_at cs k)) → P c → (k : ℕ) → k < n + 1 → P (content_at cs k)
 next_table P cs n c is before now k lt = elim (cases_lt k n) [
   | inl x ↦ before k x
   | inr x ↦ (let e : n ≡ k = omega (arith, lt, x) in subst (λ (j : ℕ). P (content_at cs j)) e (subst P is now))
 ]
 
 -- or one more that stands behind a reference
-pub next_behind : (P : Content → Type 0) (rs : List (Bor Content)) (n : ℕ) (d : Bor Content) → n < length rs → ((k : ℕ) → k < n → P (content_at (behind rs) k)) → P (slice_index_or rs n d).now → (k : ℕ) → k < n + 1 → P (content_at (behind rs) k)
-next_behind P rs n d lt before now = next_table P (behind rs) n (slice_index_or rs n d).now (sym (get_or-map (λ (r : Bor Content). r.now) rs n d no_content lt)) before now
+pub next_behind : (P : TableContent → Type 0) (rs : List (Bor TableContent)) (n : ℕ) (d : Bor TableContent) → n < length rs → ((k : ℕ) → k < n → P (content_at (behind rs) k)) → P (slice_index_or rs n d).now → (k : ℕ) → k < n + 1 → P (content_at (behind rs) k)
+next_behind P rs n d lt before now = next_table P (behind rs) n (slice_index_or rs n d).now (sym (get_or-map (λ (r : Bor TableContent). r.now) rs n d no_content lt)) before now
 
-pub known_all : (image : Image) (kept : List Kept) (cs : List Content) → length cs ≡ 16 → ((k : ℕ) → k < 16 → All (IsKnown kept) (of_memory image (content_at cs k).fired)) → AllKnown image (together cs) kept
+pub known_all : (image : Image) (kept : List Kept) (cs : List TableContent) → length cs ≡ 16 → ((k : ℕ) → k < 16 → All (IsKnown kept) (of_memory image (content_at cs k).fired)) → AllKnown image (together cs) kept
 known_all image kept cs count each w i h m =
     let r = listed_at cs w i h in
     let asked : List Key = of_memory image (content_at cs r.0).fired in
@@ -158,7 +164,7 @@ answered_at (k ∷ ks) w i h = go k.answer refl h (λ x. answered_at ks w i x)
     go (Some a) e (inl x) ih = record { place = 0; below = omega arith; wave = x.0; instr = x.1; word = a; answer = e }
     go (Some a) e (inr x) ih = later (ih x)
 
-module _ (image : Image) (cs : List Content) (count : length cs ≡ 16) (same : (k : ℕ) → k < 16 → All (λ (f : Key). operands_in image (held (content_at cs k)) f.wave f.instr ≡ operands_in image (together cs).held f.wave f.instr) (content_at cs k).fired) where
+module _ (image : Image) (cs : List TableContent) (count : length cs ≡ 16) (same : (k : ℕ) → k < 16 → All (λ (f : Key). operands_in image (held (content_at cs k)) f.wave f.instr ≡ operands_in image (together cs).held f.wave f.instr) (content_at cs k).fired) where
   abbrev hold : Ports
   hold = (together cs).held
 

@@ -1,17 +1,17 @@
 -- How many phases there have been.
-use Rattle.std.proofs.Common.{◌≡◌, ◌+◌, ◌-◌, ◌<◌, ◌≤◌, ℕ, suc, true, List, None, inl, inr, length, add-one, subst, arith}
+use Rattle.std.proofs.Common.{◌≡◌, ◌+◌, ◌-◌, ◌<◌, ◌≤◌, ℕ, suc, true, List, None, inl, inr, length, arith}
 use Rattle.std.proofs.lemmas.Bool.{cases_lt}
 use Rattle.df_core.specs.Core.{has}
-use Rattle.match_table.specs.Tables.{Content}
 use Rattle.match_table.specs.Growth.{AllGrow}
 use Rattle.match_table.proofs.Growth.{all_grow_same, all_grow_on}
 use Rattle.fire_crew.specs.Together.{ServeFrom, all_fired, together}
 use Rattle.fire_crew.specs.Coming.{Came}
 use Rattle.fire_crew.proofs.Coming.{came_keep, came_more, came_none, grow_keep}
 use Rattle.fire_crew.specs.Verdicts.{MovedOn}
+use Rattle.match_table.specs.Tables.{TableContent}
 
 -- what is so between two phases, where there have been so many
-pub record Steady (old new : List Content) (budget phases : ℕ) : Type 0 where
+pub record Steady (old new : List TableContent) (budget phases : ℕ) : Type 0 where
   pub serve : ServeFrom 0 new
   pub within : length (all_fired new) ≤ budget
   pub grow : AllGrow old new
@@ -20,13 +20,13 @@ pub record Steady (old new : List Content) (budget phases : ℕ) : Type 0 where
   pub room : length (all_fired new) < budget → phases ≤ count
   pub came : Came (together old).held (together new).held count
 
-pub steady_start : (cs : List Content) (budget : ℕ) → ServeFrom 0 cs → length (all_fired cs) ≤ budget → Steady cs cs budget 0
+pub steady_start : (cs : List TableContent) (budget : ℕ) → ServeFrom 0 cs → length (all_fired cs) ≤ budget → Steady cs cs budget 0
 steady_start cs budget s w = record { serve = s; within = w; grow = all_grow_same cs; count = 0; few = omega arith; room = λ r. omega arith; came = came_none (together cs).held }
 
-pub steady_moved : (old new : List Content) (budget phases : ℕ) → Steady old new budget phases → MovedOn (together old).held (together new).held phases
+pub steady_moved : (old new : List TableContent) (budget phases : ℕ) → Steady old new budget phases → MovedOn (together old).held (together new).held phases
 steady_moved old new budget phases s = (s.count, s.few, s.came)
 
-module _ (old mid new : List Content) (budget phases left : ℕ) (s : Steady old mid budget phases) (grow : AllGrow mid new) (is : left ≡ budget - length (all_fired mid)) (some : 0 < left) where
+module _ (old mid new : List TableContent) (budget phases left : ℕ) (s : Steady old mid budget phases) (grow : AllGrow mid new) (is : left ≡ budget - length (all_fired mid)) (some : 0 < left) where
   no_more : phases ≤ s.count
   no_more = s.room (omega (arith, is, some))
 

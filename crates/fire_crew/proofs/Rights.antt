@@ -17,12 +17,12 @@ use Rattle.df_core.proofs.FromSound.{facts_of}
 use Rattle.df_core.proofs.MatchKept.{same_inst, right_operands}
 use Rattle.df_core.proofs.PortsThere.{ports_there}
 use Rattle.df_core.specs.Places.{destinations}
-use Rattle.df_core.proofs.Arriving.{ports_is_op, memory_is_op, sends_are}
+use Rattle.df_core.proofs.Arriving.{ports_is_op, memory_is_op, sends_are, result_is_op}
 use Rattle.df_core.specs.Rights.{operands_of}
 use Rattle.match_table.specs.declared.meeting.Operands.{Operands}
 use Rattle.match_table.specs.declared.table.Fired.{Fired}
 use Rattle.match_table.specs.Ports.{listed}
-use Rattle.match_table.specs.Tables.{Content, held, key_of, of_memory, part}
+use Rattle.match_table.specs.Tables.{held, key_of, of_memory, part, TableContent}
 use Rattle.store_buf.specs.declared.kept.Kept.{Kept}
 use Rattle.store_buf.specs.Requests.{entry_of, operands_if, answer_if}
 use Rattle.store_buf.specs.Contents as buf
@@ -30,10 +30,6 @@ use Rattle.store_buf.specs.Contents.{buffer_in}
 use Rattle.store_buf.specs.Ordering.{no_request}
 use Rattle.fire_crew.proofs.Listed.{none_fired, fired_there, asked_fired}
 use Rattle.match_table.proofs.Answered.{memory_two, request_operands as two_operands}
-
-result_is : (image : Image) (k : ℕ) (xs : List ℕ) → result_of image k xs ≡ result_of_op (instr_at image k).op xs
-unfolding result_of
-result_is image k xs = refl
 
 -- whether the instruction that the code has looked up is one of memory
 pub code_memory : (image im : Image) (i : ℕ) (op : Op) (b : Bool) → op ≡ (instr_at im i).op → im ≡ image → b ≡ is_memory_op op → is_memory image i ≡ b
@@ -55,7 +51,7 @@ module _ (image : Image) (w i : ℕ) where
       tokens_to (cond (is_advance_op (instr_at image i).op) (suc w) w) word (destinations image i choice) ≡ sends image w i xs (result_of image i xs)
   sent_is op xs choice word o c v =
       ap (λ (k : ℕ × ℕ). tokens_to (cond (is_advance_op (instr_at image i).op) (suc w) w) k.0 (destinations image i k.1))
-      (λ j. ((v ∙ ap (λ (x : Op). result_of_op x xs) o ∙ sym (result_is image i xs)) j, (c ∙ ap (λ (x : Op). selector_of x xs) o) j))
+      (λ j. ((v ∙ ap (λ (x : Op). result_of_op x xs) o ∙ sym (result_is_op image i xs)) j, (c ∙ ap (λ (x : Op). selector_of x xs) o) j))
       ∙ sends_are image w i xs (result_of image i xs)
 
   no_choice : (op : Op) (xs : List ℕ) → is_memory_op op ≡ true → 0 ≡ selector_of op xs
@@ -125,7 +121,7 @@ module _ (image : Image) (world : World) (formed : Formed image) (sound : Sound 
       facts.sent r.time r.inst r.at.fires u j p v
       (subst (λ (k : ℕ × ℕ × List ℕ × ℕ). IsSent (sends image k.0 k.1 k.2 k.3) u j p v) (λ j. (sym r.at.wave j, sym r.at.instr j, ops j, res j)) s)
 
-  module _ (c : Content) (ok : TablesOk image world (part c)) (f : Fired) (operands : listed f.operands ≡ operands_in image (held c) f.wave f.instr) (k : ℕ) where
+  module _ (c : TableContent) (ok : TablesOk image world (part c)) (f : Fired) (operands : listed f.operands ≡ operands_in image (held c) f.wave f.instr) (k : ℕ) where
     there : (ks : List Key) → k < length ks → ((d : Key) → slice_index_or ks k d ≡ key_of f) → HasFired ks f.wave f.instr
     there ks lt at = subst (λ (y : Key). HasFired ks y.wave y.instr) (at none_fired) (fired_there ks k lt)
 

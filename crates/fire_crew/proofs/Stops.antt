@@ -1,5 +1,5 @@
 -- What a buffer's stop says.
-use Rattle.std.proofs.Common.{◌≡◌, ◌≤◌, ℕ, Bool, true, false, List, [], ◌∷◌, Option, Some, None, length, refl, sym, ap, ◌∙◌, arith}
+use Rattle.std.proofs.Common.{◌≡◌, ℕ, Bool, true, false, Option, Some, None, refl, sym, ap, ◌∙◌}
 use Rattle.store_buf.specs.declared.fault.BufFault.{BufFault}
 use Rattle.store_buf.specs.Contents.{Content, stop_of}
 use Rattle.fire_crew.specs.Ends.{IsGoing}
@@ -15,7 +15,3 @@ going c e = going_of c.fault c.failed c.starved e
 
 pub stopped : (c : Content) (f : BufFault) → stop_of c.fault c.failed c.starved ≡ Some f → IsGoing c → ⊥
 stopped c f e g = let q : None ≡ Some f = sym (ap (λ (k : Option ℕ × Option ℕ × Bool). stop_of k.0 k.1 k.2) (λ j. (g.0 j, g.1 j, g.2 j))) ∙ e in absurd (let r : None ≡ Some f = q in cc)
-
-pub empty_list : {X : Type 0} (xs : List X) → length xs ≤ 0 → xs ≡ []
-empty_list [] le = refl
-empty_list (x ∷ xs) le = absurd (omega (arith, le))

@@ -6,7 +6,7 @@ use Rattle.ws_words.specs.Outside.{World}
 use Rattle.ws_isa.specs.Image.{Image, ports}
 use Rattle.df_core.specs.Core.{Key, HasFired, Once, operands_in}
 use Rattle.df_core.specs.Shown.{TablesOk}
-use Rattle.match_table.specs.Tables.{Content, held, part}
+use Rattle.match_table.specs.Tables.{held, part, TableContent}
 use Rattle.match_table.specs.Limits.{Serves}
 use Rattle.fire_crew.proofs.Listed.{none_fired, fired_there}
 use Rattle.fire_crew.specs.Together.{all_fired, together}
@@ -36,47 +36,47 @@ once_append (k ∷ ks) ls a b apart = (
 
 module _ (image : Image) (world : World) where
   -- what is true of tables from a number on
-  abbrev pub PartsOk : ℕ → List Content → Type 0
+  abbrev pub PartsOk : ℕ → List TableContent → Type 0
   PartsOk n [] = Unit {0}
   PartsOk n (c ∷ cs) = (Serves n c × TablesOk image world (part c) × Once c.fired) × PartsOk (suc n) cs
 
-  number_is : (n : ℕ) (c : Content) → Serves n c → TablesOk image world (part c) → (w i : ℕ) → HasFired c.fired w i → (w + i) % 16 ≡ n
+  number_is : (n : ℕ) (c : TableContent) → Serves n c → TablesOk image world (part c) → (w i : ℕ) → HasFired c.fired w i → (w + i) % 16 ≡ n
   number_is n c s ok w i f = let e = ok.fired_full w i f in let h = e.1 0 e.0 in s w i 0 h.0 h.1
 
-  record At (n : ℕ) (cs : List Content) (w i : ℕ) : Type 0 where
+  record At (n : ℕ) (cs : List TableContent) (w i : ℕ) : Type 0 where
     pub place : ℕ
     pub below : place < length cs
     pub fired : HasFired (content_at cs place).fired w i
     pub number : (w + i) % 16 ≡ n + place
 
-  find : (n : ℕ) (cs : List Content) → PartsOk n cs → (w i : ℕ) → HasFired (all_fired cs) w i → At n cs w i
+  find : (n : ℕ) (cs : List TableContent) → PartsOk n cs → (w i : ℕ) → HasFired (all_fired cs) w i → At n cs w i
   find n [] ok w i h = absurd h
   find n (c ∷ cs) ok w i h = elim (fired_cases c.fired (all_fired cs) w i h) [
     | inl x ↦ (let e = number_is n c ok.0.0 ok.0.1 w i x in record { place = 0; below = omega arith; fired = x; number = omega (arith, e) })
     | inr x ↦ (let r = find (suc n) cs ok.1 w i x in let e = r.number in let b = r.below in record { place = suc r.place; below = omega (arith, b); fired = r.fired; number = omega (arith, e) })
   ]
 
-  pub fired_at : (cs : List Content) (k w i : ℕ) → k < length cs → HasFired (content_at cs k).fired w i → HasFired (all_fired cs) w i
+  pub fired_at : (cs : List TableContent) (k w i : ℕ) → k < length cs → HasFired (content_at cs k).fired w i → HasFired (all_fired cs) w i
   fired_at [] k w i lt h = absurd (omega (arith, lt))
   fired_at (c ∷ cs) zero w i lt h = fired_left c.fired (all_fired cs) w i h
   fired_at (c ∷ cs) (suc k) w i lt h = fired_right c.fired (all_fired cs) w i (fired_at cs k w i (omega (arith, lt)) h)
 
-  part_ok : (n : ℕ) (cs : List Content) → PartsOk n cs → (k : ℕ) → k < length cs → TablesOk image world (part (content_at cs k))
+  part_ok : (n : ℕ) (cs : List TableContent) → PartsOk n cs → (k : ℕ) → k < length cs → TablesOk image world (part (content_at cs k))
   part_ok n [] ok k lt = absurd (omega (arith, lt))
   part_ok n (c ∷ cs) ok zero lt = ok.0.1
   part_ok n (c ∷ cs) ok (suc k) lt = part_ok (suc n) cs ok.1 k (omega (arith, lt))
 
-  serves : (n : ℕ) (cs : List Content) → PartsOk n cs → (k : ℕ) → k < length cs → Serves (n + k) (content_at cs k)
+  serves : (n : ℕ) (cs : List TableContent) → PartsOk n cs → (k : ℕ) → k < length cs → Serves (n + k) (content_at cs k)
   serves n [] ok k lt = absurd (omega (arith, lt))
   serves n (c ∷ cs) ok zero lt = subst (λ (m : ℕ). Serves m c) (let e : n ≡ n + 0 = omega arith in e) ok.0.0
   serves n (c ∷ cs) ok (suc k) lt = subst (λ (m : ℕ). Serves m (content_at cs k)) (let e : suc n + k ≡ n + suc k = omega arith in e) (serves (suc n) cs ok.1 k (omega (arith, lt)))
 
-  all_once : (n : ℕ) (cs : List Content) → PartsOk n cs → Once (all_fired cs)
+  all_once : (n : ℕ) (cs : List TableContent) → PartsOk n cs → Once (all_fired cs)
   all_once n [] ok = tt
   all_once n (c ∷ cs) ok = once_append c.fired (all_fired cs) ok.0.2 (all_once (suc n) cs ok.1)
       (λ w i x y. let e = number_is n c ok.0.0 ok.0.1 w i x in let r = find (suc n) cs ok.1 w i y in let f = r.number in absurd (omega (arith, e, f)))
 
-  module _ (cs : List Content) (count : length cs ≡ 16) (ok : PartsOk 0 cs) where
+  module _ (cs : List TableContent) (count : length cs ≡ 16) (ok : PartsOk 0 cs) where
     below : (w i : ℕ) → (w + i) % 16 < length cs
     below w i = let b = mod_below (w + i) 16 (omega arith) in omega (arith, b, count)
 
@@ -106,7 +106,7 @@ module _ (image : Image) (world : World) where
     union_once = all_once 0 cs ok
 
 -- where an instance that is listed stands
-pub listed_at : (cs : List Content) (w i : ℕ) → HasFired (all_fired cs) w i → (k : ℕ) × (k < length cs) × HasFired (content_at cs k).fired w i
+pub listed_at : (cs : List TableContent) (w i : ℕ) → HasFired (all_fired cs) w i → (k : ℕ) × (k < length cs) × HasFired (content_at cs k).fired w i
 listed_at [] w i h = absurd h
 listed_at (c ∷ cs) w i h = elim (fired_cases c.fired (all_fired cs) w i h) [
   | inl x ↦ (0, (let lt : 0 < length (c ∷ cs) = omega arith in lt), x)

@@ -6,15 +6,16 @@ use Rattle.df_core.specs.Core.{Apart, IsSent}
 use Rattle.match_table.specs.declared.table.Results.{Results}
 use Rattle.match_table.specs.declared.table.Took.{Took}
 use Rattle.match_table.specs.Matching.{Answered, FiresSo, will_fire}
-use Rattle.match_table.specs.Tables.{Content}
 use Rattle.match_table.specs.Growth.{content_at}
+use Rattle.match_table.specs.Tables.{TableContent}
 
 -- the number of the table that serves a token's instance
 abbrev pub served : Token → ℕ
 served t = (t.wave + t.instr) % 16
 
 -- the table that serves the token's instance has answered so, and the others are as they were
-abbrev pub BroughtSo : {J : Type 0} → Image → List Content → Token → List Content → Results J → Took → Type 0
+abbrev pub BroughtSo : {J : Type 0} → Image → List TableContent → Token → List TableContent → Results J →
+    Took → Type 0
 BroughtSo image old t new rs took = (new ≡ slice_set old (served t) (content_at new (served t)))
     × Answered image (content_at old (served t)) t (content_at new (served t)) rs took
     × FiresSo took (will_fire image (content_at old (served t)) t)

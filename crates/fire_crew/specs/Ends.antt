@@ -1,7 +1,7 @@
 -- Where a run of a crew ends.
 use Rattle.std.specs.Prelude.{ℕ, ◌≡◌, ◌≤◌, false, List, length, Option, Some, None}
 use Rattle.ws_words.specs.Outside.{World}
-use Rattle.ws_isa.specs.Image.{Image, In, array_at, instr_at}
+use Rattle.ws_isa.specs.Image.{Image, array_at, instr_at}
 use Rattle.ws_isa.specs.Walk.{Inst, fires, mem, walk, CostAtMost}
 use Rattle.ws_isa.specs.Operations.{ops, FaultsAt, NoFault}
 use Rattle.df_core.specs.Core.{Key, HasFired}
@@ -10,6 +10,7 @@ use Rattle.df_core.specs.Answer.{FiringSteps, FirstAmong}
 use Rattle.df_core.specs.Began.{Began}
 use Rattle.store_buf.specs.Contents.{Content}
 use Rattle.store_buf.specs.Outdoors.{Holding, OutIs, RoseSince, port_of}
+use Rattle.ws_words.specs.Items.{In}
 
 -- the chain isn't stopped, and no port has failed or found no memory
 abbrev pub IsGoing : Content → Type 0

@@ -1,11 +1,12 @@
 -- What tables and a buffer owe.
-use Rattle.std.specs.Prelude.{ℕ, ◌≡◌, ◌<◌, ◌≤◌, true, false, List, length, slice_index_or, Some, None, is_some}
+use Rattle.std.specs.Prelude.{ℕ, ◌≡◌, ◌<◌, ◌≤◌, true, false, List, length, slice_index_or, Some, None}
+use Rattle.std.specs.Prelude.{is_some}
 use Rattle.ws_isa.specs.Image.{Image, Token, ports, is_memory, result_of, sends}
 use Rattle.ws_isa.specs.Walk.{Ports}
 use Rattle.df_core.specs.Core.{Key, HasFired, IsSent, operands_in}
 use Rattle.df_core.specs.Shown.{Tables as Part}
 use Rattle.df_core.specs.Rights.{operands_of}
-use Rattle.match_table.specs.Tables.{Content, held}
+use Rattle.match_table.specs.Tables.{held, TableContent}
 use Rattle.store_buf.specs.declared.kept.Kept.{Kept}
 use Rattle.store_buf.specs.Requests.{entry_of}
 
@@ -26,8 +27,14 @@ abbrev pub HasTold : Image → Ports → List ℕ → Key → Type 0
 HasTold image all operands k = is_memory image k.instr ≡ false →
     HaveCome all (sends image k.wave k.instr operands (result_of image k.instr operands))
 
+-- the one that a table lists at this place has told so
+abbrev pub HasToldAt : Image → Ports → ℕ → TableContent → Type 0
+HasToldAt image all place c = (d : Key) → HasTold image all
+    (operands_in image (held c) (slice_index_or c.fired place d).wave (slice_index_or c.fired place d).instr)
+    (slice_index_or c.fired place d)
+
 -- each that a table lists, from this place to before that one, has told so
-abbrev pub ToldIn : Image → Ports → ℕ → ℕ → Content → Type 0
+abbrev pub ToldIn : Image → Ports → ℕ → ℕ → TableContent → Type 0
 ToldIn image all from to c = (k : ℕ) (d : Key) → from ≤ k → k < to → k < length c.fired →
     HasTold image all
     (operands_in image (held c) (slice_index_or c.fired k d).wave (slice_index_or c.fired k d).instr)

@@ -1,6 +1,6 @@
 //! What a worker does once a table has had a token.
 
-use crate::hand::{Hand, Wrap, put_all};
+use crate::hand::{Hand, Wrap};
 use df_core::{Code, Job, Request, Token, TokenList};
 use match_table::{Offer, Took};
 use port_set::Port;
@@ -17,8 +17,8 @@ pub enum Next {
     Starved,
 }
 
-/// What follows from the answer of a token's table: results go into the seat, but for one that stays in
-/// hand; a request goes to the buffer; and a token for which the quota is spent is let go.
+/// What follows from the answer of a token's table: results are put by, but for one that the worker goes on
+/// with; a request goes to the buffer; and a token for which the quota is spent is let go.
 #[inline(always)]
 pub fn carry_on<L: Wrap<Token<J>, T>, J: Job, T: Drop, P: Port, R: Wait>(
     rt: &R,
@@ -37,7 +37,7 @@ pub fn carry_on<L: Wrap<Token<J>, T>, J: Job, T: Drop, P: Port, R: Wait>(
             Next::More
         }
         Offer::Took(Took::Asks) => match hand.results.request.take() {
-            Some(request) => ask::<L, J, T, P, R>(rt, request, seat, let_go, buffer, code),
+            Some(request) => ask::<L, J, T, P, R>(rt, request, hand, seat, let_go, buffer, code),
             None => Next::More,
         },
         Offer::Took(Took::NoMemory) => Next::Starved,
@@ -52,15 +52,18 @@ pub fn carry_on<L: Wrap<Token<J>, T>, J: Job, T: Drop, P: Port, R: Wait>(
 fn ask<L: Wrap<Token<J>, T>, J: Job, T: Drop, P: Port, R: Wait>(
     rt: &R,
     request: Request<J>,
+    hand: &mut Hand<'_, J>,
     seat: &mut Seat<T>,
     let_go: &mut TokenList<J>,
     buffer: &Mutex<Buffer<J, P>>,
     code: &Code<'_, J>,
 ) -> Next {
-    let answer = buffer.lock(rt).submit(code, request);
+    let answer = buffer
+        .lock(rt)
+        .submit_into(code, request, &mut hand.answers);
     match answer {
-        Ok(tokens) => {
-            put_all::<L, J, T>(seat, let_go, tokens);
+        Ok(()) => {
+            hand.put_answers::<L, T>(seat, let_go);
             Next::More
         }
         Err(BufFault::Old) => Next::More,

@@ -1,8 +1,13 @@
-//! What a worker has in hand, and how tokens go into a seat.
+//! What a worker has in hand.
 
+use crate::pouring::pour_sent;
+use crate::waiting::Waiting;
 use df_core::{Job, Sent, Token, TokenList};
 use match_table::Results;
 use ready_pool::Seat;
+use std::alloc::Global;
+use std::sync::Wait;
+use store_buf::Answers;
 
 /// How a token is an item of seats, which may have other items too.
 pub trait Wrap<X, T> {
@@ -28,28 +33,38 @@ impl<X: Drop> Wrap<X, X> for Bare {
     }
 }
 
-// How many tokens in a row a worker takes from its hand. Then all that it has go into its seat, so that
-// it runs along no chain of instances for ever while older tokens wait.
+// How many tokens in a row a worker takes of what its firings hand on. Then all that it has go behind the
+// tokens that wait, so that it runs along no chain of instances for ever while older tokens wait.
 const STREAK: u32 = 64;
 
 /// What a worker has in hand of a job: the results of its last firing, of which at most one token is left
-/// between two turns.
+/// between two turns; the buffer's answers, while they are put by; and what waits in hand where the worker is
+/// alone.
 #[derive(Drop)]
 pub struct Hand<'i, J: Job> {
     pub results: Results<'i, J>,
+    pub answers: Answers<J>,
+    waiting: Waiting<J>,
     streak: u32,
 }
 
 impl<'i, J: Job> Hand<'i, J> {
-    /// Nothing.
-    pub fn empty() -> Hand<'i, J> {
+    /// Nothing. From the seat of a worker that is alone nobody takes, so it keeps its tokens in hand.
+    pub fn empty(alloc: Global, alone: bool) -> Hand<'i, J> {
         Hand {
             results: Results::none(),
+            answers: Answers::none(alloc),
+            waiting: Waiting::none(alloc, alone),
             streak: 0,
         }
     }
 
-    /// The token in hand, if there is one.
+    /// Takes into the hand what lies in the worker's seat, if the worker is alone.
+    pub fn take_up<R: Wait>(&mut self, rt: &R, seat: &mut Seat<Token<J>>) {
+        self.waiting.take_up(rt, seat);
+    }
+
+    /// A token in hand, if there is one.
     #[inline(always)]
     pub fn next(&mut self) -> Option<Token<J>> {
         match self.results.sent.next() {
@@ -59,19 +74,18 @@ impl<'i, J: Job> Hand<'i, J> {
             }
             None => {
                 self.streak = 0;
-                None
+                self.waiting.next()
             }
         }
     }
 
-    // How many tokens may stay in hand.
+    // How many results of a firing the worker may go on with.
     #[inline(always)]
     fn kept(&self) -> usize {
         if self.streak < STREAK { 1 } else { 0 }
     }
 
-    /// Puts the tokens in hand into a seat, but for one that the worker may go on with. Those that it
-    /// refuses are let go.
+    /// Puts results by, but for one that the worker may go on with. Those that its seat refuses are let go.
     #[inline(always)]
     pub fn hand_on<L: Wrap<Token<J>, T>, T: Drop>(
         &mut self,
@@ -79,25 +93,37 @@ impl<'i, J: Job> Hand<'i, J> {
         let_go: &mut TokenList<J>,
     ) {
         let kept = self.kept();
-        put_sent::<L, J, T>(seat, let_go, &mut self.results.sent, kept);
+        put_sent::<L, J, T>(
+            &mut self.waiting,
+            seat,
+            let_go,
+            &mut self.results.sent,
+            kept,
+        );
+    }
+
+    /// Puts the buffer's answers by. Those that its seat refuses are let go.
+    pub fn put_answers<L: Wrap<Token<J>, T>, T: Drop>(
+        &mut self,
+        seat: &mut Seat<T>,
+        let_go: &mut TokenList<J>,
+    ) {
+        while let Some(token) = self.answers.pop() {
+            self.waiting.put::<L, T>(seat, let_go, token);
+        }
+    }
+
+    /// Puts all that is in hand behind other tokens, as far as there is memory.
+    pub fn pour(self, to: &mut TokenList<J>) {
+        pour_sent(self.results.sent, to);
+        self.waiting.pour(to);
     }
 }
 
-/// Puts tokens into a seat. Those that it refuses are let go.
-pub fn put_all<L: Wrap<Token<J>, T>, J: Job, T: Drop>(
-    seat: &mut Seat<T>,
-    let_go: &mut TokenList<J>,
-    tokens: TokenList<J>,
-) {
-    let mut tokens = tokens;
-    while let Some(token) = tokens.pop() {
-        put::<L, J, T>(seat, let_go, token);
-    }
-}
-
-// Puts what a firing sent into a seat, until so many tokens are left. Those that it refuses are let go.
+// Puts by what a firing sent, until so many tokens are left. Those that the seat refuses are let go.
 #[inline(always)]
 fn put_sent<L: Wrap<Token<J>, T>, J: Job, T: Drop>(
+    waiting: &mut Waiting<J>,
     seat: &mut Seat<T>,
     let_go: &mut TokenList<J>,
     sent: &mut Sent<'_, J>,
@@ -107,20 +133,6 @@ fn put_sent<L: Wrap<Token<J>, T>, J: Job, T: Drop>(
         let Some(token) = sent.next() else {
             break;
         };
-        put::<L, J, T>(seat, let_go, token);
-    }
-}
-
-// Puts a token into a seat. One that it refuses is let go.
-#[inline(always)]
-fn put<L: Wrap<Token<J>, T>, J: Job, T: Drop>(
-    seat: &mut Seat<T>,
-    let_go: &mut TokenList<J>,
-    token: Token<J>,
-) {
-    if let Err(item) = seat.put(L::wrap(token)) {
-        if let Some(back) = L::unwrap(item) {
-            let _ = let_go.push(back);
-        }
+        waiting.put::<L, T>(seat, let_go, token);
     }
 }

@@ -11,7 +11,7 @@ use crate::limits::fired;
 use crate::pour;
 use crate::tables::{all_of, holds};
 use df_core::{Code, Job, Request, Token, TokenList};
-use match_table::{Results, Tables, Took};
+use match_table::{Course, Results, Tables, Took};
 use port_set::Port;
 use std::alloc::Global;
 use store_buf::{BufFault, Buffer};
@@ -51,10 +51,10 @@ pub fn see_brought<J: Job, P: Port>(
 pub fn is_there<J: Job>(tables: &Tables<J>, token: &Token<J>) -> bool
     ensures { result ≡ has ((part_of tables.now).held token.now.wave token.now.instr token.now.port) }
 {
-    let mut near = 0;
+    let mut courses = [Course::none(); 16];
     holds(
         &all_of(tables),
-        &mut near,
+        &mut courses,
         token.wave(),
         token.instr(),
         token.port(),

@@ -54,10 +54,13 @@ pub fn phase<
     let lock = Mutex::new(buffer);
     let shared = &row;
     let behind = &lock;
+    let alone = deal.len() == 1;
     let back = thread::map_vec(
         rt,
         deal,
-        &|seat: Seat<Token<J>>| -> Worked<J> { work(rt, alloc, seat, shared, behind, code, gate) },
+        &|seat: Seat<Token<J>>| -> Worked<J> {
+            work(rt, alloc, seat, alone, shared, behind, code, gate)
+        },
     );
     let (let_go, starved) = match back {
         Ok(all) => gather(alloc, all),

@@ -9,8 +9,8 @@ ghost use Rattle.match_table.specs.Growth.{content_at};
 ghost use Rattle.match_table.specs.Rows.{contents};
 
 use df_core::Job;
-use match_table::Table;
 use match_table::row::Tables;
+use match_table::{Course, Table};
 
 /// The table with this number.
 pub fn table_at<J: Job>(tables: &Tables<J>, number: u64) -> &Table<J>
@@ -61,23 +61,29 @@ pub fn all_of<J: Job>(tables: &Tables<J>) -> [&Table<J>; 16]
     ]
 }
 
-/// Whether a port of an instance has had its token. Its page is looked for from place `near` of its
-/// table's list of pages on, which may be any number, and `near` becomes the place at which it
-/// stands or would stand.
+/// Whether a port of an instance has had its token. Its page is looked for first where the course of its
+/// table says.
 #[inline(always)]
 pub fn holds<J: Job>(
     tables: &[&Table<J>; 16],
-    near: &mut usize,
+    courses: &mut [Course; 16],
     wave: u64,
     instr: u32,
     port: u8,
 ) -> bool
     ensures { result ≡ has ((part_behind tables.now).held wave instr port) }
 {
-    let table = tables[table_of(wave, instr) as usize];
-    let (held, place) = table.holds_near(*near, wave, instr, port);
-    *near = place;
-    held
+    let number = table_of(wave, instr) as usize;
+    tables[number].holds_on(&mut courses[number], wave, instr, port)
+}
+
+/// The courses of these tables.
+pub fn courses_of<J: Job>(tables: &[&Table<J>; 16]) -> [Course; 16] {
+    let mut courses = [Course::none(); 16];
+    for number in 0..16 {
+        courses[number] = tables[number].course();
+    }
+    courses
 }
 
 // The number of the table that serves an instance.

@@ -3,7 +3,6 @@
 use crate::follow::{Next, carry_on};
 use crate::gate::Gate;
 use crate::hand::{Bare, Hand};
-use crate::pouring::pour_sent;
 use df_core::{Code, Job, Token, TokenList};
 use match_table::{Quotas, Row};
 use port_set::Port;
@@ -21,11 +20,13 @@ pub struct Worked<J: Job> {
 }
 
 /// Brings tokens to their tables until none is found, the buffer takes no more requests, or memory
-/// runs out. A worker goes on with one result token of a firing, and the others go into its seat.
+/// runs out. A worker goes on with one result token of a firing, and the others go into its seat. One that is
+/// alone keeps them in hand.
 pub fn work<J: Job, Q: Quotas, P: Port, G: Gate, R: Wait>(
     rt: &R,
     alloc: Global,
     seat: Seat<Token<J>>,
+    alone: bool,
     row: &Row<J, Q>,
     buffer: &Mutex<Buffer<J, P>>,
     code: &Code<'_, J>,
@@ -33,7 +34,8 @@ pub fn work<J: Job, Q: Quotas, P: Port, G: Gate, R: Wait>(
 ) -> Worked<J> {
     let mut seat = seat;
     let mut let_go = TokenList::empty(alloc);
-    let mut hand = Hand::empty();
+    let mut hand = Hand::empty(alloc, alone);
+    hand.take_up(rt, &mut seat);
     let mut starved = false;
     for _ in rt.forever() {
         let Some(token) = next_token(rt, &mut hand, &mut seat) else {
@@ -59,11 +61,11 @@ pub fn work<J: Job, Q: Quotas, P: Port, G: Gate, R: Wait>(
             }
         }
     }
-    pour_sent(hand.results.sent, &mut let_go);
+    hand.pour(&mut let_go);
     Worked { let_go, starved }
 }
 
-// The token in hand, or else one of a seat.
+// A token in hand, or else one of a seat.
 #[inline(always)]
 fn next_token<J: Job, R: Wait>(
     rt: &R,

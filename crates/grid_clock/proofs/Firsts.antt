@@ -19,7 +19,7 @@ use Rattle.df_core.proofs.Steps.{turn_at}
 use Rattle.df_core.proofs.Ops as O
 use Rattle.df_core.specs.declared.flow.Flow.{Flow}
 use Rattle.df_core.specs.Chains.{chain_of, next_flag, may_flag}
-use Rattle.df_core.specs.Flows.{Holds, GoingBeside, MayAt, NoneMay, asked_at}
+use Rattle.df_core.specs.Flows.{GoingBeside, asked_at, AskedMay, NoneAskedMay, FlowIs}
 use Rattle.df_core.specs.Partial.{listed}
 use Rattle.df_core.proofs.Driving.{has_at, flagged}
 use Rattle.df_core.proofs.Bounds.{has_asked}
@@ -120,7 +120,7 @@ module _ (image : Image) (world : World) (formed : Formed image) (sound : Sound 
         ]
 
 -- as the code holds it: where a request is next, it comes first of those that may be issued
-pub next_is_first : (image : Image) (flow : Flow) (place : ℕ) → GoingBeside image [] flow → place < length flow.asked.items → MayAt image flow place →
+pub next_is_first : (image : Image) (flow : Flow) (place : ℕ) → GoingBeside image [] flow → place < length flow.asked.items → AskedMay image flow place →
     next_flag (chain_of flow.chain) (note_of image (asked_at flow place).instr) ≡ true → IsFirst image flow place
 next_is_first image flow place g l may next k b may_k =
     let h = g.going.holds in
@@ -137,7 +137,7 @@ next_is_first image flow place g l may next k b may_k =
     (st.unissued (asked_at flow k).wave (asked_at flow k).instr (listed (ports image (asked_at flow k).instr) (asked_at flow k).operands) waits_k) (w ∙ c) (a ∙ c) n
 
 -- what comes first of those comes first of the issues that are enabled
-pub first_of : (image : Image) (world : World) (beside : List plain.Token) (flow : Flow) (s : State) → Holds image world beside flow s → (place : ℕ) → IsFirst image flow place → FirstIssue image s (asked_at flow place).instr
+pub first_of : (image : Image) (world : World) (beside : List plain.Token) (flow : Flow) (s : State) → FlowIs image world beside flow s → (place : ℕ) → IsFirst image flow place → FirstIssue image s (asked_at flow place).instr
 first_of image world beside flow s h place first a j e =
     let r = has_at image flow.asked.items a j e.0 (h.stands.asked_to a j e.0 e.1.waits) in
     let m1 : Issuable image s.issued (chain_of flow.chain) s.stopped a j e.0 = subst (λ (c : Chain). Issuable image s.issued c s.stopped a j e.0) h.chain_is e.1.issuable in
@@ -145,7 +145,7 @@ first_of image world beside flow s h place first a j e =
     subst (λ (k : ℕ). seq image (asked_at flow place).instr ≤ seq image k) r.3 (first r.0 r.1 (flagged image s.issued (chain_of flow.chain) s.stopped (asked_at flow r.0) m2))
 
 -- one more request is looked at
-pub least_taken : (image : Image) (flow : Flow) (n m : ℕ) (other : Option ℕ) → m ≡ suc n → n < length flow.asked.items → Least image flow n other → MayAt image flow n →
+pub least_taken : (image : Image) (flow : Flow) (n m : ℕ) (other : Option ℕ) → m ≡ suc n → n < length flow.asked.items → Least image flow n other → AskedMay image flow n →
     IfSome other (λ o. seq image (asked_at flow n).instr < seq image (asked_at flow o).instr) → Least image flow m (Some n)
 least_taken image flow n m None e l least may before = (
   l,
@@ -166,28 +166,28 @@ least_taken image flow n m (Some o) e l least may before = (
 )
 
 pub least_kept : (image : Image) (flow : Flow) (n m : ℕ) (other : Option ℕ) → m ≡ suc n → Least image flow n other →
-    MatchOption other (MayAt image flow n → ⊥) (λ o. MayAt image flow n → seq image (asked_at flow o).instr ≤ seq image (asked_at flow n).instr) → Least image flow m other
+    MatchOption other (AskedMay image flow n → ⊥) (λ o. AskedMay image flow n → seq image (asked_at flow o).instr ≤ seq image (asked_at flow n).instr) → Least image flow m other
 least_kept image flow n m None e least ahead = λ k b may_k. elim (cases_eq k n) [
-  | inl q ↦ ahead (subst (MayAt image flow) q may_k)
+  | inl q ↦ ahead (subst (AskedMay image flow) q may_k)
   | inr q ↦ least k (omega (arith, b, e, q)) may_k
 ]
 least_kept image flow n m (Some o) e least ahead = (
   least.0,
   least.1,
   λ k b may_k. elim (cases_eq k n) [
-    | inl q ↦ subst (λ (j : ℕ). seq image (asked_at flow o).instr ≤ seq image (asked_at flow j).instr) (sym q) (ahead (subst (MayAt image flow) q may_k))
+    | inl q ↦ subst (λ (j : ℕ). seq image (asked_at flow o).instr ≤ seq image (asked_at flow j).instr) (sym q) (ahead (subst (AskedMay image flow) q may_k))
     | inr q ↦ least.2 k (omega (arith, b, e, q)) may_k
   ],
 )
 
-least_none : (image : Image) (flow : Flow) → ((k : ℕ) → k < length flow.asked.items → MayAt image flow k → ⊥) → NoneMay image flow
+least_none : (image : Image) (flow : Flow) → ((k : ℕ) → k < length flow.asked.items → AskedMay image flow k → ⊥) → NoneAskedMay image flow
 least_none image flow f k l = elim (cases_Bool (may_flag image (chain_of flow.chain) (asked_at flow k).wave (asked_at flow k).instr (asked_at flow k).operands.first)) [
   | inl e ↦ absurd (f k l e)
   | inr e ↦ e
 ]
 
 -- all have been looked at
-pub least_found : (image : Image) (flow : Flow) (n : ℕ) (first : Option ℕ) → n ≡ length flow.asked.items → is_some flow.fault ≡ false → Least image flow n first → MatchOption first ((is_some flow.fault ≡ true) ⊎ NoneMay image flow)
-    (λ place. (place < length flow.asked.items) × (is_some flow.fault ≡ false) × MayAt image flow place × IsFirst image flow place)
+pub least_found : (image : Image) (flow : Flow) (n : ℕ) (first : Option ℕ) → n ≡ length flow.asked.items → is_some flow.fault ≡ false → Least image flow n first → MatchOption first ((is_some flow.fault ≡ true) ⊎ NoneAskedMay image flow)
+    (λ place. (place < length flow.asked.items) × (is_some flow.fault ≡ false) × AskedMay image flow place × IsFirst image flow place)
 least_found image flow n None e going least = inr (least_none image flow (λ k l. least k (omega (arith, l, e))))
 least_found image flow n (Some first) e going least = (least.0, going, least.1, λ k l may. least.2 k (omega (arith, l, e)) may)

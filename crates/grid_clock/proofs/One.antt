@@ -30,9 +30,9 @@ use Rattle.grid_clock.specs.Clocks.{Clocks, last_cycle}
 use Rattle.grid_clock.specs.declared.timed.Timed.{Timed}
 use Rattle.grid_clock.specs.Schedule.{Grid, Fires, FiresNothing, IsOld, NoIssue, NotAfter, NotBehind, Issues, no_issue, issue, Quiets, no_quiet, quiet, Turns, no_turn, idle, turn, Cycle, Stopping, Blocked, Cycles, blocked, stops, goes, Schedule, in_cycle}
 use Rattle.grid_clock.proofs.Firsts.{same_op}
-use Rattle.grid_clock.proofs.Listing.{same_refl}
 use Rattle.ws_isa.proofs.Images.{nth_below}
 use Rattle.df_core.proofs.States.{same_is}
+use Rattle.df_core.proofs.Same.{same_refl}
 
 -- of numbers in order
 not_after_both : (w i a j : ℕ) → NotAfter w i a j → NotAfter a j w i → (w ≡ a) × (i ≡ j)

@@ -1,5 +1,5 @@
 -- Blocks by number, in the graph and in its table.
-use Rattle.std.proofs.Common.{ℕ, ◌+◌, ◌≡◌, ◌<◌, ◌≤◌, List, [], ◌∷◌, length, slice_index_or, sym, ap, subst, inl, inr, arith}
+use Rattle.std.proofs.Common.{ℕ, ◌+◌, ◌≡◌, ◌<◌, ◌≤◌, List, length, slice_index_or, sym, ap, subst, inl, inr, arith}
 use Rattle.std.proofs.lemmas.Bool.{cases_lt}
 use Rattle.cfg_core.specs.Graph.{Spot, no_spot, spots, spot_at, Graph, block_at}
 use Rattle.cfg_core.specs.View as view
@@ -11,11 +11,7 @@ use Rattle.live_vars.specs.Live.{Live, reads, passes, ReadsFirst, Carries}
 use Rattle.live_vars.specs.Marks.{Marks}
 use Rattle.live_vars.specs.Found.{Writes, Carried}
 use Rattle.live_vars.proofs.Bits.{marks_none}
-use Rattle.cfg_core.proofs.Spots.{past}
-
-pub spot_beyond : (g : Graph) (b : ℕ) → length (spots g) ≤ b → spot_at g b ≡ no_spot
-unfolding spot_at
-spot_beyond g b le = past (spots g) b le
+use Rattle.cfg_core.proofs.Spots.{spot_beyond}
 
 pub vars_in : (table : GraphTable) (b : ℕ) (x : code.Spot) → TableIs table → b < length table.spots.items → x ≡ slice_index_or table.spots.items b x → (spot_at (view.graph table.graph.now) b).vars ≡ x.vars
 unfolding spot_at

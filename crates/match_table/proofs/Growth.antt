@@ -8,23 +8,23 @@ use Rattle.match_table.specs.declared.table.Results.{Results}
 use Rattle.match_table.specs.declared.table.Took.{Took}
 use Rattle.match_table.specs.declared.table.Took.TheVariants as took
 use Rattle.match_table.specs.Matching.{Arrives, Answered}
-use Rattle.match_table.specs.Tables.{Content, held, held_in}
+use Rattle.match_table.specs.Tables.{held, held_in, TableContent}
 use Rattle.match_table.specs.Growth.{Grows, AllGrow}
 
-pub grows_same : (c : Content) → Grows c c
+pub grows_same : (c : TableContent) → Grows c c
 grows_same c = record { keeps = λ w i p v e. e; goes_on = ([], sym (append-nil c.fired)) }
 
-pub grows_on : (a b c : Content) → Grows a b → Grows b c → Grows a c
+pub grows_on : (a b c : TableContent) → Grows a b → Grows b c → Grows a c
 grows_on a b c g h = record {
   keeps = λ w i p v e. h.keeps w i p v (g.keeps w i p v e);
   goes_on = (g.goes_on.0 ++ h.goes_on.0, h.goes_on.1 ∙ ap (λ (xs : List Key). xs ++ h.goes_on.0) g.goes_on.1 ∙ append_assoc a.fired g.goes_on.0 h.goes_on.0);
 }
 
-pub all_grow_same : (cs : List Content) → AllGrow cs cs
+pub all_grow_same : (cs : List TableContent) → AllGrow cs cs
 all_grow_same [] = tt
 all_grow_same (c ∷ cs) = (grows_same c, all_grow_same cs)
 
-pub all_grow_on : (xs ys zs : List Content) → AllGrow xs ys → AllGrow ys zs → AllGrow xs zs
+pub all_grow_on : (xs ys zs : List TableContent) → AllGrow xs ys → AllGrow ys zs → AllGrow xs zs
 all_grow_on [] [] [] g h = tt
 all_grow_on [] [] (z ∷ zs) g h = absurd h
 all_grow_on [] (y ∷ ys) zs g h = absurd g
@@ -32,23 +32,23 @@ all_grow_on (x ∷ xs) [] zs g h = absurd g
 all_grow_on (x ∷ xs) (y ∷ ys) [] g h = absurd h
 all_grow_on (x ∷ xs) (y ∷ ys) (z ∷ zs) g h = (grows_on x y z g.0 h.0, all_grow_on xs ys zs g.1 h.1)
 
-arrives_keeps : (old new : Content) (t : Token) → Arrives old t new → (w i p v : ℕ) → held old w i p ≡ Some v → held new w i p ≡ Some v
+arrives_keeps : (old new : TableContent) (t : Token) → Arrives old t new → (w i p v : ℕ) → held old w i p ≡ Some v → held new w i p ≡ Some v
 arrives_keeps old new t a w i p v e = ⊎_elim
     (λ (y : SamePlace t.wave t.instr t.port w i p × (with_at t.wave t.instr t.port (Some t.value) (held old) w i p ≡ Some t.value)).
     absurd (let here : held old t.wave t.instr t.port ≡ held old w i p = λ j. held old (y.0.wave j) (y.0.instr j) (y.0.port j) in let g : None ≡ Some v = sym a.free ∙ here ∙ e in cc))
     (λ (n : (SamePlace t.wave t.instr t.port w i p → ⊥) × (with_at t.wave t.instr t.port (Some t.value) (held old) w i p ≡ held old w i p)). a.more w i p ∙ n.1 ∙ e)
     (with_at_cases t.wave t.instr t.port (Some t.value) (held old) w i p)
 
-same_keeps : (old new : Content) → new.entries ≡ old.entries → (w i p v : ℕ) → held old w i p ≡ Some v → held new w i p ≡ Some v
+same_keeps : (old new : TableContent) → new.entries ≡ old.entries → (w i p v : ℕ) → held old w i p ≡ Some v → held new w i p ≡ Some v
 same_keeps old new e w i p v h = ap (λ (x : List (Option Entry)). held_in x w i p) e ∙ h
 
 abbrev key_of : Token → Key
 key_of t = record { wave = t.wave; instr = t.instr }
 
 module _ {J : Type 0} where
-  pub all_grows : (image : Image) (old new : Content) (t : Token) (rs : Results J) (answer : Took) → Answered image old t new rs answer → Grows old new
+  pub all_grows : (image : Image) (old new : TableContent) (t : Token) (rs : Results J) (answer : Took) → Answered image old t new rs answer → Grows old new
   all_grows image old new t rs took.Waits m = record { keeps = arrives_keeps old new t m.0.0; goes_on = ([], m.0.2 ∙ sym (append-nil old.fired)) }
   all_grows image old new t rs took.Fires m = record { keeps = arrives_keeps old new t m.0.0; goes_on = (key_of t ∷ [], m.0.1.1.fired) }
   all_grows image old new t rs took.Asks m = record { keeps = arrives_keeps old new t m.3.0; goes_on = (key_of t ∷ [], m.3.1.1.fired) }
-  all_grows image old new t rs took.Old m = subst (λ (c : Content). Grows old c) (sym m.0.1) (grows_same old)
+  all_grows image old new t rs took.Old m = subst (λ (c : TableContent). Grows old c) (sym m.0.1) (grows_same old)
   all_grows image old new t rs took.NoMemory m = record { keeps = same_keeps old new m.0.1; goes_on = ([], m.0.2 ∙ sym (append-nil old.fired)) }

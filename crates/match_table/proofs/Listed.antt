@@ -11,7 +11,7 @@ use Rattle.match_table.specs.declared.entry.Arrived.{Arrived}
 use Rattle.match_table.specs.declared.entry.Entry.{Entry}
 use Rattle.match_table.specs.Pages.{IsUnder, arrived_in, instance_of, instance_under}
 use Rattle.match_table.specs.Ports.{held_at, alone}
-use Rattle.match_table.specs.Tables.{Content, IsPlaced, TableOk, held, held_in, instances, of_memory}
+use Rattle.match_table.specs.Tables.{IsPlaced, TableOk, held, held_in, instances, of_memory, TableContent}
 use Rattle.match_table.proofs.Held.{full_same, gather_same}
 
 -- the list of those that fired, with one more
@@ -75,7 +75,7 @@ has_listed entries ks n d lt = subst (λ (k : Key). HasFired (instances entries 
     (has_at (instances entries ks) n (instance_under entries d) (subst (λ m. n < m) (sym (length-map ks (instance_under entries))) lt))
 
 -- a table, by its fields and by its value
-module _ (image : Image) (world : World) (entries : List (Option Entry)) (fired asked : List ℕ) (ok : TableOk image world entries fired asked) (c : Content) (same : entries ≡ c.entries) (are : instances entries fired ≡ c.fired) where
+module _ (image : Image) (world : World) (entries : List (Option Entry)) (fired asked : List ℕ) (ok : TableOk image world entries fired asked) (c : TableContent) (same : entries ≡ c.entries) (are : instances entries fired ≡ c.fired) where
   -- the keys that it lists are those of instances that have fired
   module _ (n k d : ℕ) where
     here : HasFired (instances entries fired) (instance_under entries k).wave (instance_under entries k).instr → HasFired c.fired (instance_under c.entries k).wave (instance_under c.entries k).instr

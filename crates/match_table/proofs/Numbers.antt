@@ -7,7 +7,7 @@ use Rattle.std.proofs.lemmas.List.Recursion.{found_set_other}
 use Rattle.std.proofs.lemmas.Grind.{get_or-set_at}
 use Rattle.std.specs.List.{insert}
 use Rattle.match_table.specs.declared.entry.Page.{Page}
-use Rattle.match_table.specs.Pages.{page_key, Rising}
+use Rattle.match_table.specs.Pages.{page_key, RisingPages}
 
 -- none of these has the number
 key_none : (pages : List Page) (w : ℕ) → ((i : ℕ) (d : Page) → i < length pages → (get_or pages i d).number ≢ w) → page_key pages w ≡ None
@@ -15,7 +15,7 @@ key_none [] w h = refl
 key_none (s ∷ pages) w h = rw (ne_eqb s.number w (h 0 s (omega arith))) (key_none pages w (λ i d lt. h (suc i) d (omega arith)))
 
 -- the order of two places
-rises : (pages : List Page) (i j : ℕ) (d : Page) → Rising pages → i ≤ j → j < length pages → (get_or pages i d).number ≤ (get_or pages j d).number
+rises : (pages : List Page) (i j : ℕ) (d : Page) → RisingPages pages → i ≤ j → j < length pages → (get_or pages i d).number ≤ (get_or pages j d).number
 rises pages i j d rising le lt = ⊎_elim
     (λ (same : i ≡ j). omega (arith, ap (λ k. (get_or pages k d).number) same))
     (λ (apart : (i < j) ⊎ (j < i)). ⊎_elim (λ (l : i < j). let r = rising i j d l lt in omega (arith, r)) (λ (g : j < i). absurd (omega (arith, g, le))) apart)
@@ -24,14 +24,14 @@ rises pages i j d rising le lt = ⊎_elim
 same_page : (pages : List Page) (i : ℕ) (d e : Page) → i < length pages → (get_or pages i d).number ≡ (get_or pages i e).number
 same_page pages i d e lt = ap (λ (s : Page). s.number) (get_or_default pages i d e lt)
 
-pub below_more : (pages : List Page) (middle w : ℕ) (e : Page) → Rising pages → middle < length pages → (get_or pages middle e).number < w → (i : ℕ) (d : Page) → i < middle + 1 → (get_or pages i d).number < w
+pub below_more : (pages : List Page) (middle w : ℕ) (e : Page) → RisingPages pages → middle < length pages → (get_or pages middle e).number < w → (i : ℕ) (d : Page) → i < middle + 1 → (get_or pages i d).number < w
 below_more pages middle w e rising within less i d lt = let r = rises pages i middle d rising (omega (arith, lt)) within in let s = same_page pages middle d e within in omega (arith, r, s, less)
 
-pub above_more : (pages : List Page) (middle w : ℕ) (e : Page) → Rising pages → w ≤ (get_or pages middle e).number → (i : ℕ) (d : Page) → middle ≤ i → i < length pages → w ≤ (get_or pages i d).number
+pub above_more : (pages : List Page) (middle w : ℕ) (e : Page) → RisingPages pages → w ≤ (get_or pages middle e).number → (i : ℕ) (d : Page) → middle ≤ i → i < length pages → w ≤ (get_or pages i d).number
 above_more pages middle w e rising more i d le lt = let r = rises pages middle i d rising le lt in let s = same_page pages middle d e (omega (arith, le, lt)) in omega (arith, r, s, more)
 
 -- the place of a number
-pub below_at : (pages : List Page) (at w : ℕ) (e : Page) → Rising pages → at < length pages → (get_or pages at e).number ≡ w → (i : ℕ) (d : Page) → i < at → (get_or pages i d).number < w
+pub below_at : (pages : List Page) (at w : ℕ) (e : Page) → RisingPages pages → at < length pages → (get_or pages at e).number ≡ w → (i : ℕ) (d : Page) → i < at → (get_or pages i d).number < w
 below_at pages at w e rising within is i d lt = let r = rising i at d lt within in let s = same_page pages at d e within in omega (arith, r, s, is)
 
 -- a place before which all are smaller isn't behind one from which on none is
@@ -50,7 +50,7 @@ key_some (s ∷ pages) (suc place) w d lt below is =
     rw (ne_eqb s.number w (λ e. let b = below 0 s (omega arith) in absurd (omega (arith, e, b)))) (key_some pages place w d (omega arith) (λ i e l. below (suc i) e (omega arith)) is)
 
 -- all before are smaller, and this one is greater
-pub missing_key : (pages : List Page) (place w : ℕ) → Rising pages → ((i : ℕ) (e : Page) → i < place → (get_or pages i e).number < w) → ((i : ℕ) (e : Page) → place ≤ i → i < length pages → w ≤ (get_or pages i e).number) → ((d : Page) → place < length pages → (get_or pages place d).number ≢ w) → page_key pages w ≡ None
+pub missing_key : (pages : List Page) (place w : ℕ) → RisingPages pages → ((i : ℕ) (e : Page) → i < place → (get_or pages i e).number < w) → ((i : ℕ) (e : Page) → place ≤ i → i < length pages → w ≤ (get_or pages i e).number) → ((d : Page) → place < length pages → (get_or pages place d).number ≢ w) → page_key pages w ≡ None
 missing_key pages place w rising below above here = key_none pages w (λ i d lt e. ⊎_elim
     (λ (same : i ≡ place). here d (omega (arith, same, lt)) (subst (λ k. (get_or pages k d).number ≡ w) same e))
     (λ (apart : (i < place) ⊎ (place < i)). ⊎_elim
@@ -110,7 +110,7 @@ back_of : (place j : ℕ) → place < j → (k : ℕ) × (j ≡ k + 1) × (place
 back_of place zero lt = absurd (omega arith)
 back_of place (suc j) lt = (j, sym (add-one j), omega arith)
 
-pub inserted_rises : (pages : List Page) (place : ℕ) (s : Page) → Rising pages → place ≤ length pages → page_key pages s.number ≡ None → ((i : ℕ) (e : Page) → i < place → (get_or pages i e).number < s.number) → ((i : ℕ) (e : Page) → place ≤ i → i < length pages → s.number ≤ (get_or pages i e).number) → Rising (insert pages place s)
+pub inserted_rises : (pages : List Page) (place : ℕ) (s : Page) → RisingPages pages → place ≤ length pages → page_key pages s.number ≡ None → ((i : ℕ) (e : Page) → i < place → (get_or pages i e).number < s.number) → ((i : ℕ) (e : Page) → place ≤ i → i < length pages → s.number ≤ (get_or pages i e).number) → RisingPages (insert pages place s)
 inserted_rises pages place s rising le none below above i j d lt len =
     let n : length (insert pages place s) ≡ length pages + 1 = length-insert pages place s le in
     let W : Page → ℕ = λ t. t.number in
@@ -145,7 +145,7 @@ module _ (pages : List Page) (place : ℕ) (s : Page) (within : place < length p
       (λ (apart : k ≡ place → ⊥). ap (λ (t : Page). t.number) (get_or-set_other pages place k s d apart))
       (cases_eq k place)
 
-  pub set_rises : Rising pages → Rising (set pages place s)
+  pub set_rises : RisingPages pages → RisingPages (set pages place s)
   set_rises rising i j d lt len = let n = length-set pages place s in let r = rising i j d lt (omega arith) in let u = number_kept i d in let v = number_kept j d in omega arith
 
   pub set_key : ((i : ℕ) (d : Page) → i < place → (get_or pages i d).number < s.number) → page_key (set pages place s) s.number ≡ Some s.first

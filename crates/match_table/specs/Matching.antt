@@ -1,5 +1,6 @@
 -- What a table answers to a token.
-use Rattle.std.specs.Prelude.{◌≡◌, ℕ, Bool, true, false, not, ◌&&◌, List, [], ◌∷◌, ◌++◌, slice_index, Some, None}
+use Rattle.std.specs.Prelude.{◌≡◌, ℕ, Bool, true, false, not, ◌&&◌, List, [], ◌∷◌, ◌++◌, slice_index, Some}
+use Rattle.std.specs.Prelude.{None}
 use Rattle.ws_isa.specs.Image.{Image, Token, ports, is_memory, result_of, sends}
 use Rattle.df_core.specs.Core.{State, arrived, matched, has, is_full, with_at, operands_in}
 use Rattle.df_core.specs.Rights.{Asked, operands_of}
@@ -12,30 +13,30 @@ use Rattle.match_table.specs.declared.table.AcceptFault.{AcceptFault}
 use Rattle.match_table.specs.declared.table.AcceptFault.TheVariants as fault
 use Rattle.match_table.specs.declared.meeting.Seen.{Seen}
 use Rattle.match_table.specs.declared.meeting.Seen.TheVariants.{Old}
-use Rattle.match_table.specs.Tables.{Content, held}
+use Rattle.match_table.specs.Tables.{held, TableContent}
 
 -- the port had no token, and now it has this one
-pub record Arrives (old : Content) (t : Token) (new : Content) : Type 0 where
+pub record Arrives (old : TableContent) (t : Token) (new : TableContent) : Type 0 where
   pub free : held old t.wave t.instr t.port ≡ None
   pub more : (w i p : ℕ) →
       held new w i p ≡ with_at t.wave t.instr t.port (Some t.value) (held old) w i p
 
 -- the token's instance is full and has fired, with these operands
-pub record Full (image : Image) (old : Content) (t : Token) (new : Content)
+pub record Full (image : Image) (old : TableContent) (t : Token) (new : TableContent)
     (operands : List ℕ) : Type 0 where
   pub full : is_full (held new) t.wave t.instr (ports image t.instr) ≡ true
   pub operands_are : operands ≡ operands_in image (held new) t.wave t.instr
   pub fired : new.fired ≡ old.fired ++ record { wave = t.wave; instr = t.instr } ∷ []
 
 -- the port has had no token, and with this one the instance is full
-abbrev pub will_fire : Image → Content → Token → Bool
+abbrev pub will_fire : Image → TableContent → Token → Bool
 will_fire image c t =
     not (has (held c t.wave t.instr t.port))
     && is_full (with_at t.wave t.instr t.port (Some t.value) (held c)) t.wave t.instr
     (ports image t.instr)
 
 -- an earlier token stands at the port
-abbrev pub IsOldSo : Content → Token → Seen → Type 0
+abbrev pub IsOldSo : TableContent → Token → Seen → Type 0
 IsOldSo c t Old = has (held c t.wave t.instr t.port) ≡ true
 IsOldSo c t _ = Unit {0}
 
@@ -51,7 +52,7 @@ module _ {J : Type 0} where
       × (operands_of (ports image t.instr) request.first request.second ≡ operands)
 
   -- the token was taken, and this is the answer
-  abbrev pub Accepted : Image → Content → Token → Content → Accept J → Type 0
+  abbrev pub Accepted : Image → TableContent → Token → TableContent → Accept J → Type 0
   Accepted image old t new Waits = Arrives old t new
       × (is_full (held new) t.wave t.instr (ports image t.instr) ≡ false)
       × (new.fired ≡ old.fired)
@@ -59,7 +60,7 @@ module _ {J : Type 0} where
       × ((operands : List ℕ) × Full image old t new operands × Outcome image t operands answer)
 
   -- the token is handed back, and nothing that the table holds or lists has changed
-  abbrev pub Refused : Content → Token → Content → AcceptFault J → Type 0
+  abbrev pub Refused : TableContent → Token → TableContent → AcceptFault J → Type 0
   Refused old t new (fault.Old back) = (back ≡ t) × (new ≡ old)
       × (has (held old t.wave t.instr t.port) ≡ true)
   Refused old t new (fault.NoMemory back) = (back ≡ t) × (new.entries ≡ old.entries)
@@ -80,7 +81,7 @@ module _ {J : Type 0} where
 
   -- what `accept` answers, where the caller keeps the token and lends a place for what is handed on: nothing
   -- else stands there
-  abbrev pub Answered : Image → Content → Token → Content → Results J → Took → Type 0
+  abbrev pub Answered : Image → TableContent → Token → TableContent → Results J → Took → Type 0
   Answered image old t new rs took.Waits = Accepted {J = J} image old t new Waits × NoResults rs
   Answered image old t new rs took.Fires = Accepted {J = J} image old t new (Fires rs.sent)
       × (rs.request ≡ None)
@@ -108,7 +109,7 @@ FiresSo took.Asks fires = fires ≡ true
 FiresSo answer fires = Unit {0}
 
 -- the state holds at the ports of the token's instance what the table holds
-abbrev pub Agrees : State → Content → Token → Type 0
+abbrev pub Agrees : State → TableContent → Token → Type 0
 Agrees s c t = (q : ℕ) → s.held t.wave t.instr q ≡ held c t.wave t.instr q
 
 -- the state once the token has moved into its port

@@ -20,12 +20,17 @@
 //! and the list of those that fired is full, and then nothing changes. `Row` is 16 of them, each behind a
 //! lock: `offer` takes a token at the table that serves it, of which no clause says more, and `gather` gives
 //! the tables back, each serving its own within its quota, and grown from what it was. `Tables::new` gives 16
-//! to which no token has come.
+//! to which no token has come. `key_at` names an instance that `fired_at` gives, without its operands, and
+//! `holds_on` answers as `holds` does, whatever the course says (`Course`) along which it looks.
 #![tactic(auto)]
 
+mod accepting;
+mod chain;
+pub mod course;
 pub mod entry;
 pub mod laws;
 pub mod limit;
+mod looking;
 pub mod meeting;
 mod ops;
 mod pages;
@@ -34,6 +39,7 @@ pub mod rank;
 pub mod row;
 pub mod table;
 
+pub use course::Course;
 pub use entry::Arrived;
 pub use limit::{Limited, Offer, Quotas};
 pub use meeting::Operands;

@@ -3,6 +3,7 @@
 ghost use Rattle.std.specs.Prelude.{◌≡◌, ◌+◌, ◌<◌, ◌≤◌, ◌%◌, ℕ, List, length, slice_index};
 ghost use Rattle.match_table.specs.Growth.{Grows, content_at};
 ghost use Rattle.match_table.specs.Limits.{Serves, Offered};
+ghost use Rattle.match_table.specs.Tables.{TableContent};
 
 use crate::{Results, Table, Took};
 use df_core::{Code, Job, Token};
@@ -12,11 +13,10 @@ use std::marker::{Brand, Model, PhantomData};
 /// hold and list when it begins.
 pub trait Quotas {
     ghost use Rattle.std.specs.Prelude.{ℕ, List};
-    ghost use Rattle.match_table.specs.Tables.{Content};
 
     ghost most: { List ℕ };
 
-    ghost began: { List Content };
+    ghost began: { List TableContent };
 }
 
 impl Quotas for Brand {
@@ -46,11 +46,11 @@ pub struct Limited<J: Job, Q: Quotas, const K: u64> {
 
 impl<J: Job, Q: Quotas, const K: u64> Model for Limited<J, Q, K> {
     ghost use Rattle.std.specs.Prelude.{◌≡◌, ◌≤◌, length, slice_index};
-    ghost use Rattle.match_table.specs.Tables.{Content};
+    ghost use Rattle.match_table.specs.Tables.{TableContent};
     ghost use Rattle.match_table.specs.Growth.{Grows, content_at};
     ghost use Rattle.match_table.specs.Limits.{Serves};
 
-    ghost Value = { Content };
+    ghost Value = { TableContent };
 
     ghost view = { λ l. l.table };
 

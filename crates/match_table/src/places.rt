@@ -1,8 +1,9 @@
 //! Places of pages in a list that rises in number.
 
-ghost use Rattle.std.specs.Prelude.{◌≡◌, ◌+◌, ◌<◌, ◌≤◌, ℕ, true, length, slice_index_or, vec_len, vec_capacity, IfSome};
+ghost use Rattle.std.specs.Prelude.{◌≡◌, ◌+◌, ◌<◌, ◌≤◌, ℕ, true, length, slice_index_or, vec_len};
+ghost use Rattle.std.specs.Prelude.{vec_capacity, IfSome};
 ghost use Rattle.std.specs.List.{insert};
-ghost use Rattle.match_table.specs.Pages.{page_key, page_number, Rising};
+ghost use Rattle.match_table.specs.Pages.{page_key, page_number, RisingPages};
 
 use crate::entry::Page;
 
@@ -63,7 +64,7 @@ fn guess(pages: &[Page], number: u64) -> usize {
 // does, or else 0.
 #[inline(always)]
 fn floor(pages: &[Page], before: usize, number: u64) -> usize
-    requires { Rising pages.now }
+    requires { RisingPages pages.now }
     ensures bound { result ≤ length pages.now }
     ensures below { (i : ℕ) (d : _) → i < result → (slice_index_or pages.now i d).number < number }
 {
@@ -78,7 +79,7 @@ fn floor(pages: &[Page], before: usize, number: u64) -> usize
 // end.
 #[inline(always)]
 fn ceiling(pages: &[Page], at: usize, number: u64) -> usize
-    requires { Rising pages.now }
+    requires { RisingPages pages.now }
     ensures bound { result ≤ length pages.now }
     ensures above { (i : ℕ) (d : _) → result ≤ i → i < length pages.now
         → number ≤ (slice_index_or pages.now i d).number }
@@ -92,7 +93,7 @@ fn ceiling(pages: &[Page], at: usize, number: u64) -> usize
 
 // The first place whose number isn't below this one.
 fn search(pages: &[Page], number: u64) -> usize
-    requires { Rising pages.now }
+    requires { RisingPages pages.now }
     ensures bound { result ≤ length pages.now }
     ensures below { (i : ℕ) (d : _) → i < result → (slice_index_or pages.now i d).number < number }
     ensures above { (i : ℕ) (d : _) → result ≤ i → i < length pages.now
@@ -125,10 +126,26 @@ fn is_at(pages: &[Page], at: usize, number: u64) -> bool
     at < pages.len() && pages[at].number == number
 }
 
+// This place or the next one, where the number stands there.
+#[inline(always)]
+pub(crate) fn first_of_two(pages: &[Page], near: usize, number: u64) -> Option<usize>
+    ensures within { IfSome result (λ place. place < length pages.now) }
+    ensures number { IfSome result (λ place. (d : _) → (slice_index_or pages.now place d).number ≡ number) }
+{
+    if is_at(pages, near, number) {
+        return Some(near);
+    }
+    let next = near.wrapping_add(1);
+    if is_at(pages, next, number) {
+        return Some(next);
+    }
+    None
+}
+
 // The first place whose number isn't below this one, looked for from a place on that may be any.
 #[inline(always)]
 pub(crate) fn place_of(pages: &[Page], near: usize, number: u64) -> usize
-    requires { Rising pages.now }
+    requires { RisingPages pages.now }
     ensures bound { result ≤ length pages.now }
     ensures below { (i : ℕ) (d : _) → i < result → (slice_index_or pages.now i d).number < number }
     ensures above { (i : ℕ) (d : _) → result ≤ i → i < length pages.now
@@ -156,7 +173,7 @@ pub(crate) fn place_of(pages: &[Page], near: usize, number: u64) -> usize
 // is this one.
 #[inline(always)]
 pub(crate) fn key_at(pages: &[Page], place: usize, number: u64) -> Option<usize>
-    requires rising { Rising pages.now }
+    requires rising { RisingPages pages.now }
     requires below { (i : ℕ) (d : _) → i < place → (slice_index_or pages.now i d).number < number }
     requires above { (i : ℕ) (d : _) → place ≤ i → i < length pages.now
         → number ≤ (slice_index_or pages.now i d).number }

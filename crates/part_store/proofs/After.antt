@@ -3,7 +3,7 @@ use Rattle.std.proofs.Common.{ℕ, ◌≡◌, true, List, Option, Some, None, Re
 use Rattle.std.proofs.Common.{inr}
 use Rattle.std.proofs.lemmas.Bool.{both_ways}
 use Rattle.ws_words.specs.Outside.{World}
-use Rattle.ws_isa.specs.Image.{Image, Token, instr_at, nth}
+use Rattle.ws_isa.specs.Image.{Image, Token, instr_at}
 use Rattle.ws_isa.specs.Formed.{Formed}
 use Rattle.ws_isa.specs.Sound.{Sound}
 use Rattle.df_core.specs.Core.{Chain}
@@ -21,31 +21,32 @@ use Rattle.store_buf.specs.Stores.{asked_of}
 use Rattle.store_buf.proofs.Failing.{rose_since}
 use Rattle.store_buf.proofs.Within.{port_in}
 use Rattle.part_store.specs.declared.parts.Parts.{Parts}
-use Rattle.part_store.specs.Contents.{Content}
 use Rattle.part_store.specs.Parted.{IsAddressed, is_store_op}
-use Rattle.part_store.specs.Calls.{AddressSo, AddressedSo, FailedSo, Idle, SameAs, SubmitSo, SubmittedSo}
-use Rattle.part_store.specs.Parts.{AddressLeads, Calm, PartsOk, Standing, SubmitLeads, content_of}
+use Rattle.part_store.specs.Calls.{AddressSo, AddressedSo, SameAs, SubmittedSo, PartFailedSo, PartIdle, PartSubmitSo}
+use Rattle.part_store.specs.Parts.{AddressLeads, Calm, PartsOk, content_of, PartsStanding, PartsSubmitLeads}
 use Rattle.part_store.proofs.Resting as R
+use Rattle.ws_words.specs.Items.{nth}
+use Rattle.part_store.specs.Contents.{PartContent}
 
 module _ {P : Type 0} (image : Image) (world : World) (began : List (Option Began)) (formed : Formed image)
-    (old new : Parts P) (standing : Standing image world began old) (calm : Calm image world began new)
+    (old new : Parts P) (standing : PartsStanding image world began old) (calm : Calm image world began new)
     (ok : PartsOk new) where
-  idle_same : SameAs (content_of old) (content_of new) → Idle image (content_of new)
+  idle_same : SameAs (content_of old) (content_of new) → PartIdle image (content_of new)
   idle_same s f t = R.no_rule_same image (content_of old) (content_of new) s
       (standing.idle (sym s.failed ∙ f) (sym s.starved ∙ t))
 
-  failed_same : SameAs (content_of old) (content_of new) → FailedSo image began (content_of new)
+  failed_same : SameAs (content_of old) (content_of new) → PartFailedSo image began (content_of new)
   failed_same s port e = subst (λ (x : List Kept × Chain × Holding). PortWaits image x.0 x.1 port ×
       RoseSince began port x.2.ports) (λ j. (sym s.kept j, sym s.chain j, sym s.outside j))
       (standing.failed port (sym s.failed ∙ e))
 
-  none_failed : new.failed ≡ None → FailedSo image began (content_of new)
+  none_failed : new.failed ≡ None → PartFailedSo image began (content_of new)
   none_failed n port e = absurd (let f : None ≡ Some port = sym n ∙ e in cc)
 
   -- in this call a port failed, and had failed no more often when the run began than before the call
   one_failed : (port : ℕ) → new.failed ≡ Some port → RoseAt port old.outer.ports new.outer.ports →
       PortWaits image new.order.kept.items (chain_of new.order.chain) port →
-      FailedSo image began (content_of new)
+      PartFailedSo image began (content_of new)
   one_failed port is rose waits p e =
       let same : port ≡ p = (let f : Some port ≡ Some p = sym is ∙ e in cc) in
       subst (λ (n : ℕ). PortWaits image new.order.kept.items (chain_of new.order.chain) n ×
@@ -56,30 +57,30 @@ module _ {P : Type 0} (image : Image) (world : World) (began : List (Option Bega
             (port_in image waits.request.instr formed) waits.port_is rose,
       )
 
-  stands : Idle image (content_of new) → FailedSo image began (content_of new) →
-      Standing image world began new
+  stands : PartIdle image (content_of new) → PartFailedSo image began (content_of new) →
+      PartsStanding image world began new
   stands idle failed = record { ok = ok; calm = calm; idle = idle; failed = failed }
 
-  stopped : (array : ℕ) → new.fault ≡ Some array → new.failed ≡ None → Standing image world began new
+  stopped : (array : ℕ) → new.fault ≡ Some array → new.failed ≡ None → PartsStanding image world began new
   stopped array e n = stands (λ f t. R.no_rule_stopped image (content_of new) array e calm.1) (none_failed n)
 
   fails : (port : ℕ) → new.failed ≡ Some port → RoseAt port old.outer.ports new.outer.ports →
-      PortWaits image new.order.kept.items (chain_of new.order.chain) port → Standing image world began new
+      PortWaits image new.order.kept.items (chain_of new.order.chain) port → PartsStanding image world began new
   fails port is rose waits = stands (λ f t. absurd (let g : Some port ≡ None = sym is ∙ f in cc))
       (one_failed port is rose waits)
 
-  starves : new.starved ≡ true → new.failed ≡ None → Standing image world began new
+  starves : new.starved ≡ true → new.failed ≡ None → PartsStanding image world began new
   starves s n = stands (λ f t. absurd (both_ways new.starved t s)) (none_failed n)
 
-  same_stands : SameAs (content_of old) (content_of new) → Standing image world began new
+  same_stands : SameAs (content_of old) (content_of new) → PartsStanding image world began new
   same_stands s = stands (idle_same s) (failed_same s)
 
-  equal_stands : content_of new ≡ content_of old → Standing image world began new
-  equal_stands e = stands (subst (Idle image) (sym e) standing.idle)
-      (subst (FailedSo image began) (sym e) standing.failed)
+  equal_stands : content_of new ≡ content_of old → PartsStanding image world began new
+  equal_stands e = stands (subst (PartIdle image) (sym e) standing.idle)
+      (subst (PartFailedSo image began) (sym e) standing.failed)
 
   pub addressed : (k : Kept) (tokens : List Token) (r : Result (Unit {0}) BufFault) →
-      AddressSo image (content_of old) k tokens r (content_of new) → Standing image world began new
+      AddressSo image (content_of old) k tokens r (content_of new) → PartsStanding image world began new
   addressed k tokens (Ok u) a = stands (λ f t. a.1) (none_failed a.0.3)
   addressed k tokens (Err (fault.Index array)) a = stopped array a.2 a.3
   addressed k tokens (Err (fault.Port port)) a = fails port a.0.3 a.1 a.2
@@ -90,7 +91,7 @@ module _ {P : Type 0} (image : Image) (world : World) (began : List (Option Bega
   addressed k tokens (Err (fault.Ended array)) a = equal_stands a.1
 
   pub submitted : (k : Kept) (tokens : List Token) (r : Result (Unit {0}) BufFault) →
-      SubmitSo image (content_of old) k tokens r (content_of new) → Standing image world began new
+      PartSubmitSo image (content_of old) k tokens r (content_of new) → PartsStanding image world began new
   submitted k tokens (Ok u) a = stands (λ f t. a.1) (none_failed a.0.3)
   submitted k tokens (Err (fault.Index array)) a = stopped array a.2 a.3
   submitted k tokens (Err (fault.Port port)) a = fails port a.0.3 a.1 a.2
@@ -104,9 +105,9 @@ module _ {P : Type 0} (image : Image) (world : World) (began : List (Option Bega
 module _ {P : Type 0} (im image : Image) (world : World) (began : List (Option Began)) (same : im ≡ image)
     (formed : Formed image) (sound : Sound image) (old new : Parts P) (k a : Kept) (tokens : List Token)
     (r : Result (Unit {0}) BufFault) (is : k ≡ a) (ok : PartsOk new)
-    (standing : Standing image world began old) where
+    (standing : PartsStanding image world began old) where
   pub address_told : IsAddressed image world k.wave k.instr k.first → AddressLeads im old k tokens r new →
-      Standing image world began new × RightTokens image world tokens ×
+      PartsStanding image world began new × RightTokens image world tokens ×
       AddressSo image (content_of old) a tokens r (content_of new)
   address_told right leads =
       let l = subst (λ (i : Image). AddressLeads i old k tokens r new) same leads world began formed sound
@@ -117,21 +118,21 @@ module _ {P : Type 0} (im image : Image) (world : World) (began : List (Option B
             (λ (x : Kept). AddressSo image (content_of old) x tokens r (content_of new)) is l.2,
       )
 
-  pub submit_told : IsAsked image world (asked_of k) → SubmitLeads im old k tokens r new →
-      Standing image world began new × RightTokens image world tokens ×
-      SubmitSo image (content_of old) a tokens r (content_of new)
+  pub submit_told : IsAsked image world (asked_of k) → PartsSubmitLeads im old k tokens r new →
+      PartsStanding image world began new × RightTokens image world tokens ×
+      PartSubmitSo image (content_of old) a tokens r (content_of new)
   submit_told right leads =
-      let l = subst (λ (i : Image). SubmitLeads i old k tokens r new) same leads world began formed sound
+      let l = subst (λ (i : Image). PartsSubmitLeads i old k tokens r new) same leads world began formed sound
       right standing.calm standing.idle in (
         submitted image world began formed old new standing l.0 ok k tokens r l.2,
         l.1,
         subst
-            (λ (x : Kept). SubmitSo image (content_of old) x tokens r (content_of new)) is l.2,
+            (λ (x : Kept). PartSubmitSo image (content_of old) x tokens r (content_of new)) is l.2,
       )
 
 -- the same with a list of tokens as the answer
-module _ (image : Image) (old : Content) (k : Kept) (tokens : List Token) (r : Result (Unit {0}) BufFault)
-    (new : Content) (answer : Result (List Token) BufFault) where
+module _ (image : Image) (old : PartContent) (k : Kept) (tokens : List Token) (r : Result (Unit {0}) BufFault)
+    (new : PartContent) (answer : Result (List Token) BufFault) where
   pub address_ok : AddressSo image old k tokens r new → r ≡ Ok tt → answer ≡ Ok tokens →
       AddressedSo image old k answer new
   address_ok a e f = subst (λ (x : Result (List Token) BufFault). AddressedSo image old k x new) (sym f)
@@ -142,15 +143,15 @@ module _ (image : Image) (old : Content) (k : Kept) (tokens : List Token) (r : R
   address_err f a e g = subst (λ (x : Result (List Token) BufFault). AddressedSo image old k x new) (sym g)
       (tokens, subst (λ (x : Result (Unit {0}) BufFault). AddressSo image old k tokens x new) e a)
 
-  pub submit_ok : SubmitSo image old k tokens r new → r ≡ Ok tt → answer ≡ Ok tokens →
+  pub submit_ok : PartSubmitSo image old k tokens r new → r ≡ Ok tt → answer ≡ Ok tokens →
       SubmittedSo image old k answer new
   submit_ok a e f = subst (λ (x : Result (List Token) BufFault). SubmittedSo image old k x new) (sym f)
-      (subst (λ (x : Result (Unit {0}) BufFault). SubmitSo image old k tokens x new) e a)
+      (subst (λ (x : Result (Unit {0}) BufFault). PartSubmitSo image old k tokens x new) e a)
 
-  pub submit_err : (f : BufFault) → SubmitSo image old k tokens r new → r ≡ Err f → answer ≡ Err f →
+  pub submit_err : (f : BufFault) → PartSubmitSo image old k tokens r new → r ≡ Err f → answer ≡ Err f →
       SubmittedSo image old k answer new
   submit_err f a e g = subst (λ (x : Result (List Token) BufFault). SubmittedSo image old k x new) (sym g)
-      (tokens, subst (λ (x : Result (Unit {0}) BufFault). SubmitSo image old k tokens x new) e a)
+      (tokens, subst (λ (x : Result (Unit {0}) BufFault). PartSubmitSo image old k tokens x new) e a)
 
 -- a right token at a store's port 0 is its address
 pub is_address : (image : Image) (world : World) (t : Token) → IsRight image world t →

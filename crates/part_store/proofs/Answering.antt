@@ -4,7 +4,6 @@ use Rattle.std.proofs.Common.{length, Option, Some, None, slice_index_or, slice_
 use Rattle.std.proofs.Common.{subst, inl, inr, arith, eqb-true, eq-eqb}
 use Rattle.std.specs.Prelude.{is_some}
 use Rattle.std.proofs.lemmas.Bool.{both_ways, cases_eq, and_parts}
-use Rattle.ws_isa.specs.Image.{In}
 use Rattle.df_core.specs.Core.{with_key}
 use Rattle.df_core.proofs.Ports.{with_key_cases}
 use Rattle.store_buf.proofs.Alike.{entry_set, once_of}
@@ -17,6 +16,7 @@ use Rattle.store_buf.specs.Ordering.{OrderOk, no_request, kept_at}
 use Rattle.store_buf.proofs.Found as F
 use Rattle.store_buf.proofs.Lists.{set_here, set_other, set_length}
 use Rattle.part_store.specs.Parts.{issued_flag, kept_flag}
+use Rattle.ws_words.specs.Items.{In}
 
 some_of : (o : Option ℕ) → is_some o ≡ true → (a : ℕ) × (o ≡ Some a)
 some_of None e = absurd (both_ways false refl e)

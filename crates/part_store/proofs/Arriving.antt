@@ -3,7 +3,7 @@ use Rattle.std.proofs.Common.{ℕ, ◌≡◌, ◌≤◌, Bool, true, false, cond
 use Rattle.std.proofs.Common.{None, refl, sym, ap, ◌∙◌, subst, inl, inr}
 use Rattle.std.proofs.lemmas.Bool.{both_ways}
 use Rattle.ws_words.specs.Outside.{World, row}
-use Rattle.ws_isa.specs.Image.{Image, In}
+use Rattle.ws_isa.specs.Image.{Image}
 use Rattle.df_core.specs.Core.{Chain, has}
 use Rattle.df_core.specs.Fit.{Legal}
 use Rattle.df_core.proofs.Ports.{SameKey, with_key_cases}
@@ -15,15 +15,16 @@ use Rattle.store_buf.specs.Contents.{FaultIs}
 use Rattle.store_buf.proofs.Coming.{entry_push, issued_push}
 use Rattle.part_store.specs.declared.entry.Entry.{Entry}
 use Rattle.part_store.specs.Queues.{front, holds, is_queued, open_queues}
-use Rattle.part_store.specs.Contents.{Content, is_bare, asking, cell}
-use Rattle.part_store.specs.Parted.{IsKept, Parting, Fronts, Rising}
-use Rattle.part_store.specs.Rules.{Comes}
+use Rattle.part_store.specs.Contents.{is_bare, asking, cell, PartContent}
+use Rattle.part_store.specs.Parted.{IsKept, Parting, Fronts, RisingEntries}
 use Rattle.part_store.proofs.Keys.{key_cases}
 use Rattle.part_store.proofs.Fronts as F
 use Rattle.part_store.proofs.Ops as O
+use Rattle.ws_words.specs.Items.{In}
+use Rattle.part_store.specs.Rules.{ComesIn}
 
-module _ (image : Image) (world : World) (began : List (Option Began)) (c d : Content) (k : Kept) (b : Bool)
-    (come : Comes c k b d) (s : Parting image world began c) (going : c.fault ≡ None)
+module _ (image : Image) (world : World) (began : List (Option Began)) (c d : PartContent) (k : Kept) (b : Bool)
+    (come : ComesIn c k b d) (s : Parting image world began c) (going : c.fault ≡ None)
     (right : IsKept image world b k) where
   abbrev k' : Kept
   k' = record { wave = k.wave; instr = k.instr; first = k.first; second = k.second; answer = None }
@@ -101,7 +102,7 @@ module _ (image : Image) (world : World) (began : List (Option Began)) (c d : Co
       opened = λ w i a n e. queued_same w i ∙ s.partly.opened w i a n (sym (bare_old w i a n) ∙ e);
       sits = λ e h. s.partly.sits e (subst (λ (es : List Entry). In e es) come.queued h);
       numbered = λ e h. s.partly.numbered e (subst (λ (es : List Entry). In e es) come.queued h);
-      rising = subst (Rising image world) (sym come.queued) s.partly.rising;
+      rising = subst (RisingEntries image world) (sym come.queued) s.partly.rising;
       every = λ e r j t h on w i a u n there l. queued_same w i
           ∙ s.partly.every e r j t (front_back e r j h) on w i a u n there l;
       few = subst (λ (es : List Entry). open_queues es ≤ 16) (sym come.queued) s.partly.few;

@@ -17,12 +17,12 @@ use Rattle.store_buf.specs.Requests.{entry_of, issued_in, answer_if}
 use Rattle.store_buf.proofs.Coming.{entry_push}
 use Rattle.part_store.specs.declared.entry.Entry.{Entry}
 use Rattle.part_store.specs.Queues.{is_queued, joined, without}
-use Rattle.part_store.specs.Contents.{Content, is_bare}
+use Rattle.part_store.specs.Contents.{is_bare, PartContent}
 use Rattle.part_store.specs.Parted.{Parting}
-use Rattle.part_store.specs.Rules.{Alike, Comes, Counted, Fills, Followed, Moves, MovesTo, stays, opens}
+use Rattle.part_store.specs.Rules.{Alike, Counted, Fills, Followed, Moves, MovesTo, stays, opens, ComesIn}
 use Rattle.part_store.specs.Rules.{joins, issues, follows, stops, answered, entry_at, operands_at, word_of}
-use Rattle.part_store.specs.Calls.{AddressedSo, SubmittedSo, TookSo, CameSo, comes, fills}
-use Rattle.part_store.specs.Runs.{AllReach, Covers, HaveAnswered, IsGoing, IsOffered, IsWhole, Paid}
+use Rattle.part_store.specs.Calls.{AddressedSo, SubmittedSo, CameSo, comes, fills, PartTookSo}
+use Rattle.part_store.specs.Runs.{AllReach, Covers, HaveAnswered, IsOffered, IsWhole, Paid, GoesOn}
 use Rattle.part_store.proofs.Fronts as F
 use Rattle.part_store.proofs.Keys.{key_cases}
 use Rattle.part_store.proofs.Ops as O
@@ -59,11 +59,11 @@ old_without es a b w i n other = elim (cases_Bool (is_queued es w i)) [
 ]
 
 -- what is kept stays kept, and is as whole as before
-pub record Lasts (c d : Content) : Type 0 where
+pub record Lasts (c d : PartContent) : Type 0 where
   pub kept : (w i : ℕ) (k : Kept) → entry_of c.kept w i ≡ Some k → (x : Kept) × (entry_of d.kept w i ≡ Some x)
   pub bare : (w i : ℕ) → is_bare d w i ≡ is_bare c w i
 
-lasts_on : (c d e : Content) → Lasts c d → Lasts d e → Lasts c e
+lasts_on : (c d e : PartContent) → Lasts c d → Lasts d e → Lasts c e
 lasts_on c d e a b = record {
   kept = λ w i k h. (let x = a.kept w i k h in b.kept w i x.0 x.1);
   bare = λ w i. b.bare w i ∙ a.bare w i;
@@ -75,7 +75,7 @@ with_kept w i k f a b x e = elim (with_key_cases w i (Some k) f a b)
     [ inl h ↦ (k, h.1) | inr h ↦ (x, h.1 ∙ e) ]
 
 module _ (image : Image) where
-  counted_lasts : (c d : Content) (k : Kept) (word : ℕ) (q : List Entry) (o : _) →
+  counted_lasts : (c d : PartContent) (k : Kept) (word : ℕ) (q : List Entry) (o : _) →
       Counted image c k word q o d → Lasts c d
   counted_lasts c d k word q o n = record {
     kept = λ w i x e. (let y = with_kept k.wave k.instr (answered k (Some word)) (entry_of c.kept) w i x e in
@@ -83,7 +83,7 @@ module _ (image : Image) where
     bare = n.bare;
   }
 
-  pub moves_last : (c d : Content) (ts : List Token) → Moves image c ts d → Lasts c d
+  pub moves_last : (c d : PartContent) (ts : List Token) → Moves image c ts d → Lasts c d
   moves_last c d ts stays = record { kept = λ w i k e. (k, e); bare = λ w i. refl }
   moves_last c d ts (opens {d = m} k a b n r) =
       lasts_on c m d (counted_lasts c m k 0 _ _ n) (moves_last m d _ r)
@@ -99,11 +99,11 @@ module _ (image : Image) where
   moves_last c d ts (stops k f) = record { kept = λ w i k e. (k, e); bare = λ w i. refl }
 
   module _ (f : Ports) (way : List Token) where
-    abbrev Done : Content → Type 0
+    abbrev Done : PartContent → Type 0
     Done c = HaveAnswered image f way c
 
     -- an operation joins a queue
-    join_done : (c d : Content) (k : Kept) (o : _) →
+    join_done : (c d : PartContent) (k : Kept) (o : _) →
         Counted image c k 0 (joined (entry_at image k) c.queued) o d → Done c → Done d
     join_done c d k o n done w i a x e s q =
         let q' : is_queued (joined (entry_at image k) c.queued) w i ≡ false =
@@ -114,7 +114,7 @@ module _ (image : Image) where
               (old_joined image (entry_at image k) c.queued w i q')
         ]
 
-    issue_done : (c d : Content) (k : Kept) (word : ℕ) (o : _) → Counted image c k word c.queued o d →
+    issue_done : (c d : PartContent) (k : Kept) (word : ℕ) (o : _) → Counted image c k word c.queued o d →
         Covers (sends image k.wave k.instr (operands_at image k) word) way → Done c → Done d
     issue_done c d k word o n sent done w i a x e s q =
         elim (with_key_cases k.wave k.instr (Some (answered k (Some word))) (entry_of c.kept) w i) [
@@ -129,7 +129,7 @@ module _ (image : Image) where
               (subst (λ (es : List Entry). is_queued es w i ≡ false) n.queued_are q)
         ]
 
-    follow_done : (c d : Content) (e : Entry) (some : List Token) → Followed image c e some d →
+    follow_done : (c d : PartContent) (e : Entry) (some : List Token) → Followed image c e some d →
         Covers some way → Done c → Done d
     follow_done c d e some n sent done w i a x is s q =
         let q' : is_queued (without c.queued e.wave e.instr) w i ≡ false =
@@ -162,7 +162,7 @@ module _ (image : Image) where
               (old_without c.queued e.wave e.instr w i q' h.0)
         ]
 
-    pub moves_done : (c d : Content) (ts : List Token) → Moves image c ts d → Covers ts way → Done c → Done d
+    pub moves_done : (c d : PartContent) (ts : List Token) → Moves image c ts d → Covers ts way → Done c → Done d
     moves_done c d ts stays sent done = done
     moves_done c d ts (opens {d = m} k a b n r) sent done = moves_done m d _ r sent (join_done c m k _ n done)
     moves_done c d ts (joins {d = m} k a b h n r) sent done =
@@ -175,15 +175,15 @@ module _ (image : Image) where
         (follow_done c m first some n (R.covers_left some rest way sent) done)
     moves_done c d ts (stops k h) sent done = done
 
-    alike_done : (c d : Content) → Alike c d → Done c → Done d
+    alike_done : (c d : PartContent) → Alike c d → Done c → Done d
     alike_done c d a done w i n x e s q =
         done w i n x (subst (λ (ks : List Kept). entry_of ks w i ≡ Some x) a.kept e) s
         (subst (λ (es : List Entry). is_queued es w i ≡ false) a.queued q)
 
-    to_done : (c d : Content) (ts : List Token) → MovesTo image c ts d → Covers ts way → Done c → Done d
+    to_done : (c d : PartContent) (ts : List Token) → MovesTo image c ts d → Covers ts way → Done c → Done d
     to_done c d ts m sent done = alike_done m.mid d m.alike (moves_done c m.mid ts m.moves sent done)
 
-    come_done : (c d : Content) (k : Kept) (b : Bool) → Comes c k b d → Done c → Done d
+    come_done : (c d : PartContent) (k : Kept) (b : Bool) → ComesIn c k b d → Done c → Done d
     come_done c d k b m done w i a x e s q =
         let e' : with_key k.wave k.instr (Some (answered k None)) (entry_of c.kept) w i ≡ Some x =
         sym (entry_push c.kept (answered k None) m.fresh w i)
@@ -196,7 +196,7 @@ module _ (image : Image) where
               (subst (λ (es : List Entry). is_queued es w i ≡ false) m.queued q)
         ]
 
-    fill_done : (world : World) (began : List (Option Began)) (c d : Content) (k : Kept) →
+    fill_done : (world : World) (began : List (Option Began)) (c d : PartContent) (k : Kept) →
         Parting image world began c → Fills c k d → Done c → Done d
     fill_done world began c d k parting m done w i a x e s q =
         let q' : is_queued c.queued w i ≡ false =
@@ -216,7 +216,7 @@ module _ (image : Image) where
           | inr h ↦ done w i a x (sym h.1 ∙ sym (m.kept w i) ∙ e) s q'
         ]
 
-  to_last : (c d : Content) (ts : List Token) → MovesTo image c ts d → Lasts c d
+  to_last : (c d : PartContent) (ts : List Token) → MovesTo image c ts d → Lasts c d
   to_last c d ts m = let l = moves_last c m.mid ts m.moves in record {
     kept = λ w i k e. (let x = l.kept w i k e in
         (x.0, ap (λ (ks : List Kept). entry_of ks w i) m.alike.kept ∙ x.1));
@@ -226,16 +226,16 @@ module _ (image : Image) where
       same_bare : (w i : ℕ) → is_bare d w i ≡ is_bare m.mid w i
       same_bare w i = ap (λ (bs : List (ℕ × ℕ)). is_bare (record m.mid { bare = bs }) w i) m.alike.bare
 
-  last_whole : (c d : Content) (w i : ℕ) → Lasts c d → IsWhole c w i → IsWhole d w i
+  last_whole : (c d : PartContent) (w i : ℕ) → Lasts c d → IsWhole c w i → IsWhole d w i
   last_whole c d w i l h = let x = l.kept w i h.0 h.1 in (x.0, x.1, l.bare w i ∙ h.2)
 
-  come_kept : (c d : Content) (k : Kept) (b : Bool) → Comes c k b d → (w i : ℕ) →
+  come_kept : (c d : PartContent) (k : Kept) (b : Bool) → ComesIn c k b d → (w i : ℕ) →
       entry_of d.kept w i ≡ with_key k.wave k.instr (Some (answered k None)) (entry_of c.kept) w i
   come_kept c d k b m w i = ap (λ (ks : List Kept). entry_of ks w i) m.kept
       ∙ entry_push c.kept (answered k None) m.fresh w i
 
   -- what is whole stays whole where another comes
-  come_whole : (c d : Content) (k : Kept) (b : Bool) (w i : ℕ) → Comes c k b d → IsWhole c w i → IsWhole d w i
+  come_whole : (c d : PartContent) (k : Kept) (b : Bool) (w i : ℕ) → ComesIn c k b d → IsWhole c w i → IsWhole d w i
   come_whole c d k b w i m h = elim (key_cases k.wave k.instr w i) [
     | inl s ↦ absurd (nothing h.0 (subst (λ (l : ℕ × ℕ). None ≡ entry_of c.kept l.0 l.1)
         (λ j. (s.1.wave j, s.1.instr j)) (sym m.fresh) ∙ h.1))
@@ -248,7 +248,7 @@ module _ (image : Image) where
   ]
 
   -- a request that has come is whole
-  now_whole : (c d : Content) (k : Kept) → Comes c k false d → IsWhole d k.wave k.instr
+  now_whole : (c d : PartContent) (k : Kept) → ComesIn c k false d → IsWhole d k.wave k.instr
   now_whole c d k m = elim (with_key_cases k.wave k.instr (Some (answered k None))
       (entry_of c.kept) k.wave k.instr) [
         | inl h ↦ (
@@ -266,19 +266,19 @@ module _ (image : Image) where
         | inr s ↦ absurd (s.1 (record { wave = refl; instr = refl }))
       ]
 
-  fill_bare : (c d : Content) (k : Kept) → Fills c k d → (w i : ℕ) → is_bare c w i ≡ false →
+  fill_bare : (c d : PartContent) (k : Kept) → Fills c k d → (w i : ℕ) → is_bare c w i ≡ false →
       is_bare d w i ≡ false
   fill_bare c d k m w i e = m.bare_is w i ∙ elim (key_cases k.wave k.instr w i) [
     | inl s ↦ ap (λ (v : Bool). cond v false (is_bare c w i)) s.0
     | inr s ↦ ap (λ (v : Bool). cond v false (is_bare c w i)) s.0 ∙ e
   ]
 
-  fill_whole : (c d : Content) (k : Kept) (w i : ℕ) → Fills c k d → IsWhole c w i → IsWhole d w i
+  fill_whole : (c d : PartContent) (k : Kept) (w i : ℕ) → Fills c k d → IsWhole c w i → IsWhole d w i
   fill_whole c d k w i m h =
       let x = with_kept k.wave k.instr (answered k m.old.answer) (entry_of c.kept) w i h.0 h.1 in
       (x.0, m.kept w i ∙ x.1, fill_bare c d k m w i h.2)
 
-  filled_whole : (c d : Content) (k : Kept) → Fills c k d → IsWhole d k.wave k.instr
+  filled_whole : (c d : PartContent) (k : Kept) → Fills c k d → IsWhole d k.wave k.instr
   filled_whole c d k m = elim (with_key_cases k.wave k.instr (Some (answered k m.old.answer))
       (entry_of c.kept) k.wave k.instr) [
         | inl h ↦ (answered k m.old.answer, m.kept k.wave k.instr ∙ h.1, m.bare_is k.wave k.instr ∙ here)
@@ -292,7 +292,7 @@ module _ (image : Image) where
       ]
 
   -- what is known stays true where the buffer changes so
-  pay_buffer : (t : Tables) (c d : Content) (way : List Token) → ((w i : ℕ) → IsWhole c w i → IsWhole d w i) →
+  pay_buffer : (t : Tables) (c d : PartContent) (way : List Token) → ((w i : ℕ) → IsWhole c w i → IsWhole d w i) →
       HaveAnswered image t.held way d → Paid image t c way → Paid image t d way
   pay_buffer t c d way whole done paid = record {
     start = paid.start;
@@ -301,7 +301,7 @@ module _ (image : Image) where
     answered = done;
   }
 
-  pay_came : (t : Tables) (c d : Content) (k : Kept) (b : Bool) (ts old way : List Token) (x : Option ℕ)
+  pay_came : (t : Tables) (c d : PartContent) (k : Kept) (b : Bool) (ts old way : List Token) (x : Option ℕ)
       (y : Option ℕ) (z : Bool) → CameSo image c k b ts x y z d → Covers old way → Covers ts way →
       Paid image t c old → Paid image t d way
   pay_came t c d k b ts old way x y z m more sent paid =
@@ -311,9 +311,9 @@ module _ (image : Image) where
       (come_whole c mid k b w i m.1.1 h))
       (to_done t.held way mid d ts m.1.2 sent (come_done t.held way c mid k b m.1.1 up.answered)) up
 
-  pub addressed : (c d : Content) (k : Kept) (answer : Result (List Token) BufFault) (old way : List Token) →
+  pub addressed : (c d : PartContent) (k : Kept) (answer : Result (List Token) BufFault) (old way : List Token) →
       AddressedSo image c k answer d → IsOffered answer old way → (t : Tables) → Paid image t c old →
-      IsGoing d → Paid image t d way
+      GoesOn d → Paid image t d way
   addressed c d k (Ok ts) old way so offered t paid going =
       pay_came t c d k true ts old way None None false so.0 offered.0 offered.1 paid
   addressed c d k (Err (fault.Index a)) old way so offered t paid going =
@@ -322,23 +322,23 @@ module _ (image : Image) where
       absurd (nothing p (sym going.1 ∙ so.1.0.3))
   addressed c d k (Err fault.NoMemory) old way so offered t paid going = absurd offered
   addressed c d k (Err fault.Old) old way so offered t paid going =
-      subst (λ (x : Content × List Token). Paid image t x.0 x.1) (λ j. (sym so.1.2 j, sym offered j)) paid
+      subst (λ (x : PartContent × List Token). Paid image t x.0 x.1) (λ j. (sym so.1.2 j, sym offered j)) paid
   addressed c d k (Err (fault.Stopped p)) old way so offered t paid going =
-      absurd (nothing p (sym going.1 ∙ ap (λ (x : Content). x.failed) so.1.2 ∙ so.1.1))
+      absurd (nothing p (sym going.1 ∙ ap (λ (x : PartContent). x.failed) so.1.2 ∙ so.1.1))
   addressed c d k (Err (fault.Ended a)) old way so offered t paid going =
-      absurd (nothing a (sym going.0 ∙ ap (λ (x : Content). x.fault) so.1.1 ∙ so.1.0))
+      absurd (nothing a (sym going.0 ∙ ap (λ (x : PartContent). x.fault) so.1.1 ∙ so.1.0))
 
-  module _ (world : World) (began : List (Option Began)) (c : Content)
+  module _ (world : World) (began : List (Option Began)) (c : PartContent)
       (parting : Parting image world began c) where
-    took_whole : (d : Content) (k : Kept) (ts : List Token) (x : Option ℕ) (y : Option ℕ) (z : Bool) →
-        TookSo image c k ts x y z d → IsWhole d k.wave k.instr
+    took_whole : (d : PartContent) (k : Kept) (ts : List Token) (x : Option ℕ) (y : Option ℕ) (z : Bool) →
+        PartTookSo image c k ts x y z d → IsWhole d k.wave k.instr
     took_whole d k ts x y z m = last_whole m.1.0 d k.wave k.instr (to_last m.1.0 d ts m.1.2) (elim m.1.1 [
       | comes h ↦ now_whole c m.1.0 k h
       | fills h ↦ filled_whole c m.1.0 k h
     ])
 
-    pay_took : (t : Tables) (d : Content) (k : Kept) (ts old way : List Token) (x : Option ℕ) (y : Option ℕ)
-        (z : Bool) → TookSo image c k ts x y z d → Covers old way → Covers ts way → Paid image t c old →
+    pay_took : (t : Tables) (d : PartContent) (k : Kept) (ts old way : List Token) (x : Option ℕ) (y : Option ℕ)
+        (z : Bool) → PartTookSo image c k ts x y z d → Covers old way → Covers ts way → Paid image t c old →
         Paid image t d way
     pay_took t d k ts old way x y z m more sent paid =
         let up = P.pay_more image t c old way more paid in
@@ -352,9 +352,9 @@ module _ (image : Image) where
           | fills g ↦ fill_done t.held way world began c mid k parting g up.answered
         ])) up
 
-    pub submitted : (d : Content) (k : Kept) (answer : Result (List Token) BufFault) (old way : List Token) →
+    pub submitted : (d : PartContent) (k : Kept) (answer : Result (List Token) BufFault) (old way : List Token) →
         SubmittedSo image c k answer d → IsOffered answer old way → (t : Tables) → Paid image t c old →
-        IsGoing d → Paid image t d way
+        GoesOn d → Paid image t d way
     submitted d k (Ok ts) old way so offered t paid going =
         pay_took t d k ts old way None None false so.0 offered.0 offered.1 paid
     submitted d k (Err (fault.Index a)) old way so offered t paid going =
@@ -363,14 +363,14 @@ module _ (image : Image) where
         absurd (nothing p (sym going.1 ∙ so.1.0.3))
     submitted d k (Err fault.NoMemory) old way so offered t paid going = absurd offered
     submitted d k (Err fault.Old) old way so offered t paid going =
-        subst (λ (x : Content × List Token). Paid image t x.0 x.1) (λ j. (sym so.1.3 j, sym offered j)) paid
+        subst (λ (x : PartContent × List Token). Paid image t x.0 x.1) (λ j. (sym so.1.3 j, sym offered j)) paid
     submitted d k (Err (fault.Stopped p)) old way so offered t paid going =
-        absurd (nothing p (sym going.1 ∙ ap (λ (x : Content). x.failed) so.1.2 ∙ so.1.1))
+        absurd (nothing p (sym going.1 ∙ ap (λ (x : PartContent). x.failed) so.1.2 ∙ so.1.1))
     submitted d k (Err (fault.Ended a)) old way so offered t paid going =
-        absurd (nothing a (sym going.0 ∙ ap (λ (x : Content). x.fault) so.1.1 ∙ so.1.0))
+        absurd (nothing a (sym going.0 ∙ ap (λ (x : PartContent). x.fault) so.1.1 ∙ so.1.0))
 
-    pub submitted_whole : (d : Content) (k : Kept) (answer : Result (List Token) BufFault)
-        (old way : List Token) → SubmittedSo image c k answer d → IsOffered answer old way → IsGoing d →
+    pub submitted_whole : (d : PartContent) (k : Kept) (answer : Result (List Token) BufFault)
+        (old way : List Token) → SubmittedSo image c k answer d → IsOffered answer old way → GoesOn d →
         IsWhole d k.wave k.instr
     submitted_whole d k (Ok ts) old way so offered going = took_whole d k ts None None false so.0
     submitted_whole d k (Err (fault.Index a)) old way so offered going =
@@ -379,8 +379,8 @@ module _ (image : Image) where
         absurd (nothing p (sym going.1 ∙ so.1.0.3))
     submitted_whole d k (Err fault.NoMemory) old way so offered going = absurd offered
     submitted_whole d k (Err fault.Old) old way so offered going =
-        subst (λ (x : Content). IsWhole x k.wave k.instr) (sym so.1.3) (so.1.1.0, so.1.1.1, so.1.2)
+        subst (λ (x : PartContent). IsWhole x k.wave k.instr) (sym so.1.3) (so.1.1.0, so.1.1.1, so.1.2)
     submitted_whole d k (Err (fault.Stopped p)) old way so offered going =
-        absurd (nothing p (sym going.1 ∙ ap (λ (x : Content). x.failed) so.1.2 ∙ so.1.1))
+        absurd (nothing p (sym going.1 ∙ ap (λ (x : PartContent). x.failed) so.1.2 ∙ so.1.1))
     submitted_whole d k (Err (fault.Ended a)) old way so offered going =
-        absurd (nothing a (sym going.0 ∙ ap (λ (x : Content). x.fault) so.1.1 ∙ so.1.0))
+        absurd (nothing a (sym going.0 ∙ ap (λ (x : PartContent). x.fault) so.1.1 ∙ so.1.0))

@@ -12,22 +12,21 @@ use Rattle.df_core.proofs.Ports.{with_key_same, with_key_cases}
 use Rattle.df_core.specs.Began.{Began}
 use Rattle.df_core.specs.declared.chain.Chain as code
 use Rattle.df_core.specs.Chains.{chain_of, may_flag}
-use Rattle.df_core.specs.Stands.{HasEarly}
+use Rattle.df_core.specs.Stands.{HasEarly, EarlyIssued}
 use Rattle.store_buf.specs.declared.fault.BufFault.{BufFault}
 use Rattle.store_buf.specs.declared.fault.BufFault.TheVariants as fault
 use Rattle.store_buf.specs.declared.kept.Kept.{Kept}
 use Rattle.store_buf.specs.Requests.{entry_of, issued_in}
-use Rattle.store_buf.specs.Orders.{EarlyIssued}
 use Rattle.store_buf.specs.Outdoors.{Holding, RoseAt}
 use Rattle.store_buf.specs.Contents.{RightTokens}
 use Rattle.store_buf.proofs.Coming.{entry_push, issued_push}
 use Rattle.part_store.specs.declared.parts.Parts.{Parts}
 use Rattle.part_store.specs.Bares.{is_in}
 use Rattle.part_store.specs.Parted.{IsKept, Parting, Fronts}
-use Rattle.part_store.specs.Rules.{Comes, MovesTo, NoRule, stays}
-use Rattle.part_store.specs.Calls.{AddressSo, Arrives, CameSo, Idle, SameAs, SubmitSo}
+use Rattle.part_store.specs.Rules.{MovesTo, NoRule, stays, ComesIn}
+use Rattle.part_store.specs.Calls.{AddressSo, Arrives, CameSo, SameAs, PartIdle, PartSubmitSo}
 use Rattle.part_store.specs.Calls.{comes as arrived}
-use Rattle.part_store.specs.Parts.{Calm, PartsOk, Keeps, SettledSo, content_of}
+use Rattle.part_store.specs.Parts.{Calm, PartsOk, content_of, PartsSettledSo, PartsKeep}
 use Rattle.part_store.proofs.Keys.{key_cases}
 use Rattle.part_store.proofs.Arriving as A
 use Rattle.part_store.proofs.Keeping as K
@@ -46,10 +45,6 @@ both (Err e) x y = y
 pub map_err : {A E : Type 0} {X Y : Type 0} (r : Result A E) → (X → Y) → OnErr r X → OnErr r Y
 map_err (Ok a) f y = tt
 map_err (Err e) f y = f y
-
-pub map_ok : {A E : Type 0} {X Y : Type 0} (r : Result A E) → (X → Y) → OnOk r X → OnOk r Y
-map_ok (Ok a) f y = f y
-map_ok (Err e) f y = tt
 
 pub at_most : {A E : Type 0} (r : Result A E) (n m : ℕ) → OnOk r (n ≡ m + 1) → OnErr r (n ≡ m) → n ≤ m + 1
 at_most (Ok a) n m e f = omega (arith, e)
@@ -96,7 +91,7 @@ module _ {P : Type 0} where
 
   -- it isn't kept, and nothing has changed
   module _ (image : Image) (world : World) (began : List (Option Began)) (old new : Parts P)
-      (keeps : Keeps old old.order.kept.items new)
+      (keeps : PartsKeep old old.order.kept.items new)
       (bare : (w i : ℕ) → is_in new.bare w i ≡ is_in old.bare w i) where
     same_content : content_of new ≡ record (content_of old) { bare = new.bare.set.keys }
     same_content j = record {
@@ -150,14 +145,14 @@ module _ {P : Type 0} where
   module _ (image : Image) (world : World) (began : List (Option Began)) (formed : Formed image)
       (sound : Sound image) (old mid : Parts P) (k : Kept) (b : Bool)
       (fresh : entry_of old.order.kept.items k.wave k.instr ≡ None) (waits : k.answer ≡ None)
-      (keeps : Keeps old (old.order.kept.items ++ k ∷ []) mid)
+      (keeps : PartsKeep old (old.order.kept.items ++ k ∷ []) mid)
       (bare : (w i : ℕ) → is_in mid.bare w i ≡ cond (same_key k.wave k.instr w i) b (is_in old.bare w i))
       (running : old.fault ≡ None) (working : old.failed ≡ None) (right : IsKept image world b k)
       (calm : Calm image world began old) where
     abbrev fed : Parts P
     fed = record mid { starved = false }
 
-    comes : Comes (content_of old) k b (content_of (record mid { starved = false }))
+    comes : ComesIn (content_of old) k b (content_of (record mid { starved = false }))
     comes = record {
       fresh = fresh;
       kept = keeps.kept_are ∙ ap (λ (a : Option ℕ).
@@ -215,7 +210,7 @@ module _ {P : Type 0} where
         h,
       )
 
-      pub said : (b ≡ true) → (r : Result (Unit {0}) BufFault) → SettledSo image mid r new →
+      pub said : (b ≡ true) → (r : Result (Unit {0}) BufFault) → PartsSettledSo image mid r new →
           AddressSo image (content_of old) k tokens r (content_of new)
       said t (Ok u) s = (
         on_true (came None None false s.0 (s.1 ∙ keeps.failed ∙ working) s.2),
@@ -245,22 +240,22 @@ module _ {P : Type 0} where
       said t (Err (fault.Stopped port)) s = absurd s
       said t (Err (fault.Ended array)) s = absurd s
 
-      pub took : (b ≡ false) → (r : Result (Unit {0}) BufFault) → SettledSo image mid r new →
-          SubmitSo image (content_of old) k tokens r (content_of new)
+      pub took : (b ≡ false) → (r : Result (Unit {0}) BufFault) → PartsSettledSo image mid r new →
+          PartSubmitSo image (content_of old) k tokens r (content_of new)
       took t r s = by_result r s
         where
           arrives : Arrives (content_of old) k (content_of (record mid { starved = false }))
           arrives = comes_in t comes
             where
-              comes_in : b ≡ false → Comes (content_of old) k b
+              comes_in : b ≡ false → ComesIn (content_of old) k b
                   (content_of (record mid { starved = false })) →
                   Arrives (content_of old) k (content_of (record mid { starved = false }))
               comes_in e x = arrived (subst
-                  (λ (y : Bool). Comes (content_of old) k y (content_of (record mid { starved = false }))) e
+                  (λ (y : Bool). ComesIn (content_of old) k y (content_of (record mid { starved = false }))) e
                   x)
 
-          by_result : (r : Result (Unit {0}) BufFault) → SettledSo image mid r new →
-              SubmitSo image (content_of old) k tokens r (content_of new)
+          by_result : (r : Result (Unit {0}) BufFault) → PartsSettledSo image mid r new →
+              PartSubmitSo image (content_of old) k tokens r (content_of new)
           by_result (Ok u) s = (
             (
               (running, working),
@@ -308,7 +303,7 @@ module _ {P : Type 0} where
 
     -- where the chain doesn't let it go and no port has found no memory, no rule is applicable
     module _ (fed : old.starved ≡ false) (held : may_flag image
-        (chain_of old.order.chain) k.wave k.instr k.first ≡ false) (idle : Idle image (content_of old)) where
+        (chain_of old.order.chain) k.wave k.instr k.first ≡ false) (idle : PartIdle image (content_of old)) where
       same_mid : record mid { starved = false } ≡ mid
       same_mid j = record {
         order = mid.order;
@@ -353,8 +348,8 @@ module _ {P : Type 0} where
             put_rule,
           )
 
-      pub put_request : (b ≡ false) → SubmitSo image (content_of old) k [] (Ok tt) (content_of mid)
-      put_request t = subst (λ (m : Parts P). SubmitSo image (content_of old) k [] (Ok tt) (content_of m))
+      pub put_request : (b ≡ false) → PartSubmitSo image (content_of old) k [] (Ok tt) (content_of mid)
+      put_request t = subst (λ (m : Parts P). PartSubmitSo image (content_of old) k [] (Ok tt) (content_of m))
           same_mid (
             (
               (running, working),
@@ -362,7 +357,7 @@ module _ {P : Type 0} where
                 content_of (record mid { starved = false }),
                 arrived
                     (subst (λ (y : Bool).
-                    Comes (content_of old) k y (content_of (record mid { starved = false })))
+                    ComesIn (content_of old) k y (content_of (record mid { starved = false })))
                     t comes),
                 put_moves,
               ),

@@ -9,7 +9,7 @@ use Rattle.ws_isa.specs.Formed.{Formed}
 use Rattle.ws_isa.specs.Sound.{Sound}
 use Rattle.df_core.specs.declared.chain.Chain as code
 use Rattle.df_core.specs.Chains.{chain_of}
-use Rattle.df_core.specs.Stands.{HasEarly}
+use Rattle.df_core.specs.Stands.{HasEarly, EarlyIssued}
 use Rattle.df_core.proofs.Ports.{SameKey}
 use Rattle.df_core.specs.Began.{Began}
 use Rattle.df_core.specs.Rights.{IsAsked}
@@ -17,7 +17,6 @@ use Rattle.store_buf.specs.declared.fault.BufFault.{BufFault}
 use Rattle.store_buf.specs.declared.fault.BufFault.TheVariants as fault
 use Rattle.store_buf.specs.declared.kept.Kept.{Kept}
 use Rattle.store_buf.specs.Requests.{issued_in}
-use Rattle.store_buf.specs.Orders.{EarlyIssued}
 use Rattle.store_buf.specs.Stores.{asked_of}
 use Rattle.part_store.specs.declared.entry.Entry.{Entry}
 use Rattle.part_store.specs.declared.parts.Parts.{Parts}
@@ -27,11 +26,11 @@ use Rattle.part_store.specs.Contents.{is_on_row}
 use Rattle.part_store.specs.Parted.{OnCell, Parting}
 use Rattle.store_buf.specs.Outdoors.{RoseAt}
 use Rattle.store_buf.specs.Contents.{RightTokens}
-use Rattle.part_store.specs.Calls.{SubmitSo, TookSo}
+use Rattle.part_store.specs.Calls.{PartSubmitSo, PartTookSo}
 use Rattle.part_store.specs.Calls.{fills as arrived}
 use Rattle.part_store.specs.Rules.{Fills, Moves, MovesTo}
-use Rattle.part_store.specs.Parts.{Beside, Calm, DrainLeads, Filled, FollowsOn, FrontsBut, FrontsBy, LeadsTo}
-use Rattle.part_store.specs.Parts.{SettledSo, Stands, content_of}
+use Rattle.part_store.specs.Parts.{Beside, Calm, DrainLeads, Filled, FollowsOn, FrontsBut, FrontsBy, PartsStand, PartsSettledSo, PartsLeadTo}
+use Rattle.part_store.specs.Parts.{content_of}
 use Rattle.part_store.proofs.Filling as L
 use Rattle.part_store.proofs.Fronts as F
 use Rattle.part_store.proofs.Keeping as K
@@ -108,7 +107,7 @@ module _ {P : Type 0} (image : Image) (world : World) (began : List (Option Bega
     (sound : Sound image) (old mid d new : Parts P) (k : Kept) (t0 t1 t2 : List Token)
     (filled : Filled old k mid) (drains : DrainLeads image k (record mid { starved = false }) d t0 t1)
     (beside : Beside (record mid { starved = false }) d)
-    (lead : LeadsTo image (record d { starved = false }) new t1 t2)
+    (lead : PartsLeadTo image (record d { starved = false }) new t1 t2)
     (empty : t0 ≡ []) (running : old.fault ≡ None) (working : old.failed ≡ None)
     (right : IsAsked image world (asked_of k)) (calm : Calm image world began old) where
   fills : Fills (content_of old) k (content_of (record mid { starved = false }))
@@ -132,7 +131,7 @@ module _ {P : Type 0} (image : Image) (world : World) (began : List (Option Bega
   issued = L.issued image world began (content_of old)
       (content_of (record mid { starved = false })) k fills calm.0.parting running right
 
-  stands : Stands image world began (record mid { starved = false })
+  stands : PartsStand image world began (record mid { starved = false })
   stands = record {
     parting = parting;
     early_issued = λ j h. let r = subst (λ (x : code.Chain × List ℕ).
@@ -189,7 +188,7 @@ module _ {P : Type 0} (image : Image) (world : World) (began : List (Option Bega
       (content_of (record mid { starved = false })) led.0.mid (drains.0 ++ lead.0) both parting).1
 
   took : (f p : Option ℕ) (s : Bool) → new.fault ≡ f → new.failed ≡ p → new.starved ≡ s →
-      TookSo image (content_of old) k (drains.0 ++ lead.0) f p s (content_of new)
+      PartTookSo image (content_of old) k (drains.0 ++ lead.0) f p s (content_of new)
   took f p s a b c = (
     (running, working),
     (
@@ -209,8 +208,8 @@ module _ {P : Type 0} (image : Image) (world : World) (began : List (Option Bega
   ports_same : d.outer.ports ≡ old.outer.ports
   ports_same = beside.ports ∙ ap (λ (o : _). o.ports) filled.outer
 
-  pub said : (r : Result (Unit {0}) BufFault) → SettledSo image d r new →
-      SubmitSo image (content_of old) k (drains.0 ++ lead.0) r (content_of new)
+  pub said : (r : Result (Unit {0}) BufFault) → PartsSettledSo image d r new →
+      PartSubmitSo image (content_of old) k (drains.0 ++ lead.0) r (content_of new)
   said (Ok u) s = (took None None false s.0 (s.1 ∙ unfailed) s.2, R.no_rule image new s.3 led.1.1)
   said (Err (fault.Index array)) s = took (Some array) None false s.0 (s.1 ∙ unfailed) s.2
   said (Err (fault.Port port)) s = (

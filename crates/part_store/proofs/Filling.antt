@@ -3,7 +3,7 @@ use Rattle.std.proofs.Common.{ℕ, ◌≡◌, ◌≤◌, ◌⊎◌, Bool, false,
 use Rattle.std.proofs.Common.{sym, ap, ◌∙◌, subst, inl, inr}
 use Rattle.std.proofs.lemmas.Bool.{both_ways}
 use Rattle.ws_words.specs.Outside.{World, row}
-use Rattle.ws_isa.specs.Image.{Image, In}
+use Rattle.ws_isa.specs.Image.{Image}
 use Rattle.df_core.specs.Core.{Chain, has}
 use Rattle.df_core.specs.Fit.{Legal}
 use Rattle.df_core.proofs.Ports.{SameKey, with_key_cases}
@@ -16,13 +16,14 @@ use Rattle.store_buf.specs.Contents.{FaultIs}
 use Rattle.store_buf.specs.Stores.{asked_of}
 use Rattle.part_store.specs.declared.entry.Entry.{Entry}
 use Rattle.part_store.specs.Queues.{front, holds, is_queued, open_queues}
-use Rattle.part_store.specs.Contents.{Content, is_bare, asking, cell}
-use Rattle.part_store.specs.Parted.{IsKept, Parting, Rising}
+use Rattle.part_store.specs.Contents.{is_bare, asking, cell, PartContent}
+use Rattle.part_store.specs.Parted.{IsKept, Parting, RisingEntries}
 use Rattle.part_store.specs.Rules.{Fills}
 use Rattle.part_store.proofs.Keys.{key_cases}
 use Rattle.part_store.proofs.Ops as O
+use Rattle.ws_words.specs.Items.{In}
 
-module _ (image : Image) (world : World) (began : List (Option Began)) (c d : Content) (k : Kept)
+module _ (image : Image) (world : World) (began : List (Option Began)) (c d : PartContent) (k : Kept)
     (f : Fills c k d) (s : Parting image world began c) (going : c.fault ≡ None)
     (right : IsAsked image world (asked_of k)) where
   abbrev k' : Kept
@@ -89,7 +90,7 @@ module _ (image : Image) (world : World) (began : List (Option Began)) (c d : Co
       ];
       sits = λ e h. s.partly.sits e (subst (λ (es : List Entry). In e es) f.queued h);
       numbered = λ e h. s.partly.numbered e (subst (λ (es : List Entry). In e es) f.queued h);
-      rising = subst (Rising image world) (sym f.queued) s.partly.rising;
+      rising = subst (RisingEntries image world) (sym f.queued) s.partly.rising;
       every = λ e r j t h on w i a u n there l. queued_same w i
           ∙ s.partly.every e r j t (front_back e r j h) on w i a u n there l;
       few = subst (λ (es : List Entry). open_queues es ≤ 16) (sym f.queued) s.partly.few;

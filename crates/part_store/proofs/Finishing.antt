@@ -3,7 +3,7 @@ use Rattle.std.proofs.Common.{ℕ, ◌≡◌, ◌<◌, true, cond, List, length,
 use Rattle.std.proofs.Common.{refl, sym, ap, ◌∙◌, subst, inl, inr}
 use Rattle.std.proofs.lemmas.List.{append-nil}
 use Rattle.ws_words.specs.Outside.{World, row, with_row}
-use Rattle.ws_isa.specs.Image.{Image, Token, In, instr_at, is_memory, sends, tokens_to}
+use Rattle.ws_isa.specs.Image.{Image, Token, instr_at, is_memory, sends, tokens_to}
 use Rattle.ws_isa.specs.Formed.{Formed}
 use Rattle.ws_isa.specs.Sound.{Sound}
 use Rattle.df_core.specs.Core.{has, with_key}
@@ -11,20 +11,19 @@ use Rattle.df_core.proofs.Ports.{with_key_cases}
 use Rattle.df_core.specs.declared.chain.Chain as code
 use Rattle.df_core.specs.Chains.{chain_of}
 use Rattle.df_core.specs.Places.{destinations}
-use Rattle.df_core.specs.Stands.{HasEarly}
+use Rattle.df_core.specs.Stands.{HasEarly, EarlyIssued}
 use Rattle.df_core.specs.Began.{Began}
 use Rattle.store_buf.specs.declared.kept.Kept.{Kept}
 use Rattle.store_buf.specs.Requests.{entry_of, issued_in, answer_if}
-use Rattle.store_buf.specs.Orders.{EarlyIssued}
 use Rattle.store_buf.specs.Ordering.{OrderOk, kept_at}
 use Rattle.part_store.specs.declared.entry.Entry.{Entry}
 use Rattle.part_store.specs.declared.parts.Parts.{Parts}
 use Rattle.part_store.specs.Bares.{is_in}
 use Rattle.part_store.specs.Queues.{without}
-use Rattle.part_store.specs.Contents.{Content, cell}
+use Rattle.part_store.specs.Contents.{cell, PartContent}
 use Rattle.part_store.specs.Parted.{Parting, is_store_op}
 use Rattle.part_store.specs.Rules.{FrontGoes, Followed, Moves, stays, follows, operands_at, word_of}
-use Rattle.part_store.specs.Parts.{Stands, Beside, content_of, issued_flag}
+use Rattle.part_store.specs.Parts.{Beside, content_of, issued_flag, PartsStand}
 use Rattle.part_store.proofs.Answering as A
 use Rattle.part_store.proofs.Fronts as F
 use Rattle.part_store.proofs.Keeping as K
@@ -32,9 +31,10 @@ use Rattle.part_store.proofs.Ops as O
 use Rattle.part_store.proofs.Sending as N
 use Rattle.part_store.proofs.Times as T
 use Rattle.part_store.proofs.Turning as U
+use Rattle.ws_words.specs.Items.{In}
 
 -- what waits in a queue counts as issued
-pub record Counts (c : Content) (e : Entry) : Type 0 where
+pub record Counts (c : PartContent) (e : Entry) : Type 0 where
   pub request : Kept
   pub is_kept : entry_of c.kept e.wave e.instr ≡ Some request
   pub answer : ℕ
@@ -45,7 +45,7 @@ entry_with : (o : Option Kept) (a : ℕ) → answer_if o ≡ Some a →
 entry_with None a e = absurd (let g : None ≡ Some a = e in cc)
 entry_with (Some x) a e = (x, refl, e)
 
-pub counts : (image : Image) (world : World) (began : List (Option Began)) (c : Content) →
+pub counts : (image : Image) (world : World) (began : List (Option Began)) (c : PartContent) →
     Parting image world began c → (e : Entry) → In e c.queued → Counts c e
 counts image world began c s e h =
     let q = (s.partly.sits e h).1 in
@@ -56,7 +56,7 @@ counts image world began c s e h =
 
 module _ {P : Type 0} (image : Image) (world : World) (formed : Formed image) (sound : Sound image)
     (began : List (Option Began)) (s n : Parts P) (e : Entry) (p : ℕ) (ok : OrderOk s.order)
-    (st : Stands image world began s) (going : s.fault ≡ None) (fol : FrontGoes (content_of s) e)
+    (st : PartsStand image world began s) (going : s.fault ≡ None) (fol : FrontGoes (content_of s) e)
     (l : p < length s.order.kept.items) (flag : issued_flag s.order p e.wave e.instr ≡ true) (word : ℕ)
     (kept : n.order.kept.items ≡ slice_set s.order.kept.items p
     (record {
@@ -176,7 +176,7 @@ module _ {P : Type 0} (image : Image) (world : World) (formed : Formed image) (s
 
   pub finishes : Moves image (content_of s)
       (sends image e.wave e.instr (operands_at image (kept_at s.order p)) (word_of image (content_of s) e))
-      (content_of n) × Stands image world began n
+      (content_of n) × PartsStand image world began n
   finishes = (
     moves,
     record {

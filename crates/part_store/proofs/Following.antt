@@ -3,7 +3,7 @@ use Rattle.std.proofs.Common.{ℕ, suc, ◌-◌, ◌≡◌, ◌<◌, ◌≤◌, 
 use Rattle.std.proofs.Common.{Some, None, slice_index, refl, sym, ap, ◌∙◌, subst, inl, inr, arith}
 use Rattle.std.proofs.lemmas.Bool.{both_ways, cases_Bool, cases_lt, cond-true, cond-false}
 use Rattle.ws_words.specs.Outside.{Outside, World, row}
-use Rattle.ws_isa.specs.Image.{Image, Token, In, instr_at, is_memory, sends}
+use Rattle.ws_isa.specs.Image.{Image, Token, instr_at, is_memory, sends}
 use Rattle.ws_isa.specs.Formed.{Formed}
 use Rattle.ws_isa.specs.Sound.{Sound}
 use Rattle.ws_isa.specs.Walk.{Inst}
@@ -24,8 +24,8 @@ use Rattle.store_buf.specs.Outdoors.{SlotIs}
 use Rattle.store_buf.specs.Contents.{RightTokens}
 use Rattle.part_store.specs.declared.entry.Entry.{Entry}
 use Rattle.part_store.specs.Queues.{front, holds, is_queued, open_queues, without}
-use Rattle.part_store.specs.Contents.{Content, is_bare, cell, is_on_row}
-use Rattle.part_store.specs.Parted.{OnCell, IsKept, Partly, Rising, is_store_op}
+use Rattle.part_store.specs.Contents.{is_bare, cell, is_on_row, PartContent}
+use Rattle.part_store.specs.Parted.{OnCell, IsKept, Partly, is_store_op, RisingEntries}
 use Rattle.part_store.specs.Rules.{FrontGoes, Followed, operands_at, word_of, cells_left}
 use Rattle.part_store.proofs.Keys.{IsOn, cell_cases}
 use Rattle.part_store.proofs.Fronts as F
@@ -34,13 +34,14 @@ use Rattle.part_store.proofs.Ops as O
 use Rattle.part_store.proofs.Cells as C
 use Rattle.part_store.proofs.Opened as N
 use Rattle.part_store.proofs.Standing as S
+use Rattle.ws_words.specs.Items.{In}
 
 module _ (image : Image) (world : World) (formed : Formed image) (sound : Sound image)
     (began : List (Option Began))
-    (c : Content) (stopped : Bool) (waiting : ℕ → ℕ → Option (List ℕ)) (counts : ℕ → ℕ → Option ℕ)
+    (c : PartContent) (stopped : Bool) (waiting : ℕ → ℕ → Option (List ℕ)) (counts : ℕ → ℕ → Option ℕ)
     (memory : Outside) (legal : Legal image world counts waiting stopped c.chain memory)
     (p : Partly image world began counts memory c)
-    (e : Entry) (fol : FrontGoes c e) (some : List Token) (d : Content) (go : Followed image c e some d) where
+    (e : Entry) (fol : FrontGoes c e) (some : List Token) (d : PartContent) (go : Followed image c e some d) where
   abbrev facts : WalkFacts image world
   facts = T.facts image world formed sound
 
@@ -443,7 +444,7 @@ module _ (image : Image) (world : World) (formed : Formed image) (sound : Sound 
     opened = new_opened;
     sits = λ x h. p.sits x (in_left x h);
     numbered = λ x h. p.numbered x (in_left x h);
-    rising = subst (Rising image world) (sym go.queued)
+    rising = subst (RisingEntries image world) (sym go.queued)
         (T.rising_without image world formed sound e.wave e.instr c.queued p.rising);
     every = λ f r j u h f_on w i b v n there l. elim (cell_cases e r j) [
       | inl z ↦ (let m : t < u = then_later r j u f z.1 h f_on in

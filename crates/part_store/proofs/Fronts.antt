@@ -2,11 +2,11 @@
 use Rattle.std.proofs.Common.{ℕ, ◌≡◌, ◌⊎◌, Bool, true, false, cond, List, [], ◌∷◌, Some, None, refl, sym, ap}
 use Rattle.std.proofs.Common.{◌∙◌, subst, inl, inr}
 use Rattle.std.proofs.lemmas.Bool.{both_ways, cases_Bool}
-use Rattle.ws_isa.specs.Image.{In}
 use Rattle.df_core.proofs.Ports.{SameKey}
 use Rattle.part_store.specs.declared.entry.Entry.{Entry}
 use Rattle.part_store.specs.Queues.{front, is_queued, all_later, joined, without}
 use Rattle.part_store.proofs.Keys.{IsOn, key_cases, cell_cases, same_cell_is}
+use Rattle.ws_words.specs.Items.{In}
 
 pub front_here : (e : Entry) (es : List Entry) (r j : ℕ) → IsOn e r j → front (e ∷ es) r j ≡ Some e
 front_here e es r j o = rw (same_cell_is e r j o) refl

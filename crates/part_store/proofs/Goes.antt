@@ -23,11 +23,11 @@ use Rattle.part_store.specs.declared.entry.Entry.{Entry}
 use Rattle.part_store.specs.declared.parts.Parts.{Parts}
 use Rattle.part_store.specs.Bares.{is_in}
 use Rattle.part_store.specs.Queues.{joined, open_queues}
-use Rattle.part_store.specs.Contents.{Content, asking, holds_op}
+use Rattle.part_store.specs.Contents.{asking, holds_op, PartContent}
 use Rattle.part_store.specs.Parted.{Parting, IsAddressed}
 use Rattle.part_store.specs.Rules.{Alike, Waits, OpensQueue, GoesByChain, Faults, Counted, Moves, stays}
 use Rattle.part_store.specs.Rules.{opens, joins, issues, stops, operands_at, entry_at, is_past_at}
-use Rattle.part_store.specs.Parts.{PartsOk, Stands, Calm, GoesAt, content_of}
+use Rattle.part_store.specs.Parts.{PartsOk, Calm, GoesAt, content_of, PartsStand}
 use Rattle.part_store.specs.Queues as Q
 use Rattle.part_store.specs.Contents as C
 use Rattle.part_store.proofs.Ops as O
@@ -77,7 +77,7 @@ module _ {P : Type 0} (image : Image) (world : World) (formed : Formed image) (s
   abbrev k : Kept
   k = kept_at s.order (slice_index_or s.order.near.items at (length s.order.kept.items))
 
-  abbrev c : Content
+  abbrev c : PartContent
   c = content_of s
 
   parting : Parting image world began (content_of s)
@@ -215,7 +215,7 @@ module _ {P : Type 0} (image : Image) (world : World) (formed : Formed image) (s
     }
 
     stands : (tokens : List Token) → Moves image (content_of s) tokens (content_of n) →
-        Stands image world began n
+        PartsStand image world began n
     stands tokens moves = record {
       parting = (K.moves_keep image world formed sound began (content_of s)
           (content_of n) tokens moves parting).0;

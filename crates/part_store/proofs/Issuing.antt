@@ -3,7 +3,7 @@ use Rattle.std.proofs.Common.{ℕ, ◌-◌, ◌≡◌, ◌≤◌, ◌⊎◌, Boo
 use Rattle.std.proofs.Common.{slice_index, sym, ap, ◌∙◌, subst, inl, inr}
 use Rattle.std.proofs.lemmas.Bool.{both_ways, cases_Bool, cases_eq}
 use Rattle.ws_words.specs.Outside.{Outside, World, row}
-use Rattle.ws_isa.specs.Image.{Image, In, instr_at, array_at, answer, after_op, sends}
+use Rattle.ws_isa.specs.Image.{Image, instr_at, array_at, answer, after_op, sends}
 use Rattle.ws_isa.specs.Formed.{Formed}
 use Rattle.ws_isa.specs.Sound.{Sound}
 use Rattle.df_core.specs.Effect.{effect_after}
@@ -19,17 +19,18 @@ use Rattle.store_buf.specs.Outdoors.{Holding, OutIs, Performed}
 use Rattle.store_buf.specs.Contents.{RightTokens}
 use Rattle.part_store.specs.declared.entry.Entry.{Entry}
 use Rattle.part_store.specs.Queues.{front, holds, is_queued, open_queues}
-use Rattle.part_store.specs.Contents.{Content, is_bare, cell, is_on_row, holds_op}
-use Rattle.part_store.specs.Parted.{OnCell, IsKept, Partly, Rising, is_store_op}
+use Rattle.part_store.specs.Contents.{is_bare, cell, is_on_row, holds_op, PartContent}
+use Rattle.part_store.specs.Parted.{OnCell, IsKept, Partly, is_store_op, RisingEntries}
 use Rattle.part_store.specs.Rules.{Counted, operands_at}
 use Rattle.part_store.proofs.Times as T
 use Rattle.part_store.proofs.Ops as O
 use Rattle.part_store.proofs.Cells as C
 use Rattle.part_store.proofs.Standing as S
+use Rattle.ws_words.specs.Items.{In}
 
 module _ (image : Image) (world : World) (formed : Formed image) (sound : Sound image)
     (began : List (Option Began))
-    (c : Content) (waiting : ℕ → ℕ → Option (List ℕ)) (counts : ℕ → ℕ → Option ℕ) (memory : Outside)
+    (c : PartContent) (waiting : ℕ → ℕ → Option (List ℕ)) (counts : ℕ → ℕ → Option ℕ) (memory : Outside)
     (legal : Legal image world counts waiting false c.chain memory)
     (p : Partly image world began counts memory c)
     (k : Kept) (is_kept : entry_of c.kept k.wave k.instr ≡ Some k)
@@ -39,7 +40,7 @@ module _ (image : Image) (world : World) (formed : Formed image) (sound : Sound 
     (answers : Performed began (instr_at image k.instr).op (k.first ∷ k.second ∷ 0 ∷ [])
     (record { cells = c.outside.cells; input = memory.input; left = memory.left; acts = memory.acts })
     word left)
-    (bare_is : is_bare c k.wave k.instr ≡ false) (d : Content)
+    (bare_is : is_bare c k.wave k.instr ≡ false) (d : PartContent)
     (go : Counted image c k word c.queued left d) where
   abbrev facts : WalkFacts image world
   facts = T.facts image world formed sound
@@ -260,7 +261,7 @@ module _ (image : Image) (world : World) (formed : Formed image) (sound : Sound 
           ],
     );
     numbered = λ e h. p.numbered e (subst (λ (es : List Entry). In e es) go.queued_are h);
-    rising = subst (Rising image world) (sym go.queued_are) p.rising;
+    rising = subst (RisingEntries image world) (sym go.queued_are) p.rising;
     every = λ e r j t h on w i a u n there l. elim (count_cases w i a n) [
       | inl key ↦ absurd (not_held r j u e w i key (sym (front_same r j) ∙ h) there)
       | inr old ↦ queued_same w i ∙ p.every e r j t (sym (front_same r j) ∙ h) on w i a u old.1 there l

@@ -3,7 +3,7 @@ use Rattle.std.proofs.Common.{ℕ, ◌-◌, ◌≡◌, ◌≤◌, ◌⊎◌, Boo
 use Rattle.std.proofs.Common.{slice_index, refl, sym, ap, ◌∙◌, subst, inl, inr, arith}
 use Rattle.std.proofs.lemmas.Bool.{both_ways, cases_Bool, cases_lt}
 use Rattle.ws_words.specs.Outside.{Outside, World, row}
-use Rattle.ws_isa.specs.Image.{Image, In, instr_at, array_at, answer, note_of}
+use Rattle.ws_isa.specs.Image.{Image, instr_at, array_at, answer, note_of}
 use Rattle.ws_isa.specs.Formed.{Formed}
 use Rattle.ws_isa.specs.Sound.{Sound}
 use Rattle.df_core.specs.Effect.{effect_at, effect_after}
@@ -17,8 +17,8 @@ use Rattle.store_buf.specs.Requests.{entry_of, issued_in, answer_if}
 use Rattle.store_buf.specs.Outdoors.{Holding, OutIs}
 use Rattle.part_store.specs.declared.entry.Entry.{Entry}
 use Rattle.part_store.specs.Queues.{front, holds, is_queued, joined, open_queues}
-use Rattle.part_store.specs.Contents.{Content, is_bare, cell, is_on_row}
-use Rattle.part_store.specs.Parted.{OnCell, Earlier, IsKept, IsNumbered, Partly, Rising, is_store_op}
+use Rattle.part_store.specs.Contents.{is_bare, cell, is_on_row, PartContent}
+use Rattle.part_store.specs.Parted.{OnCell, Earlier, IsKept, IsNumbered, Partly, is_store_op, RisingEntries}
 use Rattle.part_store.specs.Rules.{Counted, entry_at}
 use Rattle.part_store.proofs.Keys.{IsOn}
 use Rattle.part_store.proofs.Keys as K
@@ -27,10 +27,11 @@ use Rattle.part_store.proofs.Times as T
 use Rattle.part_store.proofs.Ops as O
 use Rattle.part_store.proofs.Cells as C
 use Rattle.part_store.proofs.Standing as S
+use Rattle.ws_words.specs.Items.{In}
 
 module _ (image : Image) (world : World) (formed : Formed image) (sound : Sound image)
     (began : List (Option Began))
-    (c : Content) (waiting : ℕ → ℕ → Option (List ℕ)) (counts : ℕ → ℕ → Option ℕ) (memory : Outside)
+    (c : PartContent) (waiting : ℕ → ℕ → Option (List ℕ)) (counts : ℕ → ℕ → Option ℕ) (memory : Outside)
     (legal : Legal image world counts waiting false c.chain memory)
     (p : Partly image world began counts memory c)
     (k : Kept) (is_kept : entry_of c.kept k.wave k.instr ≡ Some k) (xs : List ℕ)
@@ -38,7 +39,7 @@ module _ (image : Image) (world : World) (formed : Formed image) (sound : Sound 
     (may : Issuable image counts c.chain false k.wave k.instr xs)
     (row_is : is_on_row (instr_at image k.instr).op (array_at image k.instr - 1) ≡ true)
     (first_is : slice_index xs 0 ≡ k.first)
-    (word : ℕ) (d : Content) (go : Counted image c k word (joined (entry_at image k) c.queued) c.outside d)
+    (word : ℕ) (d : PartContent) (go : Counted image c k word (joined (entry_at image k) c.queued) c.outside d)
   where
     abbrev facts : WalkFacts image world
     facts = T.facts image world formed sound
@@ -234,7 +235,7 @@ module _ (image : Image) (world : World) (formed : Formed image) (sound : Sound 
         opened = new_opened;
         sits = λ e h. sits_one e (subst (λ (es : List Entry). In e es) go.queued_are h);
         numbered = λ e h. numbered_one e (subst (λ (es : List Entry). In e es) go.queued_are h);
-        rising = subst (Rising image world) (sym go.queued_are)
+        rising = subst (RisingEntries image world) (sym go.queued_are)
             (T.rising_joined image world formed sound f c.queued p.rising order_of);
         every = λ e r j t h on w i a u n there l. elim (count_cases w i a n) [
           | inl key ↦ queued_new w i key

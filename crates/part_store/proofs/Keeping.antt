@@ -20,7 +20,7 @@ use Rattle.store_buf.specs.Outdoors.{Holding, OutIs, Performed}
 use Rattle.store_buf.specs.Contents.{RightTokens, FaultIs}
 use Rattle.part_store.specs.declared.entry.Entry.{Entry}
 use Rattle.part_store.specs.Queues.{front, holds, joined, open_queues}
-use Rattle.part_store.specs.Contents.{Content, is_bare, asking, cell, is_on_row, holds_op}
+use Rattle.part_store.specs.Contents.{is_bare, asking, cell, is_on_row, holds_op, PartContent}
 use Rattle.part_store.specs.Parted.{OnCell, Earlier, IsAddressed, Partly, Parting, Fronts, is_store_op}
 use Rattle.part_store.specs.Rules.{OpensQueue, GoesByChain, FrontGoes, Faults, Waits, Counted, Followed}
 use Rattle.part_store.specs.Rules.{Moves, stays, opens, joins, issues, follows, stops, operands_at, entry_at}
@@ -41,7 +41,7 @@ module _ (image : Image) (world : World) (formed : Formed image) (sound : Sound 
   abbrev facts : WalkFacts image world
   facts = T.facts image world formed sound
 
-  module _ (c : Content) (s : Parting image world began c) (going : c.fault ≡ None) where
+  module _ (c : PartContent) (s : Parting image world began c) (going : c.fault ≡ None) where
     pub legal : Legal image world s.counts (asking image c) false c.chain s.memory
     legal = subst (λ (b : Bool). Legal image world s.counts (asking image c) b c.chain s.memory)
         (ap has going) s.legal
@@ -59,7 +59,7 @@ module _ (image : Image) (world : World) (formed : Formed image) (sound : Sound 
       module _ (xs : List ℕ) (req : RightRequest image world k.wave k.instr xs)
           (may : Issuable image s.counts c.chain false k.wave k.instr xs)
           (first_is : slice_index xs 0 ≡ k.first) (within : is_past_at image k ≡ false)
-          (word : ℕ) (queued : List Entry) (left : Holding) (d : Content)
+          (word : ℕ) (queued : List Entry) (left : Holding) (d : PartContent)
           (go : Counted image c k word queued left d)
           (same : (v i : ℕ) → has (issued_with image s.counts s.memory k.wave k.instr xs v i) ≡ has
           (issued_in d.kept v i))
@@ -98,7 +98,7 @@ module _ (image : Image) (world : World) (formed : Formed image) (sound : Sound 
         (may : Issuable image s.counts c.chain false k.wave k.instr xs)
         (row : is_on_row (instr_at image k.instr).op (array_at image k.instr - 1) ≡ true)
         (first_is : slice_index xs 0 ≡ k.first) (within : is_past_at image k ≡ false)
-        (d : Content) (go : Counted image c k 0 (joined (entry_at image k) c.queued) c.outside d) where
+        (d : PartContent) (go : Counted image c k 0 (joined (entry_at image k) c.queued) c.outside d) where
       abbrev f : Entry
       f = record {
         wave = k.wave;
@@ -261,7 +261,7 @@ module _ (image : Image) (world : World) (formed : Formed image) (sound : Sound 
           (joined (entry_at image k) c.queued) c.outside d go same_now new
 
   -- rule 1
-  opened : (c d : Content) → Parting image world began c → (k : Kept) → Fronts c → OpensQueue image c k →
+  opened : (c d : PartContent) → Parting image world began c → (k : Kept) → Fronts c → OpensQueue image c k →
       Counted image c k 0 (joined (entry_at image k) c.queued) c.outside d → Parting image world began d
   opened c d s k fronts o go =
       let ad : IsAddressed image world k.wave k.instr k.first =
@@ -300,7 +300,7 @@ module _ (image : Image) (world : World) (formed : Formed image) (sound : Sound 
           which None e = inr e
           which (Some x) e = inl (x, e)
 
-  pub opened_fronts : (c d : Content) → Parting image world began c → (k : Kept) → Fronts c →
+  pub opened_fronts : (c d : PartContent) → Parting image world began c → (k : Kept) → Fronts c →
       OpensQueue image c k → Counted image c k 0 (joined (entry_at image k) c.queued) c.outside d → Fronts d
   opened_fronts c d s k fronts o go =
       let ad : IsAddressed image world k.wave k.instr k.first =
@@ -326,7 +326,7 @@ module _ (image : Image) (world : World) (formed : Formed image) (sound : Sound 
       which (Some x) = inl (x, refl)
 
   -- the chain lets a whole request issue
-  pub may_counts : (c : Content) (s : Parting image world began c) (k : Kept) → GoesByChain image c k →
+  pub may_counts : (c : PartContent) (s : Parting image world began c) (k : Kept) → GoesByChain image c k →
       Issuable image s.counts c.chain false k.wave k.instr (operands_at image k)
   may_counts c s k g = record {
     going = refl;
@@ -337,13 +337,13 @@ module _ (image : Image) (world : World) (formed : Formed image) (sound : Sound 
     turn = g.may.turn;
   }
 
-  pub right_of : (c : Content) (s : Parting image world began c) (k : Kept) → Waits c k false →
+  pub right_of : (c : PartContent) (s : Parting image world began c) (k : Kept) → Waits c k false →
       RightRequest image world k.wave k.instr (operands_at image k)
   right_of c s k w = S.whole_kept image world (is_bare c k.wave k.instr) k w.bare_is
       (s.partly.right k.wave k.instr k w.kept)
 
   -- rule 2
-  joined_so : (c d : Content) → Parting image world began c → (k : Kept) → Fronts c → GoesByChain image c k →
+  joined_so : (c d : PartContent) → Parting image world began c → (k : Kept) → Fronts c → GoesByChain image c k →
       holds_op c.queued (instr_at image k.instr).op k.first ≡ true →
       Counted image c k 0 (joined (entry_at image k) c.queued) c.outside d → Parting image world began d
   joined_so c d s k fronts g h go = elim (O.cases_row image c.queued k.instr k.first) [
@@ -357,7 +357,7 @@ module _ (image : Image) (world : World) (formed : Formed image) (sound : Sound 
     | inr z ↦ absurd (both_ways (holds_op c.queued (instr_at image k.instr).op k.first) z.1 h)
   ]
 
-  pub joined_fronts : (c d : Content) → Parting image world began c → (k : Kept) → Fronts c →
+  pub joined_fronts : (c d : PartContent) → Parting image world began c → (k : Kept) → Fronts c →
       GoesByChain image c k → holds_op c.queued (instr_at image k.instr).op k.first ≡ true →
       Counted image c k 0 (joined (entry_at image k) c.queued) c.outside d → Fronts d
   joined_fronts c d s k fronts g h go = elim (O.cases_row image c.queued k.instr k.first) [
@@ -370,7 +370,7 @@ module _ (image : Image) (world : World) (formed : Formed image) (sound : Sound 
   ]
 
   -- rule 5
-  issued_so : (c d : Content) → Parting image world began c → (k : Kept) (word : ℕ) (left : Holding) →
+  issued_so : (c d : PartContent) → Parting image world began c → (k : Kept) (word : ℕ) (left : Holding) →
       GoesByChain image c k → holds_op c.queued (instr_at image k.instr).op k.first ≡ false →
       ((b : List (Option Began)) (o : Outside) → OutIs b o c.outside →
       Performed b (instr_at image k.instr).op (k.first ∷ k.second ∷ 0 ∷ []) o word left) →
@@ -408,7 +408,7 @@ module _ (image : Image) (world : World) (formed : Formed image) (sound : Sound 
       )
 
   -- rule 3
-  followed_so : (c d : Content) → Parting image world began c → (e : Entry) → FrontGoes c e →
+  followed_so : (c d : PartContent) → Parting image world began c → (e : Entry) → FrontGoes c e →
       (some : List Token) → Followed image c e some d → c.fault ≡ None →
       Parting image world began d × RightTokens image world some
   followed_so c d s e fol some go going =
@@ -437,7 +437,7 @@ module _ (image : Image) (world : World) (formed : Formed image) (sound : Sound 
       )
 
   -- the walk's first operation past the end
-  fault_so : (c : Content) (s : Parting image world began c) (k : Kept) (f : Faults image c k)
+  fault_so : (c : PartContent) (s : Parting image world began c) (k : Kept) (f : Faults image c k)
       (law : Legal image world s.counts (asking image c) false c.chain s.memory)
       (may : Issuable image s.counts c.chain false k.wave k.instr (operands_at image k)) →
       is_past image k.instr (operands_at image k) ≡ true →
@@ -454,7 +454,7 @@ module _ (image : Image) (world : World) (formed : Formed image) (sound : Sound 
   )
 
   -- rule 4
-  stopped_so : (c : Content) → Parting image world began c → (k : Kept) → Faults image c k →
+  stopped_so : (c : PartContent) → Parting image world began c → (k : Kept) → Faults image c k →
       Parting image world began (record c { fault = Some (array_at image k.instr) })
   stopped_so c s k f =
       let req = right_of c s k f.waits in
@@ -490,7 +490,7 @@ module _ (image : Image) (world : World) (formed : Formed image) (sound : Sound 
         quiet = λ z. f.none;
       }
     where
-      waits_so : (c : Content) (k : Kept) → Waits c k false →
+      waits_so : (c : PartContent) (k : Kept) → Waits c k false →
           asking image c k.wave k.instr ≡ Some (operands_at image k)
       waits_so c k w = ap (λ (b : Bool). cond b None
           (waits_if (issued_in c.kept k.wave k.instr) (kept_in image c.kept k.wave k.instr) None)) w.bare_is
@@ -510,7 +510,7 @@ module _ (image : Image) (world : World) (formed : Formed image) (sound : Sound 
   right_both xs ys a b w i p v e = elim (sent_either xs ys w i p v e)
       [ inl h ↦ a w i p v h | inr h ↦ b w i p v h ]
 
-  pub moves_keep : (old new : Content) (tokens : List Token) → Moves image old tokens new →
+  pub moves_keep : (old new : PartContent) (tokens : List Token) → Moves image old tokens new →
       Parting image world began old → Parting image world began new × RightTokens image world tokens
   moves_keep old new tokens stays s = (s, λ w i p v e. absurd e)
   moves_keep old new tokens (opens {d = d} k fronts o go rest) s =

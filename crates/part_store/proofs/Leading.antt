@@ -1,9 +1,8 @@
 -- Moves in turn.
-use Rattle.std.proofs.Common.{ℕ, ◌≡◌, ◌<◌, ◌≤◌, ◌&&◌, Bool, false, List, [], ◌++◌, length, Option, Some, None}
-use Rattle.std.proofs.Common.{slice_index_or, refl, sym, ap, ◌∙◌, subst, inl, inr, arith}
+use Rattle.std.proofs.Common.{ℕ, ◌≡◌, ◌<◌, ◌&&◌, Bool, false, List, [], ◌++◌, length, Option, Some, None}
+use Rattle.std.proofs.Common.{slice_index_or, refl, sym, ap, ◌∙◌, subst, inl, inr}
 use Rattle.std.proofs.lemmas.Bool.{cases_Bool}
 use Rattle.std.proofs.lemmas.List.{append_assoc, append-nil}
-use Rattle.ws_io.specs.Streams.{Rose}
 use Rattle.ws_isa.specs.Image.{Image, Token, sends}
 use Rattle.store_buf.specs.declared.fault.Silent.{Silent}
 use Rattle.store_buf.specs.declared.fault.Silent.TheVariants.{Failed, NoMemory}
@@ -12,17 +11,18 @@ use Rattle.store_buf.specs.Outdoors.{FaultsGrow}
 use Rattle.store_buf.proofs.Lists.{in_at, or_any}
 use Rattle.store_buf.proofs.Ordered.{ready_waits}
 use Rattle.part_store.specs.declared.parts.Parts.{Parts}
-use Rattle.part_store.specs.Contents.{Content}
 use Rattle.part_store.proofs.Goes as G
 use Rattle.part_store.specs.Rules.{Alike, Moves, stays, opens, joins, issues, follows, stops, operands_at}
-use Rattle.part_store.specs.Parts.{MovesOn, LeadsTo, NoneGo, SilentSo, StaysCalm, content_of, go_flag}
+use Rattle.part_store.specs.Parts.{MovesOn, NoneGo, StaysCalm, content_of, go_flag, PartsSilentSo, PartsLeadTo}
 use Rattle.part_store.specs.Parts.{rule_flag}
+use Rattle.store_buf.proofs.Failing.{rose_from}
+use Rattle.part_store.specs.Contents.{PartContent}
 
-no_going : {X : Type 0} (c : Content) (a : ℕ) → c.fault ≡ Some a → c.fault ≡ None → X
+no_going : {X : Type 0} (c : PartContent) (a : ℕ) → c.fault ≡ Some a → c.fault ≡ None → X
 no_going c a e f = absurd (let g : Some a ≡ None = sym e ∙ f in cc)
 
 -- nothing moves where the chain is stopped
-stopped_stays : (image : Image) (c d : Content) (a : ℕ) (ts : List Token) → c.fault ≡ Some a →
+stopped_stays : (image : Image) (c d : PartContent) (a : ℕ) (ts : List Token) → c.fault ≡ Some a →
     Moves image c ts d → (ts ≡ []) × (d ≡ c)
 stopped_stays image c d a ts e stays = (refl, refl)
 stopped_stays image c d a ts e (opens k f o g rest) = no_going c a e o.going
@@ -31,7 +31,7 @@ stopped_stays image c d a ts e (issues k word left f g h answers go rest) = no_g
 stopped_stays image c d a ts e (follows first fol going go rest) = no_going c a e going
 stopped_stays image c d a ts e (stops k f) = no_going c a e f.going
 
-pub moves_on : (image : Image) (a b c : Content) (xs ys : List Token) → Moves image a xs b →
+pub moves_on : (image : Image) (a b c : PartContent) (xs ys : List Token) → Moves image a xs b →
     Moves image b ys c → Moves image a (xs ++ ys) c
 moves_on image a b c xs ys stays more = more
 moves_on image a b c xs ys (opens {d = d} k f o g rest) more =
@@ -48,13 +48,9 @@ moves_on image a b c xs ys (follows {d = d} {some = some} {rest = r} first fol g
 moves_on image a b c xs ys (stops k f) more =
     let r = stopped_stays image _ c _ ys refl more in
     subst (λ (ts : List Token). Moves image a ts c) (sym r.0)
-    (subst (λ (x : Content). Moves image a [] x) (sym r.1) (stops k f))
+    (subst (λ (x : PartContent). Moves image a [] x) (sym r.1) (stops k f))
 
-rose_from : (a b c : ℕ) → a ≤ b → Rose b c → Rose a c
-rose_from a b c l (inl h) = inl (omega (arith, l, h))
-rose_from a b c l (inr h) = inr h
-
-pub same : (c : Content) → Alike c c
+pub same : (c : PartContent) → Alike c c
 same c = record {
   kept = refl;
   bare = refl;
@@ -83,7 +79,7 @@ module _ {P : Type 0} where
   )
 
   pub led : (image : Image) (a b : Parts P) (t0 t1 : List Token) → MovesOn image a b t0 t1 →
-      LeadsTo image a b t0 t1
+      PartsLeadTo image a b t0 t1
   led image a b t0 t1 all = (
     all.0,
     all.1,
@@ -94,7 +90,7 @@ module _ {P : Type 0} where
 
   -- a port that doesn't answer changes no more than what it tells of its faults
   pub still : (image : Image) (a b c : Parts P) (t0 t1 : List Token) → MovesOn image a b t0 t1 →
-      StaysCalm image b c → LeadsTo image a c t0 t1
+      StaysCalm image b c → PartsLeadTo image a c t0 t1
   still image a b c t0 t1 all so = (
     all.0,
     all.1,
@@ -104,7 +100,7 @@ module _ {P : Type 0} where
   )
 
   pub silent_from : (image : Image) (a b c : Parts P) (why : Silent) →
-      FaultsGrow a.outer.ports b.outer.ports → SilentSo image b c why → SilentSo image a c why
+      FaultsGrow a.outer.ports b.outer.ports → PartsSilentSo image b c why → PartsSilentSo image a c why
   silent_from image a b c (Failed p) grow s = (s.0, rose_from _ _ _ (grow p) s.1)
   silent_from image a b c (NoMemory p) grow s = s
 
@@ -136,7 +132,7 @@ module _ {P : Type 0} where
     | inr r ↦ ap (λ (b : Bool). b && rule_flag image s (kept_at s.order p)) r
   ]
 
-alike_on : (a b c : Content) → Alike a b → Alike b c → Alike a c
+alike_on : (a b c : PartContent) → Alike a b → Alike b c → Alike a c
 alike_on a b c x y = record {
   kept = y.kept ∙ x.kept;
   bare = y.bare ∙ x.bare;
@@ -151,7 +147,7 @@ alike_on a b c x y = record {
 
 -- what is kept in mind of ports doesn't matter
 pub minded : {P : Type 0} (image : Image) (a b : Parts P) (f : Option ℕ) (t : Bool) (t0 t1 : List Token) →
-    LeadsTo image a b t0 t1 → LeadsTo image a (record b { failed = f; starved = t }) t0 t1
+    PartsLeadTo image a b t0 t1 → PartsLeadTo image a (record b { failed = f; starved = t }) t0 t1
 minded {P} image a b f t t0 t1 all = (
   all.0,
   all.1,

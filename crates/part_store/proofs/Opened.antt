@@ -2,13 +2,13 @@
 use Rattle.std.proofs.Common.{ℕ, suc, ◌≡◌, ◌≤◌, Bool, true, false, cond, List, [], ◌∷◌, refl, sym, ap, ◌∙◌}
 use Rattle.std.proofs.Common.{subst, inl, inr, arith}
 use Rattle.std.proofs.lemmas.Bool.{both_ways, cases_Bool}
-use Rattle.ws_isa.specs.Image.{In}
 use Rattle.df_core.specs.Core.{has}
 use Rattle.df_core.proofs.Ports.{SameKey}
 use Rattle.part_store.specs.declared.entry.Entry.{Entry}
 use Rattle.part_store.specs.Queues.{holds, is_queued, all_later, joined, open_queues, without}
 use Rattle.part_store.proofs.Keys.{IsOn, key_cases, cell_cases}
 use Rattle.part_store.proofs.Fronts as F
+use Rattle.ws_words.specs.Items.{In}
 
 -- one more queue is open where the cell isn't held
 abbrev pub one_more : Bool → ℕ → ℕ

@@ -1,7 +1,7 @@
 -- The opening buffer.
 use Rattle.std.proofs.Common.{◌≡◌, List, [], Option, Some, None, refl, sym, ap, ◌∙◌, subst, arith}
 use Rattle.ws_words.specs.Outside.{World}
-use Rattle.ws_isa.specs.Image.{Image, In}
+use Rattle.ws_isa.specs.Image.{Image}
 use Rattle.ws_isa.specs.Walk.{opening_memory}
 use Rattle.df_core.specs.Core.{State, Reach, Once}
 use Rattle.df_core.specs.Fit.{Fit, Grounded}
@@ -11,11 +11,12 @@ use Rattle.store_buf.specs.Requests.{issued_in}
 use Rattle.store_buf.specs.Outdoors.{AllBegan}
 use Rattle.store_buf.proofs.Opening as O
 use Rattle.part_store.specs.declared.parts.Parts.{Parts}
-use Rattle.part_store.specs.Contents.{Content, opening_content}
+use Rattle.part_store.specs.Contents.{opening_content, PartContent}
 use Rattle.part_store.specs.Parted.{Fronts, Parting}
 use Rattle.part_store.specs.Rules.{NoRule}
-use Rattle.part_store.specs.Calls.{FailedSo}
-use Rattle.part_store.specs.Parts.{PartsOk, Standing, content_of}
+use Rattle.part_store.specs.Parts.{PartsOk, content_of, PartsStanding}
+use Rattle.ws_words.specs.Items.{In}
+use Rattle.part_store.specs.Calls.{PartFailedSo}
 
 module _ (image : Image) (world : World) (began : List (Option Began))
     (reach : (state : State) → Reach image world state →
@@ -60,7 +61,7 @@ module _ (image : Image) (world : World) (began : List (Option Began))
 
   module _ {P : Type 0} where
     pub opening_stands : (s : Parts P) → PartsOk s → s.order.early.items ≡ [] →
-        content_of s ≡ opening_content image world ports → Standing image world began s
+        content_of s ≡ opening_content image world ports → PartsStanding image world began s
     opening_stands s ok early is = record {
       ok = ok;
       calm = (
@@ -69,10 +70,10 @@ module _ (image : Image) (world : World) (began : List (Option Began))
           early_issued = λ i h. absurd (subst (λ xs. In i xs) early h);
           early_all = λ cut w i a t e has x at memory l.
               absurd (let f : issued_in s.order.kept.items w i ≡ None =
-              ap (λ (c : Content). issued_in c.kept w i) is in let g : None ≡ Some a = sym f ∙ has in cc);
+              ap (λ (c : PartContent). issued_in c.kept w i) is in let g : None ≡ Some a = sym f ∙ has in cc);
         },
         subst Fronts (sym is) opening_fronts,
       );
       idle = λ f t. subst (NoRule image) (sym is) opening_rule;
-      failed = subst (FailedSo image began) (sym is) (λ port e. absurd (cc (e)));
+      failed = subst (PartFailedSo image began) (sym is) (λ port e. absurd (cc (e)));
     }

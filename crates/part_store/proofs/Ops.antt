@@ -27,6 +27,7 @@ use Rattle.part_store.specs.Parted.{is_store_op}
 use Rattle.part_store.specs.Rules.{operands_at, is_past_at}
 use Rattle.ws_words.proofs.Acts.{printed_same}
 use Rattle.store_buf.proofs.Outside.{took_same as took_quiet}
+use Rattle.store_buf.proofs.Stepping.{out_effect}
 
 -- a load or store is on its array's row; another operation is on none
 pub record OnRow (es : List Entry) (op : Op) (j : ℕ) : Type 0 where
@@ -262,17 +263,6 @@ apart_op Output xs o cs = refl
 apart_op (Give p) xs o cs = refl
 apart_op (Take p) xs o cs = refl
 apart_op _ xs o cs = refl
-
-out_effect : (began : List (Option Began)) (o : Outside) (h : Holding) → OutIs began o h →
-    OutIs began (effect_of o) h
-out_effect began o h is = record {
-  cells_are = is.cells_are;
-  input_is = is.input_is;
-  printed_are = printed_alike o.acts ∙ is.printed_are;
-  slots_are = λ slot l m. subst (λ (ws : List ℕ).
-      SlotIs (port_at began slot) (row o.left (slot - 1)) ws (port_at h.ports slot))
-      (sym (took_alike slot o.acts)) (is.slots_are slot l m);
-}
 
 pub outside_after : (began : List (Option Began)) (image : Image) (i : ℕ) (xs : List ℕ) (o : Outside)
     (cs : List (List ℕ)) (h : Holding) → OutIs began (after_op (instr_at image i).op xs (with_cells o cs)) h →

@@ -18,12 +18,12 @@ use Rattle.match_table.proofs.Held.{gather_same}
 use Rattle.match_table.proofs.Listed.{has_from}
 use Rattle.store_buf.specs.declared.kept.Kept.{Kept}
 use Rattle.store_buf.specs.Requests.{entry_of}
-use Rattle.part_store.specs.Contents.{Content}
 use Rattle.part_store.specs.Runs.{AllReach, Covers, IsWhole, Paid}
 use Rattle.part_store.proofs.Reaching as R
 use Rattle.part_store.proofs.Times as T
 use Rattle.df_core.proofs.Owing.{nothing}
 use Rattle.ws_isa.proofs.Images.{nth_below}
+use Rattle.part_store.specs.Contents.{PartContent}
 
 -- an instance to which a token hasn't come hasn't fired
 pub not_fired : (image : Image) (world : World) (formed : Formed image) (sound : Sound image) (t : Tables) →
@@ -39,7 +39,7 @@ not_fired image world formed sound t tok x right missing h =
     nothing g.0 (sym missing ∙ g.1)
 
 module _ (image : Image) where
-  pub pay_more : (t : Tables) (c : Content) (way more : List Token) → Covers way more → Paid image t c way →
+  pub pay_more : (t : Tables) (c : PartContent) (way more : List Token) → Covers way more → Paid image t c way →
       Paid image t c more
   pay_more t c way more k paid = record {
     start = up _ paid.start;
@@ -52,7 +52,7 @@ module _ (image : Image) where
       up ts = R.reach_by t.held t.held way more ts (R.reach_more t.held way more k)
 
   -- a token that has come is let go
-  pub pay_held : (t : Tables) (c : Content) (way : List Token) (x : Token) →
+  pub pay_held : (t : Tables) (c : PartContent) (way : List Token) (x : Token) →
       (v : ℕ) × (t.held x.wave x.instr x.port ≡ Some v) → Paid image t c (way ++ x ∷ []) → Paid image t c way
   pay_held t c way x come paid = record {
     start = up _ paid.start;
@@ -65,7 +65,7 @@ module _ (image : Image) where
       up ts = R.reach_by t.held t.held (way ++ x ∷ []) way ts (R.reach_held t.held way x come)
 
   -- a token comes, and its instance hasn't fired
-  module _ (old : table.Content) (x : Token) (new : table.Content) (a : Arrives old x new)
+  module _ (old : table.TableContent) (x : Token) (new : table.TableContent) (a : Arrives old x new)
       (fresh : HasFired old.fired x.wave x.instr → ⊥) where
     same_at : (w i p : ℕ) → HasFired old.fired w i → held old w i p ≡ held new w i p
     same_at w i p h = sym (a.more w i p ∙ elim
@@ -79,7 +79,7 @@ module _ (image : Image) where
         operands_in image (held old) w i ≡ operands_in image (held new) w i
     same_operands w i h = gather_same (held old) (held new) w i w i 0 (ports image i) (λ p. same_at w i p h)
 
-    pub pay_arrived : (c : Content) (way : List Token) → Paid image (part old) c (way ++ x ∷ []) →
+    pub pay_arrived : (c : PartContent) (way : List Token) → Paid image (part old) c (way ++ x ∷ []) →
         Paid image (record { held = held new; fired = old.fired }) c way
     pay_arrived c way paid = record {
       start = up _ paid.start;
@@ -94,7 +94,7 @@ module _ (image : Image) where
         up ts = R.reach_by (held old) (held new) (way ++ x ∷ []) way ts (R.reach_arrived old x new a way)
 
   -- one more has fired
-  module _ (f : Ports) (fired : List Key) (w i : ℕ) (c : Content) (way : List Token)
+  module _ (f : Ports) (fired : List Key) (w i : ℕ) (c : PartContent) (way : List Token)
       (paid : Paid image (record { held = f; fired = fired }) c way) where
     abbrev one_more : Tables
     one_more = record { held = f; fired = fired ++ record { wave = w; instr = i } ∷ [] }
@@ -132,8 +132,8 @@ module _ (image : Image) where
     }
 
   -- what a table answers to a token
-  module _ (old : table.Content) (x : Token) (new : table.Content) (a : Arrives old x new)
-      (fresh : HasFired old.fired x.wave x.instr → ⊥) (c : Content) (way : List Token)
+  module _ (old : table.TableContent) (x : Token) (new : table.TableContent) (a : Arrives old x new)
+      (fresh : HasFired old.fired x.wave x.instr → ⊥) (c : PartContent) (way : List Token)
       (paid : Paid image (part old) c (way ++ x ∷ [])) where
     pub taken_waits : new.fired ≡ old.fired → Paid image (part new) c way
     taken_waits same = subst (λ (ks : List Key). Paid image (record { held = held new; fired = ks }) c way)
@@ -153,7 +153,7 @@ module _ (image : Image) where
         subst (λ (ks : List Key). Paid image (record { held = held new; fired = ks }) c more) (sym full.fired)
         (pay_fires (held new) old.fired x.wave x.instr c more up plain (R.reach_all (held new) _ more sent'))
 
-    pub taken_asks : (d : Content) (more : List Token) (xs : List ℕ) → Full image old x new xs →
+    pub taken_asks : (d : PartContent) (more : List Token) (xs : List ℕ) → Full image old x new xs →
         is_memory image x.instr ≡ true → ((t : Tables) → Paid image t c way → Paid image t d more) →
         IsWhole d x.wave x.instr → Paid image (part new) d more
     taken_asks d more xs full memory tell whole =
@@ -163,7 +163,7 @@ module _ (image : Image) where
         (pay_asks (held new) old.fired x.wave x.instr d more up memory whole)
 
 -- a run begins
-pub pay_start : (image : Image) (f : Ports) (ks : List Key) (c : Content) → ks ≡ [] → c.kept ≡ [] →
+pub pay_start : (image : Image) (f : Ports) (ks : List Key) (c : PartContent) → ks ≡ [] → c.kept ≡ [] →
     Paid image (record { held = f; fired = ks }) c (start_tokens image)
 pay_start image f ks c none empty = record {
   start = R.reach_all f (start_tokens image) (start_tokens image) (R.covers_self (start_tokens image));

@@ -22,10 +22,10 @@ use Rattle.store_buf.specs.Outdoors.{OutIs}
 use Rattle.store_buf.specs.Contents as whole
 use Rattle.store_buf.specs.Stores.{asked_of}
 use Rattle.store_buf.proofs.Coming.{entry_push, issued_push, kept_push}
-use Rattle.part_store.specs.Contents.{Content, NoBare, is_bare, whole_of}
+use Rattle.part_store.specs.Contents.{NoBare, is_bare, whole_of, PartContent}
 use Rattle.part_store.specs.Parted.{Parted}
-use Rattle.part_store.specs.Rules.{Comes, MovesTo}
-use Rattle.part_store.specs.Calls.{Arrives, SameAs, SubmittedSo, TookSo, request_of}
+use Rattle.part_store.specs.Rules.{MovesTo, ComesIn}
+use Rattle.part_store.specs.Calls.{Arrives, SameAs, SubmittedSo, request_of, PartTookSo}
 use Rattle.part_store.specs.Calls.{comes, fills}
 use Rattle.part_store.proofs.Keys.{key_cases}
 use Rattle.part_store.proofs.Standing as S
@@ -33,7 +33,7 @@ use Rattle.part_store.proofs.Wholly as W
 use Rattle.part_store.proofs.Wholly.{Own}
 
 -- where nothing has changed
-same_whole : (c d : Content) → SameAs c d → whole_of d ≡ whole_of c
+same_whole : (c d : PartContent) → SameAs c d → whole_of d ≡ whole_of c
 same_whole c d s j = record {
   kept = s.kept j;
   chain = s.chain j;
@@ -44,15 +44,15 @@ same_whole c d s j = record {
 }
 
 module _ (image : Image) (world : World) (formed : Formed image) (sound : Sound image)
-    (began : List (Option Began)) (old new : Content) (r : Asked) (ask : IsAsked image world r)
+    (began : List (Option Began)) (old new : PartContent) (r : Asked) (ask : IsAsked image world r)
     (none : NoBare old) (before : Parted image world began old) (after : Parted image world began new)
     (own : Own new.kept) where
   abbrev k : Kept
   k = record { wave = r.wave; instr = r.instr; first = r.first; second = r.second; answer = None }
 
   module _ (tokens : List Token) (f p : Option ℕ) (s : Bool)
-      (took : TookSo image old (request_of r) tokens f p s new) where
-    abbrev mid : Content
+      (took : PartTookSo image old (request_of r) tokens f p s new) where
+    abbrev mid : PartContent
     mid = took.1.0
 
     abbrev to : MovesTo image took.1.0 tokens new
@@ -61,10 +61,10 @@ module _ (image : Image) (world : World) (formed : Formed image) (sound : Sound 
     running : old.fault ≡ None
     running = took.0.0
 
-    come : Comes old (request_of r) false took.1.0
+    come : ComesIn old (request_of r) false took.1.0
     come = go took.1.1
       where
-        go : Arrives old (request_of r) took.1.0 → Comes old (request_of r) false took.1.0
+        go : Arrives old (request_of r) took.1.0 → ComesIn old (request_of r) false took.1.0
         go (comes c) = c
         go (fills c) = absurd (both_ways (is_bare old r.wave r.instr) (none r.wave r.instr) c.bare)
 

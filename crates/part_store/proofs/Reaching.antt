@@ -11,7 +11,7 @@ use Rattle.match_table.specs.Tables.{held}
 use Rattle.match_table.specs.Matching.{Arrives}
 use Rattle.store_buf.specs.declared.fault.BufFault.{BufFault}
 use Rattle.store_buf.specs.declared.fault.BufFault.TheVariants as fault
-use Rattle.part_store.specs.Runs.{AllReach, Covers, IsOffered, Reaches}
+use Rattle.part_store.specs.Runs.{AllReach, Covers, IsOffered, IsOnItsWay}
 
 pub covers_self : (ts : List Token) → Covers ts ts
 covers_self ts w i p v h = h
@@ -44,11 +44,11 @@ offered_beside (Err (fault.Ended a)) old new others o = ap (λ (ts : List Token)
 
 -- what reaches its port there reaches it here
 pub reach_by : (f g : Ports) (way more ts : List Token) →
-    ((w i p : ℕ) → Reaches f way w i p → Reaches g more w i p) → AllReach f way ts → AllReach g more ts
+    ((w i p : ℕ) → IsOnItsWay f way w i p → IsOnItsWay g more w i p) → AllReach f way ts → AllReach g more ts
 reach_by f g way more ts r all w i p v h = r w i p (all w i p v h)
 
-pub reach_more : (f : Ports) (way more : List Token) → Covers way more → (w i p : ℕ) → Reaches f way w i p →
-    Reaches f more w i p
+pub reach_more : (f : Ports) (way more : List Token) → Covers way more → (w i p : ℕ) → IsOnItsWay f way w i p →
+    IsOnItsWay f more w i p
 reach_more f way more c w i p (inl h) = inl h
 reach_more f way more c w i p (inr h) = inr (h.0, c w i p h.0 h.1)
 
@@ -64,7 +64,7 @@ last_only way x w i p v h = elim (is_sent_append_cases way (x ∷ []) w i p v h)
 ]
 
 pub reach_held : (f : Ports) (way : List Token) (x : Token) → (v : ℕ) × (f x.wave x.instr x.port ≡ Some v) →
-    (w i p : ℕ) → Reaches f (way ++ x ∷ []) w i p → Reaches f way w i p
+    (w i p : ℕ) → IsOnItsWay f (way ++ x ∷ []) w i p → IsOnItsWay f way w i p
 reach_held f way x come w i p (inl h) = inl h
 reach_held f way x come w i p (inr h) = elim (last_only way x w i p h.0 h.1) [
   | inl g ↦ inr (h.0, g)
@@ -75,7 +75,7 @@ reach_held f way x come w i p (inr h) = elim (last_only way x w i p h.0 h.1) [
   )
 ]
 
-module _ (old : table.Content) (x : Token) (new : table.Content) (a : Arrives old x new) where
+module _ (old : table.TableContent) (x : Token) (new : table.TableContent) (a : Arrives old x new) where
   pub held_new : held new x.wave x.instr x.port ≡ Some x.value
   held_new = a.more x.wave x.instr x.port
       ∙ elim (with_at_cases x.wave x.instr x.port (Some x.value) (held old) x.wave x.instr x.port) [
@@ -96,8 +96,8 @@ module _ (old : table.Content) (x : Token) (new : table.Content) (a : Arrives ol
   pub held_same : (w i p v : ℕ) → held old w i p ≡ Some v → held new w i p ≡ held old w i p
   held_same w i p v e = held_old w i p v e ∙ sym e
 
-  pub reach_arrived : (way : List Token) (w i p : ℕ) → Reaches (held old) (way ++ x ∷ []) w i p →
-      Reaches (held new) way w i p
+  pub reach_arrived : (way : List Token) (w i p : ℕ) → IsOnItsWay (held old) (way ++ x ∷ []) w i p →
+      IsOnItsWay (held new) way w i p
   reach_arrived way w i p (inl h) = inl (h.0, held_old w i p h.0 h.1)
   reach_arrived way w i p (inr h) = reach_held (held new) way x (x.value, held_new) w i p (inr h)
 

@@ -8,10 +8,10 @@ use Rattle.df_core.specs.Fit.{Legal}
 use Rattle.df_core.specs.Began.{Began}
 use Rattle.store_buf.specs.Finding.{pair_eq}
 use Rattle.store_buf.specs.Holds.{waiting_in}
-use Rattle.part_store.specs.Contents.{Content, asking, is_bare}
+use Rattle.part_store.specs.Contents.{asking, is_bare, PartContent}
 use Rattle.part_store.specs.Parted.{Fronts, IsKept, Parting}
 
-module _ (image : Image) (world : World) (began : List (Option Began)) (c : Content) (bs : List (ℕ × ℕ))
+module _ (image : Image) (world : World) (began : List (Option Began)) (c : PartContent) (bs : List (ℕ × ℕ))
     (same : (w i : ℕ) → list_any (pair_eq (w, i)) bs ≡ is_bare c w i) where
   asking_same : asking image (record c { bare = bs }) ≡ asking image c
   asking_same j = λ w i. cond (same w i j) None (waiting_in image c.kept w i)

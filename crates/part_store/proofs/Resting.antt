@@ -17,9 +17,9 @@ use Rattle.part_store.specs.declared.entry.Entry.{Entry}
 use Rattle.part_store.specs.declared.parts.Parts.{Parts}
 use Rattle.part_store.specs.Bares.{is_in}
 use Rattle.part_store.specs.Queues.{front, open_queues}
-use Rattle.part_store.specs.Contents.{Content, is_bare, holds_op}
+use Rattle.part_store.specs.Contents.{is_bare, holds_op, PartContent}
 use Rattle.part_store.specs.Parted.{Fronts}
-use Rattle.part_store.specs.Rules.{Comes, GoesByChain, NoRule, Waits, is_past_at, operands_at}
+use Rattle.part_store.specs.Rules.{GoesByChain, NoRule, Waits, is_past_at, operands_at, ComesIn}
 use Rattle.part_store.specs.Calls.{SameAs}
 use Rattle.part_store.specs.Parts.{NoneGo, content_of, go_flag, rule_flag}
 use Rattle.part_store.proofs.Keys.{key_cases}
@@ -102,7 +102,7 @@ module _ {P : Type 0} (image : Image) (s : Parts P) (none : NoneGo image s) wher
   }
 
 -- where the chain is stopped no rule is applicable
-pub no_rule_stopped : (image : Image) (c : Content) (array : ℕ) → c.fault ≡ Some array → Fronts c →
+pub no_rule_stopped : (image : Image) (c : PartContent) (array : ℕ) → c.fault ≡ Some array → Fronts c →
     NoRule image c
 no_rule_stopped image c array stopped fronts = record {
   opens = λ k o. absurd (let e : None ≡ Some array = sym o.going ∙ stopped in cc);
@@ -112,7 +112,7 @@ no_rule_stopped image c array stopped fronts = record {
 }
 
 -- nothing has changed
-module _ (image : Image) (c d : Content) (same : SameAs c d) (none : NoRule image c) where
+module _ (image : Image) (c d : PartContent) (same : SameAs c d) (none : NoRule image c) where
   waits_back : (k : Kept) (b : Bool) → Waits d k b → Waits c k b
   waits_back k b w = record {
     kept = subst (λ (ks : List Kept). entry_of ks k.wave k.instr ≡ Some k) same.kept w.kept;
@@ -170,7 +170,7 @@ load_lets image c w i first current load within ripple =
     (and_from _ _ (and_from _ _ (load_is_op image i load) (false_not _ within)) (le-leb _ _ ripple)))
 
 -- a request or an address has come that the chain doesn't let go
-module _ (image : Image) (c d : Content) (k : Kept) (b : Bool) (come : Comes c k b d) (none : NoRule image c)
+module _ (image : Image) (c d : PartContent) (k : Kept) (b : Bool) (come : ComesIn c k b d) (none : NoRule image c)
     (held : may_flag image c.chain k.wave k.instr k.first ≡ false) where
   abbrev k' : Kept
   k' = record { wave = k.wave; instr = k.instr; first = k.first; second = k.second; answer = None }

@@ -14,7 +14,7 @@ use Rattle.df_core.specs.Core.{Chain, Key, HasFired, IsNext, Once, has}
 use Rattle.df_core.specs.Fit.{FiresAt, NoOp, RightToken, StoppedAt, chain_at}
 use Rattle.df_core.specs.Ends.{FirstWithin}
 use Rattle.df_core.specs.Shown.{Tables, TablesOk}
-use Rattle.df_core.proofs.Counting.{keys_of, once_length, walk_has, walk_from, walk_once, count_within}
+use Rattle.df_core.proofs.Counting.{keys_of, once_length, walk_has, walk_from, walk_once, count_within, has_same}
 use Rattle.df_core.proofs.Effects.{effect_is}
 use Rattle.df_core.proofs.Ends.{one_fault}
 use Rattle.df_core.proofs.Facts.{WalkFacts}
@@ -29,7 +29,7 @@ use Rattle.store_buf.specs.Outdoors.{OutIs, RoseAt, SlotsAre, began_of, port_of}
 use Rattle.store_buf.specs.Contents.{FaultIs, PortWaits}
 use Rattle.store_buf.specs.Ended.{PortFailed, Rested, Spent, Starved, Tripped}
 use Rattle.store_buf.proofs.Outside.{out_of}
-use Rattle.part_store.specs.Contents.{Content, is_bare}
+use Rattle.part_store.specs.Contents.{is_bare, PartContent}
 use Rattle.part_store.specs.Parted.{Fronts, IsKept, Parting, is_store_op}
 use Rattle.part_store.specs.Rules.{NoRule}
 use Rattle.part_store.specs.Runs.{Paid}
@@ -43,9 +43,6 @@ use Rattle.part_store.proofs.Wholly as Wholly
 few_keys : (xs : List Inst) (n : ℕ) → length (keys_of xs) ≤ n → length xs ≤ n
 few_keys [] n l = omega arith
 few_keys (x ∷ xs) n l = let r = few_keys xs (length (keys_of xs)) (omega arith) in omega (arith, l, r)
-
-fired_at : (ks : List Key) (a b w i : ℕ) → a ≡ w → b ≡ i → HasFired ks a b → HasFired ks w i
-fired_at ks a b w i e f h = subst (λ (k : ℕ × ℕ). HasFired ks k.0 k.1) (λ j. (e j, f j)) h
 
 -- an operation on a port is no store
 store_no_port : (op : Op) (port : ℕ) → is_store_op op ≡ true → port_of op ≡ Some port → ⊥
@@ -64,7 +61,7 @@ module _ (image : Image) (world : World) (formed : Formed image) (sound : Sound 
       let g = f.1 0 f.0 in
       let r : RightToken image world w i 0 g.0 = tok.right w i 0 g.0 g.1 in (
         suc r.time,
-        fired_at (keys_of (walk image world (suc r.time))) r.inst.wave r.inst.instr w i r.at.wave
+        has_same (keys_of (walk image world (suc r.time))) r.inst.wave r.inst.instr w i r.at.wave
             r.at.instr (walk_has image world facts (suc r.time) r.time r.inst (omega arith) r.at.fires),
       )
 
@@ -77,7 +74,7 @@ module _ (image : Image) (world : World) (formed : Formed image) (sound : Sound 
       (P.not_fired image world formed sound t tok x right missing, once) (λ w i h. elim h [
         | inl e ↦ (
           suc right.time,
-          fired_at
+          has_same
               (keys_of (walk image world (suc right.time))) right.inst.wave right.inst.instr w i
               (right.at.wave ∙ e.0) (right.at.instr ∙ e.1)
               (walk_has image world facts (suc right.time) right.time right.inst
@@ -97,9 +94,9 @@ module _ (image : Image) (world : World) (formed : Formed image) (sound : Sound 
   costs all n = few_keys (walk image world n) (length t.fired)
       (once_length (keys_of (walk image world n)) t.fired (walk_once image world facts n) (λ w i h.
       let r = walk_from image world facts n w i h in
-      fired_at t.fired r.inst.wave r.inst.instr w i r.wave r.instr (all r.time r.inst r.fires)))
+      has_same t.fired r.inst.wave r.inst.instr w i r.wave r.instr (all r.time r.inst r.fires)))
 
-module _ (image : Image) (world : World) (began : List (Option Began)) (c : Content)
+module _ (image : Image) (world : World) (began : List (Option Began)) (c : PartContent)
     (s : Parting image world began c) where
   abbrev cut : ℕ
   cut = s.legal.cut

@@ -6,7 +6,7 @@ use Rattle.std.proofs.lemmas.Bool.{and_from, and_parts, both_ways, cases_Bool, c
 use Rattle.ws_words.specs.Outside.{World}
 use Rattle.ws_isa.specs.declared.instr.Op.{Op}
 use Rattle.ws_isa.specs.declared.instr.Op.TheVariants.{Load, Store}
-use Rattle.ws_isa.specs.Image.{Image, In, instr_at, is_memory, is_memory_op}
+use Rattle.ws_isa.specs.Image.{Image, instr_at, is_memory, is_memory_op}
 use Rattle.ws_isa.specs.Formed.{Formed}
 use Rattle.ws_isa.specs.Walk.{Inst}
 use Rattle.ws_isa.specs.Sound.{Sound}
@@ -21,10 +21,11 @@ use Rattle.df_core.proofs.Settling.{one_time}
 use Rattle.part_store.specs.declared.entry.Entry.{Entry}
 use Rattle.part_store.specs.Queues.{all_later, front, is_later, joined, without, without_first}
 use Rattle.part_store.specs.Contents.{is_on_row}
-use Rattle.part_store.specs.Parted.{OnCell, Earlier, IsNumbered, Rising}
+use Rattle.part_store.specs.Parted.{OnCell, Earlier, IsNumbered, RisingEntries}
 use Rattle.part_store.proofs.Keys.{IsOn, key_cases, cell_cases, same_key_is}
 use Rattle.part_store.proofs.Numbers.{seq_up}
 use Rattle.part_store.proofs.Fronts as F
+use Rattle.ws_words.specs.Items.{In}
 
 row_memory_op : (o : Op) (r : ℕ) → is_on_row o r ≡ true → is_memory_op o ≡ true
 row_memory_op (Load a) r e = refl
@@ -157,7 +158,7 @@ module _ (image : Image) (world : World) (formed : Formed image) (sound : Sound 
   ]
 
   -- a cell's first entry is the first in the walk's order
-  pub front_first : (es : List Entry) (r j : ℕ) (e f : Entry) → Rising image world es →
+  pub front_first : (es : List Entry) (r j : ℕ) (e f : Entry) → RisingEntries image world es →
       front es r j ≡ Some e → In f es → IsOn f r j → (f ≡ e) ⊎ Earlier image world e f
   front_first [] r j e f rise h g o = absurd g
   front_first (x ∷ es) r j e f rise h g o = elim (cell_cases x r j) [
@@ -172,7 +173,7 @@ module _ (image : Image) (world : World) (formed : Formed image) (sound : Sound 
   ]
 
   -- a cell's first operation is the only one of its instance
-  pub first_leaves : (es : List Entry) (r j : ℕ) (e : Entry) → Rising image world es → front es r j ≡ Some e →
+  pub first_leaves : (es : List Entry) (r j : ℕ) (e : Entry) → RisingEntries image world es → front es r j ≡ Some e →
       without_first es r j ≡ without es e.wave e.instr
   first_leaves [] r j e rise h = refl
   first_leaves (x ∷ es) r j e rise h = elim (cell_cases x r j) [
@@ -201,12 +202,12 @@ module _ (image : Image) (world : World) (formed : Formed image) (sound : Sound 
     not_all : (x : Entry) (es : List Entry) → Earlier image world x f → all_later (x ∷ es) f ≡ false
     not_all x es a = ap (λ (b : Bool). b && all_later es f) (later_not x f a)
 
-    pub rising_joined : (es : List Entry) → Rising image world es →
+    pub rising_joined : (es : List Entry) → RisingEntries image world es →
         ((g : Entry) → In g es → Earlier image world g f ⊎ Earlier image world f g) →
-        Rising image world (joined f es)
+        RisingEntries image world (joined f es)
     rising_joined [] rise all = ((λ g h. absurd h), tt)
     rising_joined (x ∷ es) rise all = elim (cases_Bool (all_later (x ∷ es) f)) [
-      | inl l ↦ subst (λ (b : Bool). Rising image world (cond b (f ∷ x ∷ es) (x ∷ joined f es))) (sym l)
+      | inl l ↦ subst (λ (b : Bool). RisingEntries image world (cond b (f ∷ x ∷ es) (x ∷ joined f es))) (sym l)
           (elim (all x (inl refl)) [
             | inl a ↦ absurd (both_ways (is_later x f) (later_not x f a)
                 (and_parts (is_later x f) (all_later es f) l).0)
@@ -219,7 +220,7 @@ module _ (image : Image) (world : World) (formed : Formed image) (sound : Sound 
               rise,
             )
           ])
-      | inr l ↦ subst (λ (b : Bool). Rising image world (cond b (f ∷ x ∷ es) (x ∷ joined f es))) (sym l) (
+      | inr l ↦ subst (λ (b : Bool). RisingEntries image world (cond b (f ∷ x ∷ es) (x ∷ joined f es))) (sym l) (
         (λ g h. elim (F.joined_in f es g h) [
           | inl q ↦ subst (λ (y : Entry). Earlier image world x y) (sym q) (elim (all x (inl refl)) [
             | inl a ↦ a
@@ -238,7 +239,7 @@ module _ (image : Image) (world : World) (formed : Formed image) (sound : Sound 
     ]
 
     -- the first entry of its cell stays the first, where it is earlier
-    pub joined_front : (es : List Entry) (r j : ℕ) (e : Entry) → Rising image world es →
+    pub joined_front : (es : List Entry) (r j : ℕ) (e : Entry) → RisingEntries image world es →
         front es r j ≡ Some e → Earlier image world e f → front (joined f es) r j ≡ Some e
     joined_front [] r j e rise h a = absurd (let g : None ≡ Some e = h in cc)
     joined_front (x ∷ es) r j e rise h a = elim (cell_cases x r j) [
@@ -255,16 +256,16 @@ module _ (image : Image) (world : World) (formed : Formed image) (sound : Sound 
     ]
 
   module _ (w i : ℕ) where
-    pub rising_without : (es : List Entry) → Rising image world es → Rising image world (without es w i)
+    pub rising_without : (es : List Entry) → RisingEntries image world es → RisingEntries image world (without es w i)
     rising_without [] rise = tt
     rising_without (x ∷ es) rise = elim (key_cases x.wave x.instr w i) [
-      | inl k ↦ subst (λ (b : Bool). Rising image world (cond b es (x ∷ without es w i))) (sym k.0) rise.1
-      | inr k ↦ subst (λ (b : Bool). Rising image world (cond b es (x ∷ without es w i))) (sym k.0)
+      | inl k ↦ subst (λ (b : Bool). RisingEntries image world (cond b es (x ∷ without es w i))) (sym k.0) rise.1
+      | inr k ↦ subst (λ (b : Bool). RisingEntries image world (cond b es (x ∷ without es w i))) (sym k.0)
           ((λ g h. rise.0 g (F.without_in w i es g h)), rising_without es rise.1)
     ]
 
     -- it stands no more among the others
-    pub gone : (es : List Entry) → Rising image world es → (e : Entry) → In e (without es w i) →
+    pub gone : (es : List Entry) → RisingEntries image world es → (e : Entry) → In e (without es w i) →
         SameKey e.wave e.instr w i → ⊥
     gone [] rise e h k = h
     gone (x ∷ es) rise e h k = elim (key_cases x.wave x.instr w i) [

@@ -4,7 +4,7 @@ use Rattle.std.proofs.Common.{◌∷◌, length, Option, Some, None, slice_set, 
 use Rattle.std.proofs.Common.{leb-true}
 use Rattle.std.proofs.lemmas.Bool.{and_parts}
 use Rattle.ws_words.specs.Outside.{Outside, World}
-use Rattle.ws_isa.specs.Image.{Image, In, instr_at, is_load, is_load_op, is_past, is_past_op, note_of}
+use Rattle.ws_isa.specs.Image.{Image, instr_at, is_load, is_load_op, is_past, is_past_op, note_of}
 use Rattle.ws_isa.specs.Formed.{Formed}
 use Rattle.ws_isa.specs.Sound.{Sound}
 use Rattle.df_core.specs.Effect.{effect_after}
@@ -14,14 +14,13 @@ use Rattle.df_core.specs.Fit.{Legal, RightRequest}
 use Rattle.df_core.proofs.Facts.{WalkFacts}
 use Rattle.df_core.proofs.Ports.{with_key_cases}
 use Rattle.df_core.specs.Chains.{chain_of, may_flag, next_flag, PassedOn}
-use Rattle.df_core.specs.Stands.{HasEarly}
+use Rattle.df_core.specs.Stands.{HasEarly, EarlyIssued}
 use Rattle.df_core.proofs.Nexts.{next_is}
 use Rattle.df_core.proofs.Issuing.{in_end, end_in}
 use Rattle.store_buf.specs.declared.kept.Kept.{Kept}
 use Rattle.store_buf.specs.declared.order.Order.{Order}
 use Rattle.store_buf.specs.Requests.{entry_of, issued_in}
 use Rattle.store_buf.specs.Finding.{place_in}
-use Rattle.store_buf.specs.Orders.{Going, EarlyIssued}
 use Rattle.store_buf.specs.Ordering.{kept_at, OrderOk, ready_flag}
 use Rattle.store_buf.proofs.Found as F
 use Rattle.store_buf.proofs.Ordered.{ready_waits}
@@ -31,6 +30,8 @@ use Rattle.part_store.specs.Rules.{is_past_at}
 use Rattle.part_store.proofs.Times as T
 use Rattle.part_store.proofs.Ops as O
 use Rattle.ws_words.proofs.Bools.{or_comes as either, not_true as not_false}
+use Rattle.ws_words.specs.Items.{In}
+use Rattle.store_buf.specs.Orders.{OrderGoes}
 
 module _ (image : Image) (o : Order) (ok : OrderOk o) (p : ℕ) (l : p < length o.kept.items) where
   abbrev k : Kept
@@ -119,7 +120,7 @@ module _ (image : Image) (world : World) (formed : Formed image) (sound : Sound 
   abbrev Counts : ℕ → ℕ → Option ℕ
   Counts = issued_with image counts memory w i xs
 
-  going : Going image world counts waiting false (chain_of o.chain) memory o.early.items
+  going : OrderGoes image world counts waiting false (chain_of o.chain) memory o.early.items
   going = record {
     legal = legal;
     early_issued = λ j h. let r = early_issued j h in
@@ -132,7 +133,7 @@ module _ (image : Image) (world : World) (formed : Formed image) (sound : Sound 
 
   After : Type 0
   After = Passes image (issued_with image counts memory w i xs) (chain_of o.chain) (chain_of n.chain)
-      × Going image world (issued_with image counts memory w i xs) after false (chain_of n.chain)
+      × OrderGoes image world (issued_with image counts memory w i xs) after false (chain_of n.chain)
       (effect_after image i xs memory) n.early.items
 
   goes : After
@@ -146,7 +147,7 @@ module _ (image : Image) (world : World) (formed : Formed image) (sound : Sound 
         (chain_of o.chain) memory o.early.items going w i xs req may inside after q.0 load in (
           subst (λ (d : law.Chain). Passes image (issued_with image counts memory w i xs)
               (chain_of o.chain) d) (sym q.1) r.0,
-          subst (λ (d : law.Chain). Going image world (issued_with image counts memory w i xs) after false d
+          subst (λ (d : law.Chain). OrderGoes image world (issued_with image counts memory w i xs) after false d
               (effect_after image i xs memory) n.early.items) (sym q.1)
               (early_alike image world (issued_with image counts memory w i xs) after false (chain_of o.chain)
               (effect_after image i xs memory) (i ∷ o.early.items) n.early.items

@@ -3,7 +3,7 @@ use Rattle.std.proofs.Common.{ℕ, zero, suc, ◌≡◌, ◌<◌, ◌≤◌, ◌
 use Rattle.std.proofs.Common.{Option, Some, None, refl, sym, ap, ◌∙◌, subst, inl, inr, arith}
 use Rattle.std.proofs.lemmas.Bool.{both_ways, cases_Bool, cases_lt}
 use Rattle.ws_words.specs.Outside.{World}
-use Rattle.ws_isa.specs.Image.{Image, In, Token, nth, ports, is_memory, is_load, is_writing, note_of}
+use Rattle.ws_isa.specs.Image.{Image, Token, ports, is_memory, is_load, is_writing, note_of}
 use Rattle.ws_isa.specs.Image.{result_of, sends}
 use Rattle.ws_isa.specs.Formed.{Formed}
 use Rattle.ws_isa.specs.Walk.{Inst, fires}
@@ -15,7 +15,7 @@ use Rattle.df_core.specs.Shown.{Tables, TablesOk}
 use Rattle.df_core.proofs.Facts.{WalkFacts}
 use Rattle.df_core.proofs.MatchKept.{right_operands, same_inst}
 use Rattle.df_core.proofs.Past.{past_is, plain_within}
-use Rattle.df_core.proofs.Pauses.{chain_same, load_quiet, writing_memory}
+use Rattle.df_core.proofs.Pauses.{chain_same, load_quiet}
 use Rattle.df_core.specs.Began.{Began}
 use Rattle.df_core.specs.Rights.{IsAsked, operands_of}
 use Rattle.store_buf.specs.declared.kept.Kept.{Kept}
@@ -24,7 +24,7 @@ use Rattle.store_buf.specs.Stores.{asked_of}
 use Rattle.df_core.proofs.Settling.{one_time}
 use Rattle.part_store.specs.declared.entry.Entry.{Entry}
 use Rattle.part_store.specs.Queues.{front, is_queued}
-use Rattle.part_store.specs.Contents.{Content, is_bare}
+use Rattle.part_store.specs.Contents.{is_bare, PartContent}
 use Rattle.part_store.specs.Parted.{Fronts, IsKept, Parting}
 use Rattle.part_store.specs.Rules.{NoRule, is_past_at, operands_at}
 use Rattle.part_store.specs.Runs.{AllReach, Paid}
@@ -32,14 +32,15 @@ use Rattle.part_store.proofs.Fronts as F
 use Rattle.part_store.proofs.Ops as O
 use Rattle.part_store.proofs.Times as T
 use Rattle.df_core.proofs.Owing.{nothing}
-use Rattle.ws_isa.proofs.Images.{nth_within}
+use Rattle.ws_isa.proofs.Images.{nth_within, writing_memory}
+use Rattle.ws_words.specs.Items.{nth, In}
 
 none_in : (es : List Entry) → ((e : Entry) → In e es → ⊥) → es ≡ []
 none_in [] f = refl
 none_in (e ∷ es) f = absurd (f e (inl refl))
 
 module _ (image : Image) (world : World) (formed : Formed image) (sound : Sound image)
-    (began : List (Option Began)) (c : Content) (s : Parting image world began c) (fronts : Fronts c)
+    (began : List (Option Began)) (c : PartContent) (s : Parting image world began c) (fronts : Fronts c)
     (none : NoRule image c) (going : c.fault ≡ None) (t : Tables) (tok : TablesOk image world t)
     (paid : Paid image t c []) where
   abbrev facts : WalkFacts image world

@@ -6,7 +6,7 @@ use Rattle.std.proofs.lemmas.Bool.{both_ways, cases_Bool}
 use Rattle.ws_words.specs.Outside.{Outside, World, row}
 use Rattle.ws_isa.specs.declared.instr.Op.{Op}
 use Rattle.ws_isa.specs.declared.instr.Op.TheVariants.{Load, Store}
-use Rattle.ws_isa.specs.Image.{Image, In, Token, after, after_op, answer, instr_at, is_past, sends}
+use Rattle.ws_isa.specs.Image.{Image, Token, after, after_op, answer, instr_at, is_past, sends}
 use Rattle.ws_isa.specs.Formed.{Formed}
 use Rattle.ws_isa.specs.Sound.{Sound}
 use Rattle.df_core.specs.Effect.{effect_after}
@@ -31,8 +31,8 @@ use Rattle.store_buf.specs.Stores.{asked_of}
 use Rattle.store_buf.proofs.Found.{entry_case}
 use Rattle.part_store.specs.declared.entry.Entry.{Entry}
 use Rattle.part_store.specs.Queues.{front, holds, is_queued, open_queues}
-use Rattle.part_store.specs.Contents.{Content, NoBare, asking, cell, holds_op, is_bare, whole_of}
-use Rattle.part_store.specs.Parted.{Fronts, IsKept, Parted, Rising}
+use Rattle.part_store.specs.Contents.{NoBare, asking, cell, holds_op, is_bare, whole_of, PartContent}
+use Rattle.part_store.specs.Parted.{Fronts, IsKept, Parted, RisingEntries}
 use Rattle.part_store.specs.Rules.{Counted, GoesByChain, Moves, NoRule, Waits, stays, opens, joins, issues}
 use Rattle.part_store.specs.Rules.{follows, stops, is_past_at, operands_at}
 use Rattle.part_store.proofs.Fronts as F
@@ -40,6 +40,8 @@ use Rattle.part_store.proofs.Ops as O
 use Rattle.part_store.proofs.Standing as S
 use Rattle.part_store.proofs.Times as T
 use Rattle.match_table.proofs.Held.{has_none as none_has}
+use Rattle.ws_words.specs.Items.{In}
+use Rattle.store_buf.proofs.Coming.{listed_from}
 
 -- rows with equal cells are equal
 words_alike : (xs ys : List ℕ) → length xs ≡ length ys → ((j : ℕ) → slice_index xs j ≡ slice_index ys j) →
@@ -103,23 +105,6 @@ fired_at : (ks : List Kept) (w i : ℕ) → HasFired (issued_keys ks) w i → Fi
 fired_at [] w i h = absurd h
 fired_at (k ∷ ks) w i h = fired_one k ks w i (fired_at ks w i) k.answer refl h
 
-fired_more : (o : Option ℕ) (k : Kept) (ks : List Kept) (w i : ℕ) → HasFired (issued_keys ks) w i →
-    HasFired (key_if o k (issued_keys ks)) w i
-fired_more None k ks w i h = h
-fired_more (Some a) k ks w i h = inr h
-
-fired_here : (o : Option ℕ) (a : ℕ) (k : Kept) (ks : List Kept) (w i : ℕ) → o ≡ Some a → k.wave ≡ w →
-    k.instr ≡ i → HasFired (key_if o k (issued_keys ks)) w i
-fired_here None a k ks w i e ew ei = absurd (let f : None ≡ Some a = e in cc)
-fired_here (Some b) a k ks w i e ew ei = inl (ew, ei)
-
-listed_from : (ks : List Kept) (w i a : ℕ) → issued_in ks w i ≡ Some a → HasFired (issued_keys ks) w i
-listed_from [] w i a h = absurd (let f : None ≡ Some a = h in cc)
-listed_from (k ∷ ks) w i a h = elim (with_key_cases k.wave k.instr (Some k) (entry_of ks) w i) [
-  | inl e ↦ fired_here k.answer a k ks w i (sym (ap answer_if e.1) ∙ h) e.0.wave e.0.instr
-  | inr e ↦ fired_more k.answer k ks w i (listed_from ks w i a (sym (ap answer_if e.1) ∙ h))
-]
-
 abbrev pub Own : List Kept → Type 0
 Own ks = All (λ (k : Kept). entry_of ks k.wave k.instr ≡ Some k) ks
 
@@ -169,7 +154,7 @@ key_of ks w i k e = elim (entry_case ks w i) [
 ]
 
 -- no queue is open
-pub empty : (c : Content) → NoBare c → Fronts c → c.queued ≡ []
+pub empty : (c : PartContent) → NoBare c → Fronts c → c.queued ≡ []
 empty c none fronts = none_front c.queued
     (λ e r j h. both_ways (is_bare c e.wave e.instr) (none e.wave e.instr) (fronts e r j h))
 
@@ -179,7 +164,7 @@ module _ (image : Image) (world : World) (formed : Formed image) (sound : Sound 
   facts = T.facts image world formed sound
 
   -- what is true of it with this memory
-  pub record On (c : Content) (stopped : Bool) (m : Outside) : Type 0 where
+  pub record On (c : PartContent) (stopped : Bool) (m : Outside) : Type 0 where
     pub bare : NoBare c
     pub queued : c.queued ≡ []
     pub halts : has c.fault ≡ stopped
@@ -187,7 +172,7 @@ module _ (image : Image) (world : World) (formed : Formed image) (sound : Sound 
     pub right : (w i : ℕ) (k : Kept) → entry_of c.kept w i ≡ Some k → IsAsked image world (asked_of k)
     pub outside : OutIs began m c.outside
 
-  pub buffer_so : (c : Content) (stopped : Bool) (m : Outside) → On c stopped m → Own c.kept →
+  pub buffer_so : (c : PartContent) (stopped : Bool) (m : Outside) → On c stopped m → Own c.kept →
       FaultIs image world c.fault → IsBuffer image world began (whole_of c) m
   buffer_so c stopped m on own fault = record {
     ok = record {
@@ -219,7 +204,7 @@ module _ (image : Image) (world : World) (formed : Formed image) (sound : Sound 
           (on.right w i k e)))
 
   -- a buffer that keeps what is true of parted ones
-  module _ (c : Content) (none : NoBare c) (parted : Parted image world began c) where
+  module _ (c : PartContent) (none : NoBare c) (parted : Parted image world began c) where
     no_queue : c.queued ≡ []
     no_queue = empty c none parted.1
 
@@ -253,7 +238,7 @@ module _ (image : Image) (world : World) (formed : Formed image) (sound : Sound 
     }
 
   -- one issue
-  module _ (c : Content) (m : Outside) (on : On c false m) (going : c.fault ≡ None) (k : Kept)
+  module _ (c : PartContent) (m : Outside) (on : On c false m) (going : c.fault ≡ None) (k : Kept)
       (g : GoesByChain image c k) where
     abbrev xs : List ℕ
     xs = operands_at image k
@@ -272,7 +257,7 @@ module _ (image : Image) (world : World) (formed : Formed image) (sound : Sound 
     within = O.past_is image k (operands_at image k) (O.first_of image k) ∙ g.within
 
     module _ (word : ℕ) (left : Holding) (answers : Performed began (instr_at image k.instr).op
-        (k.first ∷ k.second ∷ 0 ∷ []) m word left) (d : Content)
+        (k.first ∷ k.second ∷ 0 ∷ []) m word left) (d : PartContent)
         (go : Counted image c k word c.queued left d) where
       abbrev k' : Kept
       k' = record { wave = k.wave; instr = k.instr; first = k.first; second = k.second; answer = Some word }
@@ -371,16 +356,16 @@ module _ (image : Image) (world : World) (formed : Formed image) (sound : Sound 
       }
 
   -- moves are issues in turn
-  pub record Way (c : Content) (m : Outside) (tokens : List Token) (d : Content) : Type 0 where
+  pub record Way (c : PartContent) (m : Outside) (tokens : List Token) (d : PartContent) : Type 0 where
     pub memory : Outside
     pub issues : Issues image (part image c.kept c.chain (has c.fault) m) tokens
         (part image d.kept d.chain (has d.fault) memory)
     pub on : On d (has d.fault) memory
 
-  going_on : (c : Content) (m : Outside) → On c false m → On c (has c.fault) m
+  going_on : (c : PartContent) (m : Outside) → On c false m → On c (has c.fault) m
   going_on c m on = subst (λ (b : Bool). On c b m) (sym on.halts) on
 
-  pub way : (c d : Content) (tokens : List Token) → Moves image c tokens d → c.fault ≡ None → (m : Outside) →
+  pub way : (c d : PartContent) (tokens : List Token) → Moves image c tokens d → c.fault ≡ None → (m : Outside) →
       On c false m → Way c m tokens d
   way c _ _ stays going m on = record { memory = m; issues = Holds.stays; on = going_on c m on }
   way c d _ (opens {rest = rest} k fronts o go more) going m on =
@@ -450,7 +435,7 @@ module _ (image : Image) (world : World) (formed : Formed image) (sound : Sound 
       }
 
   -- where no rule is applicable nothing that waits is issuable
-  pub idle_so : (c : Content) (stopped : Bool) (m : Outside) → On c stopped m → NoRule image c →
+  pub idle_so : (c : PartContent) (stopped : Bool) (m : Outside) → On c stopped m → NoRule image c →
       whole.Idle image (whole_of c)
   idle_so c stopped m on none n w i xs asks may =
       let r = waits_so image (entry_of c.kept w i) xs asks in
@@ -488,7 +473,7 @@ module _ (image : Image) (world : World) (formed : Formed image) (sound : Sound 
       ]
 
   -- the other way round
-  module _ (c : Content) (none : NoBare c) (free : c.queued ≡ []) (m : Outside)
+  module _ (c : PartContent) (none : NoBare c) (free : c.queued ≡ []) (m : Outside)
       (is : IsBuffer image world began (whole_of c) m) where
     no_front : (e : Entry) (r j : ℕ) → front c.queued r j ≡ Some e → ⊥
     no_front e r j h = absurd (let z : None ≡ Some e = sym (ap (λ (es : List Entry). front es r j) free)
@@ -519,7 +504,7 @@ module _ (image : Image) (world : World) (formed : Formed image) (sound : Sound 
           opened = λ w i a e b. absurd (both_ways (is_bare c w i) (none w i) b);
           sits = λ e h. absurd (subst (λ (es : List Entry). In e es) free h);
           numbered = λ e h. absurd (subst (λ (es : List Entry). In e es) free h);
-          rising = subst (Rising image world) (sym free) tt;
+          rising = subst (RisingEntries image world) (sym free) tt;
           every = λ e r j t h. absurd (no_front e r j h);
           few = subst (λ (es : List Entry). open_queues es ≤ 16) (sym free) (omega arith);
           free = λ r j h. ap (λ (cs : List (List ℕ)). cell cs r j) (sym is.outside.cells_are);

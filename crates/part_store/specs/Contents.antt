@@ -1,6 +1,6 @@
 -- A buffer with partial store queues as contracts see it.
-use Rattle.std.specs.Prelude.{ℕ, ◌-◌, ◌≡◌, Bool, false, cond, eqb, not, ◌&&◌, List, [], Option}
-use Rattle.std.specs.Prelude.{None, slice_index}
+use Rattle.std.specs.Prelude.{ℕ, ◌-◌, ◌≡◌, Bool, false, cond, eqb, not, ◌&&◌, List, [], Option, None}
+use Rattle.std.specs.Prelude.{slice_index}
 use Rattle.std.specs.List.{list_any}
 use Rattle.ws_words.specs.Outside.{World, row}
 use Rattle.ws_isa.specs.declared.instr.Op.{Op}
@@ -23,7 +23,7 @@ use Rattle.part_store.specs.Queues.{holds, is_queued}
 -- are the instances of which the address alone has come. Then what waits on cells, where the chain stands,
 -- the array of the operation past the end at which that is stopped, the port that failed, whether a port
 -- found no memory, and what is outside.
-pub record Content : Type 0 where
+pub record PartContent : Type 0 where
   pub kept : List Kept
   pub bare : List (ℕ × ℕ)
   pub queued : List Entry
@@ -34,11 +34,11 @@ pub record Content : Type 0 where
   pub outside : Holding
 
 -- of an instance the address alone has come
-abbrev pub is_bare : Content → ℕ → ℕ → Bool
+abbrev pub is_bare : PartContent → ℕ → ℕ → Bool
 is_bare c w i = list_any (pair_eq (w, i)) c.bare
 
 -- the whole requests that wait
-abbrev pub asking : Image → Content → ℕ → ℕ → Option (List ℕ)
+abbrev pub asking : Image → PartContent → ℕ → ℕ → Option (List ℕ)
 asking image c w i = cond (is_bare c w i) None (waiting_in image c.kept w i)
 
 -- the row of a load or store, and no row
@@ -57,7 +57,7 @@ abbrev pub cell : List (List ℕ) → ℕ → ℕ → ℕ
 cell cells r j = slice_index (row cells r) j
 
 -- before the first request
-abbrev pub opening_content : Image → World → List (Option Told) → Content
+abbrev pub opening_content : Image → World → List (Option Told) → PartContent
 opening_content image world ports = record {
   kept = [];
   bare = [];
@@ -70,16 +70,16 @@ opening_content image world ports = record {
 }
 
 -- the word that an operation gave: one that is queued has given none
-abbrev pub answer_of : Image → Content → ℕ → ℕ → Option ℕ
+abbrev pub answer_of : Image → PartContent → ℕ → ℕ → Option ℕ
 answer_of image c w i = cond (gives_word (instr_at image i).op && not (is_queued c.queued w i)) (issued_in
     c.kept w i) None
 
 -- no address is without data
-abbrev pub NoBare : Content → Type 0
+abbrev pub NoBare : PartContent → Type 0
 NoBare c = (w i : ℕ) → is_bare c w i ≡ false
 
 -- the same as a buffer without queues
-abbrev pub whole_of : Content → whole.Content
+abbrev pub whole_of : PartContent → whole.Content
 whole_of c = record {
   kept = c.kept;
   chain = c.chain;

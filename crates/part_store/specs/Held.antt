@@ -2,12 +2,12 @@
 use Rattle.std.specs.Prelude.{ℕ, ◌≡◌, false, List, [], ◌∷◌, Option}
 use Rattle.std.specs.HashMap.{get}
 use Rattle.std.specs.Option.{option_map}
-use Rattle.ws_isa.specs.Image.{In}
 use Rattle.store_buf.specs.Finding.{pair_eq}
 use Rattle.part_store.specs.declared.entry.Entry.{Entry}
 use Rattle.part_store.specs.declared.entry.Line.{Line}
 use Rattle.part_store.specs.declared.queues.Queues.{Queues}
 use Rattle.part_store.specs.Queues.{count_on, front, is_later, open_queues}
+use Rattle.ws_words.specs.Items.{In}
 
 -- the queue of a cell, where one holds it: its first operation, and how many wait
 abbrev pub line_of : List Entry → ℕ → ℕ → Option Line

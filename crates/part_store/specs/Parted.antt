@@ -4,7 +4,7 @@ use Rattle.std.specs.Prelude.{slice_index}
 use Rattle.ws_words.specs.Outside.{Outside, World, row}
 use Rattle.ws_isa.specs.declared.instr.Op.{Op}
 use Rattle.ws_isa.specs.declared.instr.Op.TheVariants.{Store}
-use Rattle.ws_isa.specs.Image.{Image, In, instr_at, note_of}
+use Rattle.ws_isa.specs.Image.{Image, instr_at, note_of}
 use Rattle.ws_isa.specs.Walk.{Inst}
 use Rattle.df_core.specs.Effect.{effect_at}
 use Rattle.df_core.specs.Core.{has}
@@ -18,7 +18,8 @@ use Rattle.store_buf.specs.Contents.{FaultIs}
 use Rattle.store_buf.specs.Stores.{asked_of}
 use Rattle.part_store.specs.declared.entry.Entry.{Entry}
 use Rattle.part_store.specs.Queues.{front, holds, is_queued, open_queues}
-use Rattle.part_store.specs.Contents.{Content, is_bare, asking, is_on_row, cell}
+use Rattle.part_store.specs.Contents.{is_bare, asking, is_on_row, cell, PartContent}
+use Rattle.ws_words.specs.Items.{In}
 
 -- the walk's step t fires the instance, a load or store on this cell
 pub record OnCell (image : Image) (world : World) (w i r j t : ℕ) : Type 0 where
@@ -41,9 +42,10 @@ pub record Earlier (image : Image) (world : World) (e f : Entry) : Type 0 where
   pub numbered : IsNumbered image e × IsNumbered image f
 
 -- in the walk's order
-abbrev pub Rising : Image → World → List Entry → Type 0
-Rising image world [] = Unit {0}
-Rising image world (e ∷ es) = ((f : Entry) → In f es → Earlier image world e f) × Rising image world es
+abbrev pub RisingEntries : Image → World → List Entry → Type 0
+RisingEntries image world [] = Unit {0}
+RisingEntries image world (e ∷ es) = ((f : Entry) → In f es → Earlier image world e f) ×
+    RisingEntries image world es
 
 abbrev pub is_store_op : Op → Bool
 is_store_op (Store a) = true
@@ -65,7 +67,7 @@ IsKept image world true k = IsAddressed image world k.wave k.instr k.first
 -- Where `counts` are the operations that count as issued, with the walk's results, and `memory` is what the
 -- passed ones leave: what is done, what waits in queues, and what the cells hold.
 pub record Partly (image : Image) (world : World) (began : List (Option Began))
-    (counts : ℕ → ℕ → Option ℕ) (memory : Outside) (c : Content) : Type 0 where
+    (counts : ℕ → ℕ → Option ℕ) (memory : Outside) (c : PartContent) : Type 0 where
   pub right : (w i : ℕ) (k : Kept) → entry_of c.kept w i ≡ Some k → IsKept image world (is_bare c w i) k
   -- an operation that counts as issued is done, with its answer, or queued
   pub same : (w i : ℕ) → has (counts w i) ≡ has (issued_in c.kept w i)
@@ -77,7 +79,7 @@ pub record Partly (image : Image) (world : World) (began : List (Option Began))
   pub sits : (e : Entry) → In e c.queued → ((t : ℕ) × OnCell image world e.wave e.instr e.row e.index t)
       × ((a : ℕ) × (counts e.wave e.instr ≡ Some a))
   pub numbered : (e : Entry) → In e c.queued → IsNumbered image e
-  pub rising : Rising image world c.queued
+  pub rising : RisingEntries image world c.queued
   pub every : (e : Entry) (r j t : ℕ) → front c.queued r j ≡ Some e →
       OnCell image world e.wave e.instr r j t →
       (w i a u : ℕ) → counts w i ≡ Some a → OnCell image world w i r j u → t ≤ u →
@@ -100,13 +102,14 @@ pub record Partly (image : Image) (world : World) (began : List (Option Began))
   }) c.outside
 
 -- each queue's first entry is a store without data
-abbrev pub Fronts : Content → Type 0
+abbrev pub Fronts : PartContent → Type 0
 Fronts c = (e : Entry) (r j : ℕ) → front c.queued r j ≡ Some e → is_bare c e.wave e.instr ≡ true
 
 -- The passed operations are the first ones of the walk, none of them past the end; the others that count as
 -- issued are loads before their turn; none is next; and where the chain is stopped, the walk's first
 -- operation past the end is next and its request waits. Then no queue is open.
-pub record Parting (image : Image) (world : World) (began : List (Option Began)) (c : Content) : Type 0 where
+pub record Parting (image : Image) (world : World) (began : List (Option Began))
+    (c : PartContent) : Type 0 where
   pub counts : ℕ → ℕ → Option ℕ
   pub memory : Outside
   pub legal : Legal image world counts (asking image c) (has c.fault) c.chain memory
@@ -115,5 +118,5 @@ pub record Parting (image : Image) (world : World) (began : List (Option Began))
   pub quiet : has c.fault ≡ true → c.queued ≡ []
 
 -- and each queue's first entry is a store without data
-abbrev pub Parted : Image → World → List (Option Began) → Content → Type 0
+abbrev pub Parted : Image → World → List (Option Began) → PartContent → Type 0
 Parted image world began c = Parting image world began c × Fronts c

@@ -1,7 +1,7 @@
 -- What the parts of a buffer with queues stand for, and where their calls lead.
-use Rattle.std.specs.Prelude.{ℕ, ◌≡◌, ◌+◌, ◌<◌, ◌≤◌, ◌++◌, Bool, true, false, ◌==◌, is_some, cond, ◌&&◌}
-use Rattle.std.specs.Prelude.{◌||◌, not, ltb, nat_eq, List, length, Option, Some, None, Result}
-use Rattle.std.specs.Prelude.{Ok, Err, vec_len, vec_capacity}
+use Rattle.std.specs.Prelude.{ℕ, ◌≡◌, ◌+◌, ◌<◌, ◌≤◌, ◌++◌, Bool, true, false, ◌==◌, is_some, cond, ◌&&◌, ◌||◌}
+use Rattle.std.specs.Prelude.{not, ltb, nat_eq, List, length, Option, Some, None, Result, Ok, Err, vec_len}
+use Rattle.std.specs.Prelude.{vec_capacity}
 use Rattle.std.specs.HashMap.{spare}
 use Rattle.std.specs.VecDeque.{deque_len, deque_capacity}
 use Rattle.ws_words.specs.Outside.{World}
@@ -13,10 +13,9 @@ use Rattle.df_core.specs.Began.{Began}
 use Rattle.df_core.specs.Rights.{IsAsked}
 use Rattle.store_buf.specs.Stores.{asked_of}
 use Rattle.df_core.specs.Chains.{chain_of}
-use Rattle.df_core.specs.Stands.{HasEarly}
+use Rattle.df_core.specs.Stands.{HasEarly, EarlyIssued}
 use Rattle.store_buf.specs.declared.kept.Kept.{Kept}
 use Rattle.store_buf.specs.Requests.{entry_of, issued_in}
-use Rattle.store_buf.specs.Orders.{EarlyIssued}
 use Rattle.store_buf.specs.Ordering.{OrderOk, Room, kept_at, near_at, ready_flag, MayAt}
 use Rattle.store_buf.specs.declared.fault.BufFault.{BufFault}
 use Rattle.store_buf.specs.declared.fault.BufFault.TheVariants as fault
@@ -31,18 +30,18 @@ use Rattle.part_store.specs.Bares.{is_in}
 use Rattle.part_store.specs.Held.{QueuesOk}
 use Rattle.store_buf.specs.declared.order.Order.{Order}
 use Rattle.part_store.specs.Queues.{front, open_queues}
-use Rattle.part_store.specs.Contents.{Content, is_bare, holds_op}
+use Rattle.part_store.specs.Contents.{is_bare, holds_op, PartContent}
 use Rattle.part_store.specs.Parted.{Fronts, IsAddressed, Parting}
-use Rattle.part_store.specs.Calls.{AddressSo, FailedSo, Idle, SubmitSo}
+use Rattle.part_store.specs.Calls.{AddressSo, PartFailedSo, PartIdle, PartSubmitSo}
 use Rattle.part_store.specs.Rules.{Alike, Fills, FrontGoes, Moves, MovesTo, is_past_at}
 
 -- each queue's first entry is a store without data, but on this cell
-abbrev pub FrontsBut : ℕ → ℕ → Content → Type 0
+abbrev pub FrontsBut : ℕ → ℕ → PartContent → Type 0
 FrontsBut r j c = (e : Entry) (q l : ℕ) → front c.queued q l ≡ Some e → (q ≡ r → l ≡ j → ⊥) →
     is_bare c e.wave e.instr ≡ true
 
 module _ {P : Type 0} where
-  abbrev pub content_of : Parts P → Content
+  abbrev pub content_of : Parts P → PartContent
   content_of s = record {
     kept = s.order.kept.items;
     bare = s.bare.set.keys;
@@ -65,7 +64,8 @@ module _ {P : Type 0} where
     pub bare : (w i : ℕ) → is_in s.bare w i ≡ true → (k : Kept) × (entry_of s.order.kept.items w i ≡ Some k)
 
   -- it is a buffer of a run, and the loads that count as issued and that the chain hasn't passed are listed
-  pub record Stands (image : Image) (world : World) (began : List (Option Began)) (s : Parts P) : Type 0 where
+  pub record PartsStand (image : Image) (world : World) (began : List (Option Began))
+      (s : Parts P) : Type 0 where
     pub parting : Parting image world began (content_of s)
     pub early_issued : EarlyIssued (issued_in s.order.kept.items) (chain_of s.order.chain) s.order.early.items
     pub early_all : HasEarly image world (issued_in s.order.kept.items) (chain_of s.order.chain)
@@ -73,7 +73,7 @@ module _ {P : Type 0} where
 
   -- and each queue's first entry is a store without data
   abbrev pub Calm : Image → World → List (Option Began) → Parts P → Type 0
-  Calm image world began s = Stands image world began s × Fronts (content_of s)
+  Calm image world began s = PartsStand image world began s × Fronts (content_of s)
 
   -- whether the rules let one go that the chain lets go
   abbrev pub rule_flag : Image → Parts P → Kept → Bool
@@ -106,10 +106,11 @@ module _ {P : Type 0} where
       Calm image world began new × Alike (content_of old) (content_of new)
 
   -- the operation on a port that doesn't answer is next, and its request waits
-  abbrev pub SilentSo : Image → Parts P → Parts P → Silent → Type 0
-  SilentSo image old new (Failed port) = PortWaits image new.order.kept.items (chain_of new.order.chain) port
+  abbrev pub PartsSilentSo : Image → Parts P → Parts P → Silent → Type 0
+  PartsSilentSo image old new (Failed port) =
+      PortWaits image new.order.kept.items (chain_of new.order.chain) port
       × RoseAt port old.outer.ports new.outer.ports
-  SilentSo image old new (NoMemory port) =
+  PartsSilentSo image old new (NoMemory port) =
       PortWaits image new.order.kept.items (chain_of new.order.chain) port
 
   -- what is left to let go
@@ -117,14 +118,14 @@ module _ {P : Type 0} where
   left_over s = s.order.waiting + cond (has s.fault) 0 1
 
   -- the same, where a port's count of faults may have risen at the end
-  abbrev pub LeadsTo : Image → Parts P → Parts P → List Token → List Token → Type 0
-  LeadsTo image old new before after = (tokens : List Token) × (after ≡ before ++ tokens)
+  abbrev pub PartsLeadTo : Image → Parts P → Parts P → List Token → List Token → Type 0
+  PartsLeadTo image old new before after = (tokens : List Token) × (after ≡ before ++ tokens)
       × ((world : World) (began : List (Option Began)) → Formed image → Sound image →
       Calm image world began old →
       MovesTo image (content_of old) tokens (content_of new) × Calm image world began new)
 
   -- it has these requests, and else nothing has changed
-  pub record Keeps (old : Parts P) (kept : List Kept) (new : Parts P) : Type 0 where
+  pub record PartsKeep (old : Parts P) (kept : List Kept) (new : Parts P) : Type 0 where
     pub kept_are : new.order.kept.items ≡ kept
     pub chain : new.order.chain ≡ old.order.chain
     pub early : new.order.early.items ≡ old.order.early.items
@@ -135,25 +136,26 @@ module _ {P : Type 0} where
     pub starved : new.starved ≡ old.starved
 
   -- how moves in turn have ended
-  abbrev pub SettledSo : Image → Parts P → Result (Unit {0}) BufFault → Parts P → Type 0
-  SettledSo image old (Ok _) new = (new.fault ≡ None) × (new.failed ≡ old.failed) × (new.starved ≡ false)
+  abbrev pub PartsSettledSo : Image → Parts P → Result (Unit {0}) BufFault → Parts P → Type 0
+  PartsSettledSo image old (Ok _) new = (new.fault ≡ None) × (new.failed ≡ old.failed) × (new.starved ≡ false)
       × NoneGo image new
-  SettledSo image old (Err (fault.Index array)) new = (new.fault ≡ Some array) × (new.failed ≡ old.failed)
+  PartsSettledSo image old (Err (fault.Index array)) new =
+      (new.fault ≡ Some array) × (new.failed ≡ old.failed)
       × (new.starved ≡ false)
-  SettledSo image old (Err (fault.Port port)) new = (new.fault ≡ None) × (new.failed ≡ Some port)
+  PartsSettledSo image old (Err (fault.Port port)) new = (new.fault ≡ None) × (new.failed ≡ Some port)
       × (new.starved ≡ false) × RoseAt port old.outer.ports new.outer.ports
       × PortWaits image new.order.kept.items (chain_of new.order.chain) port
-  SettledSo image old (Err fault.NoMemory) new = (new.fault ≡ None) × (new.failed ≡ old.failed)
+  PartsSettledSo image old (Err fault.NoMemory) new = (new.fault ≡ None) × (new.failed ≡ old.failed)
       × (new.starved ≡ true)
       × ((port : ℕ) × PortWaits image new.order.kept.items (chain_of new.order.chain) port)
-  SettledSo image old (Err _) new = ⊥
+  PartsSettledSo image old (Err _) new = ⊥
 
   -- a right address leads on as contracts say, and a calm buffer stays calm
   abbrev pub AddressLeads : Image → Parts P → Kept → List Token → Result (Unit {0}) BufFault → Parts P →
       Type 0
   AddressLeads image old k tokens result new = (world : World) (began : List (Option Began)) → Formed image →
       Sound image → IsAddressed image world k.wave k.instr k.first → Calm image world began old →
-      Idle image (content_of old) →
+      PartIdle image (content_of old) →
       Calm image world began new × RightTokens image world tokens
       × AddressSo image (content_of old) k tokens result (content_of new)
 
@@ -172,15 +174,15 @@ module _ {P : Type 0} where
   abbrev pub FinishLeads : Image → Entry → Parts P → Parts P → List Token → List Token → Type 0
   FinishLeads image e old new before after = (tokens : List Token) × (after ≡ before ++ tokens)
       × ((world : World) (began : List (Option Began)) → Formed image → Sound image →
-      Stands image world began old → old.fault ≡ None → FrontGoes (content_of old) e →
-      Moves image (content_of old) tokens (content_of new) × Stands image world began new)
+      PartsStand image world began old → old.fault ≡ None → FrontGoes (content_of old) e →
+      Moves image (content_of old) tokens (content_of new) × PartsStand image world began new)
 
   -- first entries on a cell are done, one after another
   abbrev pub FollowsOn : Image → ℕ → ℕ → Parts P → Parts P → List Token → List Token → Type 0
   FollowsOn image r j old new before after = (tokens : List Token) × (after ≡ before ++ tokens)
       × ((world : World) (began : List (Option Began)) → Formed image → Sound image →
-      Stands image world began old → old.fault ≡ None → FrontsBut r j (content_of old) →
-      Moves image (content_of old) tokens (content_of new) × Stands image world began new
+      PartsStand image world began old → old.fault ≡ None → FrontsBut r j (content_of old) →
+      Moves image (content_of old) tokens (content_of new) × PartsStand image world began new
       × FrontsBut r j (content_of new))
 
 -- the request at a place is that of an instance, and counts as issued
@@ -189,7 +191,7 @@ issued_flag o p w i =
     ((kept_at o p).wave == w) && (((kept_at o p).instr == i) && is_some (kept_at o p).answer)
 
 -- each queue's first entry is a store without data, but that of one instance
-abbrev pub FrontsBy : ℕ → ℕ → Content → Type 0
+abbrev pub FrontsBy : ℕ → ℕ → PartContent → Type 0
 FrontsBy w i c = (e : Entry) (r j : ℕ) → front c.queued r j ≡ Some e → (e.wave ≡ w → e.instr ≡ i → ⊥) →
     is_bare c e.wave e.instr ≡ true
 
@@ -209,26 +211,28 @@ module _ {P : Type 0} where
     pub starved : new.starved ≡ old.starved
 
   -- a right request leads on as contracts say, and a calm buffer stays calm
-  abbrev pub SubmitLeads : Image → Parts P → Kept → List Token → Result (Unit {0}) BufFault → Parts P → Type 0
-  SubmitLeads image old k tokens result new = (world : World) (began : List (Option Began)) → Formed image →
+  abbrev pub PartsSubmitLeads : Image → Parts P → Kept → List Token → Result (Unit {0}) BufFault → Parts P →
+      Type 0
+  PartsSubmitLeads image old k tokens result new = (world : World) (began : List (Option Began)) →
+      Formed image →
       Sound image → IsAsked image world (asked_of k) → Calm image world began old →
-      Idle image (content_of old) →
+      PartIdle image (content_of old) →
       Calm image world began new × RightTokens image world tokens
-      × SubmitSo image (content_of old) k tokens result (content_of new)
+      × PartSubmitSo image (content_of old) k tokens result (content_of new)
 
   -- the queue of a store's cell is followed
   abbrev pub DrainLeads : Image → Kept → Parts P → Parts P → List Token → List Token → Type 0
   DrainLeads image k old new before after = (tokens : List Token) × (after ≡ before ++ tokens)
       × ((world : World) (began : List (Option Began)) → Formed image → Sound image →
-      IsAsked image world (asked_of k) → Stands image world began old → old.fault ≡ None →
+      IsAsked image world (asked_of k) → PartsStand image world began old → old.fault ≡ None →
       FrontsBy k.wave k.instr (content_of old) →
       Moves image (content_of old) tokens (content_of new) × Calm image world began new)
 
 module _ {P : Type 0} where
   -- what is true of a buffer's parts whenever no call is at work
-  pub record Standing (image : Image) (world : World) (began : List (Option Began))
+  pub record PartsStanding (image : Image) (world : World) (began : List (Option Began))
       (s : Parts P) : Type 0 where
     pub ok : PartsOk s
     pub calm : Calm image world began s
-    pub idle : Idle image (content_of s)
-    pub failed : FailedSo image began (content_of s)
+    pub idle : PartIdle image (content_of s)
+    pub failed : PartFailedSo image began (content_of s)

@@ -13,40 +13,40 @@ use Rattle.store_buf.specs.declared.fault.BufFault.TheVariants as fault
 use Rattle.store_buf.specs.declared.kept.Kept.{Kept}
 use Rattle.store_buf.specs.Requests.{entry_of}
 use Rattle.part_store.specs.Queues.{is_queued}
-use Rattle.part_store.specs.Contents.{Content, is_bare}
+use Rattle.part_store.specs.Contents.{is_bare, PartContent}
 use Rattle.part_store.specs.declared.finish.Ending.{Ending}
 use Rattle.part_store.specs.declared.finish.Ending.TheVariants as ending
 
 -- the chain isn't stopped, and no port has failed or found no memory
-abbrev pub IsGoing : Content → Type 0
-IsGoing c = (c.fault ≡ None) × (c.failed ≡ None) × (c.starved ≡ false)
+abbrev pub GoesOn : PartContent → Type 0
+GoesOn c = (c.fault ≡ None) × (c.failed ≡ None) × (c.starved ≡ false)
 
 -- the other list has each token of the one
 abbrev pub Covers : List Token → List Token → Type 0
 Covers some all = (w i p v : ℕ) → IsSent some w i p v → IsSent all w i p v
 
 -- a token has come to the port, or is on the way to it
-abbrev pub Reaches : Ports → List Token → ℕ → ℕ → ℕ → Type 0
-Reaches held way w i p = ((v : ℕ) × (held w i p ≡ Some v)) ⊎ ((v : ℕ) × IsSent way w i p v)
+abbrev pub IsOnItsWay : Ports → List Token → ℕ → ℕ → ℕ → Type 0
+IsOnItsWay held way w i p = ((v : ℕ) × (held w i p ≡ Some v)) ⊎ ((v : ℕ) × IsSent way w i p v)
 
 -- each of these has come, or one is on the way to its port
 abbrev pub AllReach : Ports → List Token → List Token → Type 0
-AllReach held way ts = (w i p v : ℕ) → IsSent ts w i p v → Reaches held way w i p
+AllReach held way ts = (w i p v : ℕ) → IsSent ts w i p v → IsOnItsWay held way w i p
 
 -- the whole request of an instance is kept
-abbrev pub IsWhole : Content → ℕ → ℕ → Type 0
+abbrev pub IsWhole : PartContent → ℕ → ℕ → Type 0
 IsWhole c w i = (k : Kept) × (entry_of c.kept w i ≡ Some k) × (is_bare c w i ≡ false)
 
 -- What is done has told its result tokens: they have come or are on the way. An operation that counts as
 -- issued is done unless it is queued.
-abbrev pub HaveAnswered : Image → Ports → List Token → Content → Type 0
+abbrev pub HaveAnswered : Image → Ports → List Token → PartContent → Type 0
 HaveAnswered image held way c = (w i a : ℕ) (k : Kept) → entry_of c.kept w i ≡ Some k → k.answer ≡ Some a →
     is_queued c.queued w i ≡ false →
     AllReach held way (sends image w i (operands_of (ports image i) k.first k.second) a)
 
 -- the start pulse has been told, and each instance that has fired has told its result tokens, or its request
 -- has come to the buffer; and so has what is done there
-pub record Paid (image : Image) (t : Tables) (c : Content) (way : List Token) : Type 0 where
+pub record Paid (image : Image) (t : Tables) (c : PartContent) (way : List Token) : Type 0 where
   pub start : AllReach t.held way (start_tokens image)
   pub told : (w i : ℕ) → HasFired t.fired w i → is_memory image i ≡ false → AllReach t.held way
       (sends image w i (operands_in image t.held w i) (result_of image i (operands_in image t.held w i)))
@@ -54,8 +54,8 @@ pub record Paid (image : Image) (t : Tables) (c : Content) (way : List Token) : 
   pub answered : HaveAnswered image t.held way c
 
 -- so it is as long as the buffer goes on
-abbrev pub PaidWhile : Image → Tables → Content → List Token → Type 0
-PaidWhile image t c way = IsGoing c → Paid image t c way
+abbrev pub PaidWhile : Image → Tables → PartContent → List Token → Type 0
+PaidWhile image t c way = GoesOn c → Paid image t c way
 
 -- what a buffer answered is on the way, and what was there
 abbrev pub IsOffered : Result (List Token) BufFault → List Token → List Token → Type 0
@@ -65,8 +65,8 @@ IsOffered (Err _) old new = new ≡ old
 
 -- Why a run goes no further: nothing is on the way; as many instances have fired as may, and a token hasn't
 -- come; or the buffer takes no more, or memory ran out.
-abbrev pub EndingSo : Image → World → ℕ → table.Content → Content → Ending → Type 0
-EndingSo image world budget t c ending.Whole = IsGoing c × Paid image (part t) c []
-EndingSo image world budget t c ending.Spent = (length t.fired ≡ budget)
+abbrev pub PartEndingSo : Image → World → ℕ → table.TableContent → PartContent → Ending → Type 0
+PartEndingSo image world budget t c ending.Whole = GoesOn c × Paid image (part t) c []
+PartEndingSo image world budget t c ending.Spent = (length t.fired ≡ budget)
     × ((x : Token) × IsRight image world x × (held t x.wave x.instr x.port ≡ None))
-EndingSo image world budget t c ending.Stopped = Unit {0}
+PartEndingSo image world budget t c ending.Stopped = Unit {0}

@@ -7,7 +7,7 @@ ghost use Rattle.match_table.specs.Tables.{held, part};
 ghost use Rattle.port_set.specs.Ports.{Told};
 ghost use Rattle.store_buf.specs.Outdoors.{began_of};
 ghost use Rattle.store_buf.specs.Ended.{PortFailed, Rested, Spent, Starved, Tripped};
-ghost use Rattle.part_store.specs.Runs.{IsGoing, Paid};
+ghost use Rattle.part_store.specs.Runs.{Paid, GoesOn};
 
 use crate::part::PartBuffer;
 use df_core::{Code, Job};
@@ -17,7 +17,7 @@ use store_buf::told_ports_begin;
 
 /// Where a table and a buffer owe nothing the whole walk has been run.
 pub fn whole_run<J: Job, P: Port>(code: &Code<'_, J>, table: &Table<J>, buffer: &PartBuffer<J, P>)
-    requires going { IsGoing buffer.now }
+    requires going { GoesOn buffer.now }
     requires paid { Paid J.image (part table.now) buffer.now [] }
     ensures { (handed : List (Option Told)) → J.began ≡ began_of handed →
         Rested J.image J.world handed buffer.now.outside.printed buffer.now.outside.cells

@@ -8,7 +8,7 @@ ghost use Rattle.port_set.specs.Ports.{Told};
 ghost use Rattle.port_set.specs.Slots.{AllOpen, contents};
 ghost use Rattle.store_buf.specs.Outdoors.{began_of};
 ghost use Rattle.part_store.specs.Answer.{PartTells};
-ghost use Rattle.part_store.specs.Runs.{EndingSo, IsGoing, Paid};
+ghost use Rattle.part_store.specs.Runs.{Paid, PartEndingSo, GoesOn};
 
 use crate::ends::{fault_run, front_run, port_run, spent_run, whole_run};
 use crate::part::PartBuffer;
@@ -69,7 +69,7 @@ pub fn finish<J: Job, P: Port>(
     budget: u64,
 ) -> PartEnd<P>
     requires within { length table.fired ≤ budget }
-    requires ended { EndingSo J.image J.world budget table buffer ending }
+    requires ended { PartEndingSo J.image J.world budget table buffer ending }
     ensures tells { (handed : List (Option Told)) → J.began ≡ began_of handed →
         PartTells J.image J.world handed budget result.finish (contents P.tells result.ports) }
     ensures open { AllOpen (contents P.tells result.ports) }
@@ -89,7 +89,7 @@ fn whole<J: Job, P: Port>(
     budget: u64,
 ) -> PartEnd<P>
     requires within { length table.fired ≤ budget }
-    requires going { IsGoing buffer }
+    requires going { GoesOn buffer }
     requires paid { Paid J.image (part table) buffer [] }
     ensures tells { (handed : List (Option Told)) → J.began ≡ began_of handed →
         PartTells J.image J.world handed budget result.finish (contents P.tells result.ports) }

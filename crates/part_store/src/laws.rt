@@ -8,10 +8,10 @@ ghost use Rattle.ws_isa.specs.Sound.{Sound};
 ghost use Rattle.df_core.specs.Began.{Began};
 ghost use Rattle.store_buf.specs.Contents.{IsBuffer, RightTokens};
 ghost use Rattle.store_buf.specs.Requests.{entry_of};
-ghost use Rattle.part_store.specs.Contents.{Content, NoBare, whole_of};
+ghost use Rattle.part_store.specs.Contents.{NoBare, whole_of, PartContent};
 ghost use Rattle.store_buf.specs.declared.kept.Kept.{Kept};
 ghost use Rattle.part_store.specs.Parted.{Fronts, IsKept, Parted, Parting};
-ghost use Rattle.part_store.specs.Rules.{Comes, Fills, Moves};
+ghost use Rattle.part_store.specs.Rules.{Fills, Moves, ComesIn};
 ghost use Rattle.df_core.specs.Rights.{IsAsked};
 ghost use Rattle.store_buf.specs.Stores.{asked_of};
 
@@ -19,22 +19,22 @@ ghost use Rattle.store_buf.specs.Stores.{asked_of};
 /// right.
 pub fn moves_keep()
     ensures { (image : Image) (world : World) (began : List (Option Began)) → Formed image →
-        Sound image → (old new : Content) (tokens : List Token) → Moves image old tokens new →
+        Sound image → (old new : PartContent) (tokens : List Token) → Moves image old tokens new →
         Parting image world began old →
         Parting image world began new × RightTokens image world tokens }
 {}
 
 /// A right request, or a right address without its data, that comes keeps it too.
 pub fn arrivals_keep()
-    ensures { (image : Image) (world : World) (began : List (Option Began)) → (old new : Content)
-        (k : Kept) (bare : Bool) → Comes old k bare new → old.fault ≡ None →
+    ensures { (image : Image) (world : World) (began : List (Option Began)) → (old new : PartContent)
+        (k : Kept) (bare : Bool) → ComesIn old k bare new → old.fault ≡ None →
         IsKept image world bare k → Parted image world began old → Parted image world began new }
 {}
 
 /// The right data of a store keeps what is true of a buffer, but that a queue's first entry may have its
 /// data then.
 pub fn data_keeps()
-    ensures { (image : Image) (world : World) (began : List (Option Began)) → (old new : Content)
+    ensures { (image : Image) (world : World) (began : List (Option Began)) → (old new : PartContent)
         (k : Kept) → Fills old k new → old.fault ≡ None → IsAsked image world (asked_of k) →
         Parting image world began old → Parting image world began new }
 {}
@@ -43,7 +43,7 @@ pub fn data_keeps()
 /// a store buffer of the run.
 pub fn no_bare_is_a_store_buffer()
     ensures { (image : Image) (world : World) (began : List (Option Began)) → Formed image →
-        Sound image → (c : Content) → NoBare c →
+        Sound image → (c : PartContent) → NoBare c →
         All (λ k. entry_of c.kept k.wave k.instr ≡ Some k) c.kept →
         Parted image world began c
         ↔ ((c.queued ≡ []) × ((m : Outside) × IsBuffer image world began (whole_of c) m)) }

@@ -13,8 +13,8 @@ ghost use Rattle.store_buf.specs.Outdoors.{FaultsGrow};
 ghost use Rattle.part_store.specs.Queues.{joined};
 ghost use Rattle.part_store.specs.Contents.{holds_op};
 ghost use Rattle.part_store.specs.Rules.{entry_at};
-ghost use Rattle.part_store.specs.Parts.{GoesAt, MovesOn, LeadsTo, NoneGo, PartsOk, SettledSo, SilentSo};
-ghost use Rattle.part_store.specs.Parts.{StaysCalm, go_flag, left_over, rule_flag};
+ghost use Rattle.part_store.specs.Parts.{GoesAt, MovesOn, NoneGo, PartsOk, PartsSilentSo, PartsLeadTo};
+ghost use Rattle.part_store.specs.Parts.{PartsSettledSo, StaysCalm, go_flag, left_over, rule_flag};
 
 use crate::entry::Entry;
 use crate::parts::Parts;
@@ -36,9 +36,9 @@ impl<P: Port> Parts<P> {
         requires ok { PartsOk self.old }
         requires room { HasRoomFor told.old (8 * self.old.order.waiting) }
         ensures ok { PartsOk self.new }
-        ensures lead { LeadsTo (image_of program.now) (record self.old { starved = false }) self.new
+        ensures lead { PartsLeadTo (image_of program.now) (record self.old { starved = false }) self.new
             (tokens_of told.old.items) (tokens_of told.new.items) }
-        ensures settled { SettledSo (image_of program.now) self.old result self.new }
+        ensures settled { PartsSettledSo (image_of program.now) self.old result self.new }
         ensures room { told.new.capacity ≡ told.old.capacity }
     {
         self.starved = false;
@@ -66,11 +66,11 @@ impl<P: Port> Parts<P> {
         requires ok { PartsOk self.old }
         requires room { HasRoomFor told.old (8 * self.old.order.waiting) }
         ensures ok { PartsOk self.new }
-        ensures lead { LeadsTo (image_of program.now) self.old self.new
+        ensures lead { PartsLeadTo (image_of program.now) self.old self.new
             (tokens_of told.old.items) (tokens_of told.new.items) }
         ensures none { OnOk result ((has self.new.fault ≡ true)
             ⊎ NoneGo (image_of program.now) self.new) }
-        ensures silent { IfErr result (SilentSo (image_of program.now) self.old self.new) }
+        ensures silent { IfErr result (PartsSilentSo (image_of program.now) self.old self.new) }
         ensures going { OnErr result (self.new.fault ≡ None) }
         ensures failed { self.new.failed ≡ self.old.failed }
         ensures starved { self.new.starved ≡ self.old.starved }
@@ -168,7 +168,7 @@ impl<P: Port> Parts<P> {
         ensures order { OnErr result (self.new.order ≡ self.old.order) }
         ensures fault { OnErr result (self.new.fault ≡ self.old.fault) }
         ensures untold { OnErr result (told.new.items ≡ told.old.items) }
-        ensures silent { IfErr result (SilentSo (image_of program.now) self.old self.new) }
+        ensures silent { IfErr result (PartsSilentSo (image_of program.now) self.old self.new) }
         ensures counted { FaultsGrow self.old.outer.ports self.new.outer.ports }
         ensures failed { self.new.failed ≡ self.old.failed }
         ensures starved { self.new.starved ≡ self.old.starved }

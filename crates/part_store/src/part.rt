@@ -9,9 +9,11 @@ ghost use Rattle.store_buf.specs.Requests.{entry_of};
 ghost use Rattle.store_buf.specs.Outdoors.{AllBegan};
 ghost use Rattle.store_buf.specs.Contents.{gives_word, stop_of};
 ghost use Rattle.part_store.specs.Queues.{open_queues};
-ghost use Rattle.part_store.specs.Contents.{answer_of, is_bare, opening_content};
+ghost use Rattle.part_store.specs.Contents.{answer_of, is_bare, opening_content, PartContent};
 ghost use Rattle.part_store.specs.Parted.{IsAddressed, Parted, is_store_op};
-ghost use Rattle.part_store.specs.Calls.{AddressedSo, FailedSo, Idle, SubmittedSo, address_of, request_of};
+ghost use Rattle.part_store.specs.Calls.{AddressedSo, SubmittedSo, address_of, request_of, PartIdle};
+ghost use Rattle.part_store.specs.Calls.{PartFailedSo};
+ghost use Rattle.part_store.specs.Parts.{PartsStanding};
 
 use crate::bare::Bare;
 use crate::parts::Parts;
@@ -37,14 +39,14 @@ pub struct PartBuffer<J: Job, P: Port> {
 }
 
 impl<J: Job, P: Port> Model for PartBuffer<J, P> {
-    ghost use Rattle.part_store.specs.Contents.{Content};
-    ghost use Rattle.part_store.specs.Parts.{Standing, content_of};
+    ghost use Rattle.part_store.specs.Contents.{PartContent};
+    ghost use Rattle.part_store.specs.Parts.{PartsStanding, content_of};
 
-    ghost Value = { Content };
+    ghost Value = { PartContent };
 
     ghost view = { λ buffer. content_of buffer.parts };
 
-    ghost invariant = { λ buffer. Standing J.image J.world J.began buffer.parts };
+    ghost invariant = { λ buffer. PartsStanding J.image J.world J.began buffer.parts };
 }
 
 impl<J: Job, P: Port> PartBuffer<J, P> {
@@ -183,8 +185,8 @@ impl<J: Job, P: Port> PartBuffer<J, P> {
     /// next is on it.
     pub fn facts(&self)
         ensures parted { Parted J.image J.world J.began self.now }
-        ensures idle { Idle J.image self.now }
-        ensures failed { FailedSo J.image J.began self.now }
+        ensures idle { PartIdle J.image self.now }
+        ensures failed { PartFailedSo J.image J.began self.now }
         ensures once { All (λ k. entry_of self.now.kept k.wave k.instr ≡ Some k) self.now.kept }
     {
         let _ = &self.parts;

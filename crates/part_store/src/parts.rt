@@ -8,7 +8,7 @@ ghost use Rattle.df_core.specs.Places.{ProgramIs, image_of};
 ghost use Rattle.df_core.specs.Rights.{tokens_of};
 ghost use Rattle.store_buf.specs.Requests.{entry_of};
 ghost use Rattle.part_store.specs.Bares.{is_in};
-ghost use Rattle.part_store.specs.Parts.{AddressLeads, PartsOk, SubmitLeads};
+ghost use Rattle.part_store.specs.Parts.{AddressLeads, PartsOk, PartsSubmitLeads};
 
 use crate::bare::Bare;
 use crate::queues::Queues;
@@ -161,7 +161,7 @@ impl<P: Port> Parts<P> {
         requires waits { kept.answer ≡ None }
         requires told { told.old.items ≡ [] }
         ensures ok { PartsOk self.new }
-        ensures leads { SubmitLeads (image_of program.now) self.old kept
+        ensures leads { PartsSubmitLeads (image_of program.now) self.old kept
             (tokens_of told.new.items) result self.new }
         ensures room { told.old.capacity ≤ told.new.capacity }
     {
@@ -198,7 +198,7 @@ impl<P: Port> Parts<P> {
         requires held { may_flag (image_of program.now) (chain_of self.old.order.chain)
             kept.wave kept.instr kept.first ≡ false }
         ensures ok { PartsOk self.new }
-        ensures leads { SubmitLeads (image_of program.now) self.old kept [] result self.new }
+        ensures leads { PartsSubmitLeads (image_of program.now) self.old kept [] result self.new }
     {
         match self.keep(kept) {
             Ok(()) => Ok(()),
@@ -222,7 +222,7 @@ impl<P: Port> Parts<P> {
         requires working { self.old.failed ≡ None }
         requires told { told.old.items ≡ [] }
         ensures ok { PartsOk self.new }
-        ensures leads { SubmitLeads (image_of program.now) self.old kept
+        ensures leads { PartsSubmitLeads (image_of program.now) self.old kept
             (tokens_of told.new.items) result self.new }
         ensures room { told.old.capacity ≤ told.new.capacity }
     {
@@ -251,7 +251,7 @@ impl<P: Port> Parts<P> {
         requires working { self.old.failed ≡ None }
         requires told { told.old.items ≡ [] }
         ensures ok { PartsOk self.new }
-        ensures leads { SubmitLeads (image_of program.now) self.old kept
+        ensures leads { PartsSubmitLeads (image_of program.now) self.old kept
             (tokens_of told.new.items) result self.new }
         ensures room { told.old.capacity ≤ told.new.capacity }
     {

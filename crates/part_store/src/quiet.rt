@@ -6,8 +6,8 @@ ghost use Rattle.ws_isa.specs.Walk.{opening_memory};
 ghost use Rattle.port_set.specs.Slots.{AllOpen, contents};
 ghost use Rattle.store_buf.specs.Requests.{entry_of};
 ghost use Rattle.store_buf.specs.Outdoors.{AllBegan};
-ghost use Rattle.store_buf.specs.Contents.{FailedSo, Idle, IsBuffer, SubmitSo, answer_of};
-ghost use Rattle.store_buf.specs.Contents.{opening_content, stop_of};
+ghost use Rattle.store_buf.specs.Contents.{FailedSo, Idle, IsBuffer, SubmitSo, answer_of, opening_content};
+ghost use Rattle.store_buf.specs.Contents.{stop_of};
 
 use crate::part::PartBuffer;
 use df_core::{Code, Job, Request, TokenList};

@@ -9,7 +9,7 @@ ghost use Rattle.store_buf.specs.Requests.{entry_of};
 ghost use Rattle.store_buf.specs.Ordering.{OrderOk};
 ghost use Rattle.store_buf.specs.declared.kept.Kept.{Kept};
 ghost use Rattle.part_store.specs.Bares.{is_in};
-ghost use Rattle.part_store.specs.Parts.{Keeps, PartsOk, Filled, kept_flag};
+ghost use Rattle.part_store.specs.Parts.{PartsOk, Filled, kept_flag, PartsKeep};
 
 use crate::parts::Parts;
 use port_set::Port;
@@ -37,15 +37,15 @@ impl<P: Port> Parts<P> {
         Ok(())
     }
 
-    // Keeps a request of an instance that had none, and makes room for the word that it may print and
+    // PartsKeep a request of an instance that had none, and makes room for the word that it may print and
     // the queue that it may join.
     pub(crate) fn keep(&mut self, kept: Kept) -> Result<(), NoMemory>
         requires ok { PartsOk self.old }
         requires fresh { entry_of self.old.order.kept.items kept.wave kept.instr ≡ None }
         requires waits { kept.answer ≡ None }
         ensures ok { PartsOk self.new }
-        ensures keeps { OnOk result (Keeps self.old (self.old.order.kept.items ++ kept ∷ []) self.new) }
-        ensures unchanged { OnErr result (Keeps self.old self.old.order.kept.items self.new) }
+        ensures keeps { OnOk result (PartsKeep self.old (self.old.order.kept.items ++ kept ∷ []) self.new) }
+        ensures unchanged { OnErr result (PartsKeep self.old self.old.order.kept.items self.new) }
         ensures waiting { OnOk result (self.new.order.waiting ≡ self.old.order.waiting + 1) }
         ensures bare { self.new.bare ≡ self.old.bare }
     {
@@ -58,14 +58,14 @@ impl<P: Port> Parts<P> {
         self.order.add(kept)
     }
 
-    // Keeps an address of an instance that had none.
+    // PartsKeep an address of an instance that had none.
     pub(crate) fn keep_bare(&mut self, kept: Kept) -> Result<(), NoMemory>
         requires ok { PartsOk self.old }
         requires fresh { entry_of self.old.order.kept.items kept.wave kept.instr ≡ None }
         requires waits { kept.answer ≡ None }
         ensures ok { PartsOk self.new }
-        ensures keeps { OnOk result (Keeps self.old (self.old.order.kept.items ++ kept ∷ []) self.new) }
-        ensures unchanged { OnErr result (Keeps self.old self.old.order.kept.items self.new) }
+        ensures keeps { OnOk result (PartsKeep self.old (self.old.order.kept.items ++ kept ∷ []) self.new) }
+        ensures unchanged { OnErr result (PartsKeep self.old self.old.order.kept.items self.new) }
         ensures waiting { OnOk result (self.new.order.waiting ≡ self.old.order.waiting + 1) }
         ensures bare { OnOk result ((w i : ℕ) → is_in self.new.bare w i
             ≡ cond (same_key kept.wave kept.instr w i) true (is_in self.old.bare w i)) }
@@ -82,7 +82,7 @@ impl<P: Port> Parts<P> {
     fn reserve_bare(&mut self) -> Result<(), NoMemory>
         requires ok { PartsOk self.old }
         ensures ok { PartsOk self.new }
-        ensures keeps { Keeps self.old self.old.order.kept.items self.new }
+        ensures keeps { PartsKeep self.old self.old.order.kept.items self.new }
         ensures waiting { self.new.order.waiting ≡ self.old.order.waiting }
         ensures room { OnOk result (1 ≤ spare self.new.bare.set) }
         ensures bare { (w i : ℕ) → is_in self.new.bare w i ≡ is_in self.old.bare w i }
@@ -96,7 +96,7 @@ impl<P: Port> Parts<P> {
         requires kept { (k : Kept) × (entry_of self.old.order.kept.items kept.wave kept.instr ≡ Some k) }
         requires room { 1 ≤ spare self.old.bare.set }
         ensures ok { PartsOk self.new }
-        ensures keeps { Keeps self.old self.old.order.kept.items self.new }
+        ensures keeps { PartsKeep self.old self.old.order.kept.items self.new }
         ensures waiting { self.new.order.waiting ≡ self.old.order.waiting }
         ensures bare { (w i : ℕ) → is_in self.new.bare w i
             ≡ cond (same_key kept.wave kept.instr w i) true (is_in self.old.bare w i) }

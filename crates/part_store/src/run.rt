@@ -2,8 +2,8 @@
 //! brought in rounds: what comes of the tokens of a round is brought after the last of them, so all that
 //! is on the way comes in turn.
 
-ghost use Rattle.std.specs.Prelude.{◌≡◌, ◌+◌, ◌≤◌, ◌++◌, ◌∷◌, List, [], Option, true, length};
-ghost use Rattle.std.specs.Prelude.{MatchOption, OnOk};
+ghost use Rattle.std.specs.Prelude.{◌≡◌, ◌+◌, ◌≤◌, ◌++◌, ◌∷◌, List, [], Option, true, length, MatchOption};
+ghost use Rattle.std.specs.Prelude.{OnOk};
 ghost use Rattle.ws_isa.specs.Image.{Token as Plain, instr_at};
 ghost use Rattle.df_core.specs.Shown.{Tables};
 ghost use Rattle.match_table.specs.Tables.{part};
@@ -13,7 +13,7 @@ ghost use Rattle.store_buf.specs.Outdoors.{AllBegan, AllTell, began_of, world_wi
 ghost use Rattle.part_store.specs.declared.finish.PartFinish.TheVariants as finish;
 ghost use Rattle.part_store.specs.Parted.{is_store_op};
 ghost use Rattle.part_store.specs.Answer.{PartTells};
-ghost use Rattle.part_store.specs.Runs.{EndingSo, IsGoing, IsWhole, Paid, PaidWhile};
+ghost use Rattle.part_store.specs.Runs.{IsWhole, Paid, PaidWhile, PartEndingSo, GoesOn};
 
 use crate::finish::{Ending, PartEnd, PartFinish, finish};
 use crate::part::PartBuffer;
@@ -148,7 +148,7 @@ fn run_on<J: Job, P: Port>(code: &Code<'_, J>, run: &mut Run<J, P>, budget: u64)
     requires paid { PaidWhile J.image (part run.old.table) run.old.buffer
         (run.old.next ++ run.old.way) }
     ensures within { length run.new.table.fired ≤ budget }
-    ensures ended { EndingSo J.image J.world budget run.new.table run.new.buffer result }
+    ensures ended { PartEndingSo J.image J.world budget run.new.table run.new.buffer result }
 {
     for _ in 0..u64::MAX {
         if let Some(ending) = step(code, run, budget) {
@@ -167,7 +167,7 @@ fn step<J: Job, P: Port>(code: &Code<'_, J>, run: &mut Run<J, P>, budget: u64) -
     ensures paid { MatchOption result
         (PaidWhile J.image (part run.new.table) run.new.buffer
         (run.new.next ++ run.new.way))
-        (λ ending. EndingSo J.image J.world budget run.new.table run.new.buffer ending) }
+        (λ ending. PartEndingSo J.image J.world budget run.new.table run.new.buffer ending) }
 {
     if run.buffer.stop().is_some() {
         return Some(Ending::Stopped);
@@ -248,7 +248,7 @@ fn ask<J: Job, P: Port>(
     ensures paid { OnOk result ((t : Tables) (others : List Plain)
         → Paid J.image t buffer.old (next.old ++ others)
         → PaidWhile J.image t buffer.new (next.new ++ others)) }
-    ensures asked { OnOk result (IsGoing buffer.new
+    ensures asked { OnOk result (GoesOn buffer.new
         → IsWhole buffer.new request.wave request.instr) }
 {
     buffer.facts();

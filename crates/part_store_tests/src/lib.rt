@@ -10,6 +10,8 @@
 #![tactic(auto)]
 
 #[cfg(test)]
+mod bring;
+#[cfg(test)]
 mod calls;
 #[cfg(test)]
 mod ends;

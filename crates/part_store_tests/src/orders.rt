@@ -1,7 +1,7 @@
-//! Runs in many orders, beside one to which no address comes alone, and beside the core.
+//! IsRunning in many orders, beside one to which no address comes alone, and beside the core.
 
 ghost use Rattle.std.specs.Prelude.{◌≤◌};
-ghost use Rattle.df_core.specs.Cores.{Runs};
+ghost use Rattle.df_core.specs.Cores.{IsRunning};
 
 use crate::images::{CELLS, MIXED, PAST, PORTS, SEVENTEEN, image_of};
 use crate::runs::{Order, Past, let_go};
@@ -47,8 +47,8 @@ fn world(alloc: Global) -> Result<World, NoMemory> {
 
 // Makes events while there are any.
 fn run_core(core: &mut Core<'_>)
-    requires { Runs core.old }
-    ensures { Runs core.new }
+    requires { IsRunning core.old }
+    ensures { IsRunning core.new }
 {
     for _ in 0..EVENTS {
         let Some(event) = core.pick() else {
@@ -62,7 +62,7 @@ fn run_core(core: &mut Core<'_>)
 
 // Whether a port has taken what the core's has.
 fn took_so(core: &Core<'_>, port: u8, slot: &Option<TapePort>) -> bool
-    requires core { Runs core.now }
+    requires core { IsRunning core.now }
     requires port { 1 ≤ port }
 {
     match slot {
@@ -73,7 +73,7 @@ fn took_so(core: &Core<'_>, port: u8, slot: &Option<TapePort>) -> bool
 
 // Whether a run has left what the core has, which has come to its end.
 fn ends_so(core: &Core<'_>, past: &Past<TapePort>) -> bool
-    requires { Runs core.now }
+    requires { IsRunning core.now }
 {
     let stop = match core.fault() {
         Some(array) => Some(BufFault::Ended { array }),

@@ -4,9 +4,9 @@ use Rattle.cfg_core.specs.Graph.{Term, Var, Branch, Spot, spots, spot_at, block_
 use Rattle.cfg_core.specs.Rules.{IsGraph}
 use Rattle.cfg_core.specs.Shape.{OnlyFrom, BranchesApart, ArmsAlone}
 use Rattle.cfg_core.proofs.Forward.{tested}
-use Rattle.cfg_core.proofs.Total.{each_at}
 use Rattle.call_gen.specs.Keeps.{NoSend, HasNoSend}
 use Rattle.pass_tests.specs.Samples.{doubles}
+use Rattle.cfg_core.proofs.Spots.{each_at}
 
 pub doubles_kept : IsGraph doubles
 unfolding spot_at proc_at

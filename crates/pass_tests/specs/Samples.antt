@@ -1,7 +1,8 @@
 -- A graph with a short branch and a call.
 use Rattle.std.specs.Prelude.{[], ◌∷◌, Some}
 use Rattle.ws_words.specs.declared.alu.Alu.TheVariants.{Add}
-use Rattle.cfg_core.specs.Graph.{Number, Var, Binary, Assign, Print, Read, Tick, Goto, Branch, Call, Return, Stop, Graph}
+use Rattle.cfg_core.specs.Graph.{Number, Var, Binary, Assign, Print, Read, Tick, Goto, Branch, Call, Return}
+use Rattle.cfg_core.specs.Graph.{Stop, Graph}
 use Rattle.cfg_core.specs.Samples.{block, proc, graph}
 
 -- Reads x; if x isn't 0, y is 3, in two turns, else y is 4, in one; prints y doubled by a call, and x.

@@ -11,11 +11,7 @@ use Rattle.cfg_core.specs.Rules.{TermIn, OpIn}
 use Rattle.cfg_core.specs.Walk.{value, loads_of, values, all_loads, value_of, values_of, Outcome, Done, Out, and_then, spend, run_op, run_ops}
 use Rattle.live_vars.specs.Live.{Mentions, OneMentions}
 use Rattle.phi_conv.specs.Joined.{more_vars}
-use Rattle.phi_conv.proofs.Copies.{Before, Needs}
-
--- the values of the variables below n of which P holds
-abbrev pub Agree : ℕ → (ℕ → Type 0) → List ℕ → List ℕ → Type 0
-Agree n P vs ws = (x : ℕ) → x < n → P x → get_or vs x 0 ≡ get_or ws x 0
+use Rattle.live_vars.proofs.Needed.{Agree, Before, Needs}
 
 -- two states: the second has the variables of the joined graph
 pub record States (v : ℕ) (P : ℕ → Type 0) (s t : State) : Type 0 where

@@ -14,17 +14,19 @@ use Rattle.phi_conv.specs.Keeps.{PassesNoMore}
 use Rattle.phi_conv.proofs.Light.{light_run}
 use Rattle.phi_conv.proofs.Choices.{by_zero}
 use Rattle.phi_conv.proofs.Agreeing.{States, Outcomes, ops_same, weaker}
-use Rattle.phi_conv.proofs.Joining.{run_append}
 use Rattle.phi_conv.proofs.Branching.{arm_run}
 use Rattle.phi_conv.specs.IsShort.{Way, direct, through}
 use Rattle.phi_conv.proofs.Ways.{ways}
 use Rattle.phi_conv.proofs.Placing.{block_is, entry_is, proc_is}
-use Rattle.phi_conv.proofs.Standing.{After, needed_is_live, vars_at, numbers_at, Stack, Along, goes_to}
+use Rattle.phi_conv.proofs.Standing.{vars_at, Stack, Along, goes_to}
 use Rattle.phi_conv.proofs.Leaves.{jumps, branches, gives_back, stops}
 use Rattle.phi_conv.proofs.Entering.{entry_there, calls, sends}
 use Rattle.phi_conv.proofs.Beside.{beside}
 use Rattle.ws_words.proofs.Lists.{length_map as map_count}
 use Rattle.ws_words.proofs.Numbers.{zero_at, zeros_count}
+use Rattle.cfg_core.proofs.Spots.{numbers_at}
+use Rattle.cfg_core.proofs.Outcomes.{run_append}
+use Rattle.live_vars.proofs.Needed.{After, needed_is_live}
 
 module _ (g : Graph) (rules : IsGraph g) (live : List (List ℕ)) (is : AreLive g live) where
   abbrev h : Graph

@@ -9,13 +9,14 @@ use Rattle.live_vars.specs.Live.{Mentions, Live}
 use Rattle.live_vars.specs.Marks.{AreLive}
 use Rattle.phi_conv.specs.Short.{Short, all_light, short_to}
 use Rattle.phi_conv.specs.Joined.{joining}
-use Rattle.phi_conv.proofs.Copies.{Needs}
 use Rattle.phi_conv.proofs.Choices.{by_zero}
 use Rattle.phi_conv.proofs.Agreeing.{States, Outcomes}
 use Rattle.phi_conv.proofs.Branching.{arm_run, join_same}
 use Rattle.phi_conv.specs.IsShort.{Way, direct, through}
 use Rattle.phi_conv.proofs.Ways.{ways}
-use Rattle.phi_conv.proofs.Standing.{After, needed_is_live, vars_at, same_vars, numbers_at}
+use Rattle.phi_conv.proofs.Standing.{vars_at, same_vars}
+use Rattle.cfg_core.proofs.Spots.{numbers_at}
+use Rattle.live_vars.proofs.Needed.{Needs, After, needed_is_live}
 
 needs_more : (ops : List Op) (P Q : ℕ → Type 0) → ((x : ℕ) → P x → Q x) → (x : ℕ) → Needs ops P x → Needs ops Q x
 needs_more [] P Q f x n = f x n

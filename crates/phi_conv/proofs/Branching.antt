@@ -11,10 +11,10 @@ use Rattle.live_vars.specs.Marks.{has}
 use Rattle.phi_conv.specs.Short.{Short, is_bare, all_light}
 use Rattle.phi_conv.specs.Joined.{written_by, turns_of, is_still, keep_test, test_if, test_of, joining}
 use Rattle.phi_conv.proofs.Light.{bare_state, after}
-use Rattle.phi_conv.proofs.Copies.{Needs}
 use Rattle.phi_conv.proofs.Choices.{by_zero}
 use Rattle.phi_conv.proofs.Agreeing.{States, Outcomes, term_value, term_states, weaker}
 use Rattle.phi_conv.proofs.Joining.{tail, test_bare, tail_run, settled_states, spend_rel}
+use Rattle.live_vars.proofs.Needed.{Needs}
 
 still_bare : (s : Short) (t : Term) → is_still (written_by s) t ≡ true → is_bare t ≡ true
 still_bare s (Number n) e = refl

@@ -5,12 +5,12 @@ use Rattle.std.proofs.lemmas.Bool.{cases_eq}
 use Rattle.std.proofs.lemmas.List.{get_or-set_same, get_or-set_other, length-set}
 use Rattle.ws_words.specs.Outside.{State, write, with_acts}
 use Rattle.cfg_core.specs.Graph.{Term, Var, Op, Choose}
-use Rattle.cfg_core.specs.Rules.{In}
 use Rattle.cfg_core.specs.Walk.{value, Done, and_then, run_op, run_ops}
 use Rattle.phi_conv.specs.Short.{is_bare}
 use Rattle.phi_conv.specs.Joined.{is_among, copied}
 use Rattle.phi_conv.proofs.Light.{bare_state, no_acts}
 use Rattle.phi_conv.proofs.Copies.{if_apart}
+use Rattle.ws_words.specs.Items.{In}
 
 -- a choice for a variable, between its copies in two arms
 abbrev pub choice_of : Term → ℕ → List ℕ → ℕ → List ℕ → ℕ → Op

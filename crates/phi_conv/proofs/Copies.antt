@@ -1,5 +1,5 @@
 -- An arm on copies of its variables: after it the copies have what the variables would have.
-use Rattle.std.proofs.Common.{ℕ, ◌+◌, ◌-◌, ◌^◌, ◌≡◌, ◌<◌, ◌≤◌, ◌⊎◌, ◌==◌, ◌&&◌, Bool, true, false, if◌then◌else◌, List, [], ◌∷◌, length, get_or, set, refl, sym, ap, ◌∙◌, subst, inl, inr, arith}
+use Rattle.std.proofs.Common.{ℕ, ◌+◌, ◌-◌, ◌^◌, ◌≡◌, ◌<◌, ◌≤◌, ◌==◌, ◌&&◌, Bool, true, false, if◌then◌else◌, List, [], ◌∷◌, length, get_or, set, refl, sym, ap, ◌∙◌, subst, inl, inr, arith}
 use Rattle.std.specs.List.{AllByRecursion}
 use Rattle.std.proofs.lemmas.Bool.{cases_eq}
 use Rattle.std.proofs.lemmas.List.{get_or-set_same, get_or-set_other, length-set}
@@ -9,21 +9,13 @@ use Rattle.ws_words.specs.Outside.{State, Outside, row, write}
 use Rattle.cfg_core.specs.Graph.{Term, Number, Var, Cell, Flip, Not, Neg, Binary, Op, Assign, Store, Print, Read, Give, Take, Choose, Tick, TickBy, Graph}
 use Rattle.cfg_core.specs.Rules.{TermIn, OpIn}
 use Rattle.cfg_core.specs.Walk.{value}
-use Rattle.live_vars.specs.Live.{Mentions, OpReads, OpWrites}
+use Rattle.live_vars.specs.Live.{Mentions}
 use Rattle.phi_conv.specs.Short.{is_bare, all_light}
 use Rattle.phi_conv.specs.Joined.{turns_of, is_among, added, copied, renamed, arm, written}
 use Rattle.phi_conv.proofs.Picked.{added_here, added_other}
 use Rattle.phi_conv.proofs.Light.{after}
 use Rattle.ws_words.proofs.Bools.{and_left as left_true, and_right as right_true}
-
--- what matters before an operation, where P matters after it
-abbrev pub Before : Op → (ℕ → Type 0) → ℕ → Type 0
-Before op P x = OpReads op x ⊎ ((OpWrites op x → ⊥) × P x)
-
--- what matters before operations, where P matters after them
-abbrev pub Needs : List Op → (ℕ → Type 0) → ℕ → Type 0
-Needs [] P x = P x
-Needs (op ∷ ops) P x = Before op (Needs ops P) x
+use Rattle.live_vars.proofs.Needed.{Needs}
 
 -- the variables of which P holds have in the first list what their copies have in the second
 abbrev pub Copies : ℕ → ℕ → List ℕ → (ℕ → Type 0) → List ℕ → List ℕ → Type 0

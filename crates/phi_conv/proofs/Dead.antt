@@ -3,68 +3,26 @@ use Rattle.std.proofs.Common.{ℕ, ◌+◌, ◌≡◌, ◌<◌, ◌⊎◌, Bool,
 use Rattle.std.proofs.lemmas.Bool.{cases_eq}
 use Rattle.std.specs.List.{AllByRecursion, filter}
 use Rattle.cfg_core.specs.Graph.{Term, Number, Var, Cell, Flip, Not, Neg, Binary, Op, Assign, Store, Print, Read, Give, Take, Choose, Tick, TickBy, Exit, Goto, Branch, Call, Return, Send, Stop, Block, Graph, Spot, spots, spot_at, block_at}
-use Rattle.cfg_core.specs.Rules.{TermIn, OpIn, StaysIn, ExitIn, In, IsGraph}
-use Rattle.live_vars.specs.Live.{Mentions, OneMentions, OpReads, ExitReads, Carries, ReadsFirst, Live, reads, passes}
+use Rattle.cfg_core.specs.Rules.{TermIn, OpIn, ExitIn, IsGraph}
+use Rattle.live_vars.specs.Live.{Mentions, Carries, ReadsFirst, Live, reads, passes}
 use Rattle.live_vars.specs.Marks.{has}
 use Rattle.phi_conv.specs.Short.{Short, short}
 use Rattle.phi_conv.specs.Joined.{first_base, second_base, turns_of, is_among, copied, added, renamed, arm, written, written_by, is_still, keep_test, test_if, test_of, choice, choices, joining, joined_if, joined}
 use Rattle.phi_conv.specs.Keeps.{NoCopyLive}
 use Rattle.phi_conv.proofs.Picked.{added_other, written_low}
 use Rattle.phi_conv.proofs.Placing.{joined_spot, spots_count, spot_is, block_is}
-use Rattle.phi_conv.proofs.Standing.{same_vars, numbers_at}
+use Rattle.phi_conv.proofs.Standing.{same_vars}
 use Rattle.phi_conv.proofs.Numbered.{first_in, second_in, test_in}
 use Rattle.phi_conv.proofs.Ruled.{keeps_rules}
-use Rattle.cfg_core.proofs.Spots.{filter_in}
+use Rattle.cfg_core.proofs.Spots.{filter_in, numbers_at}
+use Rattle.ws_words.specs.Items.{In}
+use Rattle.live_vars.proofs.Below.{low, op_low, reads_below, carries_stays}
 
 module _ (g : Graph) (v : ℕ) where
-  -- what is mentioned is a variable of the procedure
-  low : (t : Term) (x : ℕ) → TermIn g v t → Mentions t x → x < v
-  low (Number n) x i m = absurd m
-  low (Var y) x i m = omega (arith, i, m)
-  low (Cell a t) x i m = low t x i.1 m
-  low (Flip t) x i m = low t x i m
-  low (Not t) x i m = low t x i m
-  low (Neg t) x i m = low t x i m
-  low (Binary op a b) x i (inl m) = low a x i.0 m
-  low (Binary op a b) x i (inr m) = low b x i.1 m
-
-  all_low : (ts : List Term) (x : ℕ) → AllByRecursion (TermIn g v) ts → OneMentions ts x → x < v
-  all_low [] x i m = absurd m
-  all_low (t ∷ ts) x i (inl m) = low t x i.0 m
-  all_low (t ∷ ts) x i (inr m) = all_low ts x i.1 m
-
-  op_low : (op : Op) (x : ℕ) → OpIn g v op → OpReads op x → x < v
-  op_low (Assign y t) x i m = low t x i.1 m
-  op_low (Store a t u) x i (inl m) = low t x i.1 m
-  op_low (Store a t u) x i (inr m) = low u x i.2 m
-  op_low (Print t) x i m = low t x i m
-  op_low (Read y) x i m = absurd m
-  op_low (Give p y) x i m = absurd m
-  op_low (Take p t) x i m = low t x i.1 m
-  op_low (Choose y t a b) x i (inl m) = low t x i.1 m
-  op_low (Choose y t a b) x i (inr (inl m)) = low a x i.2 m
-  op_low (Choose y t a b) x i (inr (inr m)) = low b x i.3 m
-  op_low (Tick n) x i m = absurd m
-  op_low (TickBy t n k) x i m = low t x i m
-
-  exit_low : (home : ℕ) (y : Exit) (x : ℕ) → ExitIn g home v y → ExitReads y x → x < v
-  exit_low home (Goto b) x i m = absurd m
-  exit_low home (Branch t a b) x i m = low t x i.0 m
-  exit_low home (Call r f ts back) x i m = all_low ts x i.3 m
-  exit_low home (Return t) x i m = low t x i m
-  exit_low home (Send t ts ls) x i (inl m) = low t x i.0 m
-  exit_low home (Send t ts ls) x i (inr m) = all_low ts x i.1 m
-  exit_low home Stop x i m = absurd m
-
   after : (ops more : List Op) (exit : Exit) (x : ℕ) → AllByRecursion (OpIn g v) ops → ReadsFirst (ops ++ more) exit x → (x < v) ⊎ ReadsFirst more exit x
   after [] more exit x i h = inr h
-  after (op ∷ ops) more exit x i (inl r) = inl (op_low op x i.0 r)
+  after (op ∷ ops) more exit x i (inl r) = inl (op_low g v op x i.0 r)
   after (op ∷ ops) more exit x i (inr n) = after ops more exit x i.1 n.1
-
-  whole : (home : ℕ) (ops : List Op) (exit : Exit) (x : ℕ) → AllByRecursion (OpIn g v) ops → ExitIn g home v exit → ReadsFirst ops exit x → x < v
-  whole home [] exit x i j h = exit_low home exit x j h
-  whole home (op ∷ ops) exit x i j (inl r) = op_low op x i.0 r
-  whole home (op ∷ ops) exit x i j (inr n) = whole home ops exit x i.1 j n.1
 
   -- an arm reads a copy only after it has written it
   module _ (base : ℕ) where
@@ -113,12 +71,12 @@ module _ (g : Graph) (v : ℕ) where
     still = is_still (written_by s) s.test
 
     held_low : (c : Bool) → (c ≡ false → x ≡ v → ⊥) → Mentions (test_if c v s.test) x → x < v
-    held_low true n m = low s.test x test m
+    held_low true n m = low g v s.test x test m
     held_low false n m = absurd (n refl m)
 
     kept_after : (c : Bool) (more : List Op) → ReadsFirst (keep_test c v s.test ++ more) (Goto j) x → (x < v) ⊎ ((c ≡ false → x ≡ v → ⊥) × ReadsFirst more (Goto j) x)
     kept_after true more h = inr ((λ e. absurd (cc)), h)
-    kept_after false more (inl m) = inl (low s.test x test m)
+    kept_after false more (inl m) = inl (low g v s.test x test m)
     kept_after false more (inr n) = inr ((λ e. n.0), n.1)
 
     choices_low : (xs : List ℕ) → ((y : ℕ) → In y xs → y < v) → NotCopy (first_base v) (written [] s.first) x → NotCopy (second_base v) (written [] s.second) x → (still ≡ false → x ≡ v → ⊥) → ReadsFirst (map (choice v s) xs) (Goto j) x → x < v
@@ -155,16 +113,6 @@ module _ (g : Graph) (v : ℕ) where
       ]
     ]
 
--- an edge that keeps variables stays in its procedure
-carries_stays : (q : Graph) (home vars : ℕ) (y : Exit) (c : ℕ) → ExitIn q home vars y → Carries y c → StaysIn q home c
-carries_stays q home vars (Goto d) c i k = subst (StaysIn q home) (sym k) i
-carries_stays q home vars (Branch t a d) c i (inl k) = subst (StaysIn q home) (sym k) i.1
-carries_stays q home vars (Branch t a d) c i (inr k) = subst (StaysIn q home) (sym k) i.2
-carries_stays q home vars (Call r f ts back) c i k = subst (StaysIn q home) (sym k) i.4
-carries_stays q home vars (Return t) c i k = absurd k
-carries_stays q home vars (Send t ts ls) c i k = absurd k
-carries_stays q home vars Stop c i k = absurd k
-
 module _ (g : Graph) (live : List (List ℕ)) (rules : IsGraph g) where
   abbrev h : Graph
   h = joined g live
@@ -186,7 +134,7 @@ module _ (g : Graph) (live : List (List ℕ)) (rules : IsGraph g) where
       by_exit Stop s e f q = absurd (cc)
 
       by_short : (found : Option Short) → short g (block_at g b).exit ≡ found → ReadsFirst (joined_if live (V b) (block_at g b) found).ops (joined_if live (V b) (block_at g b) found).exit x → x < V b
-      by_short None e q = whole g (V b) (spot_at g b).home (block_at g b).ops (block_at g b).exit x (numbers_at g rules b).ops (numbers_at g rules b).exit q
+      by_short None e q = reads_below g (spot_at g b).home (V b) (block_at g b).ops (block_at g b).exit x (numbers_at g rules b).ops (numbers_at g rules b).exit q
       by_short (Some s) e q = elim (after g (V b) (block_at g b).ops (joining live (V b) s) (Goto s.join) x (numbers_at g rules b).ops q) [
         | inl low_enough ↦ low_enough
         | inr p ↦ by_exit (block_at g b).exit s refl e p

@@ -2,7 +2,7 @@
 use Rattle.std.proofs.Common.{ℕ, zero, suc, ◌+◌, ◌-◌, ◌≡◌, ◌<◌, ◌≤◌, min, List, [], ◌∷◌, ◌++◌, length, get_or, slice_index, Option, Some, None, refl, sym, ap, ◌∙◌, subst, inl, inr, arith, append_assoc, length-append}
 use Rattle.std.specs.List.{AllByRecursion}
 use Rattle.ws_words.specs.Outside.{Outside, State, zeros}
-use Rattle.cfg_core.specs.Graph.{Term, Call, Send, Block, GraphProc, Graph, Spot, spots_in, spots_from, spots, nth, or_else, no_spot, no_proc, spot_at, block_at, proc_at, entry_from, entry_of}
+use Rattle.cfg_core.specs.Graph.{Term, Call, Send, Block, GraphProc, Graph, Spot, spots_in, spots_from, spots, no_spot, no_proc, spot_at, block_at, proc_at, entry_from, entry_of}
 use Rattle.cfg_core.specs.Rules.{ProcNumbers, ResultIn, ExitIn, Lands, IsGraph}
 use Rattle.cfg_core.specs.Walk.{value_of, values_of, Frame, Config, At, landing, landed, leave}
 use Rattle.live_vars.specs.Live.{ExitWrites, Live}
@@ -10,21 +10,13 @@ use Rattle.phi_conv.specs.Short.{Short, short}
 use Rattle.phi_conv.specs.Joined.{more_vars, joined_if, joined}
 use Rattle.phi_conv.proofs.Agreeing.{States, term_value, term_states, terms_values, terms_states}
 use Rattle.phi_conv.proofs.Placing.{block_is, spot_is, entry_is, proc_is}
-use Rattle.phi_conv.proofs.Standing.{After, ResultIs, vars_at, same_vars, numbers_at, Waits, Stack, Along}
+use Rattle.phi_conv.proofs.Standing.{ResultIs, vars_at, same_vars, Waits, Stack, Along}
 use Rattle.phi_conv.proofs.Leaves.{landed_same}
-use Rattle.cfg_core.proofs.Spots.{landed_count as landed_length, values_count}
-use Rattle.ws_words.proofs.Numbers.{zero_at, zeros_count}
+use Rattle.cfg_core.proofs.Spots.{landed_count as landed_length, values_count, numbers_at}
+use Rattle.ws_words.proofs.Numbers.{zero_at, zeros_count, entered_at, entered_count}
 use Rattle.cfg_core.proofs.Weighing.{count_in as spots_count}
-
--- what stands in a procedure's variables at its entry
-entered_at : (words : List ℕ) (n x : ℕ) → get_or (words ++ zeros n) x 0 ≡ get_or words x 0
-entered_at [] n x = zero_at n x
-entered_at (w ∷ words) n zero = refl
-entered_at (w ∷ words) n (suc x) = entered_at words n x
-
-entered_count : (words : List ℕ) (n : ℕ) → length (words ++ zeros n) ≡ length words + n
-entered_count [] n = zeros_count n ∙ (omega arith)
-entered_count (w ∷ words) n = omega (arith, entered_count words n)
+use Rattle.ws_words.specs.Items.{nth, or_else}
+use Rattle.live_vars.proofs.Needed.{After}
 
 -- the first block of a procedure is there, and has the procedure's variables
 abbrev HasVars : ℕ → Option Spot → Type 0

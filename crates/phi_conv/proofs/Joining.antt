@@ -1,33 +1,27 @@
 -- What stands for a short branch does what the branch and the arm that it takes do.
-use Rattle.std.proofs.Common.{ℕ, zero, suc, ◌+◌, ◌-◌, ◌^◌, ◌≡◌, ◌<◌, ◌≤◌, ◌⊎◌, ◌==◌, Bool, true, false, if◌then◌else◌, List, [], ◌∷◌, ◌++◌, length, get_or, set, refl, sym, ap, ◌∙◌, inl, inr, arith}
+use Rattle.std.proofs.Common.{ℕ, zero, suc, ◌+◌, ◌-◌, ◌^◌, ◌≡◌, ◌<◌, ◌≤◌, ◌⊎◌, ◌==◌, Bool, true, false, if◌then◌else◌, List, [], ◌++◌, length, get_or, set, refl, sym, ap, ◌∙◌, inl, inr, arith}
 use Rattle.std.specs.List.{AllByRecursion, filter}
 use Rattle.std.proofs.lemmas.List.{get_or-set_other}
 use Rattle.ws_words.specs.declared.alu.Alu.TheVariants.{Sub}
 use Rattle.ws_words.specs.Operators.{applied, flag}
 use Rattle.ws_words.specs.Outside.{Outside, State, row}
 use Rattle.cfg_core.specs.Graph.{Term, Number, Var, Cell, Flip, Not, Neg, Binary, Op, Graph}
-use Rattle.cfg_core.specs.Rules.{In, TermIn, OpIn}
-use Rattle.cfg_core.specs.Walk.{value, Outcome, Done, Out, and_then, spend, run_op, run_ops}
+use Rattle.cfg_core.specs.Rules.{TermIn, OpIn}
+use Rattle.cfg_core.specs.Walk.{value, Outcome, Done, and_then, spend, run_ops}
 use Rattle.live_vars.specs.Live.{Mentions}
 use Rattle.live_vars.specs.Marks.{has}
 use Rattle.phi_conv.specs.Short.{Short, is_bare, all_light}
 use Rattle.phi_conv.specs.Joined.{turns_of, is_among, copied, arm, written, written_by, first_base, second_base, is_still, test_if, test_of, choices}
-use Rattle.phi_conv.proofs.Light.{after, then_cong, light_run}
-use Rattle.phi_conv.proofs.Copies.{Needs, Copies, if_apart, arm_copies, arm_keeps, after_out, after_length, arm_light, arm_no_turns}
+use Rattle.phi_conv.proofs.Light.{after, light_run}
+use Rattle.phi_conv.proofs.Copies.{Copies, if_apart, arm_copies, arm_keeps, after_out, after_length, arm_light, arm_no_turns}
 use Rattle.phi_conv.proofs.Choices.{chosen, Steady, by_zero, with_vars, choices_run, stays, gets, chosen_length}
 use Rattle.phi_conv.proofs.Agreeing.{States, Outcomes}
 use Rattle.phi_conv.proofs.Picked.{less_among, among_in, in_among, written_stays, written_more, written_low}
 use Rattle.ws_words.proofs.Bools.{not_true}
 use Rattle.cfg_core.proofs.Spots.{all_from, filter_in, in_filter}
-
-then_then : (o : Outcome) (f h : State → ℕ → Outcome) → and_then o (λ r j. and_then (f r j) h) ≡ and_then (and_then o f) h
-then_then (Done s k) f h = refl
-then_then (Out o) f h = refl
-
--- operations one after another
-pub run_append : (xs ys : List Op) (s : State) (k : ℕ) → run_ops (xs ++ ys) s k ≡ and_then (run_ops xs s k) (run_ops ys)
-run_append [] ys s k = refl
-run_append (x ∷ xs) ys s k = then_cong (run_op x s k) (run_ops (xs ++ ys)) (λ r j. and_then (run_ops xs r j) (run_ops ys)) (λ r j. run_append xs ys r j) ∙ then_then (run_op x s k) (run_ops xs) (run_ops ys)
+use Rattle.ws_words.specs.Items.{In}
+use Rattle.cfg_core.proofs.Outcomes.{run_append}
+use Rattle.live_vars.proofs.Needed.{Needs}
 
 pure_run : (ops : List Op) (r : State) (k : ℕ) → all_light ops ≡ true → turns_of ops ≡ 0 → run_ops ops r k ≡ Done (after ops r) k
 pure_run ops r k l e = light_run ops r k l ∙ ap (λ n. and_then (spend n r k) (λ q i. Done (after ops q) i)) e

@@ -9,7 +9,8 @@ use Rattle.cfg_core.specs.Rules.{ExitIn, StaysIn, IsGraph}
 use Rattle.cfg_core.specs.Walk.{Frame, leave, landed}
 use Rattle.live_vars.specs.Live.{Live}
 use Rattle.phi_conv.proofs.Agreeing.{States, term_value, term_states, weaker}
-use Rattle.phi_conv.proofs.Standing.{After, vars_at, Stack, Along, goes_to, if_along, returns}
+use Rattle.phi_conv.proofs.Standing.{vars_at, Stack, Along, goes_to, if_along, returns}
+use Rattle.live_vars.proofs.Needed.{After}
 
 -- words in the variables that a block names, over lists of two lengths
 pub landed_same : (v : ℕ) (xs ws vs us : List ℕ) → AllByRecursion (λ x. x < v) xs → v ≤ length vs → v ≤ length us → ((y : ℕ) → y < v → get_or vs y 0 ≡ get_or us y 0) → (y : ℕ) → y < v → get_or (landed xs ws vs) y 0 ≡ get_or (landed xs ws us) y 0

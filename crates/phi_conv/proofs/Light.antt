@@ -1,11 +1,12 @@
 -- Operations that only assign and tick: what they do, and how many turns they take.
-use Rattle.std.proofs.Common.{ℕ, zero, suc, ◌+◌, ◌≡◌, ◌&&◌, true, List, [], ◌∷◌, ◌++◌, refl, ap, ◌∙◌, arith}
+use Rattle.std.proofs.Common.{ℕ, zero, suc, ◌+◌, ◌≡◌, true, List, [], ◌∷◌, ◌++◌, refl, ap, ◌∙◌, arith}
 use Rattle.ws_words.specs.Outside.{Act, State, write, with_acts}
 use Rattle.cfg_core.specs.Graph.{Term, Number, Var, Cell, Flip, Not, Neg, Binary, Op, Assign, Store, Print, Read, Give, Take, Choose, Tick, TickBy}
 use Rattle.cfg_core.specs.Walk.{value, loads_of, value_of, Outcome, Done, Out, and_then, spend, run_ops}
 use Rattle.phi_conv.specs.Short.{is_bare, all_light}
 use Rattle.phi_conv.specs.Joined.{turns_of}
 use Rattle.ws_words.proofs.Bools.{and_left as left_true, and_right as right_true}
+use Rattle.cfg_core.proofs.Outcomes.{then_cong}
 
 -- a bare term loads nothing
 pub loads_nothing : (t : Term) (vs : List ℕ) (cells : List (List ℕ)) → is_bare t ≡ true → loads_of t vs cells ≡ []
@@ -42,11 +43,6 @@ after (_ ∷ ops) s = after ops s
 -- takes so many turns, and goes on
 abbrev pub spending : ℕ → State → ℕ → (State → ℕ → Outcome) → Outcome
 spending n s k go = and_then (spend n s k) go
-
--- what goes on alike leads to the same
-pub then_cong : (o : Outcome) (f h : State → ℕ → Outcome) → ((s : State) (k : ℕ) → f s k ≡ h s k) → and_then o f ≡ and_then o h
-then_cong (Done s k) f h e = e s k
-then_cong (Out o) f h e = refl
 
 spend_more : (n m : ℕ) (s : State) (k : ℕ) (go : State → ℕ → Outcome) → and_then (spend n s k) (λ r j. and_then (spend m r j) go) ≡ and_then (spend (n + m) s k) go
 spend_more zero m s k go = let z : m ≡ zero + m = omega arith in ap (λ i. and_then (spend i s k) go) z

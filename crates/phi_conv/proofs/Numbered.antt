@@ -1,5 +1,5 @@
 -- What the joined graph's operations and exits name exists.
-use Rattle.std.proofs.Common.{ℕ, ◌+◌, ◌≡◌, ◌<◌, ◌≤◌, Bool, true, false, if◌then◌else◌, List, [], ◌∷◌, ◌++◌, length, Option, Some, None, sym, ap, ◌∙◌, subst, arith}
+use Rattle.std.proofs.Common.{ℕ, ◌+◌, ◌≡◌, ◌<◌, ◌≤◌, Bool, true, false, if◌then◌else◌, List, [], ◌∷◌, length, Option, Some, None, sym, ap, ◌∙◌, subst, arith}
 use Rattle.std.specs.List.{AllByRecursion, filter}
 use Rattle.cfg_core.specs.Graph.{Term, Number, Var, Cell, Flip, Not, Neg, Binary, Op, Assign, Store, Print, Read, Give, Take, Choose, Tick, TickBy, Exit, Goto, Branch, Call, Return, Send, Stop, GraphProc, Graph, Spot, spots, spot_at, block_at}
 use Rattle.cfg_core.specs.Rules.{TermIn, OpIn, StaysIn, ResultIn, ExitIn, IsGraph}
@@ -10,9 +10,9 @@ use Rattle.phi_conv.proofs.Picked.{written_low}
 use Rattle.phi_conv.specs.IsShort.{Way, direct, through}
 use Rattle.phi_conv.proofs.Ways.{ways}
 use Rattle.phi_conv.proofs.Placing.{spots_count, spot_is, proc_is}
-use Rattle.phi_conv.proofs.Standing.{vars_at, same_vars, numbers_at}
+use Rattle.phi_conv.proofs.Standing.{vars_at, same_vars}
 use Rattle.ws_words.proofs.Lists.{all_append as all_both, all_mapped, all_with as all_so, length_map as map_count}
-use Rattle.cfg_core.proofs.Spots.{all_from, filter_in}
+use Rattle.cfg_core.proofs.Spots.{all_from, filter_in, numbers_at}
 
 if_below : (b : Bool) (m n w : ℕ) → m < w → n < w → (if b then m else n) < w
 if_below true m n w h i = h

@@ -14,10 +14,10 @@ use Rattle.phi_conv.specs.Joined.{first_base, second_base, turns_of, added, rena
 use Rattle.phi_conv.specs.Keeps.{most_more_ops, most_more_nodes, TurnsPayMost}
 use Rattle.phi_conv.proofs.Ways.{ways}
 use Rattle.phi_conv.proofs.Placing.{spots_count, block_is, entry_is}
-use Rattle.phi_conv.proofs.Standing.{numbers_at}
 use Rattle.phi_conv.proofs.Sizing.{sum_both, joining_few, nodes_kept}
 use Rattle.ws_words.proofs.Lists.{length_map as map_count}
 use Rattle.ws_words.proofs.Bools.{and_right as right_true}
+use Rattle.cfg_core.proofs.Spots.{numbers_at}
 
 -- the turns of what stands for a short branch
 

@@ -1,15 +1,15 @@
 -- Numbers of a list: those that were added, and those that pass a test.
-use Rattle.std.proofs.Common.{ℕ, ◌≡◌, ◌<◌, ◌⊎◌, ◌==◌, ◌||◌, Bool, true, false, if◌then◌else◌, List, [], ◌∷◌, ◌++◌, refl, sym, ap, ◌∙◌, inl, inr, arith}
+use Rattle.std.proofs.Common.{ℕ, ◌≡◌, ◌<◌, ◌==◌, ◌||◌, Bool, true, false, if◌then◌else◌, List, [], ◌∷◌, ◌++◌, refl, sym, ap, ◌∙◌, inl, inr, arith}
 use Rattle.std.specs.List.{AllByRecursion}
 use Rattle.std.proofs.lemmas.Bool.{cases_eq}
 use Rattle.std.proofs.lemmas.Bool.Decides.{nat_tests}
 use Rattle.cfg_core.specs.Graph.{Op, Assign, Store, Print, Read, Give, Take, Choose, Tick, TickBy, Graph}
-use Rattle.cfg_core.specs.Rules.{In, OpIn}
+use Rattle.cfg_core.specs.Rules.{OpIn}
 use Rattle.phi_conv.specs.Joined.{is_among, added, written}
-use Rattle.ws_words.proofs.Bools.{or_comes as either, or_right as or_true, decide as true_or_false}
-use Rattle.cfg_core.proofs.Spots.{in_left}
+use Rattle.ws_words.proofs.Bools.{or_comes as either, or_right as or_true, decide as true_or_false, no_both}
 use Rattle.ws_words.proofs.Numbers.{is_self}
-use Rattle.cfg_core.proofs.Forward.{no_both as not_both}
+use Rattle.ws_words.specs.Items.{In}
+use Rattle.ws_words.proofs.Places.{in_left, in_right, in_both}
 
 not_self : (n m : ℕ) → (n ≡ m → ⊥) → (n == m) ≡ false
 not_self n m ne = by_test (n == m) refl
@@ -20,7 +20,7 @@ not_self n m ne = by_test (n == m) refl
 
 -- a number that isn't there where it isn't in a longer list
 pub less_among : (xs ys : List ℕ) (x : ℕ) → (is_among xs x ≡ true → is_among ys x ≡ true) → is_among ys x ≡ false → is_among xs x ≡ false
-less_among xs ys x f e = elim (true_or_false (is_among xs x)) [ inl t ↦ absurd (not_both (f t) e) | inr d ↦ d ]
+less_among xs ys x f e = elim (true_or_false (is_among xs x)) [ inl t ↦ absurd (no_both (f t) e) | inr d ↦ d ]
 
 -- a number that the test finds is there
 pub among_in : (xs : List ℕ) (x : ℕ) → is_among xs x ≡ true → In x xs
@@ -35,15 +35,6 @@ pub in_among : (xs : List ℕ) (x : ℕ) → In x xs → is_among xs x ≡ true
 in_among [] x i = absurd i
 in_among (y ∷ xs) x (inl e) = ap (λ b. b || is_among xs x) (ap (λ n. x == n) (sym e) ∙ is_self x)
 in_among (y ∷ xs) x (inr i) = or_true (x == y) (is_among xs x) (in_among xs x i)
-
-in_right : (x : ℕ) (xs ys : List ℕ) → In x ys → In x (xs ++ ys)
-in_right x [] ys h = h
-in_right x (y ∷ xs) ys h = inr (in_right x xs ys h)
-
-in_both : (x : ℕ) (xs ys : List ℕ) → In x (xs ++ ys) → In x xs ⊎ In x ys
-in_both x [] ys h = inr h
-in_both x (y ∷ xs) ys (inl e) = inl (inl e)
-in_both x (y ∷ xs) ys (inr h) = elim (in_both x xs ys h) [ inl i ↦ inl (inr i) | inr i ↦ inr i ]
 
 -- a number that was added is there
 pub added_here : (done : List ℕ) (x : ℕ) → is_among (added done x) x ≡ true
@@ -61,7 +52,7 @@ added_other done x y ne = by_test (is_among done x)
     pushed true e = in_among (done ++ x ∷ []) y (in_left y done (x ∷ []) (among_in done y e))
     pushed false e = elim (true_or_false (is_among (done ++ x ∷ []) y)) [
       | inl t ↦ absurd (elim (in_both y done (x ∷ []) (among_in (done ++ x ∷ []) y t)) [
-        | inl i ↦ not_both (in_among done y i) e
+        | inl i ↦ no_both (in_among done y i) e
         | inr i ↦ elim i [ inl q ↦ ne q | inr z ↦ z ]
       ])
       | inr f ↦ f

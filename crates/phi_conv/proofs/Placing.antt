@@ -1,10 +1,11 @@
 -- Where blocks and procedures stand in the joined graph: where they stood.
 use Rattle.std.proofs.Common.{ℕ, zero, suc, ◌+◌, ◌≡◌, ◌<◌, List, [], ◌∷◌, ◌++◌, length, map, Option, Some, None, refl, sym, ap, ◌∙◌, subst, inl, inr, arith}
-use Rattle.cfg_core.specs.Graph.{Block, GraphProc, Graph, Spot, spots_in, spots_from, spots, nth, or_else, no_spot, no_proc, spot_at, block_at, proc_at, entry_from, entry_of}
+use Rattle.cfg_core.specs.Graph.{Block, GraphProc, Graph, Spot, spots_in, spots_from, spots, no_spot, no_proc, spot_at, block_at, proc_at, entry_from, entry_of}
 use Rattle.phi_conv.specs.Short.{Short, short}
 use Rattle.phi_conv.specs.Joined.{more_vars, joined_if, joined_block, joined_proc, joined}
 use Rattle.phi_conv.specs.Keeps.{SameOrGoto, ExitsKept}
 use Rattle.ws_words.proofs.Lists.{map_append as map_both, length_map as map_count}
+use Rattle.ws_words.specs.Items.{nth, or_else}
 
 module _ (g : Graph) (live : List (List ℕ)) where
   -- a block with the number of its procedure and its count of variables, joined

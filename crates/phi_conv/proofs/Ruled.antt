@@ -1,18 +1,18 @@
 -- The joined graph keeps the six rules of graphs.
 use Rattle.std.proofs.Common.{ℕ, suc, ◌≡◌, ◌<◌, Bool, true, false, List, [], ◌∷◌, ◌++◌, length, Option, Some, None, refl, sym, ap, ◌∙◌, subst, arith}
 use Rattle.std.specs.List.{AllByRecursion, filter}
-use Rattle.cfg_core.specs.Graph.{Term, Number, Var, Cell, Flip, Not, Neg, Binary, Op, Assign, Store, Print, Read, Give, Take, Choose, Tick, TickBy, Exit, Goto, Branch, Call, Return, Send, Stop, Block, GraphProc, Graph, Spot, spots, nth, or_else, no_spot, spot_at, block_at}
+use Rattle.cfg_core.specs.Graph.{Term, Number, Var, Cell, Flip, Not, Neg, Binary, Op, Assign, Store, Print, Read, Give, Take, Choose, Tick, TickBy, Exit, Goto, Branch, Call, Return, Send, Stop, Block, GraphProc, Graph, Spot, spots, no_spot, spot_at, block_at}
 use Rattle.cfg_core.specs.Rules.{OpIn, BlockNumbers, ProcNumbers, Lands, CallsEarlier, calls, has_tick, NoCell, ChoosesBare, IsGraph}
-use Rattle.cfg_core.proofs.Total.{each_at}
 use Rattle.live_vars.specs.Marks.{has}
 use Rattle.phi_conv.specs.Short.{Short, short}
 use Rattle.phi_conv.specs.Joined.{first_base, second_base, more_vars, added, arm, written_by, is_still, keep_test, test_if, choice, choices, joining, joined_if, joined_proc, joined}
 use Rattle.phi_conv.proofs.Placing.{joined_spot, spots_are, block_is}
-use Rattle.phi_conv.proofs.Standing.{vars_at, numbers_at}
+use Rattle.phi_conv.proofs.Standing.{vars_at}
 use Rattle.phi_conv.proofs.Numbered.{op_more, exit_more, stays_too, joining_in, join_stays, first_in, second_in, test_in}
 use Rattle.phi_conv.proofs.Cycles.{quiet_before}
 use Rattle.ws_words.proofs.Lists.{all_append as all_both, all_mapped, all_with as all_so, length_map as map_count}
-use Rattle.cfg_core.proofs.Spots.{all_from}
+use Rattle.cfg_core.proofs.Spots.{all_from, each_at, numbers_at}
+use Rattle.ws_words.specs.Items.{nth, or_else}
 
 -- what holds at each place of a list holds of all its items
 all_at : {A : Type 0} (P : A → Type 0) (xs : List A) (none : A) → ((k : ℕ) → k < length xs → P (or_else (nth xs k) none)) → AllByRecursion P xs

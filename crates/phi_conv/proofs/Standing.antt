@@ -1,22 +1,18 @@
 -- Two walks beside one another: at the same block, with states that agree on what is live, and frames that do so where they go on.
-use Rattle.std.proofs.Common.{ℕ, zero, suc, ◌+◌, ◌-◌, ◌≡◌, ◌<◌, ◌⊎◌, Bool, true, false, if◌then◌else◌, List, [], ◌∷◌, ◌++◌, length, get_or, set, Option, Some, None, refl, sym, ap, ◌∙◌, subst, inl, inr, arith}
+use Rattle.std.proofs.Common.{ℕ, zero, suc, ◌+◌, ◌-◌, ◌≡◌, ◌<◌, Bool, true, false, if◌then◌else◌, List, [], ◌∷◌, length, get_or, set, Option, Some, None, refl, sym, ap, ◌∙◌, subst, inl, inr, arith}
 use Rattle.std.proofs.lemmas.Bool.{cases_eq, cases_lt}
 use Rattle.std.proofs.lemmas.List.{get_or-set_same, get_or-set_other, length-set}
 use Rattle.ws_words.specs.Outside.{Outside, State}
-use Rattle.cfg_core.specs.Graph.{Op, Exit, Block, GraphProc, Graph, Spot, spots_in, spots_from, spots, nth, or_else, no_spot, no_proc, spot_at, block_at}
-use Rattle.cfg_core.specs.Rules.{StaysIn, ResultIn, BlockNumbers, IsGraph}
+use Rattle.cfg_core.specs.Graph.{Block, GraphProc, Graph, Spot, spots_in, spots_from, spots, no_spot, no_proc, spot_at}
+use Rattle.cfg_core.specs.Rules.{StaysIn, ResultIn, IsGraph}
 use Rattle.cfg_core.specs.Walk.{Frame, Config, At, Over, Going, with_result, returned}
-use Rattle.cfg_core.proofs.Total.{each_at}
-use Rattle.live_vars.specs.Live.{ExitReads, ExitWrites, Carries, WrittenIn, ReadsFirst, Live, reads, passes}
+use Rattle.live_vars.specs.Live.{Live}
 use Rattle.phi_conv.specs.Joined.{more_vars}
-use Rattle.phi_conv.proofs.Copies.{Needs}
-use Rattle.phi_conv.proofs.Agreeing.{Agree, States}
-use Rattle.cfg_core.proofs.Spots.{nth_left, nth_right}
-
-nth_there : {A : Type 0} (xs : List A) (k : ℕ) (d : A) → k < length xs → nth xs k ≡ Some (or_else (nth xs k) d)
-nth_there [] k d lt = absurd (omega arith)
-nth_there (x ∷ xs) zero d lt = refl
-nth_there (x ∷ xs) (suc k) d lt = nth_there xs k d (omega arith)
+use Rattle.phi_conv.proofs.Agreeing.{States}
+use Rattle.cfg_core.proofs.Spots.{nth_right}
+use Rattle.ws_words.specs.Items.{nth, or_else}
+use Rattle.ws_words.proofs.Places.{nth_or, nth_append_left}
+use Rattle.live_vars.proofs.Needed.{Agree}
 
 record HomeIs (f : ℕ) (ps : List GraphProc) (s : Spot) : Type 0 where
   pub place : ℕ
@@ -33,33 +29,13 @@ home_is : (f : ℕ) (ps : List GraphProc) (i : ℕ) (s : Spot) → nth (spots_fr
 home_is f [] i s e = absurd (cc)
 home_is f (p ∷ ps) i s e = elim (cases_lt i (length (spots_in f p.vars p.blocks))) [
   | inl lt ↦
-      let r = in_blocks f p.vars p.blocks i s (sym (nth_left (spots_in f p.vars p.blocks) (spots_from (suc f) ps) i lt) ∙ e) in
+      let r = in_blocks f p.vars p.blocks i s (sym (nth_append_left (spots_in f p.vars p.blocks) (spots_from (suc f) ps) i lt) ∙ e) in
       record { place = 0; home = omega (arith, r.0); there = omega arith; vars = r.1 }
   | inr ge ↦
       let n = length (spots_in f p.vars p.blocks) in
       let k = i - n in
       let r = home_is (suc f) ps k s (sym (nth_right (spots_in f p.vars p.blocks) (spots_from (suc f) ps) n k i refl (omega (arith, ge))) ∙ e) in
       record { place = suc r.place; home = omega (arith, r.home); there = omega (arith, r.there); vars = r.vars }
-]
-
--- what matters at the exit of a block
-abbrev pub After : Graph → Exit → ℕ → Type 0
-After g exit x = ExitReads exit x ⊎ ((ExitWrites exit x → ⊥) × ((c : ℕ) × Carries exit c × Live g c x))
-
-split : (ops : List Op) (exit : Exit) (Q : ℕ → Type 0) (x : ℕ) → Needs ops (λ y. ExitReads exit y ⊎ Q y) x → ReadsFirst ops exit x ⊎ ((WrittenIn ops x → ⊥) × Q x)
-split [] exit Q x (inl r) = inl r
-split [] exit Q x (inr q) = inr ((λ w. w), q)
-split (op ∷ ops) exit Q x (inl r) = inl (inl r)
-split (op ∷ ops) exit Q x (inr n) = elim (split ops exit Q x n.1) [
-  | inl r ↦ inl (inr (n.0, r))
-  | inr q ↦ inr (λ w. elim w [ inl h ↦ n.0 h | inr h ↦ q.0 h ], q.1)
-]
-
--- what matters at the start of a block is live there
-pub needed_is_live : (g : Graph) (b x : ℕ) → Needs (block_at g b).ops (After g (block_at g b).exit) x → Live g b x
-needed_is_live g b x n = elim (split (block_at g b).ops (block_at g b).exit (λ y. (ExitWrites (block_at g b).exit y → ⊥) × ((c : ℕ) × Carries (block_at g b).exit c × Live g c y)) x n) [
-  | inl r ↦ reads b x r
-  | inr q ↦ passes b q.1.1.0 x q.0 q.1.0 q.1.1.1 q.1.1.2
 ]
 
 -- the variable that takes a result
@@ -76,15 +52,10 @@ module _ (g : Graph) (rules : IsGraph g) where
   pub same_vars : (b c : ℕ) → b < length (spots g) → c < length (spots g) → (spot_at g c).home ≡ (spot_at g b).home → vars_at c ≡ vars_at b
   unfolding spot_at
   same_vars b c lb lc e =
-      let hb = home_is 0 g.procs b (spot_at g b) (nth_there (spots g) b no_spot lb) in
-      let hc = home_is 0 g.procs c (spot_at g c) (nth_there (spots g) c no_spot lc) in
+      let hb = home_is 0 g.procs b (spot_at g b) (nth_or (spots g) b no_spot lb) in
+      let hc = home_is 0 g.procs c (spot_at g c) (nth_or (spots g) c no_spot lc) in
       let same : hc.place ≡ hb.place = omega (arith, e, hb.home, hc.home) in
       hc.vars ∙ ap (λ n. (or_else (nth g.procs n) no_proc).vars) same ∙ sym hb.vars
-
-  -- what a block names exists
-  pub numbers_at : (b : ℕ) → BlockNumbers g (spot_at g b)
-  unfolding spot_at no_spot
-  numbers_at b = each_at (BlockNumbers g) (spots g) no_spot rules.numbers.blocks (record { ops = tt; exit = tt; named = tt; once = tt }) b
 
   -- a call that waits in both walks
   pub record Waits (f e : Frame) : Type 0 where

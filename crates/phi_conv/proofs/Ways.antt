@@ -4,9 +4,8 @@ use Rattle.std.proofs.lemmas.Bool.Decides.{nat_tests}
 use Rattle.cfg_core.specs.Graph.{Term, Op, Exit, Goto, Branch, Call, Return, Send, Stop, Graph, block_at}
 use Rattle.phi_conv.specs.Short.{Short, all_light, all_nodes, most_nodes, goes_to, is_arm, goal, are_few, is_lone_arm, are_two_arms, two_arms, short_to}
 use Rattle.phi_conv.specs.IsShort.{Way, direct, through, IsShort}
-use Rattle.ws_words.proofs.Bools.{and_left as left_true, and_right as right_true}
+use Rattle.ws_words.proofs.Bools.{and_left as left_true, and_right as right_true, no_both}
 use Rattle.ws_words.proofs.Numbers.{is_self}
-use Rattle.cfg_core.proofs.Forward.{no_both}
 
 goes : (x : Exit) (d : ℕ) → goes_to x d ≡ true → x ≡ Goto d
 goes (Goto c) d e = let same : c ≡ d = grind (arith, nat_tests) in ap Goto same

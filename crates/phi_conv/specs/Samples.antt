@@ -1,6 +1,7 @@
 -- A graph with a short branch, and the graph in which it is joined.
 use Rattle.std.specs.Prelude.{ℕ, [], ◌∷◌, List}
-use Rattle.cfg_core.specs.Graph.{Number, Var, Assign, Print, Read, Choose, Tick, TickBy, Goto, Branch, Stop, Graph}
+use Rattle.cfg_core.specs.Graph.{Number, Var, Assign, Print, Read, Choose, Tick, TickBy, Goto, Branch, Stop}
+use Rattle.cfg_core.specs.Graph.{Graph}
 use Rattle.cfg_core.specs.Samples.{block, proc, graph}
 
 -- reads x; if x isn't 0, y is 3 and x is y, in two turns, else y is 4, in one; prints y and x

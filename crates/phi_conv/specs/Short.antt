@@ -1,8 +1,10 @@
 -- Which branches are short: both ways lead to one join, through at most one block each that only
 -- assigns and ticks.
-use Rattle.std.specs.Prelude.{ℕ, suc, ◌+◌, ◌==◌, ◌&&◌, nat_lt, Bool, true, false, List, [], ◌∷◌, Option, Some, None, if◌then◌else◌}
+use Rattle.std.specs.Prelude.{ℕ, suc, ◌+◌, ◌==◌, ◌&&◌, nat_lt, Bool, true, false, List, [], ◌∷◌, Option, Some}
+use Rattle.std.specs.Prelude.{None, if◌then◌else◌}
 use Rattle.cfg_core.specs.Weights.{term_nodes}
-use Rattle.cfg_core.specs.Graph.{Term, Number, Var, Cell, Flip, Not, Neg, Binary, Op, Assign, Tick, Exit, Goto, Branch, Block, Graph, block_at}
+use Rattle.cfg_core.specs.Graph.{Term, Number, Var, Cell, Flip, Not, Neg, Binary, Op, Assign, Tick, Exit}
+use Rattle.cfg_core.specs.Graph.{Goto, Branch, Block, Graph, block_at}
 
 -- a term that loads nothing
 abbrev pub is_bare : Term → Bool

@@ -9,7 +9,8 @@ ghost use Rattle.cfg_core.specs.Weights.{TwoBlocksATurn, TurnsPayWork};
 ghost use Rattle.cfg_core.specs.Shows.{TableIs};
 ghost use Rattle.live_vars.specs.Marks.{AreLive};
 ghost use Rattle.phi_conv.specs.Joined as joined;
-ghost use Rattle.phi_conv.specs.Keeps.{ExitsKept, NoCopyLive, PassesNoMore, ShortJoined, SizesKept, TurnsPayMost};
+ghost use Rattle.phi_conv.specs.Keeps.{ExitsKept, NoCopyLive, PassesNoMore, ShortJoined, SizesKept};
+ghost use Rattle.phi_conv.specs.Keeps.{TurnsPayMost};
 
 use crate::copy::{arrays, exit, numbers, operations};
 use crate::find::short;

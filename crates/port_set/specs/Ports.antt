@@ -1,5 +1,6 @@
 -- What ports tell, and what giving and taking changes of it.
-use Rattle.std.specs.Prelude.{◌≡◌, ◌≤◌, ℕ, Bool, true, List, [], ◌∷◌, ◌++◌, Option, Some, None, Result, Ok, Err}
+use Rattle.std.specs.Prelude.{◌≡◌, ◌≤◌, ℕ, Bool, true, List, [], ◌∷◌, ◌++◌, Option, Some, None, Result, Ok}
+use Rattle.std.specs.Prelude.{Err}
 use Rattle.ws_io.specs.Streams.{Rose}
 use Rattle.port_set.specs.declared.port.PortError.{PortError}
 use Rattle.port_set.specs.declared.port.PortError.TheVariants.{Failed, NoMemory}

@@ -1,5 +1,6 @@
 -- Seven slots for ports, and what the calls on a slot change.
-use Rattle.std.specs.Prelude.{◌≡◌, ◌-◌, ℕ, false, List, [], ◌∷◌, All, Option, Some, None, Result, Ok, slice_index_or}
+use Rattle.std.specs.Prelude.{◌≡◌, ◌-◌, ℕ, false, List, [], ◌∷◌, All, Option, Some, None, Result, Ok}
+use Rattle.std.specs.Prelude.{slice_index_or}
 use Rattle.port_set.specs.Ports.{Told, Gave, Took, Closed}
 use Rattle.port_set.specs.declared.port.PortError.{PortError}
 use Rattle.port_set.specs.declared.slots.Slots.{Slots}

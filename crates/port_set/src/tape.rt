@@ -1,6 +1,7 @@
 //! A port over lists in memory.
 
-ghost use Rattle.std.specs.Prelude.{◌≡◌, ◌↔◌, ◌≤◌, [], Some, Err, Contains, false, true, IfOk, IfErr, IsErr, OnOk, OnErr};
+ghost use Rattle.std.specs.Prelude.{◌≡◌, ◌↔◌, ◌≤◌, [], Some, Err, Contains, false, true, IfOk, IfErr, IsErr};
+ghost use Rattle.std.specs.Prelude.{OnOk, OnErr};
 ghost use Rattle.ws_io.specs.Memory.{one_more};
 ghost use Rattle.ws_io.specs.Streams.{Rose};
 ghost use Rattle.port_set.specs.declared.port.PortError.TheVariants.{Failed};

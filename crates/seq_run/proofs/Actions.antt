@@ -9,13 +9,14 @@ use Rattle.cfg_core.specs.Graph.{Term}
 use Rattle.cfg_core.specs.Walk.{value, loads_of, value_of}
 use Rattle.seq_run.specs.Resolved as resolved
 use Rattle.seq_run.specs.Resolved.{done}
-use Rattle.seq_run.specs.Firsts.{or_else, past_array, first_past}
+use Rattle.seq_run.specs.Firsts.{past_array, first_past}
 use Rattle.seq_run.specs.Shows.{Shows, Holds, Stops, IsDone}
 use Rattle.seq_run.specs.View as view
 use Rattle.seq_run.specs.declared.tree.Action.{Action as CodeAction}
 use Rattle.seq_run.proofs.FirstPasts.{some_past, none_within}
 use Rattle.seq_run.proofs.Fronts.{begins_all, begins_then}
 use Rattle.seq_run.proofs.Effects.{lengths_held, act_shows, value_is, value_holds, value_stops, one_more}
+use Rattle.ws_words.specs.Items.{first_some}
 
 -- the array that the code notes in an action of one term
 module _ (start : Outside) (s : State) (m : Memory) (vars : List ℕ) (h : Holds start s m vars) where
@@ -106,13 +107,13 @@ module _ (start : Outside) (s : State) (m : Memory) (vars : List ℕ) (h : Holds
         }
 
     -- which of them the code noted
-    pub noted : (one two own : Option ℕ) → first_past (lengths_of m.cells) (loads_of t vars m.cells) ≡ one → first_past (lengths_of m.cells) (loads_of u vars m.cells) ≡ two → past_array (lengths_of m.cells) (loads a i) ≡ own → (c : ℕ) → or_else (or_else one two) own ≡ Some c → Stops start (done (resolved.Store a t u) s).out.acts c m
+    pub noted : (one two own : Option ℕ) → first_past (lengths_of m.cells) (loads_of t vars m.cells) ≡ one → first_past (lengths_of m.cells) (loads_of u vars m.cells) ≡ two → past_array (lengths_of m.cells) (loads a i) ≡ own → (c : ℕ) → first_some (first_some one two) own ≡ Some c → Stops start (done (resolved.Store a t u) s).out.acts c m
     noted (Some x) two own e f g c is = index_stops c (e ∙ is)
     noted None (Some x) own e f g c is = word_stops c e (f ∙ is)
     noted None None own e f g c is = store_stops c e f (g ∙ is)
 
     -- nothing was noted in a store: it is done
-    pub none_noted : (n : Memory) (one two own : Option ℕ) → first_past (lengths_of m.cells) (loads_of t vars m.cells) ≡ one → first_past (lengths_of m.cells) (loads_of u vars m.cells) ≡ two → past_array (lengths_of m.cells) (loads a i) ≡ own → or_else (or_else one two) own ≡ None → Does (stores a i v) m n → Holds start (done (resolved.Store a t u) s) n vars
+    pub none_noted : (n : Memory) (one two own : Option ℕ) → first_past (lengths_of m.cells) (loads_of t vars m.cells) ≡ one → first_past (lengths_of m.cells) (loads_of u vars m.cells) ≡ two → past_array (lengths_of m.cells) (loads a i) ≡ own → first_some (first_some one two) own ≡ None → Does (stores a i v) m n → Holds start (done (resolved.Store a t u) s) n vars
     none_noted n (Some x) two own e f g is d = absurd (cc)
     none_noted n None (Some x) own e f g is d = absurd (cc)
     none_noted n None None own e f g is d = store_holds n e f (g ∙ is) d

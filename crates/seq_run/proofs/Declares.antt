@@ -13,12 +13,12 @@ use Rattle.src_ast.specs.Meaning.{scope_of, arrays_of, lengths_of, procs_of, nam
 use Rattle.cfg_core.specs.Graph as plain
 use Rattle.seq_run.specs.Resolved as resolved
 use Rattle.seq_run.specs.Resolving as resolving
-use Rattle.seq_run.specs.Resolving.{texts}
 use Rattle.seq_run.specs.Tables.{IsTable, FewVars}
 use Rattle.seq_run.specs.View as view
 use Rattle.seq_run.specs.declared.table.NameNumbers.{NameNumbers}
 use Rattle.seq_run.specs.declared.tree.ArrayShape.{ArrayShape}
 use Rattle.seq_run.specs.declared.tree.Proc.{Proc as CodeProc}
+use Rattle.src_ast.specs.Printed.{name_texts}
 
 -- the first items, and one more
 pub taken_more : {X : Type 0} (xs : List X) (i : ℕ) (x : X) → i < length xs → x ≡ slice_index_or xs i x → take (i + 1) xs ≡ take i xs ++ x ∷ []
@@ -59,7 +59,7 @@ pub names_append : (xs ys : List Procedure) → names_of (xs ++ ys) ≡ names_of
 names_append [] ys = refl
 names_append (p ∷ xs) ys = ap (λ (ns : List Name). p.name ∷ ns) (names_append xs ys)
 
-texts_append : (xs ys : List Name) → texts (xs ++ ys) ≡ texts xs ++ texts ys
+texts_append : (xs ys : List Name) → name_texts (xs ++ ys) ≡ name_texts xs ++ name_texts ys
 texts_append [] ys = refl
 texts_append (x ∷ xs) ys = ap (λ (ts : List (List ℕ)). x.text ∷ ts) (texts_append xs ys)
 
@@ -151,10 +151,10 @@ module _ (xs : List Item) (i : ℕ) (x : Item) (lt : i < length xs) (is : x ≡ 
     array_no_proc table h = subst (λ (ns : List Name). IsTable 0 ns table) (sym (proc_names_more ∙ ap (λ (y : Item). names_of (procs_of (ast.parts (take i xs))) ++ names_of (procs_of (ast.part y ∷ []))) isa ∙ append-nil (names_of (procs_of (ast.parts (take i xs)))))) h
 
     -- its name
-    pub shape_name : (list now : List ArrayShape) (s : ArrayShape) → view.names list ≡ texts (arrays_of (ast.parts (take i xs))) → now ≡ list ++ s ∷ [] → s.name ≡ name.text → view.names now ≡ texts (arrays_of (ast.parts (take (i + 1) xs)))
+    pub shape_name : (list now : List ArrayShape) (s : ArrayShape) → view.names list ≡ name_texts (arrays_of (ast.parts (take i xs))) → now ≡ list ++ s ∷ [] → s.name ≡ name.text → view.names now ≡ name_texts (arrays_of (ast.parts (take (i + 1) xs)))
     shape_name list now s so en es =
-        ap view.names en ∙ view_names_append list (s ∷ []) ∙ ap (λ (ts : List (List ℕ)). ts ++ s.name ∷ []) so ∙ ap (λ (t : List ℕ). texts (arrays_of (ast.parts (take i xs))) ++ t ∷ []) es
-        ∙ sym (more (λ ps. texts (arrays_of ps)) (λ ps qs. ap texts (arrays_append ps qs) ∙ texts_append (arrays_of ps) (arrays_of qs)) ∙ ap (λ (y : Item). texts (arrays_of (ast.parts (take i xs))) ++ texts (arrays_of (ast.part y ∷ []))) isa)
+        ap view.names en ∙ view_names_append list (s ∷ []) ∙ ap (λ (ts : List (List ℕ)). ts ++ s.name ∷ []) so ∙ ap (λ (t : List ℕ). name_texts (arrays_of (ast.parts (take i xs))) ++ t ∷ []) es
+        ∙ sym (more (λ ps. name_texts (arrays_of ps)) (λ ps qs. ap name_texts (arrays_append ps qs) ∙ texts_append (arrays_of ps) (arrays_of qs)) ∙ ap (λ (y : Item). name_texts (arrays_of (ast.parts (take i xs))) ++ name_texts (arrays_of (ast.part y ∷ []))) isa)
 
     -- its length
     pub shape_length : (list now : List ArrayShape) (s : ArrayShape) → view.lengths list ≡ lengths_of (ast.parts (take i xs)) → now ≡ list ++ s ∷ [] → s.length ≡ n → view.lengths now ≡ lengths_of (ast.parts (take (i + 1) xs))
@@ -180,8 +180,8 @@ module _ (xs : List Item) (i : ℕ) (x : Item) (lt : i < length xs) (is : x ≡ 
     proc_no_array table h = subst (λ (ns : List Name). IsTable 1 ns table) (sym (more arrays_of arrays_append ∙ ap (λ (y : Part). arrays_of (ast.parts (take i xs)) ++ arrays_of (y ∷ [])) isp ∙ append-nil (arrays_of (ast.parts (take i xs))))) h
 
     -- it leaves the names of arrays
-    pub proc_no_name : texts (arrays_of (ast.parts (take (i + 1) xs))) ≡ texts (arrays_of (ast.parts (take i xs)))
-    proc_no_name = ap texts (more arrays_of arrays_append ∙ ap (λ (y : Part). arrays_of (ast.parts (take i xs)) ++ arrays_of (y ∷ [])) isp ∙ append-nil (arrays_of (ast.parts (take i xs))))
+    pub proc_no_name : name_texts (arrays_of (ast.parts (take (i + 1) xs))) ≡ name_texts (arrays_of (ast.parts (take i xs)))
+    proc_no_name = ap name_texts (more arrays_of arrays_append ∙ ap (λ (y : Part). arrays_of (ast.parts (take i xs)) ++ arrays_of (y ∷ [])) isp ∙ append-nil (arrays_of (ast.parts (take i xs))))
 
     -- and their lengths
     pub proc_no_length : lengths_of (ast.parts (take (i + 1) xs)) ≡ lengths_of (ast.parts (take i xs))

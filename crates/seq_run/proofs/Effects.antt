@@ -4,14 +4,14 @@ use Rattle.ws_words.specs.Memory.{OutIs, Does, lengths_of}
 use Rattle.ws_words.specs.Outside.{Act, loads, stores, reads, prints, gives, takes, Outside, State}
 use Rattle.ws_words.specs.Past.{IsWithin, AreWithin, after_act, after_acts}
 use Rattle.ws_words.specs.declared.memory.Memory.{Memory}
-use Rattle.ws_words.proofs.Acts.{Silent, after_append, acts_of}
+use Rattle.ws_words.proofs.Acts.{Silent, after_append, acts_of, with_more}
 use Rattle.ws_words.proofs.Held.{silently, lengths_stay_all}
 use Rattle.cfg_core.specs.Graph.{Term}
 use Rattle.cfg_core.specs.Walk.{value, loads_of, values, all_loads, value_of, values_of}
 use Rattle.seq_run.specs.Firsts.{first_past}
 use Rattle.seq_run.specs.Laws.{Begins}
 use Rattle.seq_run.specs.Shows.{Shows, Holds, Stops}
-use Rattle.seq_run.proofs.Grows.{with_more, OnlyLoads, loads_front, loads_leave, only_loads, only_all_loads}
+use Rattle.seq_run.proofs.Grows.{OnlyLoads, loads_front, loads_leave, only_loads, only_all_loads}
 use Rattle.seq_run.proofs.FirstPasts.{all_within, found, within_both}
 use Rattle.seq_run.proofs.Fronts.{begins_then}
 

@@ -5,8 +5,9 @@ use Rattle.std.proofs.lemmas.Bool.{ltb-true, lt-ltb}
 use Rattle.std.proofs.lemmas.Bool.Decides.{nat_tests}
 use Rattle.ws_words.specs.Outside.{Act, loads, stores, reads, prints, gives, takes}
 use Rattle.ws_words.specs.Past.{length_of, IsPast, IsWithin, AreWithin, FirstPast}
-use Rattle.seq_run.specs.Firsts.{or_else, past_array, first_past}
+use Rattle.seq_run.specs.Firsts.{past_array, first_past}
 use Rattle.seq_run.specs.Laws.{Begins}
+use Rattle.ws_words.specs.Items.{first_some}
 
 -- one index against one length
 module _ (a i n : ℕ) where
@@ -63,13 +64,13 @@ pub all_within : (lengths : List ℕ) (acts : List Act) → first_past lengths a
 all_within lengths [] h = tt
 all_within lengths (act ∷ acts) h = by_act (past_array lengths act) refl h (all_within lengths acts)
   where
-    by_act : (r : Option ℕ) → past_array lengths act ≡ r → or_else r (first_past lengths acts) ≡ None → (first_past lengths acts ≡ None → AreWithin lengths acts) → AreWithin lengths (act ∷ acts)
+    by_act : (r : Option ℕ) → past_array lengths act ≡ r → first_some r (first_past lengths acts) ≡ None → (first_past lengths acts ≡ None → AreWithin lengths acts) → AreWithin lengths (act ∷ acts)
     by_act (Some c) e d f = absurd (cc)
     by_act None e d f = (none_within lengths act e, f d)
 
 pub within_all : (lengths : List ℕ) (acts : List Act) → AreWithin lengths acts → first_past lengths acts ≡ None
 within_all lengths [] h = refl
-within_all lengths (act ∷ acts) h = ap (λ (r : Option ℕ). or_else r (first_past lengths acts)) (within_none lengths act h.0) ∙ within_all lengths acts h.1
+within_all lengths (act ∷ acts) h = ap (λ (r : Option ℕ). first_some r (first_past lengths acts)) (within_none lengths act h.0) ∙ within_all lengths acts h.1
 
 -- the acts before the first that is past
 pub record Found (lengths : List ℕ) (acts : List Act) (array : ℕ) : Type 0 where
@@ -81,7 +82,7 @@ pub found : (lengths : List ℕ) (acts : List Act) (c : ℕ) → first_past leng
 found lengths [] c h = absurd (cc)
 found lengths (act ∷ acts) c h = by_act (past_array lengths act) refl h (found lengths acts c)
   where
-    by_act : (r : Option ℕ) → past_array lengths act ≡ r → or_else r (first_past lengths acts) ≡ Some c → (first_past lengths acts ≡ Some c → Found lengths acts c) → Found lengths (act ∷ acts) c
+    by_act : (r : Option ℕ) → past_array lengths act ≡ r → first_some r (first_past lengths acts) ≡ Some c → (first_past lengths acts ≡ Some c → Found lengths acts c) → Found lengths (act ∷ acts) c
     by_act (Some d) e f next = record { before = []; first = record { within = tt; act = act; past = some_past lengths act c (e ∙ f); after = acts; split = refl } }
     by_act None e f next =
         let r = next f in
@@ -101,8 +102,8 @@ before_past lengths (act ∷ acts) = before_with (past_array lengths act) act (b
 
 module _ (lengths : List ℕ) (act : Act) (after : List Act) (c : ℕ) (past : IsPast lengths c act) where
   first_at : (before : List Act) → AreWithin lengths before → first_past lengths (before ++ act ∷ after) ≡ Some c
-  first_at [] w = ap (λ (r : Option ℕ). or_else r (first_past lengths after)) (past_some lengths act c past)
-  first_at (x ∷ before) w = ap (λ (r : Option ℕ). or_else r (first_past lengths (before ++ act ∷ after))) (within_none lengths x w.0) ∙ first_at before w.1
+  first_at [] w = ap (λ (r : Option ℕ). first_some r (first_past lengths after)) (past_some lengths act c past)
+  first_at (x ∷ before) w = ap (λ (r : Option ℕ). first_some r (first_past lengths (before ++ act ∷ after))) (within_none lengths x w.0) ∙ first_at before w.1
 
   before_at : (before : List Act) → AreWithin lengths before → before_past lengths (before ++ act ∷ after) ≡ before
   before_at [] w = ap (λ (r : Option ℕ). before_with r act (before_past lengths after)) (past_some lengths act c past)
@@ -140,25 +141,25 @@ within_both lengths (x ∷ xs) ys h i = (h.0, within_both lengths xs ys h.1 i)
 pub within_front : (lengths : List ℕ) (xs ys : List Act) → Begins xs ys → AreWithin lengths ys → AreWithin lengths xs
 within_front lengths xs ys b h = within_take lengths xs b.more (subst (AreWithin lengths) b.rest h)
 
-or_assoc : (a b c : Option ℕ) → or_else (or_else a b) c ≡ or_else a (or_else b c)
+or_assoc : (a b c : Option ℕ) → first_some (first_some a b) c ≡ first_some a (first_some b c)
 or_assoc (Some x) b c = refl
 or_assoc None b c = refl
 
 -- the first past act of one list after another
-pub first_append : (lengths : List ℕ) (xs ys : List Act) → first_past lengths (xs ++ ys) ≡ or_else (first_past lengths xs) (first_past lengths ys)
+pub first_append : (lengths : List ℕ) (xs ys : List Act) → first_past lengths (xs ++ ys) ≡ first_some (first_past lengths xs) (first_past lengths ys)
 first_append lengths [] ys = refl
-first_append lengths (x ∷ xs) ys = ap (or_else (past_array lengths x)) (first_append lengths xs ys) ∙ sym (or_assoc (past_array lengths x) (first_past lengths xs) (first_past lengths ys))
+first_append lengths (x ∷ xs) ys = ap (first_some (past_array lengths x)) (first_append lengths xs ys) ∙ sym (or_assoc (past_array lengths x) (first_past lengths xs) (first_past lengths ys))
 
 -- nothing more is noted
-pub or_none : (b : Option ℕ) → or_else b None ≡ b
+pub or_none : (b : Option ℕ) → first_some b None ≡ b
 or_none (Some x) = refl
 or_none None = refl
 
 -- what is noted in acts one list after another
-pub noted_then : (lengths : List ℕ) (xs ys : List Act) (p q r : Option ℕ) → q ≡ or_else p (first_past lengths xs) → r ≡ or_else q (first_past lengths ys) → r ≡ or_else p (first_past lengths (xs ++ ys))
+pub noted_then : (lengths : List ℕ) (xs ys : List Act) (p q r : Option ℕ) → q ≡ first_some p (first_past lengths xs) → r ≡ first_some q (first_past lengths ys) → r ≡ first_some p (first_past lengths (xs ++ ys))
 noted_then lengths xs ys p q r h i =
-    i ∙ ap (λ (x : Option ℕ). or_else x (first_past lengths ys)) h ∙ or_assoc p (first_past lengths xs) (first_past lengths ys) ∙ ap (or_else p) (sym (first_append lengths xs ys))
+    i ∙ ap (λ (x : Option ℕ). first_some x (first_past lengths ys)) h ∙ or_assoc p (first_past lengths xs) (first_past lengths ys) ∙ ap (first_some p) (sym (first_append lengths xs ys))
 
 -- what is noted in one act more
-pub noted_one : (lengths : List ℕ) (xs : List Act) (act : Act) (p q r : Option ℕ) → q ≡ or_else p (first_past lengths xs) → r ≡ or_else q (past_array lengths act) → r ≡ or_else p (first_past lengths (xs ++ act ∷ []))
-noted_one lengths xs act p q r h i = noted_then lengths xs (act ∷ []) p q r h (i ∙ ap (or_else q) (sym (or_none (past_array lengths act))))
+pub noted_one : (lengths : List ℕ) (xs : List Act) (act : Act) (p q r : Option ℕ) → q ≡ first_some p (first_past lengths xs) → r ≡ first_some q (past_array lengths act) → r ≡ first_some p (first_past lengths (xs ++ act ∷ []))
+noted_one lengths xs act p q r h i = noted_then lengths xs (act ∷ []) p q r h (i ∙ ap (first_some q) (sym (or_none (past_array lengths act))))

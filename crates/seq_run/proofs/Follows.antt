@@ -40,6 +40,7 @@ use Rattle.seq_run.proofs.Cost.{Cost, one_cost, all_cost, calls_cost, CallsCost}
 use Rattle.seq_run.proofs.Grows.{OutcomeTells, CallTells, CallsTell, all_tells, finish_tells, loop_tells}
 use Rattle.seq_run.proofs.Fronts.{begins_all, outcome_begins, call_begins, then_begins, back_begins}
 use Rattle.seq_run.proofs.Effects.{value_is, values_are, value_holds, value_stops, values_stop, stops_more}
+use Rattle.ws_words.proofs.Bools.{by_bool}
 
 -- the same where a turn is wanted, and else acts that begin with the same
 abbrev Extends : List Act × Bool → List Act × Bool → Type 0
@@ -334,15 +335,11 @@ if_true b e u h = ap (λ (v : Bool). if v then e else u) h
 if_false : (b : Bool) (e u : CallEnd) → b ≡ false → (if b then e else u) ≡ u
 if_false b e u h = ap (λ (v : Bool). if v then e else u) h
 
-by_flag : (b : Bool) (P : Type 0) → (b ≡ true → P) → (b ≡ false → P) → P
-by_flag true P f g = f refl
-by_flag false P f g = g refl
-
 -- a call of a procedure by its number
 pub calls_at : (n f : ℕ) (procs : List Proc) → f < n → (args : List ℕ) (o : Outside) (k : ℕ) → calls_below n procs f args o k ≡ run_proc (calls_below f procs) (nth_proc procs f) args o k
 calls_at zero f procs lt args o k = absurd (omega arith)
 calls_at (suc n) f procs lt args o k =
-    by_flag (f == n) (calls_below (suc n) procs f args o k ≡ run_proc (calls_below f procs) (nth_proc procs f) args o k)
+    by_bool (f == n) (calls_below (suc n) procs f args o k ≡ run_proc (calls_below f procs) (nth_proc procs f) args o k)
     (λ e. if_true (f == n) _ _ e ∙ ap (λ (i : ℕ). run_proc (calls_below i procs) (nth_proc procs i) args o k) (sym (eqb-true f n e)))
     (λ e. if_false (f == n) _ _ e ∙ calls_at n f procs (grind (arith, nat_tests)) args o k)
 
@@ -360,7 +357,7 @@ nth_procs (x ∷ ps) (suc f) p lt e = nth_procs ps f p (omega arith) e
 
 pub weight_call : (n f : ℕ) (procs : List Proc) → f < n → weight_below f procs + heft (nth_proc procs f).body < weight_below n procs
 weight_call zero f procs lt = absurd (omega arith)
-weight_call (suc n) f procs lt = by_flag (f == n) (weight_below f procs + heft (nth_proc procs f).body < weight_below (suc n) procs)
+weight_call (suc n) f procs lt = by_bool (f == n) (weight_below f procs + heft (nth_proc procs f).body < weight_below (suc n) procs)
     (λ e. subst (λ (i : ℕ). weight_below i procs + heft (nth_proc procs i).body < weight_below (suc n) procs) (sym (eqb-true f n e)) (omega arith))
     (λ e. let h = weight_call n f procs (grind (arith, nat_tests)) in omega arith)
 

@@ -4,7 +4,7 @@ use Rattle.std.proofs.lemmas.List.{append-nil}
 use Rattle.std.specs.List.{AllByRecursion}
 use Rattle.ws_words.specs.Outside.{Act, loads, stores, reads, prints, gives, takes, Outside, State, zeros, World, opening_out}
 use Rattle.ws_words.specs.Past.{after_act, after_acts}
-use Rattle.ws_words.proofs.Acts.{after_append}
+use Rattle.ws_words.proofs.Acts.{after_append, with_more}
 use Rattle.src_ast.specs.Turns.{PartEnd, Ended, Out, and_then, turn, CallEnd, Returned, Stopped, back_in, ending, loop}
 use Rattle.src_ast.specs.Meaning.{Calls, empty_cells}
 use Rattle.cfg_core.specs.Graph.{Term, Number, Var, Cell, Flip, Not, Neg, Binary}
@@ -26,10 +26,6 @@ tells_then o p q h i = record {
   more = h.more ++ i.more;
   after = i.after ∙ ap (λ (x : Outside). after_acts x i.more) h.after ∙ sym (after_append o h.more i.more);
 }
-
--- the same with acts more
-abbrev pub with_more : Outside → List Act → Outside
-with_more o acts = record { cells = o.cells; input = o.input; left = o.left; acts = o.acts ++ acts }
 
 abbrev pub IsLoad : Act → Type 0
 IsLoad (loads a i) = Unit {0}

@@ -9,7 +9,6 @@ use Rattle.src_ast.specs.Meaning.{Scope, scope_of, arrays_of, lengths_of, procs_
 use Rattle.seq_run.specs.Resolved.{nth_proc}
 use Rattle.seq_run.specs.Resolved as resolved
 use Rattle.seq_run.specs.Resolving as resolving
-use Rattle.seq_run.specs.Resolving.{texts}
 use Rattle.seq_run.specs.InRange.{ProcIn, ProgramIn, steps_in}
 use Rattle.seq_run.proofs.Declares.{procs_append}
 use Rattle.seq_run.proofs.Places.{length_procs}
@@ -17,9 +16,9 @@ use Rattle.seq_run.proofs.Whole.{some_proc, accepted_has_proc, list_all_end}
 use Rattle.seq_run.proofs.Visible.{in_front_or_after, variable_place, no_variable, only_variables, array_place, procedure_place, proc_place, array_stays, proc_stays, nth_stays, Known, known_none, known_array, known_procedure}
 use Rattle.seq_run.proofs.InBodies.{Kept, kept_front, kept_after, Seen, all_in, result_in, body_size, body_few, ending_few}
 use Rattle.seq_run.proofs.PartRules.{proc_kept, array_kept, params_few, vars_few, no_params}
-use Rattle.ws_words.proofs.Bools.{or_true}
+use Rattle.ws_words.proofs.Bools.{or_true, no_both}
 use Rattle.src_check.proofs.Parts.{statements_in-append as statements_append}
-use Rattle.cfg_core.proofs.Forward.{no_both as clash}
+use Rattle.src_ast.specs.Printed.{name_texts}
 
 lengths_more : (ps qs : List Part) → length (arrays_of ps) ≤ length (lengths_of (ps ++ qs))
 lengths_more [] qs = omega arith
@@ -45,13 +44,13 @@ InRangeAt whole home q = ProcIn (length (lengths_of whole)) (resolving.program w
 module _ (before rest : List Part) (p : Procedure) (known : Known before) where
   declared_array : (text : List ℕ) → has_sort (visible_in before p) text array ≡ true → has_sort (declared_by before) text array ≡ true
   declared_array text h = elim (in_front_or_after (variables (p.params ++ p.vars)) (declared_by before) text array h) [
-    | inl i ↦ absurd (clash i (only_variables (p.params ++ p.vars) text array refl))
+    | inl i ↦ absurd (no_both i (only_variables (p.params ++ p.vars) text array refl))
     | inr i ↦ i
   ]
 
   declared_procedure : (text : List ℕ) (n : ℕ) → has_sort (visible_in before p) text (procedure n) ≡ true → has_sort (declared_by before) text (procedure n) ≡ true
   declared_procedure text n h = elim (in_front_or_after (variables (p.params ++ p.vars)) (declared_by before) text (procedure n) h) [
-    | inl i ↦ absurd (clash i (only_variables (p.params ++ p.vars) text (procedure n) refl))
+    | inl i ↦ absurd (no_both i (only_variables (p.params ++ p.vars) text (procedure n) refl))
     | inr i ↦ i
   ]
 
@@ -59,7 +58,7 @@ module _ (before rest : List Part) (p : Procedure) (known : Known before) where
   seen = record {
     var_seen = λ text h. elim (in_front_or_after (variables (p.params ++ p.vars)) (declared_by before) text variable h) [
       | inl i ↦ let lt = variable_place (p.params ++ p.vars) text i in let l = length-append p.params p.vars in omega (arith, lt, l)
-      | inr i ↦ absurd (clash i (no_variable before text))
+      | inr i ↦ absurd (no_both i (no_variable before text))
     ];
     array_seen = λ text h.
         let lt = array_place before text (declared_array text h) in
@@ -174,7 +173,7 @@ lengths_in before (Array x n at ∷ parts) h =
 lengths_in before (Proc p ∷ parts) h =
     let next = before ++ Proc p ∷ [] in lengths_in next parts (kept_after (part_rules before (Proc p)) (rules_after next parts) h)
 
-length_texts : (parts : List Part) → length (texts (arrays_of parts)) ≡ length (lengths_of parts)
+length_texts : (parts : List Part) → length (name_texts (arrays_of parts)) ≡ length (lengths_of parts)
 length_texts [] = refl
 length_texts (Array x n at ∷ parts) = ap suc (length_texts parts)
 length_texts (Proc p ∷ parts) = length_texts parts
@@ -199,7 +198,7 @@ none_after before [] m h = refl
 none_after before (Array x n at ∷ parts) m h =
     let next = before ++ Array x n at ∷ [] in none_after next parts (main_front before (Array x n at ∷ []) m) (kept_after (part_rules before (Array x n at)) (rules_after next parts) h)
 none_after before (Proc p ∷ parts) m h =
-    absurd (clash m (proc_kept before p (kept_front (part_rules before (Proc p)) (rules_after (before ++ Proc p ∷ []) parts) h)).first)
+    absurd (no_both m (proc_kept before p (kept_front (part_rules before (Proc p)) (rules_after (before ++ Proc p ∷ []) parts) h)).first)
 
 main_in : (before parts : List Part) → Kept (rules_after before parts) → has_main parts ≡ true → length (nth_procedure (procs_of parts) (length (procs_of parts) - 1)).params ≡ 0
 main_in before [] h m = absurd (cc)

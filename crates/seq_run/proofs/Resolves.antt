@@ -1,15 +1,12 @@
 -- The tree that the code makes is the tree with numbers.
-use Rattle.std.proofs.Common.{rules, ◌≡◌, ℕ, zero, suc, ◌+◌, ◌<◌, List, [], ◌∷◌, ◌++◌, length, take, map, slice_index_or, refl, sym, ap, ◌∙◌, arith}
+use Rattle.std.proofs.Common.{◌≡◌, ℕ, zero, suc, ◌+◌, ◌<◌, List, [], ◌∷◌, ◌++◌, length, take, map, slice_index_or, refl, sym, ap, ◌∙◌, arith}
 use Rattle.std.specs.Prelude.{Vec}
 use Rattle.std.specs.declared.alloc.Global.{Global}
-use Rattle.src_ast.specs.declared.lexeme.Place.{Place}
 use Rattle.src_ast.specs.declared.tree.Expr.{Expr}
 use Rattle.src_ast.specs.declared.tree.Stmt.{Stmt}
 use Rattle.src_ast.specs.declared.tree.Form.{Form}
 use Rattle.src_ast.specs.declared.tree.Form.TheVariants as forms
-use Rattle.src_ast.specs.declared.tree.Form.TheViews.{the_lemmas}
 use Rattle.src_ast.specs.View as ast
-use Rattle.src_ast.specs.View.{row_of_items}
 use Rattle.src_ast.specs.Syntax as syntax
 use Rattle.src_ast.specs.Meaning.{Scope}
 use Rattle.seq_run.specs.Resolved as resolved
@@ -20,24 +17,19 @@ use Rattle.seq_run.specs.View as view
 use Rattle.cfg_core.specs.declared.blocks.Term.{Term}
 use Rattle.cfg_core.specs.Graph as plain
 use Rattle.seq_run.specs.declared.tree.Step.{Step}
-
-if_form : (at : Place) (t : Expr) (a b : Vec Stmt Global) → ast.statement_of at (forms.If t a b) ≡ syntax.If at (ast.expression t) (ast.statements a.items) (ast.statements b.items)
-if_form at t a b = search (rules, the_lemmas, row_of_items)
-
-while_form : (at : Place) (t : Expr) (a : Vec Stmt Global) → ast.statement_of at (forms.While t a) ≡ syntax.While at (ast.expression t) (ast.statements a.items)
-while_form at t a = search (rules, the_lemmas, row_of_items)
+use Rattle.src_ast.proofs.Views.{if_view, while_view}
 
 -- a choice with numbers
 pub if_resolves : (scope : Scope) (s : Stmt) (t : Expr) (a b : Vec Stmt Global) (x : plain.Term) (y z : Steps) → s.form ≡ forms.If t a b → x ≡ resolving.term scope (ast.expression t) → y ≡ resolving.all scope (ast.statements a.items) → z ≡ resolving.all scope (ast.statements b.items) → resolved.If x y z ≡ resolving.one scope (ast.statement s)
 if_resolves scope s t a b x y z is ex ey ez =
     ap (λ (u : plain.Term). resolved.If u y z) ex ∙ ap (λ (u : Steps). resolved.If (resolving.term scope (ast.expression t)) u z) ey ∙ ap (λ (u : Steps). resolved.If (resolving.term scope (ast.expression t)) (resolving.all scope (ast.statements a.items)) u) ez
-    ∙ ap (λ (u : syntax.Statement). resolving.one scope u) (sym (ap (λ (f : Form). ast.statement_of s.place f) is ∙ if_form s.place t a b))
+    ∙ ap (λ (u : syntax.Statement). resolving.one scope u) (sym (ap (λ (f : Form). ast.statement_of s.place f) is ∙ if_view s.place t a b))
 
 -- a loop with numbers
 pub while_resolves : (scope : Scope) (s : Stmt) (t : Expr) (a : Vec Stmt Global) (x : plain.Term) (y : Steps) → s.form ≡ forms.While t a → x ≡ resolving.term scope (ast.expression t) → y ≡ resolving.all scope (ast.statements a.items) → resolved.While x y ≡ resolving.one scope (ast.statement s)
 while_resolves scope s t a x y is ex ey =
     ap (λ (u : plain.Term). resolved.While u y) ex ∙ ap (λ (u : Steps). resolved.While (resolving.term scope (ast.expression t)) u) ey
-    ∙ ap (λ (u : syntax.Statement). resolving.one scope u) (sym (ap (λ (f : Form). ast.statement_of s.place f) is ∙ while_form s.place t a))
+    ∙ ap (λ (u : syntax.Statement). resolving.one scope u) (sym (ap (λ (f : Form). ast.statement_of s.place f) is ∙ while_view s.place t a))
 
 -- a term more
 pub terms_more : (scope : Scope) (es : List Expr) (i : ℕ) (e : Expr) (list now : List Term) (t : Term) → i < length es → e ≡ slice_index_or es i e → map graph.term list ≡ resolving.terms scope (map ast.expression (take i es)) → graph.term t ≡ resolving.term scope (ast.expression e) → now ≡ list ++ t ∷ [] → map graph.term now ≡ resolving.terms scope (map ast.expression (take (i + 1) es))

@@ -8,6 +8,7 @@ use Rattle.src_ast.specs.declared.lexeme.Name.{Name}
 use Rattle.src_ast.specs.Meaning.{place_of}
 use Rattle.seq_run.specs.Tables.{numbered, IsTable}
 use Rattle.seq_run.specs.declared.table.NameNumbers.{NameNumbers}
+use Rattle.ws_words.specs.Items.{first_some}
 
 place_numbered : (first : ℕ) (names : List Name) (text : List ℕ) → unwrap_or (numbered first names text) (first + length names) ≡ first + place_of names text
 place_numbered first [] text = refl
@@ -25,43 +26,39 @@ pub number_is : (table : NameNumbers) (first : ℕ) (names : List Name) (text : 
 number_is table first names text r is e =
     e ∙ ap (λ (o : Option ℕ). unwrap_or o table.next) (is.numbers text) ∙ ap (λ (k : ℕ). unwrap_or (numbered first names text) k) is.next ∙ place_numbered first names text
 
-abbrev or_else : Option ℕ → Option ℕ → Option ℕ
-or_else (Some k) o = Some k
-or_else None o = o
-
-or_none : (o : Option ℕ) → or_else o None ≡ o
+or_none : (o : Option ℕ) → first_some o None ≡ o
 or_none (Some k) = refl
 or_none None = refl
 
-numbered_more : (first : ℕ) (names : List Name) (x : Name) (text : List ℕ) → numbered first (names ++ x ∷ []) text ≡ or_else (numbered first names text) (if pointwise nat_eq x.text text then Some (first + length names) else None)
+numbered_more : (first : ℕ) (names : List Name) (x : Name) (text : List ℕ) → numbered first (names ++ x ∷ []) text ≡ first_some (numbered first names text) (if pointwise nat_eq x.text text then Some (first + length names) else None)
 numbered_more first [] x text = ap (λ (k : ℕ). if pointwise nat_eq x.text text then Some k else None) (let e : first ≡ first + 0 = omega arith in e)
 numbered_more first (n ∷ ns) x text = by_flag (pointwise nat_eq n.text text) (numbered_more (suc first) ns x text)
   where
-    by_flag : (b : Bool) → numbered (suc first) (ns ++ x ∷ []) text ≡ or_else (numbered (suc first) ns text) (if pointwise nat_eq x.text text then Some (suc first + length ns) else None) → (if b then Some first else numbered (suc first) (ns ++ x ∷ []) text) ≡ or_else (if b then Some first else numbered (suc first) ns text) (if pointwise nat_eq x.text text then Some (first + suc (length ns)) else None)
+    by_flag : (b : Bool) → numbered (suc first) (ns ++ x ∷ []) text ≡ first_some (numbered (suc first) ns text) (if pointwise nat_eq x.text text then Some (suc first + length ns) else None) → (if b then Some first else numbered (suc first) (ns ++ x ∷ []) text) ≡ first_some (if b then Some first else numbered (suc first) ns text) (if pointwise nat_eq x.text text then Some (first + suc (length ns)) else None)
     by_flag true h = refl
-    by_flag false h = h ∙ ap (λ (k : ℕ). or_else (numbered (suc first) ns text) (if pointwise nat_eq x.text text then Some k else None)) (let e : suc first + length ns ≡ first + suc (length ns) = omega arith in e)
+    by_flag false h = h ∙ ap (λ (k : ℕ). first_some (numbered (suc first) ns text) (if pointwise nat_eq x.text text then Some k else None)) (let e : suc first + length ns ≡ first + suc (length ns) = omega arith in e)
 
 module _ (first : ℕ) (names : List Name) (x : Name) (f g : List ℕ → Option ℕ) (is : (text : List ℕ) → f text ≡ numbered first names text) where
   -- the name is new
   pub put_new : (next : ℕ) → next ≡ first + length names → f x.text ≡ None → ((text : List ℕ) → g text ≡ cond (bytes_eq x.text text) (Some next) (f text)) → (text : List ℕ) → g text ≡ numbered first (names ++ x ∷ []) text
   put_new next en absent put text = put text ∙ by_flag (bytes_eq x.text text) refl ∙ sym (numbered_more first names x text)
     where
-      by_flag : (b : Bool) → bytes_eq x.text text ≡ b → cond b (Some next) (f text) ≡ or_else (numbered first names text) (if b then Some (first + length names) else None)
+      by_flag : (b : Bool) → bytes_eq x.text text ≡ b → cond b (Some next) (f text) ≡ first_some (numbered first names text) (if b then Some (first + length names) else None)
       by_flag true e =
           let same : x.text ≡ text = (bytes_eq-Decides x.text text).0 e in
           let none : numbered first names text ≡ None = sym (is text) ∙ ap f (sym same) ∙ absent in
-          ap (λ (k : ℕ). Some k) en ∙ ap (λ (o : Option ℕ). or_else o (Some (first + length names))) (sym none)
+          ap (λ (k : ℕ). Some k) en ∙ ap (λ (o : Option ℕ). first_some o (Some (first + length names))) (sym none)
       by_flag false e = is text ∙ sym (or_none (numbered first names text))
 
   -- there is such a name already
   pub put_again : is_some (f x.text) ≡ true → ((text : List ℕ) → g text ≡ f text) → (text : List ℕ) → g text ≡ numbered first (names ++ x ∷ []) text
   put_again there kept text = kept text ∙ is text ∙ by_flag (bytes_eq x.text text) refl ∙ sym (numbered_more first names x text)
     where
-      some_or : (o : Option ℕ) (p : Option ℕ) → is_some o ≡ true → o ≡ or_else o p
+      some_or : (o : Option ℕ) (p : Option ℕ) → is_some o ≡ true → o ≡ first_some o p
       some_or (Some k) p e = refl
       some_or None p e = absurd (cc)
 
-      by_flag : (b : Bool) → bytes_eq x.text text ≡ b → numbered first names text ≡ or_else (numbered first names text) (if b then Some (first + length names) else None)
+      by_flag : (b : Bool) → bytes_eq x.text text ≡ b → numbered first names text ≡ first_some (numbered first names text) (if b then Some (first + length names) else None)
       by_flag true e =
           let same : x.text ≡ text = (bytes_eq-Decides x.text text).0 e in
           some_or (numbered first names text) _ (ap is_some (sym (is text) ∙ ap f (sym same)) ∙ there)

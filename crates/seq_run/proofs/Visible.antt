@@ -9,8 +9,7 @@ use Rattle.src_ast.specs.Syntax.{Part, Array, Proc, Procedure}
 use Rattle.src_ast.specs.Rules.{Sort, variable, array, procedure, Declared, declared_by, variables, is_visible, has_sort, same_sort}
 use Rattle.src_ast.specs.Meaning.{place_of, arrays_of, procs_of, names_of, nth_procedure}
 use Rattle.seq_run.proofs.Declares.{arrays_append, procs_append, names_append}
-use Rattle.ws_words.proofs.Bools.{and_parts as both_hold, either_right as not_second, or_comes as or_cases}
-use Rattle.cfg_core.proofs.Forward.{no_both as clash}
+use Rattle.ws_words.proofs.Bools.{and_parts as both_hold, either_right as not_second, or_comes as or_cases, no_both}
 use Rattle.src_check.proofs.Parts.{declared_by-append as declared_append}
 
 not_first : (a b : Bool) → (a || b) ≡ false → a ≡ false
@@ -54,7 +53,7 @@ array_place (Array x n at ∷ parts) text h = by_flag (pointwise nat_eq x.text t
     by_flag true h f = omega arith
     by_flag false h f = let lt = f h in omega (arith, lt)
 array_place (Proc p ∷ parts) text h = elim (or_cases (pointwise nat_eq p.name.text text && false) _ h) [
-  | inl i ↦ absurd (clash (both_hold (pointwise nat_eq p.name.text text) false i).1 refl)
+  | inl i ↦ absurd (no_both (both_hold (pointwise nat_eq p.name.text text) false i).1 refl)
   | inr i ↦ array_place parts text i
 ]
 
@@ -66,7 +65,7 @@ proc_place parts text = place_of (names_of (procs_of parts)) text
 pub procedure_place : (parts : List Part) (text : List ℕ) (n : ℕ) → has_sort (declared_by parts) text (procedure n) ≡ true → proc_place parts text < length (procs_of parts)
 procedure_place [] text n h = absurd (cc)
 procedure_place (Array x m at ∷ parts) text n h = elim (or_cases (pointwise nat_eq x.text text && false) _ h) [
-  | inl i ↦ absurd (clash (both_hold (pointwise nat_eq x.text text) false i).1 refl)
+  | inl i ↦ absurd (no_both (both_hold (pointwise nat_eq x.text text) false i).1 refl)
   | inr i ↦ procedure_place parts text n i
 ]
 procedure_place (Proc p ∷ parts) text n h = by_flag (pointwise nat_eq p.name.text text) h (procedure_place parts text n)
@@ -156,7 +155,7 @@ module _ (before : List Part) (known : Known before) where
   pub known_array : (x : Name) (m : ℕ) (at : _) → Known (before ++ Array x m at ∷ [])
   known_array x m at text n h = elim (split (Array x m at) text n h) [
     | inl i ↦ known_front (Array x m at) text n i
-    | inr i ↦ absurd (clash i (no_test (pointwise nat_eq x.text text) false refl))
+    | inr i ↦ absurd (no_both i (no_test (pointwise nat_eq x.text text) false refl))
   ]
 
   -- a procedure more
@@ -165,7 +164,7 @@ module _ (before : List Part) (known : Known before) where
     | inl i ↦ known_front (Proc p) text n i
     | inr i ↦ elim (or_cases (pointwise nat_eq p.name.text text && (length p.params == n)) false i) [
       | inl j ↦ here (both_hold (pointwise nat_eq p.name.text text) (length p.params == n) j).0 (both_hold (pointwise nat_eq p.name.text text) (length p.params == n) j).1
-      | inr j ↦ absurd (clash j refl)
+      | inr j ↦ absurd (no_both j refl)
     ]
   ]
     where

@@ -2,11 +2,7 @@
 use Rattle.std.specs.Prelude.{ℕ, nat_lt, List, [], ◌∷◌, Option, Some, None, if◌then◌else◌}
 use Rattle.ws_words.specs.Outside.{Act, loads, stores}
 use Rattle.ws_words.specs.Past.{length_of}
-
--- the first of two, if it is there
-abbrev pub or_else : Option ℕ → Option ℕ → Option ℕ
-or_else (Some a) b = Some a
-or_else None b = b
+use Rattle.ws_words.specs.Items.{first_some}
 
 -- the array of an act that is past
 abbrev pub past_array : List ℕ → Act → Option ℕ
@@ -17,4 +13,4 @@ past_array lengths _ = None
 -- the array of the first act that is past
 abbrev pub first_past : List ℕ → List Act → Option ℕ
 first_past lengths [] = None
-first_past lengths (act ∷ acts) = or_else (past_array lengths act) (first_past lengths acts)
+first_past lengths (act ∷ acts) = first_some (past_array lengths act) (first_past lengths acts)

@@ -2,9 +2,11 @@
 -- the language on procedures, parameters, variables, cells and statements.
 use Rattle.std.specs.Prelude.{◌≡◌, ℕ, suc, ◌+◌, ◌-◌, ◌<◌, ◌≤◌, List, [], ◌∷◌, length, Option, Some, None}
 use Rattle.std.specs.List.{AllByRecursion}
-use Rattle.src_ast.specs.LanguageLimits.{most_port, most_parameters, most_locals, most_procedures, most_array_cells, most_statements}
+use Rattle.src_ast.specs.LanguageLimits.{most_port, most_parameters, most_locals, most_procedures}
+use Rattle.src_ast.specs.LanguageLimits.{most_array_cells, most_statements}
 use Rattle.cfg_core.specs.Graph.{Term, Number, Var, Cell, Flip, Not, Neg, Binary}
-use Rattle.seq_run.specs.Resolved.{Action, Assign, Store, Print, Read, Give, Take, Step, Do, Call, If, While, Steps, Nothing, Then, Proc, nth_proc, ResolvedProgram}
+use Rattle.seq_run.specs.Resolved.{Action, Assign, Store, Print, Read, Give, Take, Step, Do, Call, If, While}
+use Rattle.seq_run.specs.Resolved.{Steps, Nothing, Then, Proc, nth_proc, ResolvedProgram}
 
 -- one of this many arrays, by its number from 1
 abbrev pub IsArray : ℕ → ℕ → Type 0

@@ -1,8 +1,11 @@
 -- The tree with numbers for names, and its sequential run: what the code runs and lowers. In its
 -- terms variables are numbered from 0 in each procedure, parameters first, and arrays from 1.
-use Rattle.std.specs.Prelude.{ℕ, zero, suc, ◌-◌, ◌==◌, List, [], ◌∷◌, ◌++◌, length, Option, Some, None, if◌then◌else◌}
-use Rattle.ws_words.specs.Outside.{Outside, State, write, stored, printed, taken, has_read, given, zeros, World, opening_out}
-use Rattle.src_ast.specs.Turns.{PartEnd, Ended, and_then, turn, CallEnd, Returned, Stopped, back_in, ending, loop}
+use Rattle.std.specs.Prelude.{ℕ, zero, suc, ◌-◌, ◌==◌, List, [], ◌∷◌, ◌++◌, length, Option, Some, None}
+use Rattle.std.specs.Prelude.{if◌then◌else◌}
+use Rattle.ws_words.specs.Outside.{Outside, State, write, stored, printed, taken, has_read, given, zeros}
+use Rattle.ws_words.specs.Outside.{World, opening_out}
+use Rattle.src_ast.specs.Turns.{PartEnd, Ended, and_then, turn, CallEnd, Returned, Stopped, back_in, ending}
+use Rattle.src_ast.specs.Turns.{loop}
 use Rattle.src_ast.specs.Meaning.{Calls, empty_cells}
 use Rattle.cfg_core.specs.Graph.{Term}
 use Rattle.cfg_core.specs.Walk.{value_of, values_of}

@@ -1,14 +1,18 @@
 -- The tree with numbers in place of names.
-use Rattle.std.specs.Prelude.{ℕ, List, [], ◌∷◌, length, Option, Some, None}
+use Rattle.std.specs.Prelude.{List, [], ◌∷◌, length, Option, Some, None}
 use Rattle.src_ast.specs.declared.lexeme.Name.{Name}
-use Rattle.src_ast.specs.Syntax.{Expression, Number, Variable, Cell, Signed, Binary, Statement, Assign, Store, Print, Read, Give, Take, Call, If, While, Statements, Nothing, Then, Last, Procedure, Part}
+use Rattle.src_ast.specs.Syntax.{Expression, Number, Variable, Cell, Signed, Binary, Statement, Assign, Store}
+use Rattle.src_ast.specs.Syntax.{Print, Read, Give, Take, Call, If, While, Statements, Nothing, Then, Last}
+use Rattle.src_ast.specs.Syntax.{Procedure, Part}
 use Rattle.seq_run.specs.Resolved as resolved
 use Rattle.seq_run.specs.Resolved.{Step, Steps, Proc}
 use Rattle.cfg_core.specs.Graph as graph
 use Rattle.cfg_core.specs.Graph.{Term}
 use Rattle.src_ast.specs.declared.tree.Unary.{Unary}
 use Rattle.src_ast.specs.declared.tree.Unary.TheVariants.{Flip, Not, Neg}
-use Rattle.src_ast.specs.Meaning.{Scope, var_number, array_number, proc_number, target, scope_of, arrays_of, lengths_of, procs_of, names_of}
+use Rattle.src_ast.specs.Meaning.{Scope, var_number, array_number, proc_number, target, scope_of, arrays_of}
+use Rattle.src_ast.specs.Meaning.{lengths_of, procs_of, names_of}
+use Rattle.src_ast.specs.Printed.{name_texts}
 
 -- an operator of one operand
 abbrev pub signed : Unary → Term → Term
@@ -62,15 +66,10 @@ abbrev pub procs : List Name → List Name → List Procedure → List Proc
 procs arrays names [] = []
 procs arrays names (p ∷ ps) = proc (scope_of arrays names p) p ∷ procs arrays names ps
 
--- the spellings of names
-abbrev pub texts : List Name → List (List ℕ)
-texts [] = []
-texts (x ∷ xs) = x.text ∷ texts xs
-
 -- a program
 abbrev pub program : List Part → resolved.ResolvedProgram
 program parts = record {
-  names = texts (arrays_of parts);
+  names = name_texts (arrays_of parts);
   lengths = lengths_of parts;
   procs = procs (arrays_of parts) (names_of (procs_of parts)) (procs_of parts);
 }

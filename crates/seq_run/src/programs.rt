@@ -7,10 +7,10 @@ ghost use Rattle.src_ast.specs.Syntax.{Procedure};
 ghost use Rattle.src_ast.specs.View as ast;
 ghost use Rattle.src_ast.specs.Meaning.{Scope, scope_of, arrays_of, lengths_of, procs_of, names_of};
 ghost use Rattle.seq_run.specs.Resolving as resolving;
-ghost use Rattle.seq_run.specs.Resolving.{texts};
 ghost use Rattle.seq_run.specs.InRange.{ProgramIn};
 ghost use Rattle.seq_run.specs.Tables.{IsTable, AreNames, FewVars};
 ghost use Rattle.seq_run.specs.View as view;
+ghost use Rattle.src_ast.specs.Printed.{name_texts};
 
 use crate::names::Names;
 use crate::resolving::{steps, term};
@@ -59,7 +59,7 @@ fn declared<'a>(alloc: Global, items: &'a [Item]) -> Result<Names<'a>, NoMemory>
 
 fn shapes(alloc: Global, items: &[Item]) -> Result<Vec<ArrayShape>, NoMemory>
     ensures names { IfOk result (λ list.
-        view.names list.items ≡ texts (arrays_of (ast.parts items.now))) }
+        view.names list.items ≡ name_texts (arrays_of (ast.parts items.now))) }
     ensures lengths { IfOk result (λ list.
         view.lengths list.items ≡ lengths_of (ast.parts items.now)) }
 {

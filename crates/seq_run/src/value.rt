@@ -5,7 +5,8 @@ ghost use Rattle.ws_words.specs.Memory.{lengths_of};
 ghost use Rattle.ws_words.specs.Outside.{loads};
 ghost use Rattle.cfg_core.specs.Walk as walks;
 ghost use Rattle.cfg_core.specs.View as graph;
-ghost use Rattle.seq_run.specs.Firsts.{or_else, past_array, first_past};
+ghost use Rattle.seq_run.specs.Firsts.{past_array, first_past};
+ghost use Rattle.ws_words.specs.Items.{first_some};
 
 use cfg_core::Term;
 use std::alloc::Global;
@@ -15,7 +16,7 @@ use ws_words::{Alu, Memory, NoMemory, Words, apply};
 #[inline(always)]
 pub(crate) fn note(past: &mut Option<u32>, memory: &Memory<'_>, array: u32, index: u64)
     ensures { let lengths = lengths_of memory.now.cells in
-        past.new ≡ or_else past.old (past_array lengths (loads array index)) }
+        past.new ≡ first_some past.old (past_array lengths (loads array index)) }
 {
     if !memory.is_within(array, index) && past.is_none() {
         *past = Some(array);
@@ -28,7 +29,7 @@ pub(crate) fn note(past: &mut Option<u32>, memory: &Memory<'_>, array: u32, inde
 pub(crate) fn quick(term: &Term, vars: &Words, memory: &Memory<'_>, past: &mut Option<u32>) -> u64
     ensures value { result ≡ walks.value (graph.term term.now) vars.now memory.now.cells }
     ensures past { let acts = walks.loads_of (graph.term term.now) vars.now memory.now.cells in
-        past.new ≡ or_else past.old (first_past (lengths_of memory.now.cells) acts) }
+        past.new ≡ first_some past.old (first_past (lengths_of memory.now.cells) acts) }
 {
     match term {
         Term::Binary(op, a, b) => {
@@ -54,7 +55,7 @@ pub(crate) fn quick(term: &Term, vars: &Words, memory: &Memory<'_>, past: &mut O
 pub(crate) fn value(term: &Term, vars: &Words, memory: &Memory<'_>, past: &mut Option<u32>) -> u64
     ensures value { result ≡ walks.value (graph.term term.now) vars.now memory.now.cells }
     ensures past { let acts = walks.loads_of (graph.term term.now) vars.now memory.now.cells in
-        past.new ≡ or_else past.old (first_past (lengths_of memory.now.cells) acts) }
+        past.new ≡ first_some past.old (first_past (lengths_of memory.now.cells) acts) }
 {
     match term {
         Term::Number(n) => *n,
@@ -87,7 +88,7 @@ pub(crate) fn values(
         words ≡ walks.values (map graph.term terms.now) vars.now memory.now.cells) }
     ensures past { IfOk result (λ words.
         let acts = walks.all_loads (map graph.term terms.now) vars.now memory.now.cells in
-        past.new ≡ or_else past.old (first_past (lengths_of memory.now.cells) acts)) }
+        past.new ≡ first_some past.old (first_past (lengths_of memory.now.cells) acts)) }
 {
     let mut words = Words::empty(alloc);
     for term in terms {

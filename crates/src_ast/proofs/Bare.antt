@@ -8,7 +8,7 @@ use Rattle.src_ast.specs.Printed.{round, is_looser, is_no_tighter, is_binary, ex
 use Rattle.src_ast.specs.Same.{bare, bare_names, bare_expression, bare_expressions, bare_statement, bare_statements, bare_ending, bare_part, bare_parts, Same}
 use Rattle.src_ast.specs.Syntax.{Expression, Number, Variable, Cell, Signed, Binary, Statement, Assign, Store, Print, Read, Give, Take, Call, If, While, Statements, Nothing, Then, Last, Procedure, Part, Array, Proc}
 use Rattle.src_ast.specs.Written.{IsWrittenName, AreWrittenNames, IsWrittenNumber, IsWrittenExpression, AreWrittenExpressions, rounded, width, list_width, names_width, FitsRow, IsWrittenStatement, AreWrittenStatements, IsWrittenEnding}
-use Rattle.src_ast.proofs.Nearly.{IsNearlyProcedure, AreNearlyWritten}
+use Rattle.src_ast.proofs.Nearly.{AreNearlyWritten}
 
 binary_bare : (e : Expression) → is_binary (bare_expression e) ≡ is_binary e
 binary_bare (Binary op a b) = refl

@@ -1,5 +1,5 @@
 -- What the lexemes of a printed form say of its rows.
-use Rattle.std.proofs.Common.{◌≡◌, ℕ, suc, ◌+◌, ◌≤◌, length, List, [], ◌∷◌, ◌++◌, codes, refl, sym, ap, ◌∙◌, subst, arith, append_assoc}
+use Rattle.std.proofs.Common.{◌≡◌, ℕ, suc, ◌+◌, List, [], ◌∷◌, ◌++◌, codes, refl, sym, ap, ◌∙◌, subst, arith, append_assoc}
 use Rattle.src_ast.specs.declared.lexeme.Name.{Name}
 use Rattle.src_ast.specs.declared.lexeme.Place.{Place}
 use Rattle.src_ast.specs.declared.lexeme.Lexeme.{Lexeme}
@@ -8,7 +8,7 @@ use Rattle.src_ast.specs.declared.lexeme.Mark.TheVariants.{LParen, RParen, LBrac
 use Rattle.src_ast.specs.Lexemes.{start, after, open_past, row_past, KeepLimits, Lex}
 use Rattle.src_ast.specs.Grammar.{Is, Tree, some}
 use Rattle.src_ast.specs.Printed.{indent, printed_form}
-use Rattle.src_ast.specs.Same.{Same, bare_names}
+use Rattle.src_ast.specs.Same.{Same}
 use Rattle.src_ast.specs.Syntax.{Procedure, Part, Array, Proc}
 use Rattle.src_ast.specs.Written.{AreWrittenNames, names_width, FitsRow, HasPrintedLexemes}
 use Rattle.src_ast.proofs.Nearly.{IsNearlyProcedure, AreNearlyWritten, HaveRows, whole}

@@ -1,6 +1,5 @@
 -- Programs that are written, but for the rows of variables.
-use Rattle.std.proofs.Common.{◌≡◌, ℕ, ◌+◌, ◌≤◌, List, [], ◌∷◌, refl, ap, subst}
-use Rattle.src_ast.specs.declared.lexeme.Name.{Name}
+use Rattle.std.proofs.Common.{◌+◌, List, [], ◌∷◌}
 use Rattle.src_ast.specs.Syntax.{Procedure, Part, Array, Proc}
 use Rattle.src_ast.specs.Written.{IsWrittenName, AreWrittenNames, IsWrittenNumber, names_width, FitsRow, AreWrittenStatements, IsWrittenEnding, IsWrittenProcedure, IsWritten}
 

@@ -1,5 +1,5 @@
 -- What does not see the places of a program: how it runs.
-use Rattle.std.proofs.Common.{◌≡◌, ℕ, zero, suc, ◌+◌, ◌-◌, ◌==◌, length, List, [], ◌∷◌, ◌++◌, Option, Some, None, if◌then◌else◌, slice_index, nat_eq, refl, sym, ap, ◌∙◌, subst}
+use Rattle.std.proofs.Common.{◌≡◌, ℕ, zero, suc, ◌-◌, ◌==◌, length, List, [], ◌∷◌, ◌++◌, Option, Some, None, if◌then◌else◌, slice_index, nat_eq, refl, sym, ap, ◌∙◌, subst}
 use lib.Pointwise.{pointwise}
 use Rattle.ws_words.specs.Operators.{applied}
 use Rattle.ws_words.specs.Outside.{Outside, State, write, with_acts, row, loads, stored, printed, taken, has_read, given, zeros, opening_out}

@@ -6,9 +6,10 @@ use Rattle.src_ast.specs.declared.lexeme.Shape.{Shape}
 use Rattle.src_ast.specs.declared.lexeme.Shape.TheVariants.{Word, Number, Mark}
 use Rattle.src_ast.specs.declared.lexeme.Mark.{Mark as AnyMark}
 use Rattle.src_ast.specs.declared.lexeme.Mark.TheVariants.{LBrace, RBrace, Semi}
-use Rattle.src_ast.specs.Lexemes.{is_word, Spells, word, number, mark, LexesTo, stop, next, IsShort, open_past, row_past, KeepLimits}
+use Rattle.src_ast.specs.Lexemes.{Spells, word, number, mark, LexesTo, stop, next, IsShort, open_past, row_past, KeepLimits}
 use Rattle.src_ast.specs.Grammar.{Is, IsNumber}
 use Rattle.src_ast.proofs.Kept.{is_inner}
+use Rattle.ws_words.specs.Letters.{is_word}
 
 -- a lexeme that some text has, within the limit of a word
 abbrev pub IsSound : Shape → Type 0

@@ -1,12 +1,12 @@
 -- What does not see the places of a program: which rules it keeps.
-use Rattle.std.proofs.Common.{◌≡◌, ℕ, suc, ◌+◌, ◌==◌, nat_lt, nat_le, Bool, true, not, ◌&&◌, ◌||◌, IsTrue, length, List, [], ◌∷◌, ◌++◌, Option, Some, None, refl, sym, ap, ◌∙◌, subst}
+use Rattle.std.proofs.Common.{◌≡◌, ℕ, suc, ◌+◌, Bool, ◌&&◌, ◌||◌, length, List, [], ◌∷◌, ◌++◌, Option, Some, None, refl, sym, ap, ◌∙◌, subst}
 use Rattle.std.specs.List.{list_all}
 use Rattle.src_ast.specs.declared.lexeme.Name.{Name}
 use Rattle.src_ast.specs.declared.lexeme.Place.{Place}
 use Rattle.src_ast.specs.declared.fault.RefusalKind.{RefusalKind}
-use Rattle.src_ast.specs.Rules.{Rule, Sort, variable, array, procedure, Declared, declared_by, variables, is_visible, has_kind, has_sort, use_rules, expression_rules, argument_rules, size_of, size_of_all, statement_rules, body_rules, ending_rules, is_main, parameter_rules, variable_rules, has_main, arrays_in, procs_in, cells_in, size_of_ending, statements_in, part_rules, rules_after, rules_of, IsAccepted}
+use Rattle.src_ast.specs.Rules.{Rule, Sort, variable, array, procedure, Declared, declared_by, variables, use_rules, expression_rules, argument_rules, size_of, size_of_all, statement_rules, body_rules, ending_rules, is_main, parameter_rules, variable_rules, has_main, arrays_in, procs_in, cells_in, size_of_ending, statements_in, part_rules, rules_after, rules_of, IsAccepted}
 use Rattle.src_ast.specs.Same.{bare, bare_names, bare_expression, bare_expressions, bare_statement, bare_statements, bare_ending, bare_part, bare_parts, Same}
-use Rattle.src_ast.specs.Syntax.{Expression, Number, Variable, Cell, Signed, Binary, Statement, Assign, Store, Print, Read, Give, Take, Call, If, While, Statements, Nothing, Then, Last, Procedure, Part, Array, Proc}
+use Rattle.src_ast.specs.Syntax.{Expression, Number, Variable, Cell, Signed, Binary, Statement, Assign, Store, Print, Read, Give, Take, Call, If, While, Statements, Nothing, Then, Last, Part, Array, Proc}
 
 -- the same rules at other places: as many, and each is kept in both or in none
 data Alike : List Rule → List Rule → Type 0 where

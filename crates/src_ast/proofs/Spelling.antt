@@ -1,16 +1,14 @@
 -- When what follows a lexeme can't be part of it.
-use Rattle.std.proofs.Common.{◌≡◌, ℕ, ◌+◌, ◌-◌, ◌*◌, ◌%◌, ◌^◌, ◌<◌, ◌≤◌, Bool, true, false, ◌||◌, ◌==◌, IsTrue, List, [], ◌∷◌, ◌++◌, length, refl, sym, ap, ◌∙◌, decimal, arith, length-append}
+use Rattle.std.proofs.Common.{◌≡◌, ℕ, ◌^◌, ◌<◌, ◌≤◌, Bool, true, false, ◌||◌, ◌==◌, IsTrue, List, [], ◌∷◌, ◌++◌, length, refl, sym, ap, ◌∙◌, decimal, arith, length-append}
 use Rattle.std.specs.List.{list_all}
-use Rattle.std.proofs.lemmas.Bool.{and_parts, and_from, or_parts, or_from, not-true, not_from_false, true≢false, ne_eqb}
-use Rattle.std.proofs.lemmas.List.Folds.{list_all-append}
-use Rattle.std.proofs.lemmas.Fmt.{decimal_by_steps}
-use Rattle.ws_words.specs.Digits.{is_digit, is_number, value_of}
+use Rattle.std.proofs.lemmas.Bool.{and_parts, or_parts, or_from, not-true, not_from_false, true≢false, ne_eqb}
+use Rattle.ws_words.specs.Digits.{is_digit, is_number}
 use Rattle.src_ast.specs.declared.lexeme.Shape.TheVariants as shape
 use Rattle.src_ast.specs.declared.lexeme.Mark.{Mark}
 use Rattle.src_ast.specs.declared.lexeme.Mark.TheVariants.{LParen, LessEq, MoreEq, Same, Differs, ShiftLeft, ShiftRight}
-use Rattle.src_ast.specs.Lexemes.{spelling, starts_without, is_letter, is_word, is_word_byte, IsLongest, Spells, word, number, mark}
-use Rattle.ws_words.proofs.Lists.{value_from-append}
-use Rattle.ws_words.proofs.Numbers.{is_digit_of}
+use Rattle.src_ast.specs.Lexemes.{spelling, IsLongest, Spells, word, number, mark}
+use Rattle.ws_words.specs.Letters.{is_letter, is_word_byte, is_word, starts_without}
+use Rattle.ws_words.proofs.Decimals.{decimal_digits}
 
 -- the second bytes of marks: `<`, `=` and `>`
 abbrev pub is_second : ℕ → Bool
@@ -59,27 +57,6 @@ spells_mark m text h = mark m refl (longest m text h)
 -- a word before what makes it no longer
 pub spells_word : (w text : List ℕ) → IsTrue (is_word w) → IsTrue (starts_without is_word_byte text) → Spells (shape.Word w) w text
 spells_word w text h k = word h k
-
-more_digits : (ds : List ℕ) (n : ℕ) → n < 10 → is_number ds ≡ true → is_number (ds ++ (48 + n) ∷ []) ≡ true
-more_digits [] n h k = absurd (true≢false (sym k))
-more_digits (b ∷ bytes) n h k =
-    let parts = and_parts (is_digit b) (list_all is_digit bytes) k in
-    let all = list_all-append is_digit bytes ((48 + n) ∷ []) in
-    and_from (is_digit b) (list_all is_digit (bytes ++ (48 + n) ∷ [])) parts.0
-    (all ∙ and_from (list_all is_digit bytes) (list_all is_digit ((48 + n) ∷ [])) parts.1 (and_from (is_digit (48 + n)) true (is_digit_of n h) refl))
-
-record Digits (n : ℕ) (ds : List ℕ) : Type 0 where
-  digits : is_number ds ≡ true
-  value : n ≡ value_of ds
-
-decimal_digits : (n : ℕ) → n < 2 ^ 64 → Digits n (decimal n)
-decimal_digits =
-    decimal_by_steps Digits
-    (λ n h. record { digits = and_from (is_digit (48 + n)) true (is_digit_of n h) refl; value = omega arith })
-    (λ n ds h d. record {
-      digits = more_digits ds (n % 10) (omega arith) d.digits;
-      value = omega (arith, d.value, value_from-append 0 ds ((48 + n % 10) ∷ []));
-    })
 
 no_digit : (text : List ℕ) → IsTrue (starts_without is_word_byte text) → IsTrue (starts_without is_digit text)
 no_digit [] h = refl

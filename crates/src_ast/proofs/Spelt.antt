@@ -6,7 +6,7 @@ use Rattle.src_ast.specs.declared.lexeme.Shape.TheVariants.{Mark}
 use Rattle.src_ast.specs.declared.lexeme.Mark.TheVariants as mark
 use Rattle.src_ast.specs.declared.lexeme.Mark.TheVariants.{LParen, RParen, LBrace, RBrace, LSquare, RSquare, Comma, Semi}
 use Rattle.src_ast.specs.declared.tree.Unary.TheVariants.{Flip, Not, Neg}
-use Rattle.src_ast.specs.Lexemes.{is_blank, is_word, starts_without}
+use Rattle.src_ast.specs.Lexemes.{is_blank}
 use Rattle.src_ast.specs.Grammar.{level_of, mark_of, sign_mark}
 use Rattle.src_ast.specs.Syntax.{Expression, Number, Variable, Cell, Signed, Binary, Statement, Assign, Store, Print, Read, Give, Take, Call, If, While, Statements, Nothing, Then, Last, Part, Array, Proc}
 use Rattle.src_ast.specs.Printed.{is_looser, is_no_tighter, is_binary, indent}
@@ -15,6 +15,7 @@ use Rattle.src_ast.proofs.Nearly.{IsNearlyPart, AreNearlyWritten}
 use Rattle.src_ast.proofs.Pieces.{Piece, lexeme, text_of, AreSpelled}
 use Rattle.src_ast.proofs.Spelling.{is_second, Breaks, spells_mark, spells_word, spells_number, word_starts, decimal_starts}
 use Rattle.src_ast.proofs.Printing.{wrapped, expression, arguments, names, finish, call, closing, test, second_arm, statement, body, variables, ending, part, parts}
+use Rattle.ws_words.specs.Letters.{is_word, starts_without}
 
 -- no mark goes on into an expression
 starts_wrapped : (needed : Bool) (f : List Piece → List Piece) (ps : List Piece) → IsTrue (starts_without is_second (text_of (f ps)))

@@ -1,6 +1,8 @@
 -- How many firings a turn of a program is allowed.
 use Rattle.std.specs.Prelude.{ℕ, suc, ◌+◌, ◌*◌, max, List, [], ◌∷◌, length, Option, Some, None}
-use Rattle.src_ast.specs.Syntax.{Expression, Number, Variable, Cell, Signed, Binary, Statement, Assign, Store, Print, Read, Give, Take, Call, If, While, Statements, Nothing, Then, Last, Part, Array, Proc}
+use Rattle.src_ast.specs.Syntax.{Expression, Number, Variable, Cell, Signed, Binary, Statement, Assign, Store}
+use Rattle.src_ast.specs.Syntax.{Print, Read, Give, Take, Call, If, While, Statements, Nothing, Then, Last}
+use Rattle.src_ast.specs.Syntax.{Part, Array, Proc}
 
 -- each number, variable, array element and operator is a node
 abbrev pub nodes : Expression → ℕ

@@ -1,18 +1,26 @@
 -- The grammar: which lexemes spell which tree. It goes by the rules of the language, and knows no
 -- parser.
-use Rattle.std.specs.Prelude.{◌≡◌, ℕ, ◌≤◌, ◌+◌, List, [], ◌∷◌, ◌++◌, Option, Some, None, codes, Bool, false, ◌||◌, nat_eq}
+use Rattle.std.specs.Prelude.{◌≡◌, ℕ, ◌≤◌, ◌+◌, List, [], ◌∷◌, ◌++◌, Option, Some, None, codes, Bool, false}
+use Rattle.std.specs.Prelude.{◌||◌, nat_eq}
 use lib.Pointwise.{pointwise}
 use Rattle.ws_words.specs.declared.alu.Alu.{Alu}
-use Rattle.ws_words.specs.declared.alu.Alu.TheVariants.{Add, Sub, Mul, Div, Rem, And, Or, Xor, Shl, Shr, Eq, Ne, Lt, Le, Gt, Ge}
+use Rattle.ws_words.specs.declared.alu.Alu.TheVariants.{Add, Sub, Mul, Div, Rem, And, Or, Xor, Shl, Shr, Eq}
+use Rattle.ws_words.specs.declared.alu.Alu.TheVariants.{Ne, Lt, Le, Gt, Ge}
 use Rattle.src_ast.specs.declared.lexeme.Name.{Name}
 use Rattle.src_ast.specs.declared.lexeme.Lexeme.{Lexeme}
 use Rattle.src_ast.specs.declared.lexeme.Shape.TheVariants as shape
 use Rattle.src_ast.specs.declared.lexeme.Mark.{Mark}
-use Rattle.src_ast.specs.declared.lexeme.Mark.TheVariants.{Tilde, Bang, Minus, Plus, Star, Slash, Percent, Amp, Bar, Caret, ShiftLeft, ShiftRight, Same, Differs, Less, LessEq, More, MoreEq, LParen, RParen, LSquare, RSquare, LBrace, RBrace, Comma, Semi}
+use Rattle.src_ast.specs.declared.lexeme.Mark.TheVariants.{Tilde, Bang, Minus, Plus, Star, Slash, Percent}
+use Rattle.src_ast.specs.declared.lexeme.Mark.TheVariants.{Amp, Bar, Caret, ShiftLeft, ShiftRight, Same}
+use Rattle.src_ast.specs.declared.lexeme.Mark.TheVariants.{Differs, Less, LessEq, More, MoreEq, LParen}
+use Rattle.src_ast.specs.declared.lexeme.Mark.TheVariants.{RParen, LSquare, RSquare, LBrace, RBrace, Comma}
+use Rattle.src_ast.specs.declared.lexeme.Mark.TheVariants.{Semi}
 use Rattle.src_ast.specs.declared.lexeme.Mark.TheVariants as mark
 use Rattle.src_ast.specs.declared.tree.Unary.{Unary}
 use Rattle.src_ast.specs.declared.tree.Unary.TheVariants.{Flip, Not, Neg}
-use Rattle.src_ast.specs.Syntax.{Expression, Number, Variable, Cell, Signed, Binary, Statement, Assign, Store, Print, Read, Give, Take, Call, If, While, Statements, Nothing, Then, Last, Part, Array, Proc}
+use Rattle.src_ast.specs.Syntax.{Expression, Number, Variable, Cell, Signed, Binary, Statement, Assign, Store}
+use Rattle.src_ast.specs.Syntax.{Print, Read, Give, Take, Call, If, While, Statements, Nothing, Then, Last}
+use Rattle.src_ast.specs.Syntax.{Part, Array, Proc}
 
 -- how tightly an operator binds, from the loosest
 abbrev pub level_of : Alu → ℕ

@@ -1,5 +1,6 @@
 -- Where a text's lexemes are wrong: the first fault, from the left.
-use Rattle.std.specs.Prelude.{◌≡◌, ℕ, ◌^◌, ◌<◌, ◌≤◌, length, ◌==◌, false, IsTrue, List, [], ◌∷◌, ◌++◌, Result, Ok, Err}
+use Rattle.std.specs.Prelude.{◌≡◌, ℕ, ◌^◌, ◌<◌, ◌≤◌, length, ◌==◌, false, IsTrue, List, [], ◌∷◌, ◌++◌, Result}
+use Rattle.std.specs.Prelude.{Ok, Err}
 use Rattle.ws_words.specs.Digits.{is_digit, is_number, value_of}
 use Rattle.src_ast.specs.LanguageLimits.{most_name_bytes, most_braces, most_in_row}
 use Rattle.src_ast.specs.declared.lexeme.Place.{Place}
@@ -13,7 +14,9 @@ use Rattle.src_ast.specs.declared.fault.RefusalKind.TheVariants.{Byte, Wide, Lim
 use Rattle.src_ast.specs.declared.fault.Quantity.TheVariants.{NameBytes, Depth, Lexemes}
 use Rattle.src_ast.specs.declared.fault.TextFault.{TextFault}
 use Rattle.src_ast.specs.declared.fault.TextFault.TheVariants.{Refused, NoMemory}
-use Rattle.src_ast.specs.Lexemes.{start, is_blank, is_letter, is_word, is_word_byte, starts_without, spelling, Spells, LexesTo, IsShort, open_past, row_past, Lex, KeepLimits, open_after, row_after}
+use Rattle.src_ast.specs.Lexemes.{start, is_blank, spelling, Spells, LexesTo, IsShort, open_past, row_past}
+use Rattle.src_ast.specs.Lexemes.{Lex, KeepLimits, open_after, row_after}
+use Rattle.ws_words.specs.Letters.{is_letter, is_word_byte, is_word, starts_without}
 
 -- no lexeme and no gap begins with this byte
 pub record BeginsNothing (b : ℕ) : Type 0 where

@@ -1,6 +1,7 @@
 -- The lexemes of a text: gap, lexeme, gap, lexeme, and so on, and a gap or an open comment at the
 -- end.
-use Rattle.std.specs.Prelude.{◌≡◌, ℕ, zero, suc, ◌+◌, ◌^◌, ◌<◌, ◌≤◌, not, length, ◌==◌, ◌&&◌, ◌||◌, nat_le, Bool, true, false, IsTrue, List, [], ◌∷◌, ◌++◌, codes, if◌then◌else◌}
+use Rattle.std.specs.Prelude.{◌≡◌, ℕ, zero, suc, ◌+◌, ◌^◌, ◌<◌, ◌≤◌, not, length, ◌==◌, ◌&&◌, ◌||◌, Bool}
+use Rattle.std.specs.Prelude.{true, false, IsTrue, List, [], ◌∷◌, ◌++◌, codes, if◌then◌else◌}
 use Rattle.std.specs.List.{list_all}
 use Rattle.ws_words.specs.Digits.{is_digit, is_number, value_of}
 use Rattle.src_ast.specs.LanguageLimits.{most_name_bytes, most_braces, most_in_row}
@@ -9,7 +10,12 @@ use Rattle.src_ast.specs.declared.lexeme.Lexeme.{Lexeme}
 use Rattle.src_ast.specs.declared.lexeme.Shape.{Shape}
 use Rattle.src_ast.specs.declared.lexeme.Shape.TheVariants as shape
 use Rattle.src_ast.specs.declared.lexeme.Mark.{Mark}
-use Rattle.src_ast.specs.declared.lexeme.Mark.TheVariants.{LParen, RParen, LBrace, RBrace, LSquare, RSquare, Comma, Semi, Assign, Plus, Minus, Star, Slash, Percent, Amp, Bar, Caret, Tilde, Bang, Less, More, LessEq, MoreEq, Same, Differs, ShiftLeft, ShiftRight}
+use Rattle.src_ast.specs.declared.lexeme.Mark.TheVariants.{LParen, RParen, LBrace, RBrace, LSquare, RSquare}
+use Rattle.src_ast.specs.declared.lexeme.Mark.TheVariants.{Comma, Semi, Assign, Plus, Minus, Star, Slash}
+use Rattle.src_ast.specs.declared.lexeme.Mark.TheVariants.{Percent, Amp, Bar, Caret, Tilde, Bang, Less, More}
+use Rattle.src_ast.specs.declared.lexeme.Mark.TheVariants.{LessEq, MoreEq, Same, Differs, ShiftLeft}
+use Rattle.src_ast.specs.declared.lexeme.Mark.TheVariants.{ShiftRight}
+use Rattle.ws_words.specs.Letters.{is_word_byte, is_word, starts_without}
 
 -- the bytes of a mark
 abbrev pub spelling : Mark → List ℕ
@@ -59,10 +65,6 @@ after at (byte ∷ bytes) = after (past at byte) bytes
 abbrev pub is_blank : ℕ → Bool
 is_blank b = (b == 32) || (b == 9) || (b == 13) || (b == 10)
 
--- an ASCII letter or `_`
-abbrev pub is_letter : ℕ → Bool
-is_letter b = (nat_le 65 b && nat_le b 90) || (nat_le 97 b && nat_le b 122) || (b == 95)
-
 -- blanks and comments, each comment with its line feed
 abbrev mutual
   pub is_gap : List ℕ → Bool
@@ -77,18 +79,6 @@ abbrev mutual
 abbrev pub is_end : List ℕ → Bool
 is_end [] = true
 is_end (b ∷ bytes) = (b == 35) && list_all (λ c. not (c == 10)) bytes
-
--- the first byte, if there is one, is none of these
-abbrev pub starts_without : (ℕ → Bool) → List ℕ → Bool
-starts_without p [] = true
-starts_without p (b ∷ bytes) = not (p b)
-
-abbrev pub is_word_byte : ℕ → Bool
-is_word_byte b = is_letter b || is_digit b
-
-abbrev pub is_word : List ℕ → Bool
-is_word [] = false
-is_word (b ∷ bytes) = is_letter b && list_all is_word_byte bytes
 
 -- no longer mark begins this text
 abbrev pub IsLongest : List ℕ → List ℕ → Type 0

@@ -9,7 +9,8 @@ use Rattle.src_ast.specs.Syntax as syntax
 use Rattle.src_ast.specs.declared.lexeme.Place.{Place}
 use Rattle.src_ast.specs.declared.tree.Expr.{Expr, Number, Var, Cell', Unary', Binary'}
 use Rattle.src_ast.specs.declared.tree.Stmt.{Stmt}
-use Rattle.src_ast.specs.declared.tree.Form.{Form, Assign, Store, Print, Read, Give, Take, Call, If', While', Row_of-Stmt, end_of-Stmt, more_of-Stmt, items-the_row-Stmt}
+use Rattle.src_ast.specs.declared.tree.Form.{Form, Assign, Store, Print, Read, Give, Take, Call, If', While'}
+use Rattle.src_ast.specs.declared.tree.Form.{Row_of-Stmt, end_of-Stmt, more_of-Stmt, items-the_row-Stmt}
 
 abbrev pub expression : Expr → Expression
 expression (Number n) = syntax.Number n

@@ -1,15 +1,19 @@
 -- What a program is whose printed form can be read: its names are names, its numbers are words, and
 -- its lines and blocks keep the limits.
-use Rattle.std.specs.Prelude.{◌≡◌, ℕ, suc, ◌+◌, ◌^◌, ◌<◌, ◌≤◌, Bool, false, IsTrue, length, List, [], ◌∷◌, Option, Some, None, if◌then◌else◌}
+use Rattle.std.specs.Prelude.{◌≡◌, ℕ, suc, ◌+◌, ◌^◌, ◌<◌, ◌≤◌, Bool, false, IsTrue, length, List, [], ◌∷◌}
+use Rattle.std.specs.Prelude.{Option, Some, None, if◌then◌else◌}
 use Rattle.src_ast.specs.declared.lexeme.Name.{Name}
 use Rattle.src_ast.specs.declared.lexeme.Lexeme.{Lexeme}
 use Rattle.src_ast.specs.declared.lexeme.Place.{Place}
 use Rattle.src_ast.specs.LanguageLimits.{most_name_bytes, most_braces, most_in_row}
-use Rattle.src_ast.specs.Lexemes.{is_word, Lex, KeepLimits}
+use Rattle.src_ast.specs.Lexemes.{Lex, KeepLimits}
 use Rattle.src_ast.specs.Grammar.{level_of, is_reserved, Tree}
 use Rattle.src_ast.specs.Printed.{is_looser, is_no_tighter, is_binary, printed_form}
 use Rattle.src_ast.specs.Same.{Same}
-use Rattle.src_ast.specs.Syntax.{Expression, Number, Variable, Cell, Signed, Binary, Statement, Assign, Store, Print, Read, Give, Take, Call, If, While, Statements, Nothing, Then, Last, Procedure, Part, Array, Proc}
+use Rattle.src_ast.specs.Syntax.{Expression, Number, Variable, Cell, Signed, Binary, Statement, Assign, Store}
+use Rattle.src_ast.specs.Syntax.{Print, Read, Give, Take, Call, If, While, Statements, Nothing, Then, Last}
+use Rattle.src_ast.specs.Syntax.{Procedure, Part, Array, Proc}
+use Rattle.ws_words.specs.Letters.{is_word}
 
 -- these bytes can stand in a text as a name
 pub record IsWrittenName (text : List ℕ) : Type 0 where

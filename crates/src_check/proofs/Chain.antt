@@ -1,10 +1,8 @@
 -- Rules one after another: the first that is broken is the answer for all, and where one is kept the rest decides.
-use Rattle.std.proofs.Common.{◌≡◌, List, [], ◌∷◌, ◌++◌, Option, Some, None, Result, refl, ◌∙◌}
-use Rattle.std.specs.Result.{IsErrAnd}
+use Rattle.std.proofs.Common.{◌≡◌, List, [], ◌∷◌, ◌++◌, Option, Some, None, ◌∙◌}
 use Rattle.src_ast.specs.declared.fault.Refusal.{Refusal}
 use Rattle.src_ast.specs.Rules.{Rule}
 use Rattle.src_check.specs.Rule.{first_broken}
-use Rattle.src_check.specs.Keeps.{Keeps}
 use Rattle.src_check.proofs.Broken.{before_broken, after_kept, leaves}
 
 -- the first rule is broken

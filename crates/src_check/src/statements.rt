@@ -3,7 +3,8 @@
 ghost use Rattle.std.specs.Prelude.{◌≡◌, ◌+◌, List, [], ◌∷◌, map, IfOk};
 ghost use Rattle.src_ast.specs.Syntax.{Assign, Store, Print, Read, Give, Take, Call};
 ghost use Rattle.src_ast.specs.View as view;
-ghost use Rattle.src_ast.specs.Rules.{Declared, statement_rule, port_rule, statement_rules, body_rules, ending_rules, size_of, size_of_all, size_of_ending};
+ghost use Rattle.src_ast.specs.Rules.{Declared, statement_rule, port_rule, statement_rules, body_rules};
+ghost use Rattle.src_ast.specs.Rules.{ending_rules, size_of, size_of_all, size_of_ending};
 ghost use Rattle.src_check.specs.Names.{seen, StandsFor};
 ghost use Rattle.src_check.specs.Keeps.{Keeps};
 

@@ -7,9 +7,10 @@ use Rattle.src_ast.specs.declared.lexeme.Lexeme.{Lexeme}
 use Rattle.src_ast.specs.declared.lexeme.Shape.{Shape}
 use Rattle.src_ast.specs.declared.lexeme.Shape.TheVariants as shape
 use Rattle.ws_words.specs.Digits.{is_digit}
-use Rattle.src_ast.specs.Lexemes.{after, is_end, is_letter, Spells, LexesTo}
+use Rattle.src_ast.specs.Lexemes.{after, is_end, Spells, LexesTo}
 use Rattle.src_lex.specs.Reads.{begins_gap, ends_gap}
 use Rattle.src_lex.proofs.Unique.{gap_same, spelled_same, head_kind, spelled_kind}
+use Rattle.ws_words.specs.Letters.{is_letter}
 
 -- where a word, a number or a mark may begin, no gap is left
 pub kind_ends_gap : (xs : List ℕ) (k : ℕ) → head_kind xs ≡ suc k → ends_gap xs ≡ true

@@ -11,12 +11,13 @@ use Rattle.src_ast.specs.declared.lexeme.Shape.TheVariants as shape
 use Rattle.src_ast.specs.declared.fault.RefusalKind.{RefusalKind}
 use Rattle.src_ast.specs.declared.fault.RefusalKind.TheVariants.{Byte, Wide, Limit}
 use Rattle.src_ast.specs.declared.fault.Quantity.TheVariants.{NameBytes, Depth, Lexemes}
-use Rattle.src_ast.specs.Lexemes.{is_end, is_blank, is_word, is_word_byte, starts_without, spelling, Spells, IsShort, open_past, row_past}
+use Rattle.src_ast.specs.Lexemes.{is_end, is_blank, spelling, Spells, IsShort, open_past, row_past}
 use Rattle.src_ast.specs.LexFaults.{BeginsNothing, Wrong}
 use Rattle.src_lex.specs.Reads.{begins_gap, ends_gap}
 use Rattle.src_lex.proofs.Unique.{head_kind, spelled_kind, spelled_same, run_same, word_kind, number_kind}
 use Rattle.src_lex.proofs.Runs.{number_all}
 use Rattle.src_lex.proofs.Compared.{kind_ends_gap, spelled_ends_gap}
+use Rattle.ws_words.specs.Letters.{is_word_byte, is_word, starts_without}
 
 pub end_kind : (xs : List ℕ) → is_end xs ≡ true → head_kind xs ≡ 0
 end_kind [] h = refl

@@ -13,7 +13,7 @@ use Rattle.src_ast.specs.declared.fault.Refusal.{Refusal}
 use Rattle.src_ast.specs.declared.fault.RefusalKind.{RefusalKind}
 use Rattle.src_ast.specs.declared.fault.RefusalKind.TheVariants.{Byte, Wide, Limit}
 use Rattle.src_ast.specs.declared.fault.Quantity.TheVariants.{NameBytes, Depth, Lexemes}
-use Rattle.src_ast.specs.Lexemes.{start, after, is_blank, is_letter, is_word_byte, is_gap, is_comment, is_end, IsShort, open_past, row_past}
+use Rattle.src_ast.specs.Lexemes.{start, after, is_blank, is_gap, is_comment, is_end, IsShort, open_past, row_past}
 use Rattle.src_ast.specs.LexFaults.{Wrong, IsLexAnswer}
 use Rattle.src_lex.specs.Reads.{Reads, begins_gap, ends_gap}
 use Rattle.src_lex.specs.Marks.{mark_of_one, mark_of_front}
@@ -22,6 +22,7 @@ use Rattle.src_lex.proofs.Words.{word_read, word_long, number_read, number_wide,
 use Rattle.src_lex.proofs.Reached.{Reached, at_start, past_gap, past_lexeme, all_read, fault_here}
 use Rattle.src_lex.proofs.Lawful.{one_lexing_of, no_fault_of, one_fault_of}
 use Rattle.src_ast.specs.Once.{ExactlyOne}
+use Rattle.ws_words.specs.Letters.{is_letter, is_word_byte}
 
 abbrev not_feed : ℕ → Bool
 not_feed c = not (c == 10)

@@ -1,5 +1,5 @@
 -- Places after bytes.
-use Rattle.std.specs.Prelude.{◌≡◌, ℕ, ◌+◌, ◌≤◌, ◌<◌, ◌==◌, length, cond, true, false, List, [], ◌∷◌, ◌++◌}
+use Rattle.std.specs.Prelude.{◌≡◌, ℕ, ◌+◌, ◌≤◌, ◌<◌, ◌==◌, length, cond, true, false, List, [], ◌∷◌}
 use Rattle.std.proofs.Common.{take, arith, get_or}
 use Rattle.std.proofs.lemmas.List.{take_more}
 use Rattle.src_ast.specs.declared.lexeme.Place.{Place}

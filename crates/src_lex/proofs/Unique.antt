@@ -1,17 +1,19 @@
 -- What stands in front of a text is one: the longest gap, the longest run of bytes, the longest lexeme.
-use Rattle.std.specs.Prelude.{◌≡◌, ℕ, ◌==◌, not, cond, nat_le, length, Bool, true, false, ◌||◌, ◌&&◌, List, [], ◌∷◌, ◌++◌, refl}
+use Rattle.std.specs.Prelude.{◌≡◌, ℕ, ◌==◌, not, cond, length, Bool, true, false, ◌||◌, ◌&&◌, List, [], ◌∷◌, ◌++◌, refl}
 use Rattle.std.specs.List.{list_all}
 use Rattle.std.proofs.Common.{arith, sym, ap, ◌∙◌, inl, inr}
-use Rattle.std.proofs.lemmas.Bool.{both_ways, and_parts, not-true, eqb-true, or_cases, or_from, or_left, and_left, and_from, lt-leb, leb-true, ne_eqb}
+use Rattle.std.proofs.lemmas.Bool.{both_ways, and_parts, not-true, eqb-true, or_cases, or_left, and_from}
 use Rattle.ws_words.specs.Digits.{is_digit, is_number, value_of}
 use Rattle.src_ast.specs.declared.lexeme.Mark.{Mark}
 use Rattle.src_ast.specs.declared.lexeme.Mark.TheVariants.{LParen}
 use Rattle.src_ast.specs.declared.lexeme.Shape.{Shape}
 use Rattle.src_ast.specs.declared.lexeme.Shape.TheVariants as shape
-use Rattle.src_ast.specs.Lexemes.{is_blank, is_letter, is_word, is_word_byte, is_gap, is_comment, starts_without, spelling, Spells}
+use Rattle.src_ast.specs.Lexemes.{is_blank, is_gap, is_comment, spelling, Spells}
 use Rattle.src_lex.specs.Reads.{begins_gap, ends_gap}
 use Rattle.src_lex.proofs.Marks.{one_mark}
 use Rattle.src_lex.proofs.Runs.{number_all}
+use Rattle.ws_words.specs.Letters.{is_letter, is_word_byte, is_word, starts_without}
+use Rattle.ws_words.proofs.Decimals.{no_letter}
 
 -- two ways to take a text apart that are one
 pub record Same (a b c d : List ℕ) : Type 0 where
@@ -123,17 +125,11 @@ not_gap test p q r s t b h =
       | false ↦ λ e. refl
     ]) refl
 
-digit_no_letter : (b : ℕ) → is_digit b ≡ true → is_letter b ≡ false
-digit_no_letter b h =
-    let parts = and_parts (nat_le 48 b) (nat_le b 57) h in
-    let most = leb-true b 57 parts.1 in
-    or_from _ _ (or_from _ _ (and_left _ _ (lt-leb 65 b (omega arith))) (and_left _ _ (lt-leb 97 b (omega arith)))) (ne_eqb b 95 (λ e. omega arith))
-
 pub letter_kind : (b : ℕ) → is_letter b ≡ true → kind b ≡ 1
 letter_kind b h = rw (not_gap is_letter refl refl refl refl refl b h, h) refl
 
 pub digit_kind : (b : ℕ) → is_digit b ≡ true → kind b ≡ 2
-digit_kind b h = rw (not_gap is_digit refl refl refl refl refl b h, digit_no_letter b h, h) refl
+digit_kind b h = rw (not_gap is_digit refl refl refl refl refl b h, no_letter b h, h) refl
 
 pub mark_kind : (m : Mark) (more : List ℕ) → head_kind (spelling m ++ more) ≡ 3
 mark_kind LParen more = refl

@@ -2,7 +2,7 @@
 use Rattle.std.specs.Prelude.{◌≡◌, ℕ, suc, ◌^◌, ◌≤◌, ◌<◌, ◌==◌, length, Bool, true, false, IsTrue, List, [], ◌∷◌, ◌++◌, refl}
 use Rattle.std.specs.List.{list_all, prefix_len}
 use Rattle.std.proofs.Common.{take, drop, arith, sym, ap, ◌∙◌, get_or, append_assoc}
-use Rattle.std.proofs.lemmas.Bool.{or_left, or_parts, and_from, and_parts}
+use Rattle.std.proofs.lemmas.Bool.{or_parts, and_from, and_parts}
 use Rattle.std.proofs.lemmas.List.{take-append-drop, length-take-le}
 use Rattle.std.proofs.lemmas.List.Sums.{prefix_len-le-length}
 use Rattle.ws_words.specs.Digits.{is_digit, is_number, value_of}
@@ -10,10 +10,13 @@ use Rattle.src_ast.specs.declared.lexeme.Mark.{Mark}
 use Rattle.src_ast.specs.declared.lexeme.Shape.TheVariants as shape
 use Rattle.src_ast.specs.declared.fault.RefusalKind.TheVariants.{Byte, Wide, Limit}
 use Rattle.src_ast.specs.declared.fault.Quantity.TheVariants.{NameBytes}
-use Rattle.src_ast.specs.Lexemes.{is_blank, is_letter, is_word, is_word_byte, starts_without, spelling, Spells}
+use Rattle.src_ast.specs.Lexemes.{is_blank, spelling, Spells}
 use Rattle.src_ast.specs.LexFaults.{Wrong}
 use Rattle.src_lex.specs.Reads.{Reads, begins_gap}
-use Rattle.src_lex.proofs.Runs.{prefix_all, prefix_stops, number_from}
+use Rattle.src_lex.proofs.Runs.{number_from}
+use Rattle.ws_words.specs.Letters.{is_letter, is_word_byte, is_word, starts_without}
+use Rattle.ws_words.proofs.Runs.{prefix_all, prefix_stops}
+use Rattle.ws_words.proofs.Decimals.{letter_byte}
 
 -- a first byte that passes a test, and the longest run of bytes that pass another
 pub record RunAt (first inner : ℕ → Bool) (count : ℕ) (text : List ℕ) : Type 0 where
@@ -37,11 +40,8 @@ run_at first inner (b ∷ text) up h k =
       stops = prefix_stops inner text;
     } in rw e made
 
-letter_is_word_byte : (b : ℕ) → is_letter b ≡ true → is_word_byte b ≡ true
-letter_is_word_byte b h = or_left (is_letter b) (is_digit b) h
-
 pub word_run : (text : List ℕ) → 0 < length text → is_letter (get_or text 0 0) ≡ true → RunAt is_letter is_word_byte (prefix_len is_word_byte text) text
-word_run text h k = run_at is_letter is_word_byte text letter_is_word_byte h k
+word_run text h k = run_at is_letter is_word_byte text letter_byte h k
 
 pub number_run : (text : List ℕ) → 0 < length text → is_digit (get_or text 0 0) ≡ true → RunAt is_digit is_digit (prefix_len is_digit text) text
 number_run text h k = run_at is_digit is_digit text (λ b e. e) h k

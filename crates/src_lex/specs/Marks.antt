@@ -1,7 +1,11 @@
 -- Marks by their bytes.
 use Rattle.std.specs.Prelude.{ℕ, ◌==◌, List, [], ◌∷◌, Option, Some, None, if◌then◌else◌}
 use Rattle.src_ast.specs.declared.lexeme.Mark.{Mark}
-use Rattle.src_ast.specs.declared.lexeme.Mark.TheVariants.{LParen, RParen, LBrace, RBrace, LSquare, RSquare, Comma, Semi, Assign, Plus, Minus, Star, Slash, Percent, Amp, Bar, Caret, Tilde, Bang, Less, More, LessEq, MoreEq, Same, Differs, ShiftLeft, ShiftRight}
+use Rattle.src_ast.specs.declared.lexeme.Mark.TheVariants.{LParen, RParen, LBrace, RBrace, LSquare, RSquare}
+use Rattle.src_ast.specs.declared.lexeme.Mark.TheVariants.{Comma, Semi, Assign, Plus, Minus, Star, Slash}
+use Rattle.src_ast.specs.declared.lexeme.Mark.TheVariants.{Percent, Amp, Bar, Caret, Tilde, Bang, Less, More}
+use Rattle.src_ast.specs.declared.lexeme.Mark.TheVariants.{LessEq, MoreEq, Same, Differs, ShiftLeft}
+use Rattle.src_ast.specs.declared.lexeme.Mark.TheVariants.{ShiftRight}
 
 -- the mark of one byte
 abbrev pub mark_of_one : ℕ → Option Mark

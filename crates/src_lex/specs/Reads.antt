@@ -5,8 +5,9 @@ use Rattle.src_ast.specs.declared.lexeme.Shape.{Shape}
 use Rattle.src_ast.specs.declared.lexeme.Place.{Place}
 use Rattle.src_ast.specs.declared.fault.TextFault.{TextFault}
 use Rattle.src_ast.specs.declared.fault.TextFault.TheVariants.{Refused, NoMemory}
-use Rattle.src_ast.specs.Lexemes.{is_blank, is_end, starts_without, Spells, IsShort}
+use Rattle.src_ast.specs.Lexemes.{is_blank, is_end, Spells, IsShort}
 use Rattle.src_ast.specs.LexFaults.{Wrong}
+use Rattle.ws_words.specs.Letters.{starts_without}
 
 -- a blank, or the `#` of a comment
 abbrev pub begins_gap : ℕ → Bool

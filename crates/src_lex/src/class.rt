@@ -4,6 +4,7 @@ ghost use Rattle.std.specs.Prelude.{◌≡◌, ◌≤◌, length};
 ghost use Rattle.std.specs.List.{prefix_len};
 ghost use Rattle.ws_words.specs.Digits as digits;
 ghost use Rattle.src_ast.specs.Lexemes as lexemes;
+ghost use Rattle.ws_words.specs.Letters.{is_letter, is_word_byte};
 
 /// Whether a byte is a space, a tab or the end of a line.
 pub fn is_blank(byte: u8) -> bool
@@ -14,7 +15,7 @@ pub fn is_blank(byte: u8) -> bool
 
 /// Whether a word can begin with the byte.
 pub fn is_letter(byte: u8) -> bool
-    ensures { result ≡ lexemes.is_letter byte }
+    ensures { result ≡ is_letter byte }
 {
     matches!(byte, b'A'..=b'Z' | b'a'..=b'z' | b'_')
 }
@@ -28,7 +29,7 @@ pub fn is_digit(byte: u8) -> bool
 
 /// How many bytes of a word the text begins with.
 pub fn word_length(text: &[u8]) -> usize
-    ensures longest { result ≡ prefix_len lexemes.is_word_byte text.now }
+    ensures longest { result ≡ prefix_len is_word_byte text.now }
     ensures within { result ≤ length text.now }
 {
     text.iter()

@@ -1,9 +1,11 @@
 //! One lexeme.
 
-ghost use Rattle.std.specs.Prelude.{◌≡◌, ◌<◌, ◌==◌, ◌≤◌, length, slice_index, true, false, IfOk, IfErr, IsTrue};
+ghost use Rattle.std.specs.Prelude.{◌≡◌, ◌<◌, ◌==◌, ◌≤◌, length, slice_index, true, false, IfOk, IfErr};
+ghost use Rattle.std.specs.Prelude.{IsTrue};
 ghost use Rattle.ws_words.specs.Digits as digits;
 ghost use Rattle.src_ast.specs.Lexemes as lexemes;
 ghost use Rattle.src_lex.specs.Reads.{Reads, IsWrongHere, begins_gap};
+ghost use Rattle.ws_words.specs.Letters.{is_letter};
 
 use crate::class::{is_digit, is_letter, number_length, word_length};
 use crate::mark::mark;
@@ -16,7 +18,7 @@ use ws_words::Bytes;
 #[tactic(auto, using(crate::proofs::Words::words))]
 fn word(alloc: Global, text: &[u8], place: Place) -> Result<(Shape, usize), TextFault>
     requires some { 0 < length text.now }
-    requires letter { lexemes.is_letter (slice_index text.now 0) ≡ true }
+    requires letter { is_letter (slice_index text.now 0) ≡ true }
     ensures read { IfOk result (λ r. Reads r.0 r.1 text.now) }
     ensures short { IfOk result (λ r. lexemes.IsShort r.0) }
     ensures refused { IfErr result (λ e. IsWrongHere text.now place e) }
@@ -60,7 +62,7 @@ fn number(text: &[u8], place: Place) -> Result<(Shape, usize), TextFault>
 fn sign(text: &[u8], place: Place) -> Result<(Shape, usize), TextFault>
     requires some { 0 < length text.now }
     requires no_gap { begins_gap (slice_index text.now 0) ≡ false }
-    requires no_letter { lexemes.is_letter (slice_index text.now 0) ≡ false }
+    requires no_letter { is_letter (slice_index text.now 0) ≡ false }
     requires no_digit { digits.is_digit (slice_index text.now 0) ≡ false }
     ensures read { IfOk result (λ r. Reads r.0 r.1 text.now) }
     ensures short { IfOk result (λ r. lexemes.IsShort r.0) }

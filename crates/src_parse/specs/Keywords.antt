@@ -2,7 +2,8 @@
 use Rattle.std.specs.Prelude.{List, [], ◌∷◌, ℕ, Option, Some, None, if◌then◌else◌, codes, nat_eq}
 use lib.Pointwise.{pointwise}
 use Rattle.src_parse.specs.declared.keyword.Keyword.{Keyword}
-use Rattle.src_parse.specs.declared.keyword.Keyword.TheVariants.{Proc, Array, Var, If, Else, While, Print, Read, Give, Take, Return}
+use Rattle.src_parse.specs.declared.keyword.Keyword.TheVariants.{Proc, Array, Var, If, Else, While, Print}
+use Rattle.src_parse.specs.declared.keyword.Keyword.TheVariants.{Read, Give, Take, Return}
 
 abbrev pub spelling_of : Keyword → List ℕ
 spelling_of Proc = codes "proc"

@@ -1,6 +1,7 @@
 -- How a parser goes over lexemes: it reads some and answers, or stops in front of the first that
 -- doesn't fit.
-use Rattle.std.specs.Prelude.{ℕ, ◌==◌, nat_eq, List, [], ◌∷◌, ◌++◌, Option, Some, None, Bool, false, if◌then◌else◌}
+use Rattle.std.specs.Prelude.{ℕ, ◌==◌, nat_eq, List, [], ◌∷◌, ◌++◌, Option, Some, None, Bool, false}
+use Rattle.std.specs.Prelude.{if◌then◌else◌}
 use lib.Pointwise.{pointwise}
 use Rattle.src_ast.specs.declared.lexeme.Place.{Place}
 use Rattle.src_ast.specs.declared.lexeme.Name.{Name}

@@ -1,16 +1,19 @@
 -- How a parser goes over statements.
-use Rattle.std.specs.Prelude.{ℕ, zero, suc, length, List, [], ◌∷◌, Option, Some, None, Bool, true, false, if◌then◌else◌, codes}
+use Rattle.std.specs.Prelude.{ℕ, zero, suc, length, List, [], ◌∷◌, Option, Some, None, Bool, true, false}
+use Rattle.std.specs.Prelude.{if◌then◌else◌, codes}
 use Rattle.src_ast.specs.declared.lexeme.Name.{Name}
 use Rattle.src_ast.specs.declared.lexeme.Place.{Place}
 use Rattle.src_ast.specs.declared.lexeme.Lexeme.{Lexeme}
 use Rattle.src_ast.specs.declared.lexeme.Shape.{Shape}
 use Rattle.src_ast.specs.declared.lexeme.Shape.TheVariants as shape
 use Rattle.src_ast.specs.declared.lexeme.Mark.TheVariants as mark
-use Rattle.src_ast.specs.Syntax.{Expression, Statement, Assign, Store, Print, Read, Give, Take, Call, If, While, Statements, Nothing, Then}
+use Rattle.src_ast.specs.Syntax.{Expression, Statement, Assign, Store, Print, Read, Give, Take, Call, If}
+use Rattle.src_ast.specs.Syntax.{While, Statements, Nothing, Then}
 use Rattle.src_parse.specs.declared.keyword.Keyword.{Keyword}
 use Rattle.src_parse.specs.declared.keyword.Keyword.TheVariants as keyword
 use Rattle.src_parse.specs.Keywords.{keyword_of}
-use Rattle.src_parse.specs.Reading.{Reading, Reader, Done, Stuck, ◌|>◌, is_mark, is_word, expect, name_in, name_at, count_at}
+use Rattle.src_parse.specs.Reading.{Reading, Reader, Done, Stuck, ◌|>◌, is_mark, is_word, expect, name_in}
+use Rattle.src_parse.specs.Reading.{name_at, count_at}
 use Rattle.src_parse.specs.Expressions.{named, operators_at, expression_at}
 use Rattle.src_parse.specs.Lists.{enclosed_at}
 

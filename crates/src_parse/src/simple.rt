@@ -5,7 +5,8 @@ ghost use Rattle.src_ast.specs.View as view;
 ghost use Rattle.src_ast.specs.Syntax.{Print, Assign, Call};
 ghost use Rattle.src_parse.specs.Gives.{Gives};
 ghost use Rattle.src_parse.specs.Fronts.{NoCall, IsCallee};
-ghost use Rattle.src_parse.specs.Statements.{ended_at, value_at, call_at, assigned_at, stored_at, named_statement, read_at, give_at, take_at};
+ghost use Rattle.src_parse.specs.Statements.{ended_at, value_at, call_at, assigned_at, stored_at};
+ghost use Rattle.src_parse.specs.Statements.{named_statement, read_at, give_at, take_at};
 
 use crate::expression::expression;
 use crate::keyword::is_reserved_word;

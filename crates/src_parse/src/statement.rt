@@ -3,7 +3,8 @@
 ghost use Rattle.std.specs.Prelude.{◌≡◌, ◌+◌, ◌<◌, ◌≤◌, length, IfOk, ◌∷◌};
 ghost use Rattle.src_ast.specs.View as view;
 ghost use Rattle.src_parse.specs.Gives.{Gives};
-ghost use Rattle.src_parse.specs.Statements.{test_at, block_by, else_by, if_by, while_by, statement_by, statement_shape, statements_at, starts_at};
+ghost use Rattle.src_parse.specs.Statements.{test_at, block_by, else_by, if_by, while_by, statement_by};
+ghost use Rattle.src_parse.specs.Statements.{statement_shape, statements_at, starts_at};
 
 use crate::expression::expression;
 use crate::keyword::{Keyword, as_keyword};

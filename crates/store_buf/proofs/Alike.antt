@@ -2,14 +2,15 @@
 use Rattle.std.proofs.Common.{ℕ, zero, suc, ◌≡◌, ◌<◌, Bool, List, [], ◌∷◌, length, Option, Some, slice_index_or, slice_set, false, refl, sym, ◌∙◌, subst, inl, inr, arith}
 use Rattle.std.proofs.lemmas.Bool.{both_ways}
 use Rattle.ws_words.specs.Outside.{Outside, World}
-use Rattle.ws_isa.specs.Image.{Image, In}
+use Rattle.ws_isa.specs.Image.{Image}
 use Rattle.df_core.specs.Core.{Chain, with_key}
 use Rattle.df_core.specs.Fit.{Legal, Ordered, StoppedAt}
 use Rattle.df_core.proofs.Ports.{with_key_cases}
 use Rattle.store_buf.specs.declared.kept.Kept.{Kept}
 use Rattle.store_buf.specs.Requests.{entry_of}
-use Rattle.store_buf.specs.Orders.{Going}
 use Rattle.store_buf.specs.Ordering.{no_request}
+use Rattle.ws_words.specs.Items.{In}
+use Rattle.store_buf.specs.Orders.{OrderGoes}
 
 module _ (image : Image) (world : World) (f g : ℕ → ℕ → Option ℕ) (same : (w i : ℕ) → g w i ≡ f w i) (a b : ℕ → ℕ → Option (List ℕ)) (like : (w i : ℕ) → b w i ≡ a w i) where
   ordered_alike : (cut : ℕ) (c : Chain) (m : Outside) → Ordered image world cut f c m → Ordered image world cut g c m
@@ -38,7 +39,7 @@ module _ (image : Image) (world : World) (f g : ℕ → ℕ → Option ℕ) (sam
   }
 
   -- what is true of functions is true of others that answer alike
-  pub going_alike : (stopped : Bool) (c : Chain) (m : Outside) (early : List ℕ) → Going image world f a stopped c m early → Going image world g b stopped c m early
+  pub going_alike : (stopped : Bool) (c : Chain) (m : Outside) (early : List ℕ) → OrderGoes image world f a stopped c m early → OrderGoes image world g b stopped c m early
   going_alike stopped c m early h = record {
     legal = legal_alike stopped c m h.legal;
     early_issued = λ i e. let r = h.early_issued i e in (r.0, same c.wave i ∙ r.1);
@@ -46,7 +47,7 @@ module _ (image : Image) (world : World) (f g : ℕ → ℕ → Option ℕ) (sam
   }
 
 -- where the chain isn't stopped, it doesn't matter what waits
-pub going_any : (image : Image) (world : World) (f g : ℕ → ℕ → Option ℕ) → ((w i : ℕ) → g w i ≡ f w i) → (a b : ℕ → ℕ → Option (List ℕ)) (c : Chain) (m : Outside) (early : List ℕ) → Going image world f a false c m early → Going image world g b false c m early
+pub going_any : (image : Image) (world : World) (f g : ℕ → ℕ → Option ℕ) → ((w i : ℕ) → g w i ≡ f w i) → (a b : ℕ → ℕ → Option (List ℕ)) (c : Chain) (m : Outside) (early : List ℕ) → OrderGoes image world f a false c m early → OrderGoes image world g b false c m early
 going_any image world f g same a b c m early h = record {
   legal = record {
     cut = h.legal.cut;
@@ -60,7 +61,7 @@ going_any image world f g same a b c m early h = record {
 
 -- the same operations issued in another order
 pub early_alike : (image : Image) (world : World) (f : ℕ → ℕ → Option ℕ) (a : ℕ → ℕ → Option (List ℕ)) (stopped : Bool) (c : Chain) (m : Outside) (xs ys : List ℕ) → ((j : ℕ) → In j xs → In j ys) → ((j : ℕ) → In j ys → In j xs) →
-    Going image world f a stopped c m xs → Going image world f a stopped c m ys
+    OrderGoes image world f a stopped c m xs → OrderGoes image world f a stopped c m ys
 early_alike image world f a stopped c m xs ys to from h = record {
   legal = h.legal;
   early_issued = λ i e. h.early_issued i (from i e);

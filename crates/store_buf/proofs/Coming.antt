@@ -13,25 +13,27 @@ use Rattle.df_core.specs.Began.{Began}
 use Rattle.df_core.specs.Rights.{Asked, IsAsked, operands_of}
 use Rattle.df_core.specs.declared.chain.Chain as code
 use Rattle.df_core.specs.Chains.{chain_of, may_flag}
-use Rattle.df_core.specs.Stands.{HasEarly}
+use Rattle.df_core.specs.Stands.{HasEarly, EarlyIssued}
 use Rattle.store_buf.specs.declared.fault.BufFault.{BufFault}
 use Rattle.store_buf.specs.declared.fault.BufFault.TheVariants as fault
 use Rattle.store_buf.specs.declared.kept.Kept.{Kept}
 use Rattle.store_buf.specs.declared.store.Store.{Store}
 use Rattle.store_buf.specs.Requests.{entry_of, kept_in, issued_in, issued_keys, key_if, answer_if, operands_if}
 use Rattle.store_buf.specs.Finding.{place_in}
-use Rattle.store_buf.specs.Orders.{Going, EarlyIssued}
-use Rattle.store_buf.specs.Ordering.{no_request, OrderOk}
+use Rattle.store_buf.specs.Ordering.{no_request, OrderOk, Room}
 use Rattle.store_buf.specs.Outdoors.{Holding, OutIs, RoseAt}
 use Rattle.store_buf.specs.Outers.{holding}
 use Rattle.store_buf.specs.Holds.{stays, waiting_in}
-use Rattle.store_buf.specs.Contents.{Content, FailedSo, FaultIs, IsBuffer, PortWaits, Arrives, Submitted, RightTokens, Idle, SubmitSo, buffer_in, with_tokens}
-use Rattle.store_buf.specs.Stores.{StandsFor, StoreOk, Keeps, Turns, SettledSo, SubmitLeads, Standing, asked_of, buffer_of, content_of}
+use Rattle.store_buf.specs.Contents.{Content, FailedSo, FaultIs, IsBuffer, PortWaits, Submitted, RightTokens, Idle, SubmitSo, buffer_in, with_tokens, RequestArrives}
+use Rattle.store_buf.specs.Stores.{StandsFor, StoreOk, Turns, SettledSo, SubmitLeads, Standing, asked_of, buffer_of, content_of, StoreKeeps}
 use Rattle.store_buf.proofs.Alike.{going_any, once_of}
 use Rattle.store_buf.proofs.Found as F
 use Rattle.store_buf.proofs.Failing.{none_failed, one_failed, rose_since}
 use Rattle.store_buf.proofs.Within.{port_in}
 use Rattle.store_buf.proofs.Resting.{none_issuable, lets_issuable}
+use Rattle.store_buf.specs.declared.order.Order.{Order}
+use Rattle.store_buf.proofs.Idle.{none_wait}
+use Rattle.store_buf.specs.Orders.{OrderGoes}
 
 pub entry_push : (ks : List Kept) (k : Kept) → entry_of ks k.wave k.instr ≡ None → (w i : ℕ) → entry_of (ks ++ k ∷ []) w i ≡ with_key k.wave k.instr (Some k) (entry_of ks) w i
 entry_push [] k fresh w i = refl
@@ -76,15 +78,15 @@ issued_kept image None a h = absurd (let f : None ≡ Some a = h in cc)
 issued_kept image (Some k) a h = (operands_of (ports image k.instr) k.first k.second, refl)
 
 -- and listed
-fired_more : (o : Option ℕ) (k : Kept) (ks : List Kept) (w i : ℕ) → HasFired (issued_keys ks) w i → HasFired (key_if o k (issued_keys ks)) w i
+pub fired_more : (o : Option ℕ) (k : Kept) (ks : List Kept) (w i : ℕ) → HasFired (issued_keys ks) w i → HasFired (key_if o k (issued_keys ks)) w i
 fired_more None k ks w i h = h
 fired_more (Some a) k ks w i h = inr h
 
-fired_here : (o : Option ℕ) (a : ℕ) (k : Kept) (ks : List Kept) (w i : ℕ) → o ≡ Some a → k.wave ≡ w → k.instr ≡ i → HasFired (key_if o k (issued_keys ks)) w i
+pub fired_here : (o : Option ℕ) (a : ℕ) (k : Kept) (ks : List Kept) (w i : ℕ) → o ≡ Some a → k.wave ≡ w → k.instr ≡ i → HasFired (key_if o k (issued_keys ks)) w i
 fired_here None a k ks w i e ew ei = absurd (let f : None ≡ Some a = e in cc)
 fired_here (Some b) a k ks w i e ew ei = inl (ew, ei)
 
-listed_from : (ks : List Kept) (w i a : ℕ) → issued_in ks w i ≡ Some a → HasFired (issued_keys ks) w i
+pub listed_from : (ks : List Kept) (w i a : ℕ) → issued_in ks w i ≡ Some a → HasFired (issued_keys ks) w i
 listed_from [] w i a h = absurd (let f : None ≡ Some a = h in cc)
 listed_from (k ∷ ks) w i a h = elim (with_key_cases k.wave k.instr (Some k) (entry_of ks) w i) [
   | inl e ↦ fired_here k.answer a k ks w i (sym (ap answer_if e.1) ∙ h) e.0.wave e.0.instr
@@ -136,10 +138,10 @@ module _ (image : Image) (world : World) (began : List (Option Began)) {P : Type
   }
 
   -- nothing has changed
-  same_content : (old new : Store P) → Keeps old old.order.kept.items new → content_of new ≡ content_of old
+  same_content : (old new : Store P) → StoreKeeps old old.order.kept.items new → content_of new ≡ content_of old
   same_content old new k = λ j. record { kept = k.kept_are j; chain = chain_of (k.chain j); fault = k.fault j; failed = k.failed j; starved = k.starved j; outside = k.outer j }
 
-  pub unchanged : (old new : Store P) → Keeps old old.order.kept.items new → StoreOk new → Standing image world began old → Standing image world began new × (content_of new ≡ content_of old)
+  pub unchanged : (old new : Store P) → StoreKeeps old old.order.kept.items new → StoreOk new → Standing image world began old → Standing image world began new × (content_of new ≡ content_of old)
   unchanged old new k ok s = (
     record {
       ok = ok;
@@ -154,12 +156,12 @@ module _ (image : Image) (world : World) (began : List (Option Began)) {P : Type
   )
 
   module _ (formed : Formed image) (sound : Sound image) (old mid : Store P) (k : Kept) (fresh : entry_of old.order.kept.items k.wave k.instr ≡ None) (waits : k.answer ≡ None) (ask : IsAsked image world (asked_of k))
-      (keeps : Keeps old (old.order.kept.items ++ k ∷ []) mid) (running : old.fault ≡ None) (working : old.failed ≡ None) (standing : Standing image world began old) where
+      (keeps : StoreKeeps old (old.order.kept.items ++ k ∷ []) mid) (running : old.fault ≡ None) (working : old.failed ≡ None) (standing : Standing image world began old) where
     came : (m : Outside) → StandsFor image world began old m → StandsFor image world began mid m
     came m h = record {
-      going = subst (λ (x : List Kept × code.Chain × List ℕ × Option ℕ). Going image world (issued_in x.0) (waiting_in image x.0) (has x.3) (chain_of x.1) m x.2) (λ j. (sym keeps.kept_are j, sym keeps.chain j, sym keeps.early j, sym (keeps.fault ∙ running) j))
+      going = subst (λ (x : List Kept × code.Chain × List ℕ × Option ℕ). OrderGoes image world (issued_in x.0) (waiting_in image x.0) (has x.3) (chain_of x.1) m x.2) (λ j. (sym keeps.kept_are j, sym keeps.chain j, sym keeps.early j, sym (keeps.fault ∙ running) j))
           (going_any image world (issued_in old.order.kept.items) (issued_in (old.order.kept.items ++ k ∷ [])) (issued_push image old.order.kept.items k fresh waits) (waiting_in image old.order.kept.items) (waiting_in image (old.order.kept.items ++ k ∷ [])) (chain_of old.order.chain) m old.order.early.items
-          (subst (λ (f : Option ℕ). Going image world (issued_in old.order.kept.items) (waiting_in image old.order.kept.items) (has f) (chain_of old.order.chain) m old.order.early.items) running h.going));
+          (subst (λ (f : Option ℕ). OrderGoes image world (issued_in old.order.kept.items) (waiting_in image old.order.kept.items) (has f) (chain_of old.order.chain) m old.order.early.items) running h.going));
       right = right_now;
       outside = subst (OutIs began m) (sym keeps.outer) h.outside;
     }
@@ -175,7 +177,7 @@ module _ (image : Image) (world : World) (began : List (Option Began)) {P : Type
               | inr a ↦ h.right w i xs (sym a.1 ∙ g)
             ]
 
-    arrives : (m : Outside) → Arrives image (buffer_in image (content_of old) m) (asked_of k) (buffer_of image mid m)
+    arrives : (m : Outside) → RequestArrives image (buffer_in image (content_of old) m) (asked_of k) (buffer_of image mid m)
     arrives m = record {
       fresh = ap (operands_if image) fresh;
       kept = λ w i. ap (λ (x : List Kept). kept_in image x w i) keeps.kept_are ∙ kept_push image old.order.kept.items k fresh waits w i;
@@ -303,3 +305,6 @@ pub with_job : {P : Type 0} (im image : Image) (world : World) (began : List (Op
 with_job im image world began same formed sound old new k r tokens result asked right leads standing =
     subst (λ (q : Asked). Standing image world began new × RightTokens image world tokens × SubmitSo image world began (content_of old) q (with_tokens tokens result) (content_of new)) asked
     (subst (λ (i : Image). SubmitLeads i old k tokens result new) same leads world began formed sound (subst (IsAsked image world) (sym asked) right) standing)
+
+pub no_room : (o : Order) → OrderOk o → o.kept.items ≡ [] → o.early.items ≡ [] → Room o
+no_room o ok e f = let w = none_wait o ok e in let l = ap length f in omega (arith, w, l, o.early.ok.0)

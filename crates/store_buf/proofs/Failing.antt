@@ -52,10 +52,10 @@ counted None left took (Some port) h = absurd h
 counted (Some b) left took None h = absurd h
 counted (Some b) left took (Some port) h = h.2
 
-rose_from : (a b c : ℕ) → a ≤ b → Rose b c → Rose a c
+pub rose_from : (a b c : ℕ) → a ≤ b → Rose b c → Rose a c
 rose_from a b c le r = elim r [ inl l ↦ inl (omega (arith, le, l)) | inr e ↦ inr e ]
 
-in_seven : (op : Op) (p : ℕ) → port_of op ≡ Some p → PortIn op → (1 ≤ p) × (p ≤ 7)
+pub in_seven : (op : Op) (p : ℕ) → port_of op ≡ Some p → PortIn op → (1 ≤ p) × (p ≤ 7)
 in_seven (Give q) p e h = let same : q ≡ p = cc in subst (λ (n : ℕ). (1 ≤ n) × (n ≤ 7)) same h
 in_seven (Take q) p e h = let same : q ≡ p = cc in subst (λ (n : ℕ). (1 ≤ n) × (n ≤ 7)) same h
 in_seven _ p e h = absurd (let f : None ≡ Some p = e in cc)

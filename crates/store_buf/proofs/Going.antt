@@ -10,10 +10,10 @@ use Rattle.df_core.proofs.Facts.{WalkFacts}
 use Rattle.df_core.proofs.Ports.{SameKey, with_key_cases, with_key_same}
 use Rattle.df_core.proofs.BufferKept as B
 use Rattle.df_core.proofs.Settling.{EarlyAt, settle, early_any, one_time, pass_early, pass_issued}
-use Rattle.store_buf.specs.Orders.{Going}
+use Rattle.store_buf.specs.Orders.{OrderGoes}
 
 module _ (image : Image) (world : World) (facts : WalkFacts image world) (issued : ℕ → ℕ → Option ℕ) (waiting : ℕ → ℕ → Option (List ℕ)) (stopped : Bool) (chain : Chain) (memory : Outside) (early : List ℕ)
-    (g : Going image world issued waiting stopped chain memory early) (w i : ℕ) (xs : List ℕ) (r : RightRequest image world w i xs) (may : Issuable image issued chain stopped w i xs) where
+    (g : OrderGoes image world issued waiting stopped chain memory early) (w i : ℕ) (xs : List ℕ) (r : RightRequest image world w i xs) (may : Issuable image issued chain stopped w i xs) where
   new_issued : ℕ → ℕ → Option ℕ
   new_issued = issued_with image issued memory w i xs
 
@@ -41,7 +41,7 @@ module _ (image : Image) (world : World) (facts : WalkFacts image world) (issued
     new_legal = B.new_legal image world facts issued chain stopped memory g.legal.settled w i xs may r.time r.inst r.at r.operands r.memory g.legal.cut g.legal.ordered inside after
 
     pub goes_next : IsNext chain (note_of image i) → (d : Chain) (left : List ℕ) → Settles image (pass chain (note_of image i)) (left_after (note_of image i) early) d left →
-        Passes image (issued_with image issued memory w i xs) chain d × Going image world (issued_with image issued memory w i xs) after stopped d (effect_after image i xs memory) left
+        Passes image (issued_with image issued memory w i xs) chain d × OrderGoes image world (issued_with image issued memory w i xs) after stopped d (effect_after image i xs memory) left
     goes_next nx d left settles =
         let u : ℕ = r.time in
         let o' : Ordered image world (suc r.time) (issued_with image issued memory w i xs) (pass chain (note_of image r.inst.instr)) (effect_after image i xs memory) =
@@ -74,7 +74,7 @@ module _ (image : Image) (world : World) (facts : WalkFacts image world) (issued
         )
 
     pub goes_early : (IsNext chain (note_of image i) → ⊥) → is_load image i ≡ true →
-        Passes image (issued_with image issued memory w i xs) chain chain × Going image world (issued_with image issued memory w i xs) after stopped chain (effect_after image i xs memory) (i ∷ early)
+        Passes image (issued_with image issued memory w i xs) chain chain × OrderGoes image world (issued_with image issued memory w i xs) after stopped chain (effect_after image i xs memory) (i ∷ early)
     goes_early not_next l =
         let p : Passes image (issued_with image issued memory w i xs) chain chain = stays (λ j a e nj. elim (issued_from chain.wave j a e) [
           | inl k ↦ not_next (subst (λ (n : ℕ). IsNext chain (note_of image n)) (sym k.0.instr) nj)
@@ -98,7 +98,7 @@ module _ (image : Image) (world : World) (facts : WalkFacts image world) (issued
         )
 
   -- past the end the chain stops at it
-  pub goes_not : is_past image i xs ≡ true → waiting w i ≡ Some xs → Going image world issued waiting true chain memory early
+  pub goes_not : is_past image i xs ≡ true → waiting w i ≡ Some xs → OrderGoes image world issued waiting true chain memory early
   goes_not beyond waits = record {
     legal = B.stop_legal image world facts issued chain stopped memory g.legal.settled w i xs may r.time r.inst r.at r.operands r.memory g.legal.cut g.legal.ordered beyond waiting waits;
     early_issued = g.early_issued;

@@ -17,3 +17,6 @@ pub mod Coming
 pub mod Opening
 pub mod Once
 pub mod Idle
+pub mod Telling
+pub mod Searched
+pub mod Planted

@@ -2,7 +2,7 @@
 use Rattle.std.proofs.Common.{ℕ, ◌-◌, ◌≡◌, false, List, [], Option, Some, None, refl, sym, ap, ◌∙◌, subst, arith}
 use Rattle.std.proofs.lemmas.List.{append-nil}
 use Rattle.ws_words.specs.Outside.{World, row}
-use Rattle.ws_isa.specs.Image.{Image, In}
+use Rattle.ws_isa.specs.Image.{Image}
 use Rattle.ws_isa.specs.Walk.{opening_memory}
 use Rattle.df_core.specs.Core.{State, Reach, Once, core_opening}
 use Rattle.df_core.specs.Fit.{Fit, Grounded, Legal}
@@ -14,6 +14,7 @@ use Rattle.store_buf.specs.Outdoors.{more, SlotIs, BeganSo, AllBegan}
 use Rattle.store_buf.specs.Contents.{IsBuffer, FailedSo, Idle, Content, opening_content}
 use Rattle.store_buf.specs.Requests.{issued_in}
 use Rattle.store_buf.specs.Stores.{StoreOk, Standing, content_of}
+use Rattle.ws_words.specs.Items.{In}
 
 slot_is : (b : Option Began) (left : List ℕ) (t : Option Told) → BeganSo b left t → SlotIs b left [] t
 slot_is None left None h = h

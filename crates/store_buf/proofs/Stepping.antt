@@ -4,7 +4,7 @@ use Rattle.std.proofs.lemmas.Bool.{and_parts, both_ways}
 use Rattle.ws_words.specs.Outside.{Outside, World, row}
 use Rattle.ws_isa.specs.declared.instr.Op.{Op}
 use Rattle.ws_isa.specs.declared.instr.Op.TheVariants.{Phi, Steer, Send}
-use Rattle.ws_isa.specs.Image.{Image, In, instr_at, is_memory_op, is_load, is_load_op, is_past, is_past_op, is_advance_op, note_of, ports, ports_of, answer, answer_op, after, after_op, selector_of, sends, tokens_to, array_of_op, array_at}
+use Rattle.ws_isa.specs.Image.{Image, instr_at, is_memory_op, is_load, is_load_op, is_past, is_past_op, is_advance_op, note_of, ports, ports_of, answer, answer_op, after, after_op, selector_of, sends, tokens_to, array_of_op, array_at}
 use Rattle.ws_isa.specs.Formed.{Formed}
 use Rattle.ws_isa.specs.Sound.{Sound}
 use Rattle.ws_isa.specs.Operations.{effect_of}
@@ -33,7 +33,6 @@ use Rattle.store_buf.specs.declared.kept.Kept.{Kept}
 use Rattle.store_buf.specs.declared.order.Order.{Order}
 use Rattle.store_buf.specs.Requests.{entry_of, kept_in, issued_in, answer_if, operands_if}
 use Rattle.store_buf.specs.Finding.{place_in}
-use Rattle.store_buf.specs.Orders.{Going}
 use Rattle.store_buf.specs.Ordering.{kept_at, OrderOk, ready_flag}
 use Rattle.store_buf.specs.Outdoors.{Holding, OutIs, Performed, SlotIs}
 use Rattle.store_buf.specs.Contents.{FaultIs, RightTokens}
@@ -43,6 +42,8 @@ use Rattle.store_buf.proofs.Ordered.{ready_waits}
 use Rattle.store_buf.proofs.Going as G
 use Rattle.store_buf.proofs.Alike.{going_alike, early_alike, once_of, entry_set}
 use Rattle.ws_words.proofs.Bools.{not_true as not_false, or_comes as either}
+use Rattle.ws_words.specs.Items.{In}
+use Rattle.store_buf.specs.Orders.{OrderGoes}
 
 pub two_ports : (op : Op) (f s : ℕ) → is_memory_op op ≡ true → listed (ports_of op) (record { first = f; second = s; third = 0 }) ≡ operands_of (ports_of op) f s
 two_ports Phi f s e = absurd (both_ways false refl e)
@@ -54,7 +55,7 @@ no_selector (Send k) xs e = absurd (both_ways false refl e)
 no_selector _ xs e = refl
 
 -- loads before their turn leave nothing
-out_effect : (began : List (Option Began)) (o : Outside) (h : Holding) → OutIs began o h → OutIs began (effect_of o) h
+pub out_effect : (began : List (Option Began)) (o : Outside) (h : Holding) → OutIs began o h → OutIs began (effect_of o) h
 out_effect began o h is = record {
   cells_are = is.cells_are;
   input_is = is.input_is;
@@ -206,7 +207,7 @@ module _ (image : Image) (world : World) (formed : Formed image) (sound : Sound 
 
     Goes : Type 0
     Goes = Passes image (issued_with image (issued_in o.kept.items) m (kept_at o p).wave (kept_at o p).instr xs) (chain_of o.chain) (chain_of new.chain)
-        × Going image world (issued_with image (issued_in o.kept.items) m (kept_at o p).wave (kept_at o p).instr xs) (waiting_in image new.kept.items) false (chain_of new.chain) (effect_after image (kept_at o p).instr xs m) new.early.items
+        × OrderGoes image world (issued_with image (issued_in o.kept.items) m (kept_at o p).wave (kept_at o p).instr xs) (waiting_in image new.kept.items) false (chain_of new.chain) (effect_after image (kept_at o p).instr xs m) new.early.items
 
     goes : Goes
     unfolding Goes
@@ -215,7 +216,7 @@ module _ (image : Image) (world : World) (formed : Formed image) (sound : Sound 
       | inr q ↦ (let load : is_load image (kept_at o p).instr ≡ true = elim turn [ inl e ↦ absurd (q.0 e) | inr e ↦ e.0 ] in
           let r = G.goes_early image world facts (issued_in o.kept.items) (waiting_in image o.kept.items) false (chain_of o.chain) m o.early.items hold.going (kept_at o p).wave (kept_at o p).instr xs right may inside (waiting_in image new.kept.items) q.0 load in (
             subst (λ (d : law.Chain). Passes image (issued_with image (issued_in o.kept.items) m (kept_at o p).wave (kept_at o p).instr xs) (chain_of o.chain) d) (sym q.1) r.0,
-            subst (λ (d : law.Chain). Going image world (issued_with image (issued_in o.kept.items) m (kept_at o p).wave (kept_at o p).instr xs) (waiting_in image new.kept.items) false d (effect_after image (kept_at o p).instr xs m) new.early.items) (sym q.1)
+            subst (λ (d : law.Chain). OrderGoes image world (issued_with image (issued_in o.kept.items) m (kept_at o p).wave (kept_at o p).instr xs) (waiting_in image new.kept.items) false d (effect_after image (kept_at o p).instr xs m) new.early.items) (sym q.1)
                 (early_alike image world (issued_with image (issued_in o.kept.items) m (kept_at o p).wave (kept_at o p).instr xs) (waiting_in image new.kept.items) false (chain_of o.chain) (effect_after image (kept_at o p).instr xs m) ((kept_at o p).instr ∷ o.early.items) new.early.items
                 (λ j e. subst (In j) (sym q.2) (in_end (kept_at o p).instr j o.early.items e)) (λ j e. end_in (kept_at o p).instr j o.early.items (subst (In j) q.2 e)) r.1),
           ))

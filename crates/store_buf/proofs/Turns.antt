@@ -1,9 +1,8 @@
 -- Issues in turn, and more of them.
-use Rattle.std.proofs.Common.{ℕ, ◌≡◌, ◌≤◌, ◌⊎◌, Bool, List, [], ◌∷◌, ◌++◌, Option, sym, ap, ◌∙◌, subst, inl, inr, arith}
+use Rattle.std.proofs.Common.{ℕ, ◌≡◌, ◌⊎◌, Bool, List, [], ◌++◌, Option, sym, ap, ◌∙◌, subst, inl, inr}
 use Rattle.std.proofs.lemmas.List.{append_assoc, append-nil}
 use Rattle.ws_words.specs.Outside.{World}
 use Rattle.ws_isa.specs.Image.{Image, Token}
-use Rattle.ws_io.specs.Streams.{Rose}
 use Rattle.df_core.specs.Core.{has}
 use Rattle.df_core.specs.Shown.{Buffer}
 use Rattle.df_core.specs.Chains.{chain_of}
@@ -16,6 +15,7 @@ use Rattle.store_buf.specs.Contents.{FaultIs, RightTokens}
 use Rattle.store_buf.specs.Holds.{Issued, Stopped, Issues, stays, goes, stops, part}
 use Rattle.store_buf.specs.Stores.{buffer_of, IssueLeads, StaysSo, AllLead, SilentSo}
 use Rattle.df_core.proofs.SlotLists.{is_sent_append_cases as sent_either}
+use Rattle.store_buf.proofs.Failing.{rose_from}
 
 pub issues_on : (image : Image) (a b c : Buffer) (xs ys : List Token) → Issues image a xs b → Issues image b ys c → Issues image a (xs ++ ys) c
 issues_on image a b c xs ys stays more = more
@@ -29,10 +29,6 @@ one_issue image b c w i ts (inr e) = subst (λ (us : List Token). Issues image b
 
 right_both : (image : Image) (world : World) (xs ys : List Token) → RightTokens image world xs → RightTokens image world ys → RightTokens image world (xs ++ ys)
 right_both image world xs ys a b w i p v e = elim (sent_either xs ys w i p v e) [ inl h ↦ a w i p v h | inr h ↦ b w i p v h ]
-
-rose_from : (a b c : ℕ) → a ≤ b → Rose b c → Rose a c
-rose_from a b c l (inl h) = inl (omega (arith, l, h))
-rose_from a b c l (inr h) = inr h
 
 module _ {P : Type 0} where
   pub none_yet : (image : Image) (s : Store P) (ts : List Token) → AllLead image s s ts ts

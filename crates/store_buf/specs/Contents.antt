@@ -1,5 +1,6 @@
 -- A buffer as contracts see it, and what comes of a request.
-use Rattle.std.specs.Prelude.{ℕ, ◌≡◌, ◌⊎◌, Bool, true, false, cond, List, [], Option, Some, None, Result, Ok, Err}
+use Rattle.std.specs.Prelude.{ℕ, ◌≡◌, ◌⊎◌, Bool, true, false, cond, List, [], Option, Some, None, Result, Ok}
+use Rattle.std.specs.Prelude.{Err}
 use Rattle.ws_words.specs.Outside.{Outside, World}
 use Rattle.ws_isa.specs.declared.instr.Op.{Op}
 use Rattle.ws_isa.specs.declared.instr.Op.TheVariants.{Load, Input, Give}
@@ -46,7 +47,7 @@ pub record IsBuffer (image : Image) (world : World) (began : List (Option Began)
   pub fault : FaultIs image world c.fault
 
 -- a request that had not come has come, and waits
-pub record Arrives (image : Image) (old : Buffer) (r : Asked) (new : Buffer) : Type 0 where
+pub record RequestArrives (image : Image) (old : Buffer) (r : Asked) (new : Buffer) : Type 0 where
   pub fresh : old.kept r.wave r.instr ≡ None
   pub kept : (w i : ℕ) → new.kept w i ≡ with_key r.wave r.instr
       (Some (operands_of (ports image r.instr) r.first r.second)) old.kept w i
@@ -59,7 +60,7 @@ pub record Arrives (image : Image) (old : Buffer) (r : Asked) (new : Buffer) : T
 pub record Submitted (image : Image) (world : World) (began : List (Option Began)) (old : Content)
     (m : Outside) (r : Asked) (tokens : List Token) (new : Content) : Type 0 where
   pub arrived : Buffer
-  pub arrives : Arrives image (buffer_in image old m) r arrived
+  pub arrives : RequestArrives image (buffer_in image old m) r arrived
   pub memory : Outside
   pub issues : Issues image arrived tokens (buffer_in image new memory)
   pub is : IsBuffer image world began new memory

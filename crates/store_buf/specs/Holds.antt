@@ -11,8 +11,8 @@ use Rattle.df_core.specs.Chains.{chain_of}
 use Rattle.store_buf.specs.declared.kept.Kept.{Kept}
 use Rattle.store_buf.specs.declared.order.Order.{Order}
 use Rattle.store_buf.specs.Requests.{kept_in, issued_in, issued_keys}
-use Rattle.store_buf.specs.Orders.{Going}
 use Rattle.store_buf.specs.Outdoors.{Holding, OutIs}
+use Rattle.store_buf.specs.Orders.{OrderGoes}
 
 -- the part of the core's state that a buffer is
 abbrev pub part : Image → List Kept → Chain → Bool → Outside → Buffer
@@ -33,7 +33,7 @@ waiting_in image ks w i = waits_if (issued_in ks w i) (kept_in image ks w i) Non
 -- these requests, this chain and these holdings stand for a buffer with this memory
 pub record Holds (image : Image) (world : World) (began : List (Option Began)) (order : Order)
     (stopped : Bool) (h : Holding) (m : Outside) : Type 0 where
-  pub going : Going image world (issued_in order.kept.items) (waiting_in image order.kept.items) stopped
+  pub going : OrderGoes image world (issued_in order.kept.items) (waiting_in image order.kept.items) stopped
       (chain_of order.chain) m order.early.items
   pub right : (w i : ℕ) (xs : List ℕ) → kept_in image order.kept.items w i ≡ Some xs
       → RightRequest image world w i xs

@@ -1,6 +1,8 @@
 pub mod Orders
 pub mod Requests
 pub mod Finding
+pub mod Trees
+pub mod Hooks
 pub mod Laters
 pub mod Ordering
 pub mod Outdoors

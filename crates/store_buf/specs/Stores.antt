@@ -1,5 +1,6 @@
 -- What a store stands for, and where its calls lead.
-use Rattle.std.specs.Prelude.{ℕ, ◌≡◌, cond, ◌+◌, ◌≤◌, ◌++◌, ◌⊎◌, true, false, List, [], Option, Some, None, Result, Ok, Err, vec_len, vec_capacity}
+use Rattle.std.specs.Prelude.{ℕ, ◌≡◌, cond, ◌+◌, ◌≤◌, ◌++◌, ◌⊎◌, true, false, List, [], Option, Some, None}
+use Rattle.std.specs.Prelude.{Result, Ok, Err, vec_len, vec_capacity}
 use Rattle.ws_words.specs.Outside.{Outside, World}
 use Rattle.ws_isa.specs.Image.{Image, Token}
 use Rattle.ws_isa.specs.Formed.{Formed}
@@ -9,7 +10,7 @@ use Rattle.df_core.specs.Shown.{Buffer}
 use Rattle.df_core.specs.Began.{Began}
 use Rattle.df_core.specs.Rights.{Asked, IsAsked}
 use Rattle.df_core.specs.Chains.{chain_of}
-use Rattle.df_core.specs.Stands.{HasEarly}
+use Rattle.df_core.specs.Stands.{HasEarly, EarlyIssued}
 use Rattle.store_buf.specs.declared.fault.BufFault.{BufFault}
 use Rattle.store_buf.specs.declared.fault.BufFault.TheVariants as fault
 use Rattle.store_buf.specs.declared.fault.Silent.{Silent}
@@ -17,9 +18,9 @@ use Rattle.store_buf.specs.declared.fault.Silent.TheVariants.{Failed, NoMemory}
 use Rattle.store_buf.specs.declared.kept.Kept.{Kept}
 use Rattle.store_buf.specs.declared.store.Store.{Store}
 use Rattle.store_buf.specs.Requests.{issued_in}
-use Rattle.store_buf.specs.Orders.{EarlyIssued}
 use Rattle.store_buf.specs.Outdoors.{RoseAt}
-use Rattle.store_buf.specs.Contents.{Content, FailedSo, FaultIs, IsBuffer, Idle, PortWaits, RightTokens, SubmitSo, with_tokens}
+use Rattle.store_buf.specs.Contents.{Content, FailedSo, FaultIs, IsBuffer, Idle, PortWaits, RightTokens}
+use Rattle.store_buf.specs.Contents.{SubmitSo, with_tokens}
 use Rattle.store_buf.specs.Holds.{Holds, Issued, Stopped, Issues, part}
 use Rattle.store_buf.specs.Ordering.{OrderOk, Room, NoneMay}
 use Rattle.store_buf.specs.Outers.{holding}
@@ -52,7 +53,7 @@ module _ {P : Type 0} where
     pub printed : vec_len s.outer.printed + s.order.waiting ≤ vec_capacity s.outer.printed
 
   -- it has these requests, and else nothing has changed
-  pub record Keeps (old : Store P) (kept : List Kept) (new : Store P) : Type 0 where
+  pub record StoreKeeps (old : Store P) (kept : List Kept) (new : Store P) : Type 0 where
     pub kept_are : new.order.kept.items ≡ kept
     pub chain : new.order.chain ≡ old.order.chain
     pub early : new.order.early.items ≡ old.order.early.items

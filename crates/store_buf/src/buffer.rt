@@ -9,9 +9,11 @@ ghost use Rattle.df_core.specs.Rights.{IsAsked};
 ghost use Rattle.port_set.specs.Slots.{AllOpen, contents};
 ghost use Rattle.store_buf.specs.Requests.{entry_of};
 ghost use Rattle.store_buf.specs.Outdoors.{AllBegan};
-ghost use Rattle.store_buf.specs.Contents.{IsBuffer, FailedSo, Idle, SubmitSo, opening_content, answer_of, stop_of, gives_word};
+ghost use Rattle.store_buf.specs.Contents.{IsBuffer, FailedSo, Idle, SubmitSo, opening_content, answer_of};
+ghost use Rattle.store_buf.specs.Contents.{stop_of, gives_word, with_tokens};
 ghost use Rattle.store_buf.specs.Stores.{asked_of};
 
+use crate::answers::Answers;
 use crate::fault::BufFault;
 use crate::kept::Kept;
 use crate::order::Order;
@@ -19,7 +21,6 @@ use crate::outer::{BufferEnd, Outer, empty_cells};
 use crate::store::Store;
 use df_core::{Code, Job, Request, TokenList, every_list_of_events};
 use port_set::{OpenSet, Port, Slots};
-use smallvec::SmallVec;
 use std::alloc::Global;
 use std::marker::{Model, PhantomData};
 use ws_isa::Op;
@@ -98,12 +99,27 @@ impl<J: Job, P: Port> Buffer<J, P> {
     ) -> Result<TokenList<J>, BufFault>
         ensures { SubmitSo J.image J.world J.began self.old request result self.new }
     {
-        let kept = kept_of(&request);
-        let mut told = SmallVec::new(self.alloc);
-        match self.store.submit(code.program(), kept, &mut told) {
-            Ok(()) => Ok(TokenList::of_right(told)),
+        let mut answers = Answers::none(self.alloc);
+        match self.submit_into(code, request, &mut answers) {
+            Ok(()) => Ok(answers.listed()),
             Err(fault) => Err(fault),
         }
+    }
+
+    /// The same, with the result tokens in place of earlier answers.
+    #[inline(always)]
+    pub fn submit_into(
+        &mut self,
+        code: &Code<'_, J>,
+        request: Request<J>,
+        answers: &mut Answers<J>,
+    ) -> Result<(), BufFault>
+        ensures { SubmitSo J.image J.world J.began self.old request (with_tokens answers.new result)
+            self.new }
+    {
+        let kept = kept_of(&request);
+        answers.told.clear();
+        self.store.submit(code.program(), kept, &mut answers.told)
     }
 
     /// Whether the request of an instance was kept.

@@ -1,12 +1,15 @@
 //! The order of a buffer: its requests, and which of them may be issued.
 
-ghost use Rattle.std.specs.Prelude.{◌≡◌, ◌∷◌, ◌++◌, [], ℕ, suc, ◌+◌, ◌<◌, ◌≤◌, ◌^◌, Bool, None, Some, true, false, length, slice_index_or, slice_set, vec_capacity, MatchOption, IfSome, IfNone, OnOk, OnErr};
-ghost use Rattle.ws_isa.specs.Image.{In, is_load_op};
+ghost use Rattle.std.specs.Prelude.{◌≡◌, ◌∷◌, ◌++◌, [], ℕ, suc, ◌+◌, ◌<◌, ◌≤◌, ◌^◌, Bool, None, Some, true};
+ghost use Rattle.std.specs.Prelude.{false, length, slice_index_or, slice_set, vec_capacity, MatchOption};
+ghost use Rattle.std.specs.Prelude.{IfSome, IfNone, OnOk, OnErr};
+ghost use Rattle.ws_isa.specs.Image.{is_load_op};
 ghost use Rattle.df_core.specs.Places.{ProgramIs, image_of};
 ghost use Rattle.df_core.specs.Chains.{chain_of, may_flag, PassedOn};
 ghost use Rattle.store_buf.specs.Requests.{entry_of, unissued};
 ghost use Rattle.store_buf.specs.Finding.{place_in};
 ghost use Rattle.store_buf.specs.Ordering.{OrderOk, Room, MayAt, NoneMay, near_at, kept_at, ready_flag};
+ghost use Rattle.ws_words.specs.Items.{In};
 
 use crate::index::Index;
 use crate::kept::Kept;
@@ -93,6 +96,8 @@ impl Order {
         ensures ok { OrderOk self.new }
         ensures kept { OnOk result (self.new.kept.items ≡ self.old.kept.items ++ kept ∷ []) }
         ensures room { OnOk result (Room self.new) }
+        ensures at_hand { OnOk result (kept.wave ≤ self.old.chain.wave → self.new.near.items
+            ≡ self.old.near.items ++ length self.old.kept.items ∷ []) }
         ensures unchanged { OnErr result (self.new.kept.items ≡ self.old.kept.items) }
         ensures early { self.new.early.items ≡ self.old.early.items }
         ensures chain { self.new.chain ≡ self.old.chain }
@@ -121,6 +126,54 @@ impl Order {
         Ok(())
     }
 
+    /// Puts the last request at hand behind those with greater instruction numbers, where they stand in
+    /// order: so what is next mostly stands at the end.
+    pub fn file_last(&mut self)
+        requires { OrderOk self.old }
+        ensures ok { OrderOk self.new }
+        ensures kept { self.new.kept ≡ self.old.kept }
+        ensures early { self.new.early ≡ self.old.early }
+        ensures chain { self.new.chain ≡ self.old.chain }
+        ensures waiting { self.new.waiting ≡ self.old.waiting }
+    {
+        if self.near.len() < 2 {
+            return;
+        }
+        let Some(place) = self.near.pop() else {
+            return;
+        };
+        let at = self.behind_greater(place);
+        match self.near.insert(at, place) {
+            Ok(()) => {}
+            Err(_) => unreachable!(),
+        }
+    }
+
+    // The place at hand behind the requests with greater numbers than this one's, by halves.
+    fn behind_greater(&self, place: usize) -> usize
+        ensures { result ≤ length self.now.near.items }
+    {
+        let mut low = 0;
+        let mut high = self.near.len();
+        while low < high {
+            let middle = low + (high - low) / 2;
+            if self.is_greater(self.near[middle], place) {
+                low = middle + 1;
+            } else {
+                high = middle;
+            }
+        }
+        low
+    }
+
+    // Whether the request at one place has a greater instruction number than that at another.
+    fn is_greater(&self, one: usize, other: usize) -> bool {
+        match (self.kept.get(one), self.kept.get(other)) {
+            (Some(first), Some(second)) => first.instr > second.instr,
+            _ => false,
+        }
+    }
+
     /// The place in the list at hand of a request that may be issued. It is looked for from both
     /// ends: mostly it stands at one of them.
     pub fn issuable(&self, program: &Program<'_>) -> Option<usize>
@@ -142,6 +195,22 @@ impl Order {
             front += 1;
         }
         None
+    }
+
+    /// The place in the list at hand of a request that may be issued: this one, or else one that is
+    /// looked for.
+    #[inline(always)]
+    pub fn this_or_issuable(&self, program: &Program<'_>, this: Option<usize>) -> Option<usize>
+        requires program { ProgramIs program.now }
+        requires ok { OrderOk self.now }
+        requires this { IfSome this (MayAt (image_of program.now) self.now) }
+        ensures { MatchOption result (NoneMay (image_of program.now) self.now)
+            (MayAt (image_of program.now) self.now) }
+    {
+        match this {
+            Some(at) => Some(at),
+            None => self.issuable(program),
+        }
     }
 
     /// Whether the request at a place has no answer and the chain lets it issue.
@@ -210,7 +279,7 @@ impl Order {
         let wave = self.chain.wave;
         self.chain = pass_on(program, self.chain, &mut self.early, kept.instr);
         if self.chain.wave != wave {
-            self.near = self.later.take(self.chain.wave);
+            self.later.move_to(self.chain.wave, &mut self.near);
         }
     }
 }

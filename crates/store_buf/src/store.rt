@@ -1,9 +1,10 @@
 //! A buffer without its job: requests, chain, memory and ports.
 
-ghost use Rattle.std.specs.Prelude.{◌≡◌, ◌<◌, ◌≤◌, ◌+◌, ◌*◌, ◌++◌, ◌∷◌, ◌⊎◌, [], true, false, Some, None, IfErr, OnOk, OnErr};
+ghost use Rattle.std.specs.Prelude.{◌≡◌, ◌<◌, ◌≤◌, ◌+◌, ◌*◌, ◌++◌, ◌∷◌, ◌⊎◌, [], true, false, Some, None};
+ghost use Rattle.std.specs.Prelude.{length, IfErr, IfSome, OnOk, OnErr};
 ghost use Rattle.smallvec.specs.SmallVec.{HasRoomFor};
 ghost use Rattle.ws_isa.specs.Formed.{Formed};
-ghost use Rattle.ws_isa.specs.Image.{array_of_op};
+ghost use Rattle.ws_isa.specs.Image.{Image, array_of_op};
 ghost use Rattle.df_core.specs.Core.{has};
 ghost use Rattle.df_core.specs.Chains.{chain_of, may_flag};
 ghost use Rattle.df_core.specs.Places.{ProgramIs, image_of};
@@ -11,7 +12,8 @@ ghost use Rattle.df_core.specs.Rights.{tokens_of};
 ghost use Rattle.store_buf.specs.Requests.{entry_of};
 ghost use Rattle.store_buf.specs.Ordering.{MayAt, NoneMay};
 ghost use Rattle.store_buf.specs.Outdoors.{FaultsGrow};
-ghost use Rattle.store_buf.specs.Stores.{StoreOk, Keeps, IssueLeads, StaysSo, AllLead, SilentSo, SettledSo, SubmitLeads, content_of, left_over};
+ghost use Rattle.store_buf.specs.Stores.{StoreOk, IssueLeads, StaysSo, AllLead, SilentSo, SettledSo};
+ghost use Rattle.store_buf.specs.Stores.{SubmitLeads, content_of, left_over, StoreKeeps};
 
 use crate::fault::{BufFault, Silent};
 use crate::kept::Kept;
@@ -38,7 +40,7 @@ pub struct Store<P: Port> {
 }
 
 impl<P: Port> Store<P> {
-    /// Keeps a request and issues what may be issued then; the tokens of that are told.
+    /// StoreKeeps a request and issues what may be issued then; the tokens of that are told.
     pub fn submit(
         &mut self,
         program: &Program<'_>,
@@ -63,8 +65,9 @@ impl<P: Port> Store<P> {
         match self.order.find(kept.wave, kept.instr) {
             Some(_) => Err(BufFault::Old),
             None => {
-                if self.starved || self.order.lets(program, kept) {
-                    self.take_in(program, kept, told)
+                let lets = self.order.lets(program, kept);
+                if self.starved || lets {
+                    self.take_in(program, kept, lets, told)
                 } else {
                     self.put_by(program, kept)
                 }
@@ -72,7 +75,7 @@ impl<P: Port> Store<P> {
         }
     }
 
-    // Keeps a request that the chain doesn't let issue, so that nothing may be issued then.
+    // StoreKeeps a request that the chain doesn't let issue, so that nothing may be issued then.
     fn put_by(&mut self, program: &Program<'_>, kept: Kept) -> Result<(), BufFault>
         requires program { ProgramIs program.now }
         requires ok { StoreOk self.old }
@@ -86,21 +89,27 @@ impl<P: Port> Store<P> {
         ensures leads { SubmitLeads (image_of program.now) self.old kept [] result self.new }
     {
         match self.keep(kept) {
-            Ok(()) => Ok(()),
+            Ok(()) => {
+                self.order.file_last();
+                Ok(())
+            }
             Err(_) => Err(BufFault::NoMemory),
         }
     }
 
-    // Keeps a request, and issues what may be issued then.
+    // StoreKeeps a request, which the chain lets issue or not, and issues what may be issued then.
     fn take_in(
         &mut self,
         program: &Program<'_>,
         kept: Kept,
+        lets: bool,
         told: &mut Told,
     ) -> Result<(), BufFault>
         requires program { ProgramIs program.now }
         requires formed { Formed (image_of program.now) }
         requires ok { StoreOk self.old }
+        requires lets { lets ≡ may_flag (image_of program.now) (chain_of self.old.order.chain)
+            kept.wave kept.instr kept.first }
         requires fresh { entry_of self.old.order.kept.items kept.wave kept.instr ≡ None }
         requires waits { kept.answer ≡ None }
         requires running { self.old.fault ≡ None }
@@ -113,8 +122,12 @@ impl<P: Port> Store<P> {
         if self.make_room(told).is_err() {
             return Err(BufFault::NoMemory);
         }
+        let place = self.order.near.len();
         match self.keep(kept) {
-            Ok(()) => self.settle(program, told),
+            Ok(()) => {
+                let first = if lets { Some(place) } else { None };
+                self.settle(program, first, told)
+            }
             Err(_) => Err(BufFault::NoMemory),
         }
     }
@@ -133,15 +146,18 @@ impl<P: Port> Store<P> {
         Ok(())
     }
 
-    // Keeps a request of an instance that had none, and makes room for the word that it may print.
+    // StoreKeeps a request of an instance that had none, and makes room for the word that it may print.
     fn keep(&mut self, kept: Kept) -> Result<(), NoMemory>
         requires ok { StoreOk self.old }
         requires fresh { entry_of self.old.order.kept.items kept.wave kept.instr ≡ None }
         requires waits { kept.answer ≡ None }
         ensures ok { StoreOk self.new }
-        ensures keeps { OnOk result (Keeps self.old (self.old.order.kept.items ++ kept ∷ []) self.new) }
-        ensures unchanged { OnErr result (Keeps self.old self.old.order.kept.items self.new) }
+        ensures keeps { OnOk result (StoreKeeps self.old (self.old.order.kept.items ++ kept ∷ []) self.new) }
+        ensures unchanged { OnErr result (StoreKeeps self.old self.old.order.kept.items self.new) }
         ensures waiting { OnOk result (self.new.order.waiting ≡ self.old.order.waiting + 1) }
+        ensures may { OnOk result ((image : Image) → may_flag image (chain_of self.old.order.chain)
+            kept.wave kept.instr kept.first ≡ true
+            → MayAt image self.new.order (length self.old.order.near.items)) }
     {
         let waiting = self.order.waiting;
         if waiting >= MOST_WAITING {
@@ -151,11 +167,17 @@ impl<P: Port> Store<P> {
         self.order.add(kept)
     }
 
-    // Issues what may be issued, and keeps in mind how that ends.
-    fn settle(&mut self, program: &Program<'_>, told: &mut Told) -> Result<(), BufFault>
+    // Issues what may be issued, first this one, and keeps in mind how that ends.
+    fn settle(
+        &mut self,
+        program: &Program<'_>,
+        first: Option<usize>,
+        told: &mut Told,
+    ) -> Result<(), BufFault>
         requires program { ProgramIs program.now }
         requires formed { Formed (image_of program.now) }
         requires ok { StoreOk self.old }
+        requires first { IfSome first (MayAt (image_of program.now) self.old.order) }
         requires room { HasRoomFor told.old (8 * self.old.order.waiting) }
         ensures ok { StoreOk self.new }
         ensures lead { AllLead (image_of program.now) self.old self.new
@@ -164,7 +186,7 @@ impl<P: Port> Store<P> {
         ensures room { told.new.capacity ≡ told.old.capacity }
     {
         self.starved = false;
-        match self.issue_all(program, told) {
+        match self.issue_all(program, first, told) {
             Ok(()) => match self.fault {
                 Some(array) => Err(BufFault::Index { array }),
                 None => Ok(()),
@@ -216,11 +238,18 @@ impl<P: Port> Store<P> {
         Ok(())
     }
 
-    /// Issues requests until none may be issued, or the chain is stopped, or a port doesn't answer.
-    pub fn issue_all(&mut self, program: &Program<'_>, told: &mut Told) -> Result<(), Silent>
+    /// Issues requests, first this one, until none may be issued, or the chain is stopped, or a port
+    /// doesn't answer.
+    pub fn issue_all(
+        &mut self,
+        program: &Program<'_>,
+        first: Option<usize>,
+        told: &mut Told,
+    ) -> Result<(), Silent>
         requires program { ProgramIs program.now }
         requires formed { Formed (image_of program.now) }
         requires ok { StoreOk self.old }
+        requires first { IfSome first (MayAt (image_of program.now) self.old.order) }
         requires room { HasRoomFor told.old (8 * self.old.order.waiting) }
         ensures ok { StoreOk self.new }
         ensures lead { AllLead (image_of program.now) self.old self.new
@@ -233,11 +262,13 @@ impl<P: Port> Store<P> {
         ensures starved { self.new.starved ≡ self.old.starved }
         ensures same_room { told.new.capacity ≡ told.old.capacity }
     {
+        let mut next = first;
         while self.fault.is_none() {
-            match self.order.issuable(program) {
+            match self.order.this_or_issuable(program, next) {
                 None => return Ok(()),
                 Some(at) => self.issue(program, at, told)?,
             }
+            next = None;
         }
         Ok(())
     }

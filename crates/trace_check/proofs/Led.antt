@@ -4,7 +4,7 @@ use Rattle.std.proofs.lemmas.Bool.{true≢false}
 use Rattle.ws_words.specs.Outside.{World}
 use Rattle.ws_isa.specs.Image.{Image, is_memory, ports}
 use Rattle.ws_isa.specs.Walk.{walk, CostAtMost}
-use Rattle.df_core.specs.Core.{State, Event, Match, Issue, Run, Step, Enabled, Rest, is_full, arrived, asks, tells, matched, issue, core_opening}
+use Rattle.df_core.specs.Core.{State, Event, Match, Issue, Run, Step, Enabled, Rest, is_full, arrived, asks, tells, matched, core_opening}
 use Rattle.df_core.specs.Ends.{Whole, AtFault}
 use Rattle.df_core.specs.declared.engine.Core.{Core}
 use Rattle.df_core.specs.declared.engine.Event.{Event as Made}
@@ -13,8 +13,9 @@ use Rattle.df_core.specs.Quiet.{IsQuiet, IsQuietly, OnlyFires}
 use Rattle.trace_check.specs.declared.recording.TraceEnd.{TraceEnd}
 use Rattle.trace_check.specs.declared.recording.TraceEnd.TheVariants as end
 use Rattle.trace_check.specs.Recorded.{OutOfBudget, EndIs, Traces, Led, MakesEvents, IsDone, IsNext}
-use Rattle.trace_check.proofs.Making.{same_refl}
 use Rattle.df_core.proofs.Saying.{no_fault_at as no_fault}
+use Rattle.df_core.proofs.Same.{same_refl}
+use Rattle.df_core.proofs.Quietly.{issue_quiet}
 
 -- an event fires one instance at most, and an issue none
 fired_by : (image : Image) (s : State) (w i p v : ℕ) (a b : Bool) →
@@ -26,11 +27,6 @@ fired_by image s w i p v false b = omega arith
 match_more : (image : Image) (s : State) (w i p v : ℕ) → length (matched image s w i p v).fired ≤ length s.fired + 1
 unfolding matched
 match_more image s w i p v = fired_by image s w i p v (is_full (arrived s w i p v).held w i (ports image i)) (is_memory image i)
-
-issue_quiet : (image : Image) (s : State) (w i : ℕ) → IsQuiet image s (Issue w i)
-unfolding issue
-issue_quiet image s w i t (inl st) = st.becomes.fired
-issue_quiet image s w i t (inr st) = st.becomes.fired
 
 step_more : (image : Image) (s t : State) (e : Event) → Step image s e t → length t.fired ≤ length s.fired + 1
 step_more image s t (Match w i p) st =

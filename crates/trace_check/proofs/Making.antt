@@ -2,25 +2,14 @@
 use Rattle.std.proofs.Common.{◌≡◌, ℕ, zero, suc, ◌<◌, ◌≤◌, List, [], ◌∷◌, ◌++◌, length, get_or, take, drop, refl, sym, ap, subst, append-nil, append_assoc, arith}
 use Rattle.ws_words.specs.Outside.{World}
 use Rattle.ws_isa.specs.Image.{Image}
-use Rattle.df_core.specs.Core.{State, Event, Run, Same}
+use Rattle.df_core.specs.Core.{State, Event, Run}
 use Rattle.df_core.specs.declared.engine.Core.{Core}
 use Rattle.df_core.specs.Cores.{IsAt, Makes}
 use Rattle.trace_check.specs.declared.events.Lined.{Lined}
 use Rattle.trace_check.specs.declared.replaying.ReplayFault.{ReplayFault}
 use Rattle.trace_check.specs.declared.replaying.ReplayFault.TheVariants.{Illegal, NoMemory}
-use Rattle.trace_check.specs.Replays.{events_of, event_in, MakesAll, StopsAt, IsEventFault, IsFault}
-
-pub same_refl : (s : State) → Same s s
-same_refl s = record {
-  held = λ w i p. refl;
-  way = λ w i p. refl;
-  fired = refl;
-  waiting = λ w i. refl;
-  issued = λ w i. refl;
-  chain = refl;
-  stopped = refl;
-  memory = refl;
-}
+use Rattle.trace_check.specs.Replays.{events_of, event_in, MakesAll, IsEventFault, IsFault}
+use Rattle.df_core.proofs.Same.{same_refl}
 
 -- Events have led from a state to one at which the core stands: whatever goes on from there goes on
 -- from the first.

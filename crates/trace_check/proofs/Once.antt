@@ -1,17 +1,13 @@
 -- Events lead from a state to one state.
-use Rattle.std.proofs.Common.{◌≡◌, ℕ, List, [], ◌∷◌, ◌++◌, refl, sym, ap, ◌∙◌, subst, inl, inr}
+use Rattle.std.proofs.Common.{◌≡◌, ℕ, List, [], ◌∷◌, ◌++◌, refl, sym, ap, ◌∙◌, subst}
 use Rattle.ws_words.specs.Outside.{World}
 use Rattle.ws_isa.specs.Image.{Image}
-use Rattle.df_core.specs.Core.{State, Event, Match, Issue, Same, Run, Step, Enabled}
+use Rattle.df_core.specs.Core.{State, Event, Same, Run, Step, Enabled}
 use Rattle.df_core.specs.Fit.{Fit}
 use Rattle.trace_check.specs.declared.events.Lined.{Lined}
 use Rattle.trace_check.specs.Replays.{StopsAt, events_of, event_in}
 use Rattle.df_core.proofs.States.{same_is as one_state}
-
-step_enabled : (image : Image) (s t : State) (e : Event) → Step image s e t → Enabled image s e
-step_enabled image s t (Match w i p) st = (st.value, st.on_way)
-step_enabled image s t (Issue w i) (inl st) = (st.operands, st.ready)
-step_enabled image s t (Issue w i) (inr st) = (st.operands, st.ready)
+use Rattle.df_core.proofs.Quietly.{step_enabled}
 
 events_on : (xs ys : List Lined) → events_of (xs ++ ys) ≡ events_of xs ++ events_of ys
 events_on [] ys = refl

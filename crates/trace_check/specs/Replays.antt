@@ -1,5 +1,5 @@
 -- What comes of making the events of a trace, one after the other.
-use Rattle.std.specs.Prelude.{ℕ, ◌≡◌, ◌≤◌, ◌↔◌, ◌⊎◌, true, List, [], ◌∷◌, ◌++◌, length, map}
+use Rattle.std.specs.Prelude.{ℕ, ◌≡◌, ◌≤◌, ◌↔◌, ◌⊎◌, true, List, ◌∷◌, ◌++◌, length, map}
 use Rattle.ws_words.specs.Outside.{World, printed_words}
 use Rattle.ws_isa.specs.Image.{Image}
 use Rattle.ws_isa.specs.Walk.{mem, walk, CostAtMost}

@@ -1,5 +1,6 @@
 -- The events of a text, or its first faulty line.
-use Rattle.std.specs.Prelude.{ℕ, ◌+◌, ◌^◌, ◌<◌, Bool, true, false, List, [], ◌∷◌, ◌++◌, codes, flat_map, Option, Some, None, Result, Ok, Err, if◌then◌else◌}
+use Rattle.std.specs.Prelude.{ℕ, ◌+◌, ◌^◌, ◌<◌, Bool, List, [], ◌∷◌, ◌++◌, codes, flat_map, Option, Some}
+use Rattle.std.specs.Prelude.{None, Result, Ok, Err, if◌then◌else◌}
 use Rattle.asm_text.specs.declared.fault.AsmKind.TheVariants.{Line, Number as Numbers}
 use Rattle.asm_text.specs.declared.lexeme.Lexeme.{Lexeme}
 use Rattle.asm_text.specs.declared.lexeme.Lexeme.TheVariants.{Word, Number}

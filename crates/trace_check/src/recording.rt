@@ -5,7 +5,7 @@ ghost use Rattle.ws_words.specs.Outside.{World as Given};
 ghost use Rattle.ws_words.specs.Plain.{world_of};
 ghost use Rattle.ws_isa.specs.Image.{Image};
 ghost use Rattle.df_core.specs.Core.{State};
-ghost use Rattle.df_core.specs.Cores.{IsAt, Runs, Makes, IsEnabled, event_of};
+ghost use Rattle.df_core.specs.Cores.{IsAt, Makes, IsEnabled, event_of, IsRunning};
 ghost use Rattle.trace_check.specs.Recorded.{Traces, MakesEvents, IsDone, IsNext, EndIs};
 
 use crate::events::Events;
@@ -33,7 +33,7 @@ pub struct Traced {
 // The event that is to be made next: any until so many instances have fired, and then one that
 // fires none.
 fn next(core: &Core<'_>, budget: u64) -> Option<Event>
-    requires { Runs core.now }
+    requires { IsRunning core.now }
     ensures { MatchOption result (IsDone budget core.now)
         (λ event. IsNext budget (event_of event) core.now) }
 {
@@ -48,9 +48,9 @@ fn next(core: &Core<'_>, budget: u64) -> Option<Event>
 
 // Makes an event that is enabled.
 fn make(core: &mut Core<'_>, event: Event) -> Result<(), NoMemory>
-    requires core { Runs core.old }
+    requires core { IsRunning core.old }
     requires enabled { IsEnabled (event_of event) core.old }
-    ensures core { Runs core.new }
+    ensures core { IsRunning core.new }
     ensures made { OnOk result (Makes (event_of event) core.old core.new) }
 {
     match core.step(event) {
@@ -62,8 +62,8 @@ fn make(core: &mut Core<'_>, event: Event) -> Result<(), NoMemory>
 
 // Makes events until none is to be made. No list has as many as could be counted.
 fn make_events(alloc: Global, core: &mut Core<'_>, budget: u64) -> Result<Events, NoMemory>
-    requires { Runs core.old }
-    ensures core { Runs core.new }
+    requires { IsRunning core.old }
+    ensures core { IsRunning core.new }
     ensures leads { IfOk result (λ events. MakesEvents budget events core.old core.new) }
     ensures finished { OnOk result (IsDone budget core.new) }
 {
@@ -80,7 +80,7 @@ fn make_events(alloc: Global, core: &mut Core<'_>, budget: u64) -> Result<Events
 
 // How the events end, after which none is to be made.
 fn end_of(core: &Core<'_>, budget: u64) -> TraceEnd
-    requires core { Runs core.now }
+    requires core { IsRunning core.now }
     requires finished { IsDone budget core.now }
     ensures { (image : Image) (world : Given) (state : State) → IsAt image world core.now state →
         length state.fired ≤ budget → EndIs image budget result state }

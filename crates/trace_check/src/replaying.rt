@@ -2,9 +2,10 @@
 
 ghost use Rattle.std.specs.Prelude.{◌≡◌, IfOk, IfErr, OnOk};
 ghost use Rattle.ws_words.specs.Plain.{world_of};
-ghost use Rattle.df_core.specs.Cores.{Runs, Makes};
+ghost use Rattle.df_core.specs.Cores.{Makes, IsRunning};
 ghost use Rattle.trace_check.specs.declared.replaying.ReplayFault.TheVariants.{NoMemory as of_memory};
-ghost use Rattle.trace_check.specs.Replays.{Replays, IsReplayFault, MakesAll, IsEventFault, IsFault, event_in};
+ghost use Rattle.trace_check.specs.Replays.{Replays, IsReplayFault, MakesAll, IsEventFault, IsFault};
+ghost use Rattle.trace_check.specs.Replays.{event_in};
 
 use crate::events::{Lined, Trace};
 use df_core::{Core, StepFault, counts, every_list_of_events};
@@ -39,8 +40,8 @@ impl From<NoMemory> for ReplayFault {
 
 // Makes an event.
 fn make(core: &mut Core<'_>, event: Lined) -> Result<(), ReplayFault>
-    requires { Runs core.old }
-    ensures core { Runs core.new }
+    requires { IsRunning core.old }
+    ensures core { IsRunning core.new }
     ensures made { OnOk result (Makes (event_in event) core.old core.new) }
     ensures refused { IfErr result (IsEventFault event core.old) }
 {
@@ -53,8 +54,8 @@ fn make(core: &mut Core<'_>, event: Lined) -> Result<(), ReplayFault>
 
 // Makes events, one after the other.
 fn make_all(core: &mut Core<'_>, events: &[Lined]) -> Result<(), ReplayFault>
-    requires { Runs core.old }
-    ensures core { Runs core.new }
+    requires { IsRunning core.old }
+    ensures core { IsRunning core.new }
     ensures made { OnOk result (MakesAll events.now core.old core.new) }
     ensures refused { IfErr result (IsFault events.now core.old) }
 {

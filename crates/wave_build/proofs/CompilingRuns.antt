@@ -5,12 +5,12 @@ use Rattle.src_ast.specs.Syntax.{Part, Array, Proc}
 use Rattle.cfg_core.specs.Graph.{Graph, GraphArray, Exit, Goto, Branch, Call, Return, Send, Stop, Spot, spots, spot_at, block_at, no_spot}
 use Rattle.cfg_core.specs.Shape.{ArmsAlone}
 use Rattle.cfg_core.specs.Shown.{shown_arrays, SameShown, SameWalks, SameArrays, StaysInside, ShowsAll}
-use Rattle.cfg_core.proofs.Total.{each_at}
 use Rattle.cfg_build.specs.Keeps.{KeepsRun, ShowsRun, IsFirstForm, IsFirstExit, arrays_of}
 use Rattle.phi_conv.specs.Keeps.{SameOrGoto, ExitsKept}
 use Rattle.call_gen.specs.Keeps.{NoSend, HasNoSend}
 use Rattle.call_gen.proofs.Arms.{shaped_alone}
 use Rattle.wave_build.specs.Prepared.{Shown, ShowsProgram, Prepared}
+use Rattle.cfg_core.proofs.Spots.{each_at}
 
 all_shown : (g : Graph) (o : Outside) → ShowsAll g o → Shown g o o
 all_shown g o s = record { acts = s.acts; cells = s.cells; input = refl; left = refl }
@@ -49,7 +49,7 @@ program_shown [] = refl
 program_shown (Array name size at ∷ parts) = ap (λ (r : List GraphArray). record { name = Some name.text; length = size } ∷ r) (program_shown parts)
 program_shown (Proc p ∷ parts) = program_shown parts
 
-first_none : (x : Exit) → IsFirstExit x → NoSend x
+pub first_none : (x : Exit) → IsFirstExit x → NoSend x
 first_none (Goto b) f = tt
 first_none (Branch t a b) f = tt
 first_none (Call r f ts back) i = tt
@@ -57,7 +57,7 @@ first_none (Return t) f = tt
 first_none (Send t ts ls) f = absurd f
 first_none Stop f = tt
 
-same_none : (x y : Exit) → SameOrGoto x y → NoSend x → NoSend y
+pub same_none : (x y : Exit) → SameOrGoto x y → NoSend x → NoSend y
 same_none x y (inl e) n = subst NoSend (sym e) n
 same_none x y (inr r) n = subst NoSend (sym r.1) tt
 

@@ -7,12 +7,12 @@ use Rattle.std.proofs.lemmas.List.Sums.{sum_by-cons, sum_by-append}
 use Rattle.src_ast.specs.Syntax.{Part}
 use Rattle.src_ast.specs.Bound.{most_variables}
 use Rattle.cfg_core.specs.Graph.{Term, Number, Var, Op, Exit, Goto, Branch, Call, Return, Send, Stop, Graph, Spot, spots, spot_at, no_spot, block_at, proc_at, entry_of}
-use Rattle.cfg_core.specs.Rules.{In, ExitIn, Leads, calls}
+use Rattle.cfg_core.specs.Rules.{ExitIn, Leads, calls}
 use Rattle.cfg_core.specs.Weights.{first_block, WalksWeigh}
 use Rattle.live_vars.specs.Live.{Live}
 use Rattle.live_vars.specs.Marks.{has}
 use Rattle.wave_cut.specs.Cut.{Cut}
-use Rattle.phi_conv.proofs.Standing.{same_vars, numbers_at}
+use Rattle.phi_conv.proofs.Standing.{same_vars}
 use Rattle.call_gen.specs.Reached.{Enters, Reached, start, follow, enter}
 use Rattle.call_gen.specs.Charged.{Places, beside, charged, LiveBelow, live_count, most_saved, StandsForExit, StandsFor, SameExit, DoesTheSame}
 use Rattle.call_gen.proofs.Facts.{Placed}
@@ -24,6 +24,8 @@ use Rattle.wave_build.proofs.Weights.{number_few, saves_weigh, loads_weigh, clea
 use Rattle.wave_build.proofs.Counting.{few_in, some_and, some_count, in_some}
 use Rattle.wave_build.proofs.Paying.{exit_charge, charge, pay, vars_few, joined_calls_few, joined_weighs}
 use Rattle.ws_words.proofs.Bools.{or_comes as either_true}
+use Rattle.ws_words.specs.Items.{In}
+use Rattle.cfg_core.proofs.Spots.{numbers_at}
 
 count_most : (live : List (List ℕ)) (b n : ℕ) → live_count live b n ≤ n
 count_most live b zero = omega arith

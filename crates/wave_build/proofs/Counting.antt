@@ -2,10 +2,10 @@
 use Rattle.std.proofs.Common.{ℕ, zero, suc, ◌+◌, ◌==◌, ◌&&◌, ◌≡◌, ◌<◌, ◌≤◌, not, Bool, true, false, cond, List, [], ◌∷◌, length, refl, ap, ◌∙◌, inl, inr, arith}
 use Rattle.std.proofs.lemmas.Bool.{cases_eq}
 use Rattle.std.proofs.lemmas.Bool.Decides.{nat_tests}
-use Rattle.cfg_core.specs.Rules.{In}
 use Rattle.call_gen.specs.Spelled.{below}
 use Rattle.call_gen.proofs.Slots.{in_below, below_count}
 use Rattle.wave_gen.specs.Words.{live_from}
+use Rattle.ws_words.specs.Items.{In}
 
 one_more : (c : Bool) (x : ℕ) (xs : List ℕ) → length (cond c (x ∷ xs) xs) ≤ suc (length xs)
 one_more true x xs = omega arith

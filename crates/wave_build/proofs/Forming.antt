@@ -7,7 +7,6 @@ use Rattle.src_ast.specs.LanguageLimits.{most_locals, most_parameters, most_arra
 use Rattle.src_ast.specs.Written.{IsWritten}
 use Rattle.cfg_core.specs.Graph.{Exit, GraphArray, Graph, Spot, spots, no_spot, spot_at, block_at}
 use Rattle.cfg_core.specs.Shown.{shown_arrays}
-use Rattle.cfg_core.proofs.Total.{each_at}
 use Rattle.ws_isa.specs.Image.{Array, Image, Pad, Block}
 use Rattle.ws_isa.specs.Formed as formed
 use Rattle.ws_isa.specs.Formed.{most_blocks, most_waves, most_length, most_dests, most_pads, most_landings, total_length, ArraysFormed}
@@ -26,6 +25,7 @@ use Rattle.wave_build.proofs.Sizing.{last_within}
 use Rattle.wave_build.proofs.Named.{names_formed}
 use Rattle.wave_build.proofs.Together.{room}
 use Rattle.ws_words.proofs.Lists.{length_map as map_count}
+use Rattle.cfg_core.proofs.Spots.{each_at}
 
 lengths_of : (n : ℕ) (arrays : List GraphArray) → AllByRecursion (λ a. a.length ≤ n) arrays → AllByRecursion (λ (a : Array). a.length ≤ n) (map array_of arrays)
 lengths_of n [] h = tt

@@ -4,17 +4,16 @@ use Rattle.std.specs.Prelude.{IsTrue}
 use Rattle.std.specs.List.{AllByRecursion}
 use Rattle.std.specs.Option.{is_some}
 use Rattle.ws_isa.specs.Image as image
-use Rattle.ws_isa.specs.Formed as formed
 use Rattle.ws_isa.specs.Formed.{most_name, NameFormed}
-use Rattle.src_ast.specs.Lexemes.{is_word}
 use Rattle.src_ast.specs.Syntax.{Part, Array, Proc}
 use Rattle.src_ast.specs.Written.{IsWritten}
 use Rattle.cfg_core.specs.Graph.{GraphArray}
 use Rattle.cfg_core.specs.Shown.{shown_arrays}
 use Rattle.cfg_build.specs.Keeps.{arrays_of}
 use Rattle.wave_gen.specs.Words.{array_of}
+use Rattle.ws_words.specs.Letters.{is_word}
 
-word_same : (text : List ℕ) → IsTrue (is_word text) → formed.is_word text ≡ true
+word_same : (text : List ℕ) → IsTrue (is_word text) → is_word text ≡ true
 word_same [] h = h
 word_same (b ∷ bytes) h = h
 

@@ -7,19 +7,19 @@ use Rattle.std.proofs.Math.Nat.{mul-le-mul_left}
 use Rattle.src_ast.specs.Syntax.{Part}
 use Rattle.src_ast.specs.Bound.{widest, most_variables}
 use Rattle.src_ast.specs.LanguageLimits.{most_parameters}
-use Rattle.cfg_core.specs.Graph.{Term, Op, Exit, Goto, Branch, Call, Return, Send, Stop, Block, GraphProc, Graph, Spot, spots, spots_in, spots_from, spot_at, no_spot, block_at, nth, or_else, no_proc, proc_at, entry_of}
+use Rattle.cfg_core.specs.Graph.{Term, Op, Exit, Goto, Branch, Call, Return, Send, Stop, Block, GraphProc, Graph, Spot, spots, spots_in, spots_from, spot_at, no_spot, block_at, no_proc, proc_at, entry_of}
 use Rattle.cfg_core.specs.Rules.{ExitIn, ProcNumbers}
 use Rattle.cfg_core.specs.Weights.{turns_of, turns_at, acts_of, jumps_of, term_nodes, op_nodes, exit_nodes, highest, handed_on, IsPotential, first_block, TwoBlocksATurn, WalksWeigh}
-use Rattle.cfg_core.proofs.Total.{each_at}
 use Rattle.cfg_core.proofs.Weighing.{walk_paid}
 use Rattle.phi_conv.specs.Joined.{joining}
 use Rattle.phi_conv.specs.Keeps.{JoinedAt}
-use Rattle.phi_conv.proofs.Standing.{numbers_at}
 use Rattle.wave_gen.specs.Cost.{term_quarters, op_quarters}
 use Rattle.wave_build.specs.Passed.{PassGraphs}
 use Rattle.wave_cut.specs.Cut.{Cut}
 use Rattle.wave_build.proofs.Weights.{term_paid, terms_paid, ops_paid, no_acts, joining_weight}
 use Rattle.ws_words.proofs.Lists.{all_append as all_both}
+use Rattle.ws_words.specs.Items.{nth, or_else}
+use Rattle.cfg_core.proofs.Spots.{each_at, numbers_at}
 
 -- what is charged for an exit and the block that it ends, in procedures of so many variables
 abbrev pub exit_charge : ℕ → Exit → ℕ

@@ -4,10 +4,9 @@ use Rattle.std.specs.List.{AllByRecursion, sum_by}
 use Rattle.std.proofs.lemmas.List.Sums.{sum_by-cons}
 use Rattle.src_ast.specs.Syntax.{Part}
 use Rattle.src_ast.specs.LanguageLimits.{most_statements}
-use Rattle.cfg_core.specs.Graph.{Exit, Goto, Branch, Call, Return, Send, Stop, Block, GraphArray, GraphProc, Graph, Spot, spots, nth, or_else, no_spot, spot_at, block_at}
+use Rattle.cfg_core.specs.Graph.{Exit, Goto, Branch, Call, Return, Send, Stop, Block, GraphArray, GraphProc, Graph, Spot, spots, no_spot, spot_at, block_at}
 use Rattle.cfg_core.specs.Rules.{calls}
 use Rattle.cfg_core.specs.Weights.{turns_of, acts_of, jumps_of, block_nodes}
-use Rattle.cfg_core.proofs.Total.{each_at}
 use Rattle.cfg_build.specs.Keeps.{IsFirstExit}
 use Rattle.wave_cut.specs.Cut.{Cut}
 use Rattle.phi_conv.specs.Short.{Short, short}
@@ -18,6 +17,8 @@ use Rattle.call_gen.specs.Sizes.{call_count, cell_count, Sizes, LandingsAtMost, 
 use Rattle.wave_build.specs.Passed.{PassGraphs}
 use Rattle.wave_build.specs.Small.{lowered_sizes, joined_sizes}
 use Rattle.ws_words.proofs.Lists.{length_map as map_count}
+use Rattle.ws_words.specs.Items.{nth, or_else}
+use Rattle.cfg_core.proofs.Spots.{each_at}
 
 cells_are : (arrays : List GraphArray) → cell_count arrays ≡ sum_by (λ a. a.length) arrays
 cells_are [] = refl

@@ -3,8 +3,8 @@ use Rattle.std.proofs.Common.{ℕ, zero, suc, ◌+◌, ◌*◌, ◌≡◌, ◌<�
 use Rattle.std.specs.List.{sum_by, range_with_len}
 use Rattle.std.proofs.lemmas.Bool.{cases_eq}
 use Rattle.std.proofs.lemmas.List.Sums.{sum_by-cons}
-use Rattle.cfg_core.specs.Graph.{Spot, nth, or_else, no_spot}
-use Rattle.cfg_core.specs.Rules.{In}
+use Rattle.cfg_core.specs.Graph.{Spot, no_spot}
+use Rattle.ws_words.specs.Items.{nth, or_else, In}
 
 -- over the first n numbers
 abbrev pub low : (ℕ → ℕ) → ℕ → ℕ

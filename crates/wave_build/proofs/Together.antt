@@ -7,10 +7,9 @@ use Rattle.src_ast.specs.Bound.{widest, most_variables}
 use Rattle.src_ast.specs.LanguageLimits.{most_locals, most_statements, most_statement_nodes}
 use Rattle.ws_isa.specs.Image.{Image, flat}
 use Rattle.ws_isa.specs.Formed.{most_instrs}
-use Rattle.cfg_core.specs.Graph.{Exit, Goto, Branch, Call, Return, Send, Stop, GraphProc, Graph, Spot, spots, spot_at, no_spot, block_at, nth, or_else, no_proc, proc_at}
+use Rattle.cfg_core.specs.Graph.{Exit, Goto, Branch, Call, Return, Send, Stop, GraphProc, Graph, Spot, spots, spot_at, no_spot, block_at, no_proc, proc_at}
 use Rattle.cfg_core.specs.Rules.{calls}
 use Rattle.cfg_core.specs.Weights.{turns_of, turns_at}
-use Rattle.cfg_core.proofs.Total.{each_at}
 use Rattle.live_vars.specs.Marks.{has}
 use Rattle.wave_cut.specs.Cut.{Cut}
 use Rattle.call_gen.specs.Reached.{Reached}
@@ -24,6 +23,8 @@ use Rattle.wave_build.proofs.Sizing.{kept_within, last_within}
 use Rattle.wave_build.proofs.Weights.{clears_weigh}
 use Rattle.wave_build.proofs.Paying.{in_procs, charge, charge_few}
 use Rattle.wave_build.proofs.Costing.{weight, goes_weigh, fits}
+use Rattle.ws_words.specs.Items.{nth, or_else}
+use Rattle.cfg_core.proofs.Spots.{each_at}
 
 -- whatever blocks weigh, what each is charged pays for all, with the doors
 module _ (k : Graph) (needed : List (List ℕ)) (s : Graph) (C : CallsCharged k needed s) (w : ℕ → ℕ) where

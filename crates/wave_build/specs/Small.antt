@@ -2,7 +2,8 @@
 use Rattle.std.specs.Prelude.{◌+◌, ◌*◌, List}
 use Rattle.src_ast.specs.Syntax.{Part}
 use Rattle.src_ast.specs.Bound.{widest, most_variables}
-use Rattle.src_ast.specs.LanguageLimits.{most_procedures, most_statements, most_parameters, most_arrays, most_array_cells, most_cells}
+use Rattle.src_ast.specs.LanguageLimits.{most_procedures, most_statements, most_parameters, most_arrays}
+use Rattle.src_ast.specs.LanguageLimits.{most_array_cells, most_cells}
 use Rattle.phi_conv.specs.Joined.{more_vars}
 use Rattle.phi_conv.specs.Keeps.{most_more_ops, most_more_nodes}
 use Rattle.call_gen.specs.Sizes.{Sizes}

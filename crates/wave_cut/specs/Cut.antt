@@ -1,8 +1,9 @@
 -- The waves of a graph.
-use Rattle.std.specs.Prelude.{◌≡◌, ℕ, suc, ◌-◌, ◌<◌, ◌≤◌, ◌⊎◌, ◌↔◌, ◌==◌, Bool, true, List, length, slice_index}
+use Rattle.std.specs.Prelude.{◌≡◌, ℕ, suc, ◌-◌, ◌<◌, ◌≤◌, ◌⊎◌, ◌↔◌, ◌==◌, Bool, true, List, length}
+use Rattle.std.specs.Prelude.{slice_index}
 use Rattle.cfg_core.specs.Graph.{Exit, Call, Send, Graph, spots, block_at, entry_of}
-use Rattle.cfg_core.specs.Rules.{In}
 use Rattle.cfg_core.specs.Edges.{Edge, IsHeader}
+use Rattle.ws_words.specs.Items.{In}
 
 -- the wave of each block, from 1, and the first block of each wave
 pub record Cut : Type 0 where

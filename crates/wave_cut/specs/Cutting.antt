@@ -1,6 +1,7 @@
 -- Serves the code and its proof alone: no public contract cites it.
 -- How far a cut has come.
-use Rattle.std.specs.Prelude.{◌≡◌, ℕ, suc, ◌-◌, ◌<◌, ◌≤◌, ◌⊎◌, ◌==◌, ◌||◌, Bool, true, false, if◌then◌else◌, List, [], ◌∷◌, ◌++◌, length, slice_index, slice_index_or, slice_set}
+use Rattle.std.specs.Prelude.{◌≡◌, ℕ, suc, ◌-◌, ◌<◌, ◌≤◌, ◌⊎◌, ◌==◌, ◌||◌, Bool, true, false, if◌then◌else◌}
+use Rattle.std.specs.Prelude.{List, [], ◌∷◌, ◌++◌, length, slice_index, slice_index_or, slice_set}
 use Rattle.cfg_core.specs.Graph.{Exit, Goto, Branch, Graph, spots}
 use Rattle.cfg_core.specs.Rules.{Leads}
 use Rattle.cfg_core.specs.Edges.{Edge}

@@ -3,11 +3,11 @@
 
 ghost use Rattle.std.specs.Prelude.{◌≡◌, ◌≤◌, ◌<◌, ◌↔◌, ℕ, true, length, slice_set, IfOk};
 ghost use Rattle.cfg_core.specs.Graph.{spots, block_at};
-ghost use Rattle.cfg_core.specs.Rules.{In};
 ghost use Rattle.cfg_core.specs.View as view;
 ghost use Rattle.cfg_core.specs.Shows.{TableIs};
 ghost use Rattle.wave_cut.specs.Cut.{Begins};
 ghost use Rattle.wave_cut.specs.Cutting.{Set, Marked, Says};
+ghost use Rattle.ws_words.specs.Items.{In};
 
 use crate::cutter::set_flag;
 use cfg_core::{GraphTable, Leave};

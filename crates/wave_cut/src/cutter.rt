@@ -4,7 +4,8 @@ ghost use Rattle.std.specs.Prelude.{◌≡◌, ◌+◌, ◌++◌, ◌∷◌, [],
 ghost use Rattle.cfg_core.specs.Graph.{spots, block_at};
 ghost use Rattle.cfg_core.specs.View as view;
 ghost use Rattle.cfg_core.specs.Shows.{TableIs};
-ghost use Rattle.wave_cut.specs.Cutting.{Cutting, number, heads_with, left_begins, left_from, entered_begins, entered_from};
+ghost use Rattle.wave_cut.specs.Cutting.{Cutting, number, heads_with, left_begins, left_from, entered_begins};
+ghost use Rattle.wave_cut.specs.Cutting.{entered_from};
 
 use cfg_core::{GraphTable, Leave};
 use ws_words::NoMemory;

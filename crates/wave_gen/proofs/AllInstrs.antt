@@ -1,13 +1,14 @@
 -- What holds of each instruction and each block of a draft.
-use Rattle.std.proofs.Common.{ℕ, zero, suc, ◌+◌, ◌≡◌, ◌<◌, ◌≤◌, List, [], ◌∷◌, ◌++◌, length, map, Some, refl, sym, subst, arith}
+use Rattle.std.proofs.Common.{ℕ, zero, suc, ◌+◌, ◌≡◌, ◌<◌, ◌≤◌, List, [], ◌∷◌, length, map, Some, refl, sym, subst, arith}
 use Rattle.std.specs.List.{AllByRecursion}
-use Rattle.ws_isa.specs.Image.{Image, Instr, Block, Array, nth, flat, instr_at, block_at, first_number, IsIn, IsBlock}
+use Rattle.ws_isa.specs.Image.{Image, Instr, Block, Array, flat, instr_at, block_at, first_number, IsIn, IsBlock}
 use Rattle.wave_gen.specs.Wire.{WiredInstr}
 use Rattle.wave_gen.specs.Plans.{Plan, made_at, begins, instr_of, blocks_of, draft_of}
 use Rattle.wave_gen.proofs.Blocks.{begins_next}
 use Rattle.wave_gen.proofs.Number.{number_is, block_at_is, block_is, instr_is}
 use Rattle.ws_words.proofs.Lists.{all_append}
-use Rattle.ws_isa.proofs.Images.{nth_short as nth_lt}
+use Rattle.ws_words.specs.Items.{nth}
+use Rattle.ws_words.proofs.Places.{nth_short}
 
 all_map : (P : Instr → Type 0) (f : WiredInstr → Instr) (ls : List WiredInstr) → ((i : ℕ) (l : WiredInstr) → nth ls i ≡ Some l → P (f l)) → AllByRecursion P (map f ls)
 all_map P f [] h = tt
@@ -29,7 +30,7 @@ module _ (arrays : List Array) (width : ℕ) (ps : List Plan) where
       (let n : begins width ps (suc b) ≡ begins width ps b + length (made_at width ps b).code = begins_next width ps b s in
       let y : first_number I b ≡ begins width ps b = number_is arrays width ps b in
       let w : first_number I (suc b) ≡ begins width ps (suc b) = number_is arrays width ps (suc b) in
-      let u : i < length (made_at width ps b).code = nth_lt (made_at width ps b).code i l e in
+      let u : i < length (made_at width ps b).code = nth_short (made_at width ps b).code i l e in
       subst P (instr_is arrays width ps b i l s e) (h b (begins width ps b + i) (block_is arrays width ps b s) (omega (arith, y), omega (arith, w, n, u)))))
 
   blocks_are : I.blocks ≡ blocks_of width ps 1 (length ps)

@@ -2,7 +2,6 @@
 use Rattle.std.proofs.Common.{ℕ, zero, suc, ◌+◌, ◌-◌, ◌≡◌, ◌<◌, ◌≤◌, ◌⊎◌, Bool, true, false, cond, List, [], ◌∷◌, length, Some, None, refl, sym, ap, ◌∙◌, subst, inl, inr, arith}
 use Rattle.std.proofs.lemmas.Bool.{cases_Bool, cases_eq, cases_order, both_ways, cond-true, cond-false}
 use Rattle.ws_isa.specs.declared.instr.Op.TheVariants.{Merge, Advance}
-use Rattle.ws_isa.specs.Image.{In, nth, or_else}
 use Rattle.ws_isa.specs.Sound.{HasDest}
 use Rattle.wave_gen.specs.Waits.{Owner}
 use Rattle.wave_gen.specs.Wire.{Spot, Back, Front, dests_of, WiredInstr, Wants, no_wants, Made, emit, wire}
@@ -14,7 +13,9 @@ use Rattle.wave_gen.proofs.Wiring.{Ahead, Inv, Good, emit_inv}
 use Rattle.wave_gen.proofs.Flow.{Wanted, wire_wanted, make_wanted, gather_wanted, with_uses_wanted, selected_wanted, reads_more, helds}
 use Rattle.wave_gen.proofs.Ends.{Clean, body_good, renew_good, merge_good}
 use Rattle.wave_gen.proofs.Fronts.{in_or_not, fronts_none, fronts_clean, advances_count, advances_other, renewed, no_front, renew_wanted}
-use Rattle.wave_gen.proofs.Number.{nth_or, number_is, mades_count}
+use Rattle.wave_gen.proofs.Number.{number_is, mades_count}
+use Rattle.ws_words.specs.Items.{nth, or_else, In}
+use Rattle.ws_words.proofs.Places.{nth_or}
 
 -- list of blocks
 record MadeAs (width : ℕ) (ps : List Plan) (b : ℕ) (qs : List Plan) (i : ℕ) (p : Plan) : Type 0 where

@@ -4,7 +4,7 @@ use Rattle.std.proofs.lemmas.Bool.{cases_eq, cases_lt}
 use Rattle.std.proofs.lemmas.List.{length-map}
 use Rattle.std.specs.List.{sum_by, range_with_len}
 use Rattle.std.proofs.lemmas.List.Sums.{sum_by-cons, sum_by-append}
-use Rattle.ws_isa.specs.Image.{nth, flat}
+use Rattle.ws_isa.specs.Image.{flat}
 use Rattle.cfg_core.specs.Graph as graph
 use Rattle.cfg_core.specs.Graph.{Graph, spots, spot_at, block_at}
 use Rattle.cfg_core.specs.Rules.{ExitIn}
@@ -25,6 +25,7 @@ use Rattle.wave_gen.proofs.Turned.{waving}
 use Rattle.wave_gen.proofs.PlanFacts.{at_place, place_there, place_is, as_many, numbers}
 use Rattle.wave_gen.proofs.PlansMade.{plans_are}
 use Rattle.wave_gen.proofs.Costs.{nobody, above_all, covers, block_cost}
+use Rattle.ws_words.specs.Items.{nth}
 
 -- sums over blocks, wave after wave
 module _ (w waves : ℕ → ℕ) where

@@ -4,7 +4,7 @@ use Rattle.std.proofs.lemmas.Bool.{cases_Bool, cases_lt, cases_order, both_ways,
 use Rattle.ws_isa.specs.declared.instr.Op.{Op}
 use Rattle.ws_isa.specs.declared.instr.Op.TheVariants.{Merge, Advance, Halt, Steer, Send}
 use Rattle.ws_isa.specs.declared.instr.Dest.{Dest}
-use Rattle.ws_isa.specs.Image.{Image, Instr, Array, nth, instr_at, first_number, now_dests, now_of, is_advance, is_advance_op, IsIn}
+use Rattle.ws_isa.specs.Image.{Image, Instr, Array, instr_at, first_number, now_dests, now_of, is_advance, is_advance_op, IsIn}
 use Rattle.ws_isa.specs.Sound.{HasDest}
 use Rattle.wave_gen.specs.Waits.{Distinct, Owner, Step, Fires, Rests, Skips, Copies, Stands}
 use Rattle.wave_gen.specs.Wire.{Spot, Back, Front, dest_of, dests_of, WiredInstr, Wants, Made, emit, rest, with_rooms, make, Item, Make, Act, Same}
@@ -16,6 +16,7 @@ use Rattle.wave_gen.proofs.Lines.{Lines, line_at, Items, Tails, rooms_more, make
 use Rattle.wave_gen.proofs.Fronts.{advances_count}
 use Rattle.wave_gen.proofs.Blocks.{Facts, facts, Fine, FineAt, entry_inside, begins_next, begins_le, made_is}
 use Rattle.wave_gen.proofs.Number.{number_is, instr_is}
+use Rattle.ws_words.specs.Items.{nth}
 
 hold_steers : (w v : Wants) (xs : List ℕ) → AllHold (steers w v xs)
 hold_steers w v [] = tt

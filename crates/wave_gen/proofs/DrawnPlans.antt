@@ -4,7 +4,6 @@ use Rattle.ws_words.specs.Outside.{State}
 use Rattle.ws_isa.specs.declared.instr.Op.TheVariants.{Merge}
 use Rattle.cfg_core.specs.Graph as graph
 use Rattle.cfg_core.specs.Graph.{Term, Number, Var, Cell, Flip, Not, Neg, Binary, Graph, spots, spot_at, block_at, proc_at, entry_of}
-use Rattle.cfg_core.specs.Rules.{In}
 use Rattle.std.specs.List.{AllByRecursion}
 use Rattle.cfg_core.specs.Walk.{Done, run_op, run_ops, Config, At, Frame, walk}
 use Rattle.wave_gen.specs.Wire.{Item, Same}
@@ -13,6 +12,7 @@ use Rattle.wave_gen.specs.Gen.{gen_term, gen_ops, FlipsWords, OpFine}
 use Rattle.wave_gen.specs.Drawn.{gen_source, gen_terms, exit_next}
 use Rattle.wave_gen.specs.Waits.{Names}
 use Rattle.wave_gen.proofs.Runs.{run_items}
+use Rattle.ws_words.specs.Items.{In}
 
 -- variables that are 0 at the start of a block
 abbrev pub zero_items : List ℕ → List Item

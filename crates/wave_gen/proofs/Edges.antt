@@ -5,7 +5,7 @@ use Rattle.ws_isa.specs.declared.instr.Op.{Op}
 use Rattle.ws_isa.specs.declared.instr.Op.TheVariants.{Steer, Send}
 use Rattle.ws_isa.specs.declared.instr.Dest.{Dest}
 use Rattle.ws_isa.specs.Image as image
-use Rattle.ws_isa.specs.Image.{Image, Instr, Pad, Array, In, nth, or_else, instr_at, block_at, first_number, is_first, edge_of, edge_dests, pad_of, leave_to, landing_of, target, stops, IsIn, IsBlock}
+use Rattle.ws_isa.specs.Image.{Image, Instr, Pad, Array, instr_at, block_at, first_number, is_first, edge_of, edge_dests, pad_of, leave_to, landing_of, target, stops, IsIn, IsBlock}
 use Rattle.ws_isa.specs.Sound.{HasDest, edge_all, opens_at}
 use Rattle.wave_gen.specs.Waits.{Distinct, Code, starts, Arrives, went_past, was_sent}
 use Rattle.wave_gen.specs.Wire.{Spot, Back, Front, dests_of, WiredInstr, Wants}
@@ -22,8 +22,9 @@ use Rattle.wave_gen.proofs.Number.{block_at_is}
 use Rattle.ws_words.proofs.Numbers.{eqb_is}
 use Rattle.ws_words.proofs.Bools.{and_parts as and_both, or_comes as or_cases}
 use Rattle.ws_isa.proofs.Slots.{has_append_cases, has_append_left, has_append_right}
-use Rattle.ws_isa.proofs.Images.{nth_short as nth_lt}
 use Rattle.ws_isa.proofs.Steps.{first_up as next_first}
+use Rattle.ws_words.specs.Items.{nth, In}
+use Rattle.ws_words.proofs.Places.{nth_short}
 
 edge_none : (image : Image) (b r : ℕ) (i : Instr) (op : Op) → is_tail_op op ≡ false → edge_of image b r i op ≡ []
 edge_none image b r i Steer e = absurd (both_ways true e refl)
@@ -466,7 +467,7 @@ module _ (arrays : List Array) (width : ℕ) (ps : List Plan) (Live : ℕ → �
           k = nth_in (plan_at ps (landing_of landings r)).pads x ((fit r).filled x (in_nth (plan_at ps (landing_of landings r)).entries front.place x front.is))
 
           v : (v : ℕ) × (nth values k.0 ≡ Some v)
-          v = some_value values k.0 (let l : k.0 < length (plan_at ps (landing_of landings r)).pads = nth_lt (plan_at ps (landing_of landings r)).pads k.0 x k.1 in let n : length (plan_at ps (landing_of landings r)).pads ≡ length values = (fit r).as_many in omega arith)
+          v = some_value values k.0 (let l : k.0 < length (plan_at ps (landing_of landings r)).pads = nth_short (plan_at ps (landing_of landings r)).pads k.0 x k.1 in let n : length (plan_at ps (landing_of landings r)).pads ≡ length values = (fit r).as_many in omega arith)
 
           a : nth (tails_of width S (plan_at ps b).exit) k.0 ≡ Some (record { held = v.0; line = record { op = Send (0 + k.0); dests = []; others = [] } })
           a = subst (λ (ts : List Tail). nth ts k.0 ≡ Some (record { held = v.0; line = record { op = Send (0 + k.0); dests = []; others = [] } })) (sym tails_are') (sends_nth 0 values k.0 v.0 v.1)
@@ -487,7 +488,7 @@ module _ (arrays : List Array) (width : ℕ) (ps : List Plan) (Live : ℕ → �
           let t = edge_tail r m j q i g in
           let k = sends_from 0 values t.place t.tail (subst (λ (ts : List Tail). nth ts t.place ≡ Some t.tail) tails_are' t.at) in
           let n : length (plan_at ps (landing_of landings r)).pads ≡ length values = (fit r).as_many in
-          let u : t.place < length values = nth_lt values t.place k.0 k.1 in
+          let u : t.place < length values = nth_short values t.place k.0 k.1 in
           let x = some_value (plan_at ps (landing_of landings r)).pads t.place (omega arith) in
           let l : edge_dests I b r m ≡ dests_of F (S (landing_of landings r) x.0) = send_list r m t.place k.0 x.0 (t.is ∙ ap (λ (u : Tail). instr_of F u.line) (sym k.2)) x.1 in
           record { name = x.0; place = t.place; at = x.1; wants = subst (λ (ds : List Dest). HasDest ds j q) l g; list = l; number = t.number }

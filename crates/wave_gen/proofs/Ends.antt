@@ -1,19 +1,20 @@
 -- The ends of blocks: what goes past an exit and what is sent along its edges.
-use Rattle.std.proofs.Common.{ℕ, zero, suc, ◌+◌, ◌-◌, ◌≡◌, ◌<◌, ◌≤◌, ◌⊎◌, ◌&&◌, ◌||◌, Bool, true, false, cond, eqb, List, [], ◌∷◌, length, Some, None, refl, sym, ap, ◌∙◌, subst, inl, inr, arith, eq-eqb}
+use Rattle.std.proofs.Common.{ℕ, zero, suc, ◌+◌, ◌-◌, ◌≡◌, ◌<◌, ◌≤◌, ◌⊎◌, ◌&&◌, Bool, true, false, cond, eqb, List, [], ◌∷◌, length, Some, None, refl, sym, ap, ◌∙◌, subst, inl, inr, arith, eq-eqb, is_some}
 use Rattle.std.proofs.lemmas.Bool.{cases_Bool, cases_eq, both_ways, cond-true, cond-false}
 use Rattle.ws_isa.specs.declared.instr.Op.TheVariants.{Merge, Halt}
 use Rattle.ws_isa.specs.declared.instr.Dest.{Dest}
-use Rattle.ws_isa.specs.Image.{In, ports_of, now_of}
+use Rattle.ws_isa.specs.Image.{ports_of, now_of}
 use Rattle.ws_isa.specs.Sound.{HasDest}
 use Rattle.wave_gen.specs.Waits.{Distinct, Owner}
 use Rattle.wave_gen.specs.Wire.{Spot, dests_of, Wants, Made, emit, gather, Item, Make, Act, Same}
 use Rattle.wave_gen.specs.Plans.{Leaves, Onto, Either, Lands, Halts, Plan, pulse, steered, Tail, steers, sends, operands_of, hang, more, chain, selected, tails_of, end_wants, behind_source, exit_made, body_made, has_front, renew, has_dest, owner_of}
 use Rattle.wave_gen.proofs.Planned.{ItemsAre, SourceIs}
-use Rattle.wave_gen.proofs.Turns.{some_of, is_some}
+use Rattle.wave_gen.proofs.Turns.{some_of}
 use Rattle.wave_gen.proofs.Wiring.{Ahead, Good, ItemsOk, rest_good, gather_good, make_good, wire_good}
 use Rattle.wave_gen.proofs.Flow.{Wanted}
 use Rattle.ws_words.proofs.Numbers.{eqb_is}
 use Rattle.ws_words.proofs.Bools.{and_parts as and_both, or_comes as or_cases, or_left, or_right}
+use Rattle.ws_words.specs.Items.{In}
 
 -- wants that can stand at a block's end: a slot is wanted once, by a name below the width, and lies ahead
 pub record Clean (first : ℕ → ℕ) (Fine : ℕ → ℕ → Type 0) (k width : ℕ) (w : Wants) : Type 0 where

@@ -1,18 +1,12 @@
 -- The names that a block needs, and the variables that it reads.
 use Rattle.std.proofs.Common.{ℕ, zero, suc, ◌+◌, ◌≡◌, ◌<◌, ◌≤◌, ◌||◌, Bool, true, false, cond, List, [], ◌∷◌, length, refl, sym, ap, ◌∙◌, subst, inl, inr, arith, eq-eqb, ne_eqb}
 use Rattle.std.proofs.lemmas.Bool.{cases_eq, both_ways, cases_lt, lt-ltb, le-ltb}
-use Rattle.std.specs.List.{AllByRecursion}
-use Rattle.ws_isa.specs.Image.{In}
-use Rattle.cfg_core.specs.Graph as graph
-use Rattle.cfg_core.specs.Graph.{Graph, Spot, nth, or_else, no_spot}
-use Rattle.cfg_core.specs.Rules as rules
-use Rattle.cfg_core.specs.Rules.{OpIn, ExitIn}
-use Rattle.live_vars.specs.Live.{OpReads, ExitReads, ReadsFirst}
+use Rattle.cfg_core.specs.Graph.{Spot, no_spot}
 use Rattle.wave_gen.specs.Plans.{is_among}
 use Rattle.wave_gen.proofs.Planned.{Apart}
 use Rattle.wave_gen.specs.Listing.{most_vars}
 use Rattle.wave_gen.specs.Words.{live_from}
-use Rattle.call_gen.proofs.Crossing.{low as term_below, all_low as terms_below}
+use Rattle.ws_words.specs.Items.{nth, or_else, In}
 
 pub among_in : (x : ℕ) (ys : List ℕ) → is_among x ys ≡ true → In x ys
 among_in x [] e = absurd (both_ways false refl e)
@@ -25,12 +19,12 @@ in_among x (y ∷ ys) h = elim (cases_eq x y) [
   | inr d ↦ rw (ne_eqb x y d) (in_among x ys (elim h [ inl e ↦ absurd (d e) | inr i ↦ i ]))
 ]
 
-pub from_rules : (x : ℕ) (ys : List ℕ) → rules.In x ys → In x ys
+pub from_rules : (x : ℕ) (ys : List ℕ) → In x ys → In x ys
 from_rules x [] h = h
 from_rules x (y ∷ ys) (inl e) = inl e
 from_rules x (y ∷ ys) (inr h) = inr (from_rules x ys h)
 
-pub to_rules : (x : ℕ) (ys : List ℕ) → In x ys → rules.In x ys
+pub to_rules : (x : ℕ) (ys : List ℕ) → In x ys → In x ys
 to_rules x [] h = h
 to_rules x (y ∷ ys) (inl e) = inl e
 to_rules x (y ∷ ys) (inr h) = inr (to_rules x ys h)
@@ -97,31 +91,3 @@ most_is (s ∷ ss) b l = elim (cases_lt s.vars (most_vars ss)) [
     ho : (b : ℕ) → most_vars ss ≤ s.vars → b < suc (length ss) → ((c : ℕ) → c < length ss → (or_else (nth ss c) no_spot).vars ≤ most_vars ss) → (or_else (nth (s ∷ ss) b) no_spot).vars ≤ s.vars
     ho zero u m ih = omega arith
     ho (suc c) u m ih = let v : (or_else (nth ss c) no_spot).vars ≤ most_vars ss = ih c (omega (arith, m)) in omega (arith, u, v)
-
-op_below : (g : Graph) (n : ℕ) (op : graph.Op) (y : ℕ) → OpIn g n op → OpReads op y → y < n
-op_below g n (graph.Assign x t) y h m = term_below g n t y h.1 m
-op_below g n (graph.Store a t u) y h (inl m) = term_below g n t y h.1 m
-op_below g n (graph.Store a t u) y h (inr m) = term_below g n u y h.2 m
-op_below g n (graph.Print t) y h m = term_below g n t y h m
-op_below g n (graph.Read x) y h m = absurd m
-op_below g n (graph.Give p x) y h m = absurd m
-op_below g n (graph.Take p t) y h m = term_below g n t y h.1 m
-op_below g n (graph.Choose x t a b) y h (inl m) = term_below g n t y h.1 m
-op_below g n (graph.Choose x t a b) y h (inr (inl m)) = term_below g n a y h.2 m
-op_below g n (graph.Choose x t a b) y h (inr (inr m)) = term_below g n b y h.3 m
-op_below g n (graph.Tick w) y h m = absurd m
-op_below g n (graph.TickBy t v w) y h m = term_below g n t y h m
-
-exit_below : (g : Graph) (home n : ℕ) (exit : graph.Exit) (y : ℕ) → ExitIn g home n exit → ExitReads exit y → y < n
-exit_below g home n (graph.Goto b) y h m = absurd m
-exit_below g home n (graph.Branch t a b) y h m = term_below g n t y h.0 m
-exit_below g home n (graph.Call r f ts back) y h m = terms_below g n ts y h.3 m
-exit_below g home n (graph.Return t) y h m = term_below g n t y h m
-exit_below g home n (graph.Send t ts ls) y h (inl m) = term_below g n t y h.0 m
-exit_below g home n (graph.Send t ts ls) y h (inr m) = terms_below g n ts y h.1 m
-exit_below g home n graph.Stop y h m = absurd m
-
-pub reads_below : (g : Graph) (home n : ℕ) (ops : List graph.Op) (exit : graph.Exit) (y : ℕ) → AllByRecursion (OpIn g n) ops → ExitIn g home n exit → ReadsFirst ops exit y → y < n
-reads_below g home n [] exit y h e r = exit_below g home n exit y e r
-reads_below g home n (op ∷ ops) exit y h e (inl r) = op_below g n op y h.0 r
-reads_below g home n (op ∷ ops) exit y h e (inr r) = reads_below g home n ops exit y h.1 e r.1

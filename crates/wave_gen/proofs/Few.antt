@@ -3,13 +3,14 @@ use Rattle.std.proofs.Common.{ℕ, zero, suc, ◌+◌, ◌≡◌, ◌<◌, ◌�
 use Rattle.std.proofs.lemmas.Bool.{cases_eq, cases_lt, cases_order, lt-ltb, le-ltb}
 use Rattle.ws_isa.specs.declared.instr.Op.{Op}
 use Rattle.ws_isa.specs.declared.instr.Op.TheVariants.{Advance, Send}
-use Rattle.ws_isa.specs.Image.{In, is_memory_op, ports_of}
+use Rattle.ws_isa.specs.Image.{is_memory_op, ports_of}
 use Rattle.wave_gen.specs.Wire.{Spot, Back, WiredInstr, Wants, Made, with_wants, with_uses, moved, emit, rest, skip, copy, gather, with_room, with_rooms, Item, Make, Act, Same, is_nil, make, alias, wire, most}
 use Rattle.wave_gen.specs.Plans.{Tail, operands_of, hung, hang, chain, renew, advances, has_front}
 use Rattle.wave_gen.proofs.Planned.{ItemsAre, Apart, AllBelow}
 use Rattle.wave_gen.proofs.Flow.{helds}
 use Rattle.wave_gen.proofs.Fronts.{in_or_not}
 use Rattle.ws_isa.proofs.Images.{three_ports as ports_few}
+use Rattle.ws_words.specs.Items.{In}
 
 abbrev pub Short : List WiredInstr → Type 0
 Short [] = Unit {0}

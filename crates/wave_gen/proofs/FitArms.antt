@@ -10,6 +10,7 @@ use Rattle.wave_cut.specs.Cut.{Cut, is_first, Returns, wave}
 use Rattle.wave_gen.specs.Fitting.{Fits}
 use Rattle.wave_gen.proofs.Tied.{spot_nth}
 use Rattle.wave_link.proofs.GrownEdges.{not_true}
+use Rattle.ws_words.specs.Items.{nth}
 
 entry_low : (first : ℕ) (ps : List GraphProc) (f : ℕ) → f < length ps → first ≤ entry_from first ps f
 entry_low first [] f l = absurd (omega arith)
@@ -20,7 +21,7 @@ entry_low first (p ∷ ps) (suc f) l = let i : first + length p.blocks ≤ entry
 abbrev Sides : ℕ → ℕ → List GraphProc → ℕ → Spot → Type 0
 Sides first h ps n s = (h ≤ s.home) × ((f : ℕ) → f < length ps → ((first + n < entry_from first ps f → s.home < h + f) × (entry_from first ps f ≤ first + n → h + f ≤ s.home)))
 
-in_or_after : (h vars : ℕ) (xs : List Block) (rest : List Spot) (k : ℕ) (s : Spot) → graph.nth (graph.spots_in h vars xs ++ rest) k ≡ Some s → ((k < length xs) × (s.home ≡ h)) ⊎ ((i : ℕ) × (k ≡ length xs + i) × (graph.nth rest i ≡ Some s))
+in_or_after : (h vars : ℕ) (xs : List Block) (rest : List Spot) (k : ℕ) (s : Spot) → nth (graph.spots_in h vars xs ++ rest) k ≡ Some s → ((k < length xs) × (s.home ≡ h)) ⊎ ((i : ℕ) × (k ≡ length xs + i) × (nth rest i ≡ Some s))
 in_or_after h vars [] rest k s q = inr (k, (let z : k ≡ 0 + k = omega arith in z), q)
 in_or_after h vars (x ∷ xs) rest zero s q = let z : record { home = h; vars = vars; block = x } ≡ s = cc in inl (omega arith, ap (λ (r : Spot). r.home) (sym z))
 in_or_after h vars (x ∷ xs) rest (suc k) s q = elim (in_or_after h vars xs rest k s q) [
@@ -28,11 +29,11 @@ in_or_after h vars (x ∷ xs) rest (suc k) s q = elim (in_or_after h vars xs res
   | inr r ↦ inr (r.0, (let l : k ≡ length xs + r.0 = r.1 in omega (arith, l)), r.2)
 ]
 
-sides : (first h : ℕ) (ps : List GraphProc) (n : ℕ) (s : Spot) → graph.nth (graph.spots_from h ps) n ≡ Some s → Sides first h ps n s
+sides : (first h : ℕ) (ps : List GraphProc) (n : ℕ) (s : Spot) → nth (graph.spots_from h ps) n ≡ Some s → Sides first h ps n s
 sides first h [] n s e = absurd (let z : None ≡ Some s = e in cc)
 sides first h (p ∷ ps) n s e = go (in_or_after h p.vars p.blocks (graph.spots_from (suc h) ps) n s e) (λ i q. sides (first + length p.blocks) (suc h) ps i s q)
   where
-    go : ((n < length p.blocks) × (s.home ≡ h)) ⊎ ((i : ℕ) × (n ≡ length p.blocks + i) × (graph.nth (graph.spots_from (suc h) ps) i ≡ Some s)) → ((i : ℕ) → graph.nth (graph.spots_from (suc h) ps) i ≡ Some s → Sides (first + length p.blocks) (suc h) ps i s) → Sides first h (p ∷ ps) n s
+    go : ((n < length p.blocks) × (s.home ≡ h)) ⊎ ((i : ℕ) × (n ≡ length p.blocks + i) × (nth (graph.spots_from (suc h) ps) i ≡ Some s)) → ((i : ℕ) → nth (graph.spots_from (suc h) ps) i ≡ Some s → Sides (first + length p.blocks) (suc h) ps i s) → Sides first h (p ∷ ps) n s
     go (inl r) ih = (omega (arith, r.1), at)
       where
         at : (f : ℕ) → f < length (p ∷ ps) → ((first + n < entry_from first (p ∷ ps) f → s.home < h + f) × (entry_from first (p ∷ ps) f ≤ first + n → h + f ≤ s.home))

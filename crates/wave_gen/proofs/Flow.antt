@@ -3,11 +3,12 @@ use Rattle.std.proofs.Common.{ℕ, zero, suc, ◌+◌, ◌≡◌, ◌<◌, ◌�
 use Rattle.std.proofs.lemmas.Bool.{cases_eq, cases_lt, both_ways}
 use Rattle.ws_isa.specs.declared.instr.Op.{Op}
 use Rattle.ws_isa.specs.declared.instr.Op.TheVariants.{Merge}
-use Rattle.ws_isa.specs.Image.{In, is_memory_op}
+use Rattle.ws_isa.specs.Image.{is_memory_op}
 use Rattle.wave_gen.specs.Wire.{Spot, Back, Wants, Made, with_wants, with_uses, moved, emit, skip, copy, gather, with_room, with_rooms, Item, Make, Act, Same, is_nil, make, alias, wire, most}
 use Rattle.wave_gen.specs.Plans.{Tail, operands_of, hung, hang, more, chain, selected}
 use Rattle.wave_gen.proofs.Planned.{Reads}
 use Rattle.ws_isa.specs.declared.instr.Op.TheVariants.{Send}
+use Rattle.ws_words.specs.Items.{In}
 
 abbrev pub Wanted : Wants → ℕ → Type 0
 Wanted w x = w x ≡ [] → ⊥

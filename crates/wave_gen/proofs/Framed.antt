@@ -2,7 +2,6 @@
 use Rattle.std.proofs.Common.{ℕ, zero, suc, ◌+◌, ◌-◌, ◌≡◌, ◌<◌, ◌≤◌, true, false, cond, List, [], ◌∷◌, ◌++◌, length, map, reverse, drop, get_or, refl, sym, ap, ◌∙◌, subst, inl, inr, arith}
 use Rattle.std.proofs.lemmas.Bool.{cases_Bool}
 use Rattle.std.proofs.lemmas.List.{drop_more, reverse-append, length-reverse, get_or-reverse}
-use Rattle.ws_isa.specs.Image.{nth, or_else}
 use Rattle.wave_gen.specs.declared.plan.Plan as code
 use Rattle.wave_gen.specs.declared.kept.Kept.{Kept}
 use Rattle.wave_gen.specs.Wire.{Spot, Front, Wants, no_wants, Made, with_wants, wire}
@@ -12,6 +11,7 @@ use Rattle.wave_gen.specs.declared.spot.Line.{Line}
 use Rattle.wave_gen.specs.declared.maker.Maker.{Maker}
 use Rattle.wave_gen.specs.Tables.{listed, line_of, behind_of, Stands, leaves_made, begun}
 use Rattle.wave_gen.specs.Kept.{wanted, IsKept, AreKept, KeptBehind, Ahead, LeadsAhead}
+use Rattle.ws_words.specs.Items.{nth, or_else}
 
 nth_plan : (ps : List code.Plan) (k : ℕ) (p : code.Plan) → k < length ps → p ≡ get_or ps k p → or_else (nth (map view.plan ps) k) no_plan ≡ view.plan p
 nth_plan [] k p lt e = absurd (omega arith)

@@ -1,7 +1,6 @@
 -- The fronts of blocks: entries, their advances, and merges behind them.
 use Rattle.std.proofs.Common.{ℕ, zero, suc, ◌+◌, ◌-◌, ◌≡◌, ◌<◌, ◌≤◌, ◌⊎◌, ◌||◌, Bool, true, false, cond, eqb, List, [], ◌∷◌, length, Some, None, refl, sym, ap, ◌∙◌, subst, inl, inr, arith, eq-eqb, ne_eqb}
 use Rattle.std.proofs.lemmas.Bool.{cases_eq, both_ways}
-use Rattle.ws_isa.specs.Image.{In, nth}
 use Rattle.ws_isa.specs.Sound.{HasDest}
 use Rattle.wave_gen.specs.Wire.{Spot, Back, Front, dests_of, Made, gather}
 use Rattle.wave_gen.specs.Plans.{has_front, renew, advances, fronts}
@@ -9,6 +8,7 @@ use Rattle.wave_gen.proofs.Planned.{Apart}
 use Rattle.wave_gen.proofs.Wiring.{Ahead}
 use Rattle.wave_gen.proofs.Flow.{Wanted}
 use Rattle.wave_gen.proofs.Ends.{Clean}
+use Rattle.ws_words.specs.Items.{nth, In}
 
 pub in_nth : (xs : List ℕ) (i x : ℕ) → nth xs i ≡ Some x → In x xs
 in_nth [] i x e = absurd (let a : None ≡ Some x = e in cc)

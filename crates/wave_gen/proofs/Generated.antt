@@ -5,7 +5,6 @@ use Rattle.ws_isa.specs.Image.{Image}
 use Rattle.ws_isa.specs.Open.{OpenToNotes}
 use Rattle.cfg_core.specs.Graph as graph
 use Rattle.cfg_core.specs.Graph.{Graph, block_at}
-use Rattle.cfg_core.specs.Rules as rules
 use Rattle.cfg_core.specs.Rules.{IsGraph, calls}
 use Rattle.live_vars.specs.Live.{Live}
 use Rattle.live_vars.specs.Marks.{AreLive, has}
@@ -29,9 +28,10 @@ use Rattle.wave_gen.proofs.Costs.{graph_costs}
 use Rattle.wave_gen.proofs.Endless.{endless}
 use Rattle.wave_gen.proofs.LeadingAhead.{plans_lead_ahead}
 use Rattle.wave_gen.proofs.PlansMade.{plans_are}
+use Rattle.ws_words.specs.Items.{In}
 
 -- what the passes before give is what plans are made of
-no_call : (x : graph.Exit) → NoCall x → calls x ≡ false
+pub no_call : (x : graph.Exit) → NoCall x → calls x ≡ false
 no_call (graph.Goto b) h = refl
 no_call (graph.Branch t a b) h = refl
 no_call (graph.Call r f ts back) h = absurd h
@@ -39,7 +39,7 @@ no_call (graph.Return t) h = refl
 no_call (graph.Send t ts ls) h = refl
 no_call graph.Stop h = refl
 
-brought : (g : Graph) (exit : graph.Exit) → NoneAcross g exit → (l x : ℕ) → rules.In l (landings_of exit) → Live g l x → rules.In x (block_at g l).named
+pub brought : (g : Graph) (exit : graph.Exit) → NoneAcross g exit → (l x : ℕ) → In l (landings_of exit) → Live g l x → In x (block_at g l).named
 brought g (graph.Send t ts ls) h l x i v = h l x i v
 brought g (graph.Goto b) h l x i v = absurd i
 brought g (graph.Branch t a b) h l x i v = absurd i

@@ -1,10 +1,9 @@
 -- What the items of a graph's terms, operations and exits weigh.
-use Rattle.std.proofs.Common.{ℕ, zero, suc, ◌+◌, ◌*◌, ◌≡◌, ◌<◌, ◌≤◌, List, [], ◌∷◌, ◌++◌, length, cond, Some, None, ap, arith, ne_eqb}
+use Rattle.std.proofs.Common.{ℕ, zero, suc, ◌+◌, ◌*◌, ◌≡◌, ◌≤◌, List, [], ◌∷◌, ◌++◌, length, cond, Some, None, ap, arith, ne_eqb}
 use Rattle.std.specs.List.{sum_by}
 use Rattle.std.proofs.lemmas.List.Sums.{sum_by-cons}
 use Rattle.ws_words.specs.declared.alu.Alu.TheVariants.{Sub, Eq}
-use Rattle.ws_isa.specs.declared.instr.Op.{Op}
-use Rattle.ws_isa.specs.declared.instr.Op.TheVariants.{Const, Alu, Phi, Send, Load, Store, Output, Take}
+use Rattle.ws_isa.specs.declared.instr.Op.TheVariants.{Const, Alu, Phi, Load, Store, Output, Take}
 use Rattle.ws_isa.specs.Image.{ports_of}
 use Rattle.cfg_core.specs.Graph as graph
 use Rattle.cfg_core.specs.Graph.{Term, Number, Var, Cell, Flip, Not, Neg, Binary}

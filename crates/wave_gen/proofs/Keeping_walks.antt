@@ -3,7 +3,7 @@ use Rattle.std.proofs.Common.{ℕ, zero, suc, ◌+◌, ◌-◌, ◌*◌, ◌≡�
 use Rattle.std.proofs.lemmas.Bool.{cond-true}
 use Rattle.std.specs.List.{AllByRecursion}
 use Rattle.ws_words.specs.Outside.{Act, Outside, State, World}
-use Rattle.ws_isa.specs.Image.{Image, Array, In, first_number, is_first, IsBlock}
+use Rattle.ws_isa.specs.Image.{Image, Array, first_number, is_first, IsBlock}
 use Rattle.ws_isa.specs.Sound.{SlotRules}
 use Rattle.ws_isa.specs.Walk.{opening_memory, mem, has_ended, CostAtMost}
 use Rattle.ws_isa.specs.Walk.{walk as instances}
@@ -34,9 +34,10 @@ use Rattle.wave_gen.proofs.Waiting.{waits}
 use Rattle.wave_gen.proofs.WalkShape.{WalkShape}
 use Rattle.wave_gen.proofs.Shape.{shape}
 use Rattle.wave_gen.proofs.Tied.{AtBlock, Tied, at_block, at_end, out_of_turns, next, block_step, next_place, begins_so, follows}
+use Rattle.ws_words.specs.Items.{nth, or_else, In}
 
 -- the entry of a procedure
-spots_skip : (h v : ℕ) (bs : List graph.Block) (rest : List Spot) (i : ℕ) → graph.nth (graph.spots_in h v bs ++ rest) (length bs + i) ≡ graph.nth rest i
+spots_skip : (h v : ℕ) (bs : List graph.Block) (rest : List Spot) (i : ℕ) → nth (graph.spots_in h v bs ++ rest) (length bs + i) ≡ nth rest i
 spots_skip h v [] rest i = let z : 0 + i ≡ i = omega arith in rw z refl
 spots_skip h v (b ∷ bs) rest i = let z : suc (length bs) + i ≡ suc (length bs + i) = omega arith in rw z (spots_skip h v bs rest i)
 
@@ -44,8 +45,8 @@ record EntryOf (first h : ℕ) (procs : List graph.GraphProc) (f : ℕ) : Type 0
   pub place : ℕ
   pub number : graph.entry_from first procs f ≡ first + place
   pub spot : Spot
-  pub is : graph.nth (graph.spots_from h procs) place ≡ Some spot
-  pub vars : spot.vars ≡ (graph.or_else (graph.nth procs f) no_proc).vars
+  pub is : nth (graph.spots_from h procs) place ≡ Some spot
+  pub vars : spot.vars ≡ (or_else (nth procs f) no_proc).vars
 
 entry_first : (first h : ℕ) (p : graph.GraphProc) (procs : List graph.GraphProc) → 1 ≤ length p.blocks → EntryOf first h (p ∷ procs) zero
 entry_first first h p procs l = go p.blocks refl l
@@ -62,7 +63,7 @@ entry_is first h (p ∷ procs) (suc f) a l =
     let n : graph.entry_from (first + length p.blocks) procs f ≡ first + length p.blocks + r.place = r.number in
     record { place = length p.blocks + r.place; number = omega arith; spot = r.spot; is = spots_skip h p.vars p.blocks (graph.spots_from (suc h) procs) r.place ∙ r.is; vars = r.vars }
 
-nth_low : (xs : List Spot) (i : ℕ) (s : Spot) → graph.nth xs i ≡ Some s → i < length xs
+nth_low : (xs : List Spot) (i : ℕ) (s : Spot) → nth xs i ≡ Some s → i < length xs
 nth_low [] i s e = absurd (let a : None ≡ Some s = e in cc)
 nth_low (x ∷ xs) zero s e = omega arith
 nth_low (x ∷ xs) (suc i) s e = let l : i < length xs = nth_low xs i s e in omega arith
@@ -73,7 +74,7 @@ main_entry g r =
     let e = entry_is 0 0 g.procs (length g.procs - 1) r.numbers.procs (let l : 1 ≤ length g.procs = r.numbers.some_proc in omega arith) in
     let n : graph.entry_from 0 g.procs (length g.procs - 1) ≡ 0 + e.place = e.number in
     let z : graph.entry_from 0 g.procs (length g.procs - 1) ≡ e.place = omega arith in
-    (rw z (nth_low (graph.spots_from 0 g.procs) e.place e.spot e.is), ap (λ (s : Option Spot). (graph.or_else s no_spot).vars) (ap (graph.nth (graph.spots_from 0 g.procs)) z ∙ e.is) ∙ e.vars)
+    (rw z (nth_low (graph.spots_from 0 g.procs) e.place e.spot e.is), ap (λ (s : Option Spot). (or_else s no_spot).vars) (ap (nth (graph.spots_from 0 g.procs)) z ∙ e.is) ∙ e.vars)
 
 -- a first block has an instruction
 first_line : (arrays : List Array) (width : ℕ) (ps : List Plan) (Live : ℕ → ℕ → Type 0) (plans : PlansAre ps width Live) (b : ℕ) → (1 ≤ b) × (b ≤ length ps) → (plan_at ps b).first ≡ true → first_number (draft_of arrays width ps) b < first_number (draft_of arrays width ps) (suc b)

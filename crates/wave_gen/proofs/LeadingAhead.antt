@@ -1,10 +1,10 @@
 -- Edges of plans of a draft lead ahead where they don't lead to the first block of a wave.
 use Rattle.std.proofs.Common.{ℕ, zero, suc, ◌<◌, ◌≤◌, List, [], ◌∷◌, length, sym, ◌∙◌, inl, inr, arith}
 use Rattle.std.proofs.lemmas.Bool.{cases_lt, false≢true}
-use Rattle.ws_isa.specs.Image.{nth, or_else}
 use Rattle.wave_gen.specs.Plans.{Leaves, Onto, Either, Lands, Halts, Plan, no_plan, plan_at}
 use Rattle.wave_gen.specs.Kept.{Ahead, LeadsAhead}
 use Rattle.wave_gen.proofs.Planned.{Outer, EdgesAre, PlansAre}
+use Rattle.ws_words.specs.Items.{nth, or_else}
 
 outer_ahead : (ps : List Plan) (b c : ℕ) → Outer ps c → Ahead ps b c
 outer_ahead ps b c o e = absurd (false≢true (sym e ∙ o.first))

@@ -3,12 +3,13 @@ use Rattle.std.proofs.Common.{ℕ, zero, suc, ◌+◌, ◌-◌, ◌≡◌, ◌�
 use Rattle.std.proofs.lemmas.Bool.{cases_order, cond-true}
 use Rattle.ws_words.specs.Outside.{Outside, World}
 use Rattle.ws_isa.specs.Image.{Image}
-use Rattle.ws_isa.specs.Walk.{Inst, Pos, pos, step, walk, with_inst, inst_at, fires, fires_from, is_within}
+use Rattle.ws_isa.specs.Walk.{Inst, pos, walk, with_inst, inst_at, fires, fires_from, is_within}
 use Rattle.wave_link.specs.Passed.{where_left, blocks_left}
 use Rattle.cfg_core.specs.Graph.{Graph}
 use Rattle.cfg_core.specs.Walk as graph
 use Rattle.cfg_core.specs.Walk.{Config, At, Over, Going}
 use Rattle.cfg_core.specs.Weights.{block_left, path}
+use Rattle.wave_link.proofs.WalksOf.{over_next}
 
 module _ (image : Image) (world : World) where
   -- each step fires an instruction or leaves a block
@@ -37,10 +38,6 @@ module _ (image : Image) (world : World) where
       let a = left_up d t in let b = left_grows (d + t) in
       rw e (omega (arith, a, b))
 
-  still_over : (t : ℕ) → (pos image world t).over ≡ true → (pos image world (suc t)).over ≡ true
-  unfolding pos step
-  still_over t o = ap (λ (p : Pos). p.over) (cond-true (pos image world t).over (pos image world t) _ o) ∙ o
-
   none_left : (t : ℕ) → (pos image world t).over ≡ true → blocks_left image world (suc t) ≤ blocks_left image world t
   unfolding blocks_left
   none_left t o =
@@ -51,7 +48,7 @@ module _ (image : Image) (world : World) where
   quiet (suc d) t o =
       let e : suc d + t ≡ suc (d + t) = omega arith in
       let i = quiet d t o in let l = none_left (d + t) i.0 in
-      rw e (still_over (d + t) i.0, omega (arith, i.1, l))
+      rw e (over_next image world (d + t) i.0, omega (arith, i.1, l))
 
   -- once the walk is over it leaves no more
   pub most_left : (t : ℕ) → (pos image world t).over ≡ true → (u : ℕ) → blocks_left image world u ≤ blocks_left image world t

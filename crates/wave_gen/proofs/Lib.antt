@@ -90,4 +90,4 @@ mod Keepings
 mod Framed
 mod Numberings
 pub mod LeadingAhead
-mod Generated
+pub mod Generated

@@ -4,7 +4,7 @@ use Rattle.std.proofs.lemmas.Bool.{cases_Bool, cases_eq}
 use Rattle.std.specs.List.{AllByRecursion}
 use Rattle.ws_isa.specs.declared.instr.Op.TheVariants.{Send}
 use Rattle.ws_isa.specs.Image as image
-use Rattle.ws_isa.specs.Image.{Image, Block, Pad, In, nth, flat, instr_at, is_stop, stops, target, IsIn, IsBlock}
+use Rattle.ws_isa.specs.Image.{Image, Block, Pad, flat, instr_at, is_stop, stops, target, IsIn, IsBlock}
 use Rattle.ws_isa.specs.Formed.{ConstWithin, RiseFrom, PadsRise}
 use Rattle.ws_isa.specs.Sound.{HasPad}
 use Rattle.ws_isa.specs.Open.{OpenToNotes}
@@ -16,7 +16,7 @@ use Rattle.wave_cut.specs.Cut.{Cut}
 use Rattle.wave_gen.specs.Plans.{Plan, Leaves, Onto, Either, Lands, Halts, pulse, plan_at, begins, pads_of, exit_of, source_of, draft_of}
 use Rattle.wave_gen.proofs.Planned.{PlansAre}
 use Rattle.wave_gen.specs.Gen.{top_word, gen_ops}
-use Rattle.wave_gen.specs.Words.{TermOfWords, OpOfWords, ExitOfWords, GraphOfWords, start_block, arrays_of}
+use Rattle.wave_gen.specs.Words.{TermOfWords, OpOfWords, ExitOfWords, GraphOfWords, arrays_of}
 use Rattle.wave_gen.specs.Listing.{gen_exit, landings_of, in_some, has_pads, listing, place_of, width_of, plans_of, needed, graph_draft}
 use Rattle.wave_gen.specs.Limits.{BringsAtMost, LandsAtMost, KeepsLimits}
 use Rattle.wave_gen.specs.Fitting.{Fits}
@@ -35,6 +35,8 @@ use Rattle.wave_gen.proofs.PlansGiving.{some_of, found, plans_give}
 use Rattle.wave_gen.proofs.PlansMade.{plans_are}
 use Rattle.wave_gen.proofs.PlansOpening.{plans_open}
 use Rattle.wave_gen.proofs.Counts.{instrs_few}
+use Rattle.ws_words.specs.Items.{nth, or_else, In, Distinct}
+use Rattle.cfg_core.specs.Weights.{first_block}
 
 -- constants
 plain_const : Plain ConstWithin
@@ -101,19 +103,19 @@ map_length f [] = refl
 map_length f (x ∷ xs) = ap suc (map_length f xs)
 
 -- numbers that a list holds once each stand apart
-apart_of : (xs : List ℕ) → ((i j b : ℕ) → nth xs i ≡ Some b → nth xs j ≡ Some b → i ≡ j) → rules.Apart xs
+apart_of : (xs : List ℕ) → ((i j b : ℕ) → nth xs i ≡ Some b → nth xs j ≡ Some b → i ≡ j) → Distinct xs
 apart_of [] h = tt
 apart_of (x ∷ xs) h = (
   λ i. (let r = place x xs i in let z : 0 ≡ suc r.0 = h 0 (suc r.0) x refl r.1 in omega (arith, z)),
   apart_of xs (λ i j b e f. (let z : suc i ≡ suc j = h (suc i) (suc j) b e f in omega (arith, z))),
 )
   where
-    place : (y : ℕ) (ys : List ℕ) → rules.In y ys → (i : ℕ) × (nth ys i ≡ Some y)
+    place : (y : ℕ) (ys : List ℕ) → In y ys → (i : ℕ) × (nth ys i ≡ Some y)
     place y [] i = absurd i
     place y (z ∷ ys) (inl e) = (0, ap (λ (w : ℕ). Some w) (sym e))
     place y (z ∷ ys) (inr i) = let r = place y ys i in (suc r.0, r.1)
 
-nth_of : (xs : List ℕ) (x : ℕ) → rules.In x xs → (i : ℕ) × (nth xs i ≡ Some x)
+nth_of : (xs : List ℕ) (x : ℕ) → In x xs → (i : ℕ) × (nth xs i ≡ Some x)
 nth_of [] x i = absurd i
 nth_of (y ∷ xs) x (inl e) = (0, ap (λ (w : ℕ). Some w) (sym e))
 nth_of (y ∷ xs) x (inr i) = let r = nth_of xs x i in (suc r.0, r.1)
@@ -196,7 +198,7 @@ module _ (g : Graph) (live : ℕ → ℕ → Bool) (cut : Cut) (fit : Fits g liv
       go (graph.Return t) e a j = absurd j
       go graph.Stop e a j = absurd j
 
-  there_with : (ss : List Spot) (b c : ℕ) → In c (landings_of (graph.or_else (graph.nth ss b) no_spot).block.exit) → b < length ss
+  there_with : (ss : List Spot) (b c : ℕ) → In c (landings_of (or_else (nth ss b) no_spot).block.exit) → b < length ss
   unfolding no_spot
   there_with [] b c i = absurd i
   there_with (s ∷ ss) zero c i = omega arith
@@ -207,9 +209,9 @@ module _ (g : Graph) (live : ℕ → ℕ → Bool) (cut : Cut) (fit : Fits g liv
   some_send x e = let r = some_of landings_of (spots g) x e in (r.0, there_with (spots g) r.0 x r.1, r.1)
 
   named_few : (n c : ℕ) → BringsAtMost n g → has_pads g c ≡ true → length (block_at g c).named ≤ n
-  named_few n c h e = elim (cases_eq c (start_block g)) [
-    | inl q ↦ (let u : length (block_at g (start_block g)).named ≤ n = h.start in let z : length (block_at g c).named ≡ length (block_at g (start_block g)).named = ap (λ r. length (block_at g r).named) q in omega (arith, u, z))
-    | inr d ↦ (let r = some_send c (subst (λ v. (v || in_some landings_of (spots g) c) ≡ true) (ne_eqb c (start_block g) d) e) in landing_of_send n r.0 c h r.1 r.2)
+  named_few n c h e = elim (cases_eq c (first_block g)) [
+    | inl q ↦ (let u : length (block_at g (first_block g)).named ≤ n = h.start in let z : length (block_at g c).named ≡ length (block_at g (first_block g)).named = ap (λ r. length (block_at g r).named) q in omega (arith, u, z))
+    | inr d ↦ (let r = some_send c (subst (λ v. (v || in_some landings_of (spots g) c) ≡ true) (ne_eqb c (first_block g) d) e) in landing_of_send n r.0 c h r.1 r.2)
   ]
 
   plan_pads : (n c : ℕ) → BringsAtMost n g → (v : Bool) → has_pads g c ≡ v → length (cond v (pulse ∷ map suc (block_at g c).named) []) ≤ suc n

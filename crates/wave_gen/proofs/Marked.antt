@@ -1,16 +1,12 @@
 -- What is said of each block by all exits.
 use Rattle.std.proofs.Common.{ℕ, zero, suc, ◌-◌, ◌≡◌, ◌<◌, ◌≤◌, ◌||◌, cond, ltb, true, false, Bool, List, [], ◌∷◌, length, drop, replicate, refl, sym, ap, ◌∙◌, arith}
-use Rattle.std.proofs.lemmas.List.{length-map}
 use Rattle.std.proofs.lemmas.Bool.{lt-ltb, le-ltb}
 use Rattle.cfg_core.specs.Graph as graph
-use Rattle.cfg_core.specs.Graph.{Block, Graph, Spot, no_spot, nth, or_else, spots, spot_at, block_at}
-use Rattle.cfg_core.specs.View as view
-use Rattle.cfg_core.specs.Shows.{TableIs, spot_in_code, spot_in_graph}
-use Rattle.cfg_core.specs.declared.table.GraphTable.{GraphTable}
+use Rattle.cfg_core.specs.Graph.{Block, Graph, Spot, no_spot, spots, spot_at, block_at}
 use Rattle.wave_gen.specs.Plans.{is_among}
 use Rattle.wave_gen.specs.Listing.{in_some, most_vars}
-use Rattle.wave_gen.specs.Placed.{flag}
 use Rattle.ws_words.proofs.Bools.{or_comm, or_false}
+use Rattle.ws_words.specs.Items.{nth, or_else, flag_at}
 
 pub or_assoc : (x y z : Bool) → ((x || y) || z) ≡ (x || (y || z))
 or_assoc true y z = refl
@@ -42,7 +38,7 @@ pub none_vars : (s : Spot) → s ≡ no_spot → 0 ≡ s.vars
 unfolding no_spot
 none_vars s h = sym (ap (λ (x : Spot). x.vars) h)
 
-pub none_set : (n b : ℕ) → flag (replicate n false) b ≡ false
+pub none_set : (n b : ℕ) → flag_at (replicate n false) b ≡ false
 none_set zero b = refl
 none_set (suc n) zero = refl
 none_set (suc n) (suc b) = none_set n b

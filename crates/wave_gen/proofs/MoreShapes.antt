@@ -4,7 +4,7 @@ use Rattle.std.proofs.lemmas.Bool.{cases_Bool, cases_lt, both_ways}
 use Rattle.ws_isa.specs.declared.instr.Op.{Op}
 use Rattle.ws_isa.specs.declared.instr.Op.TheVariants.{Send, Halt, Advance}
 use Rattle.ws_isa.specs.Image as image
-use Rattle.ws_isa.specs.Image.{Image, Instr, Block, Pad, Array, In, nth, instr_at, block_at, first_number, is_first, is_advance, is_giving, is_giving_op, is_memory, stops, target, now_dests, now_of, edge_dests, edge_of, IsIn, IsBlock}
+use Rattle.ws_isa.specs.Image.{Image, Instr, Block, Pad, Array, instr_at, block_at, first_number, is_first, is_advance, is_giving, is_giving_op, is_memory, stops, target, now_dests, now_of, edge_dests, edge_of, IsIn, IsBlock}
 use Rattle.ws_isa.specs.Formed.{WavesInOrder, WavesFrom}
 use Rattle.ws_isa.specs.Sound.{HasDest, HasPad, IsAhead}
 use Rattle.wave_gen.specs.Waits.{Code}
@@ -18,12 +18,13 @@ use Rattle.wave_gen.proofs.Edges.{exit_is, target_is}
 use Rattle.wave_gen.proofs.Waiting.{stops_is, waits, chooses_by, lands_by}
 use Rattle.wave_gen.proofs.Shape.{send_only, shape, shape_sends, source_op}
 use Rattle.wave_gen.proofs.Valid.{now_slot, edge_slot, slot_ahead}
-use Rattle.wave_gen.proofs.Number.{number_is, block_at_is, is_block, block_is, instr_is}
+use Rattle.wave_gen.proofs.Number.{number_is, block_at_is, is_block, instr_is}
 use Rattle.wave_gen.proofs.Lines.{Items, Lines, line_at}
 use Rattle.wave_gen.proofs.Drafts.{Kind, LineOf, line_in, inner_line, outer_line, front_line}
 use Rattle.wave_gen.proofs.TailLines.{is_tail_op, is_tail, made_past}
-use Rattle.ws_isa.proofs.Blocks.{nth_append_left, nth_append_right}
-use Rattle.ws_isa.proofs.Images.{nth_short as nth_lt}
+use Rattle.ws_isa.proofs.Blocks.{nth_append_right}
+use Rattle.ws_words.specs.Items.{nth, In}
+use Rattle.ws_words.proofs.Places.{nth_short, nth_append_left}
 
 count_sends : (k : ℕ) (xs : List ℕ) → length (sends k xs) ≡ length xs
 count_sends k [] = refl
@@ -76,7 +77,7 @@ module _ (arrays : List Array) (width : ℕ) (ps : List Plan) (Live : ℕ → �
 
   pub more_pad_zero : HasPad (block_at I 1).pads 0
   more_pad_zero = subst (λ (k : Block). HasPad k.pads 0) (sym (block_at_is arrays width ps 1 (omega arith, plans.some)))
-      (pad_there 1 0 0 (plan_at ps 1).entries (plan_at ps 1).pads (nth_lt (plan_at ps 1).pads 0 pulse plans.first_pads))
+      (pad_there 1 0 0 (plan_at ps 1).entries (plan_at ps 1).pads (nth_short (plan_at ps 1).pads 0 pulse plans.first_pads))
 
   no_pads : (b : ℕ) (entries xs : List ℕ) → xs ≡ [] → pads_of (begins width ps) b 0 entries xs ≡ []
   no_pads b entries xs e = rw e refl
@@ -164,7 +165,7 @@ module _ (arrays : List Array) (width : ℕ) (ps : List Plan) (Live : ℕ → �
       let f : (instr_at I k).op ≡ Send (0 + t.place) = ap (λ (n : Instr). n.op) t.is ∙ send_only arrays width ps Live plans 0 o.0 t.place t.tail (subst (λ (ts : List Tail). nth ts t.place ≡ Some t.tail) o.1 t.at) in
       let g : Send p ≡ Send (0 + t.place) = sym e ∙ f in
       let q : p ≡ 0 + t.place = cc in
-      let l : t.place < length (tails_of width (starts_at width ps) (plan_at ps b).exit) = nth_lt (tails_of width (starts_at width ps) (plan_at ps b).exit) t.place t.tail t.at in
+      let l : t.place < length (tails_of width (starts_at width ps) (plan_at ps b).exit) = nth_short (tails_of width (starts_at width ps) (plan_at ps b).exit) t.place t.tail t.at in
       let m : length (tails_of width (starts_at width ps) (plan_at ps b).exit) ≡ length o.0 = ap length o.1 ∙ sends_count 0 o.0 in
       let n : length (plan_at ps (target I b r)).pads ≡ length o.0 = o.3.as_many in
       subst (λ (z : ℕ). HasPad (block_at I (target I b r)).pads z) (sym q)

@@ -1,29 +1,25 @@
 -- The numbers of the blocks and instructions of a draft.
-use Rattle.std.proofs.Common.{ℕ, zero, suc, ◌+◌, ◌-◌, ◌≡◌, ◌<◌, ◌≤◌, List, [], ◌∷◌, ◌++◌, length, map, Some, None, refl, sym, ap, ◌∙◌, arith}
-use Rattle.ws_isa.specs.Image.{Image, Instr, Block, Array, nth, or_else, flat, first_of, first_number, instr_at, block_at, IsBlock}
+use Rattle.std.proofs.Common.{ℕ, zero, suc, ◌+◌, ◌-◌, ◌≡◌, ◌<◌, ◌≤◌, List, [], ◌∷◌, length, map, Some, None, refl, sym, ap, ◌∙◌, arith}
+use Rattle.ws_isa.specs.Image.{Image, Instr, Block, Array, flat, first_of, first_number, instr_at, block_at, IsBlock}
 use Rattle.wave_gen.specs.Wire.{WiredInstr, Made}
 use Rattle.wave_gen.specs.Plans.{Plan, no_made, mades, made_at, blocks_from, numbers, begins, instr_of, block_of, blocks_of, draft_of}
 use Rattle.ws_isa.proofs.Steps.{first_of_pos}
 use Rattle.ws_words.proofs.Lists.{length_map}
-use Rattle.ws_isa.proofs.Blocks.{nth_append_left, nth_append_right}
-use Rattle.ws_isa.proofs.Images.{nth_short as nth_lt}
+use Rattle.ws_isa.proofs.Blocks.{nth_append_right}
+use Rattle.ws_words.specs.Items.{nth, or_else}
+use Rattle.ws_words.proofs.Places.{nth_short, nth_append_left}
 
 pub nth_map : {A B : Type 0} (f : A → B) (xs : List A) (i : ℕ) (x : A) → nth xs i ≡ Some x → nth (map f xs) i ≡ Some (f x)
 nth_map f [] i x e = absurd (let a : None ≡ Some x = e in cc)
 nth_map f (y ∷ xs) zero x e = let g : y ≡ x = cc in rw g refl
 nth_map f (y ∷ xs) (suc i) x e = nth_map f xs i x e
 
-pub nth_or : {A : Type 0} (xs : List A) (i : ℕ) (d : A) → i < length xs → nth xs i ≡ Some (or_else (nth xs i) d)
-nth_or [] i d l = absurd (omega arith)
-nth_or (x ∷ xs) zero d l = refl
-nth_or (x ∷ xs) (suc i) d l = nth_or xs i d (omega arith)
-
 flat_nth : (bs : List Block) (b i : ℕ) (x : Block) (n : Instr) → nth bs b ≡ Some x → nth x.instrs i ≡ Some n → nth (flat bs) ((first_of bs b + i) - 1) ≡ Some n
 flat_nth [] b i x n e f = absurd (let a : None ≡ Some x = e in cc)
 flat_nth (y ∷ bs) zero i x n e f =
     let h : y ≡ x = cc in let g : (1 + i) - 1 ≡ i = omega arith in
     let f' : nth y.instrs i ≡ Some n = ap (λ (z : Block). nth z.instrs i) h ∙ f in
-    rw g (nth_append_left y.instrs (flat bs) i (nth_lt y.instrs i n f') ∙ f')
+    rw g (nth_append_left y.instrs (flat bs) i (nth_short y.instrs i n f') ∙ f')
 flat_nth (y ∷ bs) (suc b) i x n e f =
     let h : 1 ≤ first_of bs b = first_of_pos bs b in
     let g : (length y.instrs + first_of bs b + i) - 1 ≡ length y.instrs + ((first_of bs b + i) - 1) = omega arith in

@@ -2,7 +2,6 @@
 use Rattle.std.proofs.Common.{ℕ, zero, suc, ◌+◌, ◌-◌, ◌≡◌, ◌<◌, ◌≤◌, min, List, [], ◌∷◌, ◌++◌, length, map, reverse, drop, get_or, refl, sym, ap, ◌∙◌, subst, arith}
 use Rattle.std.proofs.lemmas.List.{drop_more, append_assoc, map_push, length-map, length-reverse, get_or-reverse}
 use Rattle.ws_isa.specs.Image as image
-use Rattle.ws_isa.specs.Image.{nth, or_else}
 use Rattle.ws_isa.specs.declared.image.Pad as isa_pad
 use Rattle.ws_isa.specs.declared.image.Block as isa_block
 use Rattle.ws_isa.specs.View as isa
@@ -16,6 +15,7 @@ use Rattle.wave_gen.specs.Tables.{line_of}
 use Rattle.wave_gen.specs.Kept.{behind_at, IsKept, AreKept}
 use Rattle.wave_gen.specs.Numbered.{at_place, number_at, numbers_from, numbered}
 use Rattle.wave_gen.proofs.Framed.{plan_is}
+use Rattle.ws_words.specs.Items.{nth, or_else}
 
 pub pads_next : (f : ℕ → ℕ) (b i : ℕ) (entries xs : List ℕ) (ps new : List isa_pad.Pad) (p : isa_pad.Pad) (whole : List image.Pad) → i < length xs → new ≡ ps ++ p ∷ []
     → isa.pad p ≡ record { number = i; dests = dests_of f (fronts b 0 entries (get_or xs i 0)) } → map isa.pad ps ++ pads_of f b i entries (drop i xs) ≡ whole

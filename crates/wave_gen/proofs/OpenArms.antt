@@ -1,10 +1,10 @@
 -- Arms, givers, and no notes: parts of what makes a draft open to notes.
-use Rattle.std.proofs.Common.{ℕ, zero, suc, ◌+◌, ◌≡◌, ◌<◌, ◌≤◌, ◌⊎◌, ◌||◌, true, false, List, [], ◌∷◌, ◌++◌, length, map, Some, None, refl, sym, ap, ◌∙◌, subst, inl, inr, arith}
+use Rattle.std.proofs.Common.{ℕ, zero, suc, ◌+◌, ◌≡◌, ◌<◌, ◌≤◌, ◌⊎◌, ◌||◌, true, false, List, [], ◌∷◌, length, map, Some, None, refl, sym, ap, ◌∙◌, subst, inl, inr, arith}
 use Rattle.std.proofs.lemmas.Bool.{false≢true, cases_Bool, cond-true, cond-false}
 use Rattle.std.specs.List.{AllByRecursion}
 use Rattle.ws_isa.specs.declared.instr.Op.TheVariants.{Merge}
 use Rattle.ws_isa.specs.Image as image
-use Rattle.ws_isa.specs.Image.{Image, Instr, Block, Array, In, nth, flat, block_at, first_number, is_giving, is_giving_op, edges_of, IsBlock}
+use Rattle.ws_isa.specs.Image.{Image, Instr, Block, Array, flat, block_at, first_number, is_giving, is_giving_op, edges_of, IsBlock}
 use Rattle.ws_isa.specs.Formed.{NoNotes}
 use Rattle.ws_isa.specs.Open.{OnlyEdge, IsArm, HasGiver, EnteredBySteer}
 use Rattle.wave_gen.specs.Wire.{WiredInstr, Made, emit}
@@ -20,7 +20,8 @@ use Rattle.wave_gen.proofs.TailLines.{tail_instr}
 use Rattle.wave_gen.proofs.Drafts.{front_line, line_of}
 use Rattle.wave_gen.proofs.Number.{number_is, block_at_is, is_block, block_is}
 use Rattle.ws_words.proofs.Lists.{all_append}
-use Rattle.ws_isa.proofs.Images.{nth_short as nth_inside}
+use Rattle.ws_words.specs.Items.{nth, In}
+use Rattle.ws_words.proofs.Places.{nth_short}
 
 no_notes_in : (first : ℕ → ℕ) (ls : List WiredInstr) → AllByRecursion (λ i. i.note ≡ None) (map (instr_of first) ls)
 no_notes_in first [] = tt
@@ -116,7 +117,7 @@ module _ (arrays : List Array) (width : ℕ) (ps : List Plan) (Live : ℕ → �
   unfolding is_giving
   giver_from b h i x e gives =
       let n : begins width ps (suc b) ≡ begins width ps b + length (made_at width ps b).code = begins_next width ps b h in
-      let lt : i < length (made_at width ps b).code = nth_inside (made_at width ps b).code i x e in
+      let lt : i < length (made_at width ps b).code = nth_short (made_at width ps b).code i x e in
       let l = line_of arrays width ps Live plans.each b h (begins width ps b + i) (omega arith) (omega arith) in
       let p : begins width ps b + i ≡ begins width ps b + l.place = l.number in
       let z : l.place ≡ i = omega arith in

@@ -5,7 +5,7 @@ use Rattle.std.specs.List.{AllByRecursion}
 use Rattle.ws_isa.specs.declared.instr.Op.{Op}
 use Rattle.ws_isa.specs.declared.instr.Op.TheVariants.{Merge, Advance, Steer, Send}
 use Rattle.ws_isa.specs.declared.instr.Dest.{Dest}
-use Rattle.ws_isa.specs.Image.{Image, Instr, Block, Pad, Array, In, instr_at, block_at, first_number, ports, is_giving_op, is_stop, stops, now_of, now_dests, edge_of, edge_dests, IsIn, IsBlock, IsInstr}
+use Rattle.ws_isa.specs.Image.{Image, Instr, Block, Pad, Array, instr_at, block_at, first_number, ports, is_giving_op, is_stop, stops, now_of, now_dests, edge_of, edge_dests, IsIn, IsBlock, IsInstr, is_steer_op}
 use Rattle.ws_isa.specs.Formed.{DestsIn, OpIn, ExitIn, References, DestsSuit, OthersSuit, SomeLanding, Suited}
 use Rattle.ws_isa.specs.Sound.{HasDest, HasPad, BlockShape, ShapeRules}
 use Rattle.ws_isa.specs.Open.{OpenToNotes}
@@ -27,11 +27,11 @@ use Rattle.wave_gen.proofs.Shape.{shape, shape_front, shape_source, shape_addres
 use Rattle.wave_gen.proofs.Valid.{Slot, now_slot, edge_slot, starts_slot, slot_ahead}
 use Rattle.wave_gen.proofs.MoreShapes.{more_waves, more_pad_zero, more_pads_first, pad_front, more_pads, more_source, more_address, more_landing_first, more_landing_pad, more_halt_stops, more_stop_halts, more_halt_last}
 use Rattle.wave_gen.proofs.OpenArms.{draft_bare, draft_arms, draft_givers}
-use Rattle.wave_link.specs.Layout.{is_steer_op}
 use Rattle.wave_gen.proofs.SuitLines.{Suits, suits_at, lines_suit}
 use Rattle.wave_gen.proofs.AllInstrs.{all_instrs, all_blocks}
 use Rattle.wave_link.proofs.FormedOf.{all_members as all_of_in}
 use Rattle.wave_link.proofs.GrownOrigin.{is_instr as in_image}
+use Rattle.ws_words.specs.Items.{In}
 
 -- which lists an operation has
 sort : (op : Op) → (op ≡ Steer) ⊎ (((p : ℕ) × (op ≡ Send p)) ⊎ ((is_steer_op op ≡ false) × ((ds : List Dest) → now_of op ds ≡ ds)))

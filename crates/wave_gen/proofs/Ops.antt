@@ -16,8 +16,8 @@ use Rattle.wave_gen.specs.Gen.{Got, gen_term, gen_op, gen_ops, Agrees, FlipsWord
 use Rattle.wave_gen.proofs.DrawnPlans.{OpsFine}
 use Rattle.std.specs.List.{AllByRecursion}
 use Rattle.wave_gen.proofs.Terms.{run_append, acted_none, Gives, term_gives, agrees_on, set_here, set_other}
-use Rattle.call_gen.proofs.Visible.{with_more as acted}
 use Rattle.ws_words.proofs.Held.{set_length}
+use Rattle.ws_words.proofs.Acts.{with_more}
 
 -- lists of variables
 pub get_set : (xs : List ℕ) (i v : ℕ) → i < length xs → slice_index (slice_set xs i v) i ≡ v
@@ -90,7 +90,7 @@ module _ (g : Graph) where
       IsState (value_of t st).1 (run_items (gen_term k t).items s)
   behind_term t k n st s i m l a f =
       let h = on_state t k n st s i m l a f in
-      record { agrees = agrees_on st.vars k n s.env (run_items (gen_term k t).items s).env (omega arith) l h.keeps a.agrees; out = h.out ∙ ap (λ (o : Outside). acted o (loads_of t st.vars st.out.cells)) a.out }
+      record { agrees = agrees_on st.vars k n s.env (run_items (gen_term k t).items s).env (omega arith) l h.keeps a.agrees; out = h.out ∙ ap (λ (o : Outside). with_more o (loads_of t st.vars st.out.cells)) a.out }
 
   op_left : (op : graph.Op) (k n : ℕ) (st st' : State) (s : Names) (turns left : ℕ) → OpIn g n op → ChoosesBare op → n ≡ length st.vars → n < k → OpFine op st.vars st.out.cells → IsState st s → run_op op st turns ≡ Done st' left →
       Left k st st' (gen_op k op).items (gen_op k op).next s

@@ -15,11 +15,13 @@ use Rattle.wave_gen.specs.Gen.{gen_ops}
 use Rattle.wave_gen.specs.Shared.{shared, none_known}
 use Rattle.wave_gen.specs.Drawn.{exit_next}
 use Rattle.wave_gen.specs.Listing.{gen_exit, in_some, landings_of, plan_of, turned, place_of, width_of}
-use Rattle.wave_gen.specs.Words.{live_from, start_block}
+use Rattle.wave_gen.specs.Words.{live_from}
 use Rattle.wave_gen.specs.View as shown
-use Rattle.wave_gen.specs.Placed.{OutlineIs, flag, place, turned_at}
+use Rattle.wave_gen.specs.Placed.{OutlineIs, place, turned_at}
 use Rattle.wave_gen.specs.declared.plan.Plan.{Plan}
 use Rattle.wave_gen.specs.declared.plans.Outline.{Outline}
+use Rattle.ws_words.specs.Items.{flag_at}
+use Rattle.cfg_core.specs.Weights.{first_block}
 
 -- one variable more
 pub entries_next : (f : ℕ → Bool) (x vars : ℕ) (old new whole : List ℕ) → x < vars → new ≡ old ++ cond (f x) (suc x ∷ []) [] → old ++ live_from f x (vars - x) ≡ whole → new ++ live_from f (x + 1) (vars - (x + 1)) ≡ whole
@@ -52,9 +54,9 @@ abbrev TestOf : ℕ → Block → ℕ
 TestOf width x = exit_next (gen_ops width x.ops).next x.exit
 
 pub plan_made : (o : Outline) → OutlineIs o → (b : ℕ) → b < length (spots (view.graph o.table.graph.now)) → (x : code.Spot) → SpotIs (spot_at (view.graph o.table.graph.now) b) x → (p : Plan) →
-    p.wave ≡ turned_at o.waves.now o.start b → p.first ≡ is_first o.waves.now b → p.joined ≡ not (is_first o.waves.now b || flag o.arms.items b) →
+    p.wave ≡ turned_at o.waves.now o.start b → p.first ≡ is_first o.waves.now b → p.joined ≡ not (is_first o.waves.now b || flag_at o.arms.items b) →
     p.entries.items ≡ cond (is_first o.waves.now b) (pulse ∷ live_from (has o.live.now b) 0 x.vars) [] →
-    p.pads.items ≡ cond (eqb b o.start || flag o.landed.items b) (pulse ∷ map suc (view.block x.block.now).named) [] →
+    p.pads.items ≡ cond (eqb b o.start || flag_at o.landed.items b) (pulse ∷ map suc (view.block x.block.now).named) [] →
     map shown.item p.items.items ≡ ItemsOf (place o.order) o.width (view.block x.block.now) →
     shown.leaves p.exit ≡ ExitOf (place o.order) o.width (view.block x.block.now) →
     p.test ≡ TestOf o.width (view.block x.block.now) →
@@ -68,9 +70,9 @@ plan_made o h b l x s p w f j e d i c t =
     f
     (j ∙ ap (λ v. not (is_first cut b || v)) (h.arms b l))
     (e ∙ ap (λ n. cond (is_first cut b) (pulse ∷ live_from (live b) 0 n) []) (sym s.vars))
-    (d ∙ ap (λ k. cond (eqb b k || flag o.landed.items b) (pulse ∷ map suc (view.block x.block.now).named) []) h.start
-    ∙ ap (λ v. cond (eqb b (start_block g) || v) (pulse ∷ map suc (view.block x.block.now).named) []) (h.landed b l)
-    ∙ ap (λ (y : Block). cond (eqb b (start_block g) || in_some landings_of (spots g) b) (pulse ∷ map suc y.named) []) bl)
+    (d ∙ ap (λ k. cond (eqb b k || flag_at o.landed.items b) (pulse ∷ map suc (view.block x.block.now).named) []) h.start
+    ∙ ap (λ v. cond (eqb b (first_block g) || v) (pulse ∷ map suc (view.block x.block.now).named) []) (h.landed b l)
+    ∙ ap (λ (y : Block). cond (eqb b (first_block g) || in_some landings_of (spots g) b) (pulse ∷ map suc y.named) []) bl)
     (i ∙ ap (λ (q : ℕ → ℕ). ItemsOf q o.width (view.block x.block.now)) h.order.places ∙ ap (λ n. ItemsOf (place_of g cut) n (view.block x.block.now)) h.width ∙ ap (ItemsOf (place_of g cut) (width_of g)) bl)
     (c ∙ ap (λ (q : ℕ → ℕ). ExitOf q o.width (view.block x.block.now)) h.order.places ∙ ap (λ n. ExitOf (place_of g cut) n (view.block x.block.now)) h.width ∙ ap (ExitOf (place_of g cut) (width_of g)) bl)
     (t ∙ ap (λ n. TestOf n (view.block x.block.now)) h.width ∙ ap (TestOf (width_of g)) bl)

@@ -2,9 +2,9 @@
 use Rattle.std.proofs.Common.{ℕ, zero, suc, ◌+◌, ◌*◌, ◌≡◌, ◌<◌, ◌≤◌, ◌⊎◌, ◌==◌, Bool, true, false, if◌then◌else◌, List, [], ◌∷◌, refl, sym, ap, ◌∙◌, subst, inl, inr, arith}
 use Rattle.std.proofs.Math.Nat.{add-mul}
 use Rattle.ws_words.specs.Outside.{Outside, State}
-use Rattle.cfg_core.specs.Graph as graph
 use Rattle.cfg_core.specs.Graph.{Op, Assign, Store, Print, Read, Give, Take, Choose, Tick, TickBy, Exit, Goto, Branch, Call, Return, Send, Stop, Graph, Spot, no_spot, spots, spot_at, block_at}
 use Rattle.cfg_core.specs.Walk.{value_of, Outcome, Done, Out, and_then, spend, run_op, run_ops, Config, At, Over, Going, Frame, leave, passed, step, walk}
+use Rattle.ws_words.specs.Items.{nth, or_else}
 
 -- the most turns of an operation, of operations, and of all blocks together
 abbrev pub op_most : Op → ℕ
@@ -89,11 +89,11 @@ walk_over : (g : Graph) (m : ℕ) (o p : Outside) (k : ℕ) → walk g m (Over o
 walk_over g zero o p k e = cc
 walk_over g (suc m) o p k e = walk_over g m o p k e
 
-block_most : (ss : List Spot) (b : ℕ) → ops_most (graph.or_else (graph.nth ss b) no_spot).block.ops ≤ spots_most ss
+block_most : (ss : List Spot) (b : ℕ) → ops_most (or_else (nth ss b) no_spot).block.ops ≤ spots_most ss
 unfolding no_spot
 block_most [] b = omega arith
 block_most (s ∷ ss) zero = omega arith
-block_most (s ∷ ss) (suc b) = let h : ops_most (graph.or_else (graph.nth ss b) no_spot).block.ops ≤ spots_most ss = block_most ss b in omega (arith, h)
+block_most (s ∷ ss) (suc b) = let h : ops_most (or_else (nth ss b) no_spot).block.ops ≤ spots_most ss = block_most ss b in omega (arith, h)
 
 module _ (g : Graph) where
   -- more than any block takes

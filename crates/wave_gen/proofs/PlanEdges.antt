@@ -1,8 +1,7 @@
 -- Where the edges of a graph's plans lead.
-use Rattle.std.proofs.Common.{ℕ, zero, suc, ◌≡◌, ◌<◌, ◌≤◌, ◌⊎◌, ◌||◌, Bool, true, false, eqb, List, [], ◌∷◌, length, map, refl, sym, ap, ◌∙◌, subst, inl, inr, arith}
+use Rattle.std.proofs.Common.{ℕ, zero, suc, ◌≡◌, ◌<◌, ◌≤◌, ◌⊎◌, Bool, true, false, eqb, List, [], ◌∷◌, length, map, refl, sym, ap, ◌∙◌, subst, inl, inr, arith}
 use Rattle.std.proofs.lemmas.Bool.{both_ways}
 use Rattle.std.specs.List.{AllByRecursion}
-use Rattle.ws_isa.specs.Image.{In}
 use Rattle.cfg_core.specs.Graph as graph
 use Rattle.cfg_core.specs.Graph.{Graph, Spot, Term, spots, spot_at, block_at, no_spot}
 use Rattle.cfg_core.specs.Rules as rules
@@ -14,7 +13,6 @@ use Rattle.wave_gen.proofs.Planned.{Apart, AllIn, Inner, Outer, PadsFit, EdgesAr
 use Rattle.wave_gen.specs.Gen.{gen_term}
 use Rattle.wave_gen.specs.Drawn.{gen_terms, exit_next}
 use Rattle.wave_gen.specs.Listing.{gen_exit, entries_of, landings_of, in_some, has_pads, turned, listing, place_of, index_of, plans_of}
-use Rattle.wave_gen.specs.Words.{start_block}
 use Rattle.wave_gen.specs.Fitting.{Fits}
 use Rattle.wave_gen.proofs.Tied.{all_at}
 use Rattle.wave_gen.proofs.ReadTerms.{next_after}
@@ -25,8 +23,10 @@ use Rattle.wave_gen.proofs.Entries.{in_among, from_rules, to_rules}
 use Rattle.wave_gen.proofs.FitArms.{arm_inside}
 use Rattle.wave_gen.proofs.PlanFacts.{planned, at_place, place_there, numbers, live_of_entry}
 use Rattle.ws_words.proofs.Bools.{or_right}
+use Rattle.ws_words.specs.Items.{nth, or_else, In, Distinct}
+use Rattle.cfg_core.specs.Weights.{first_block}
 
-some_in : (f : graph.Exit → List ℕ) (ss : List Spot) (b c : ℕ) → b < length ss → In c (f (graph.or_else (graph.nth ss b) no_spot).block.exit) → in_some f ss c ≡ true
+some_in : (f : graph.Exit → List ℕ) (ss : List Spot) (b c : ℕ) → b < length ss → In c (f (or_else (nth ss b) no_spot).block.exit) → in_some f ss c ≡ true
 some_in f [] b c l h = absurd (omega (arith, l))
 some_in f (s ∷ ss) zero c l h = rw (in_among c (f s.block.exit) h) refl
 some_in f (s ∷ ss) (suc b) c l h = or_right (is_among c (f s.block.exit)) (in_some f ss c) (some_in f ss b c (omega (arith, l)) h)
@@ -41,11 +41,11 @@ in_suc x [] h = absurd h
 in_suc x (y ∷ ys) (inl e) = (y, e, inl refl)
 in_suc x (y ∷ ys) (inr h) = let r = in_suc x ys h in (r.0, r.1, inr r.2)
 
-suc_apart : (xs : List ℕ) → rules.Apart xs → Apart (map suc xs)
+suc_apart : (xs : List ℕ) → Distinct xs → Apart (map suc xs)
 suc_apart [] h = tt
 suc_apart (x ∷ xs) h = ((λ i. (let r = in_suc (suc x) xs i in let e : suc x ≡ suc r.0 = r.1 in let f : r.0 ≡ x = omega (arith, e) in h.0 (to_rules x xs (subst (λ z. In z xs) f r.2)))), suc_apart xs h.1)
 
-pub pads_apart : (xs : List ℕ) → rules.Apart xs → Apart (pulse ∷ map suc xs)
+pub pads_apart : (xs : List ℕ) → Distinct xs → Apart (pulse ∷ map suc xs)
 pads_apart xs h = ((λ i. (let r = in_suc pulse xs i in let e : 0 ≡ suc r.0 = r.1 in omega (arith, e))), suc_apart xs h)
 
 map_length : (xs : List ℕ) → length (map suc xs) ≡ length xs
@@ -92,24 +92,24 @@ module _ (g : Graph) (live : ℕ → ℕ → Bool) (cut : Cut) (fit : Fits g liv
         wave = rw (at_place g live cut fit c u, at_place g live cut fit b l) (sym (turned_same g live cut fit b c i.1));
       }
 
-  pub pads_are : (b l : ℕ) → b < length (spots g) → rules.In l (landings_of (block_at g b).exit) → has_pads g l ≡ true
+  pub pads_are : (b l : ℕ) → b < length (spots g) → In l (landings_of (block_at g b).exit) → has_pads g l ≡ true
   unfolding spot_at
-  pads_are b l u i = or_right (eqb l (start_block g)) (in_some landings_of (spots g) l) (some_in landings_of (spots g) b l u (from_rules l (landings_of (block_at g b).exit) i))
+  pads_are b l u i = or_right (eqb l (first_block g)) (in_some landings_of (spots g) l) (some_in landings_of (spots g) b l u (from_rules l (landings_of (block_at g b).exit) i))
 
-  pub lands_first : (b l : ℕ) → l < length (spots g) → (t : Term) (ts : List Term) (ls : List ℕ) → (block_at g b).exit ≡ graph.Send t ts ls → rules.In l ls → is_first cut l ≡ true
+  pub lands_first : (b l : ℕ) → l < length (spots g) → (t : Term) (ts : List Term) (ls : List ℕ) → (block_at g b).exit ≡ graph.Send t ts ls → In l ls → is_first cut l ≡ true
   lands_first b l u t ts ls e i = (fit.cuts.rule l u).1 (inl (inr (inr (b, rw e i))))
 
   -- what a block needs where a Send lands is among its pads
-  pub pads_filled : (b l x : ℕ) → l < length (spots g) → rules.In l (landings_of (block_at g b).exit) → In x (entries_of g live l) → In x (pulse ∷ map suc (block_at g l).named)
+  pub pads_filled : (b l x : ℕ) → l < length (spots g) → In l (landings_of (block_at g b).exit) → In x (entries_of g live l) → In x (pulse ∷ map suc (block_at g l).named)
   pads_filled b l zero u i h = inl refl
   pads_filled b l (suc y) u i h = inr (suc_in y (block_at g l).named (from_rules y (block_at g l).named (fit.brought b l y i (live_of_entry g live cut fit l y u h).1)))
 
-  lands : (b : ℕ) (t : Term) (ts : List Term) (all : List ℕ) → b < length (spots g) → (block_at g b).exit ≡ graph.Send t ts all → (k : ℕ) (ls : List ℕ) → ((l : ℕ) → rules.In l ls → rules.In l all) →
+  lands : (b : ℕ) (t : Term) (ts : List Term) (all : List ℕ) → b < length (spots g) → (block_at g b).exit ≡ graph.Send t ts all → (k : ℕ) (ls : List ℕ) → ((l : ℕ) → In l ls → In l all) →
       AllByRecursion (λ l. l < length (spots g)) ls → AllByRecursion (λ l. length (block_at g l).named ≡ length ts) ls →
       AllIn (map (place_of g cut) ls) (λ c. Outer ps c × PadsFit ps (pulse ∷ (gen_terms k ts).names) c)
   lands b t ts all u e k [] sub h f = tt
   lands b t ts all u e k (l ∷ ls) sub h f =
-      let i : rules.In l (landings_of (block_at g b).exit) = rw e (sub l (inl refl)) in
+      let i : In l (landings_of (block_at g b).exit) = rw e (sub l (inl refl)) in
       let fl : is_first cut l ≡ true = lands_first b l h.0 t ts all e (sub l (inl refl)) in
       let p : (planned g live cut fit l).pads ≡ pulse ∷ map suc (block_at g l).named = rw (pads_are b l u i) refl in
       let q : (plan_at ps (place_of g cut l)).pads ≡ pulse ∷ map suc (block_at g l).named = ap (λ (z : Plan). z.pads) (at_place g live cut fit l h.0) ∙ p in

@@ -1,10 +1,9 @@
 -- The plans of a graph, by their numbers, and what they need.
 use Rattle.std.proofs.Common.{ℕ, zero, suc, ◌+◌, ◌-◌, ◌≡◌, ◌<◌, ◌≤◌, Bool, true, false, List, [], ◌∷◌, ◌++◌, length, map, Some, None, refl, sym, ap, ◌∙◌, subst, inl, inr, arith}
 use Rattle.std.proofs.lemmas.Bool.{both_ways}
-use Rattle.ws_isa.specs.Image.{In, nth, or_else}
 use Rattle.cfg_core.specs.Graph as graph
 use Rattle.cfg_core.specs.Graph.{Graph, spots, spot_at, block_at, no_spot}
-use Rattle.cfg_core.specs.Rules.{BlockNumbers, StaysIn, ExitIn, calls}
+use Rattle.cfg_core.specs.Rules.{BlockNumbers, calls}
 use Rattle.live_vars.specs.Live.{Live, reads, passes, ReadsFirst, WrittenIn, ExitWrites, Carries}
 use Rattle.wave_cut.specs.Cut.{Cut, is_first}
 use Rattle.wave_gen.specs.Plans.{Plan, plan_at, no_plan, is_among}
@@ -16,11 +15,14 @@ use Rattle.wave_gen.specs.Fitting.{Fits}
 use Rattle.wave_gen.proofs.Tied.{all_at, same_home}
 use Rattle.wave_gen.proofs.ReadTerms.{Ground, reads_append}
 use Rattle.wave_gen.proofs.Sharing.{shared_read}
-use Rattle.wave_gen.proofs.ReadBlocks.{Kept, ops_reads, exit_first, ExitGives, exit_reads}
+use Rattle.wave_gen.proofs.ReadBlocks.{Kept, ops_reads, ExitGives, exit_reads}
 use Rattle.wave_gen.proofs.Chains.{listed_at, listed_once, listed_there}
 use Rattle.wave_gen.proofs.Turned.{waving}
-use Rattle.wave_gen.proofs.Entries.{among_in, in_among, live_in, live_has, reads_below}
+use Rattle.wave_gen.proofs.Entries.{among_in, in_among, live_in, live_has}
 use Rattle.ws_isa.proofs.Images.{nth_below}
+use Rattle.ws_words.specs.Items.{nth, or_else, In}
+use Rattle.live_vars.proofs.Needed.{first_exit}
+use Rattle.live_vars.proofs.Below.{reads_below, carries_stays}
 
 nth_map : (f : ℕ → Plan) (xs : List ℕ) (i b : ℕ) → nth xs i ≡ Some b → nth (map f xs) i ≡ Some (f b)
 nth_map f [] i b e = absurd (let h : None ≡ Some b = e in cc)
@@ -38,15 +40,6 @@ no_writes (graph.Branch t a b) y e w = w
 no_writes (graph.Return t) y e w = w
 no_writes (graph.Send t ts ls) y e w = w
 no_writes graph.Stop y e w = w
-
-pub stays : (g : Graph) (home vars : ℕ) (exit : graph.Exit) (c : ℕ) → ExitIn g home vars exit → Carries exit c → StaysIn g home c
-stays g home vars (graph.Goto b) c h e = subst (λ z. StaysIn g home z) (sym e) h
-stays g home vars (graph.Branch t a b) c h (inl e) = subst (λ z. StaysIn g home z) (sym e) h.1
-stays g home vars (graph.Branch t a b) c h (inr e) = subst (λ z. StaysIn g home z) (sym e) h.2
-stays g home vars (graph.Call r f ts back) c h e = subst (λ z. StaysIn g home z) (sym e) h.4
-stays g home vars (graph.Return t) c h e = absurd e
-stays g home vars (graph.Send t ts ls) c h e = absurd e
-stays g home vars graph.Stop c h e = absurd e
 
 module _ (g : Graph) (live : ℕ → ℕ → Bool) (cut : Cut) (fit : Fits g live cut) where
   abbrev pub planned : ℕ → Plan
@@ -112,7 +105,7 @@ module _ (g : Graph) (live : ℕ → ℕ → Bool) (cut : Cut) (fit : Fits g liv
   -- and what a block behind it needs and it doesn't write
   passed_on : (b c y : ℕ) → b < length (spots g) → (WrittenIn (block_at g b).ops y → ⊥) → Carries (block_at g b).exit c → In (suc y) (entries_of g live c) → In (suc y) (entries_of g live b)
   passed_on b c y l n k i =
-      let s = stays g (spot_at g b).home (spot_at g b).vars (block_at g b).exit c (numbers b l).exit k in
+      let s = carries_stays g (spot_at g b).home (spot_at g b).vars (block_at g b).exit c (numbers b l).exit k in
       let h = live_of_entry c y s.0 i in
       let h0 : y < (spot_at g c).vars = h.0 in
       let v : (spot_at g c).vars ≡ (spot_at g b).vars = same_home g b c l s.0 s.1 in
@@ -120,9 +113,9 @@ module _ (g : Graph) (live : ℕ → ℕ → Bool) (cut : Cut) (fit : Fits g liv
 
   exit_read : (b x : ℕ) → b < length (spots g) → Kept (WrittenIn (block_at g b).ops) x → ExitGives (place_of g cut) Need (block_at g b).exit x → In x (entries_of g live b)
   exit_read b x l k (inl (inl e)) = inl e
-  exit_read b x l k (inl (inr (y, e, r))) = first_read b x l (inr (y, e, exit_first (block_at g b).ops (block_at g b).exit y (k y e) r))
+  exit_read b x l k (inl (inr (y, e, r))) = first_read b x l (inr (y, e, first_exit (block_at g b).ops (block_at g b).exit y (k y e) r))
   exit_read b x l k (inr (c, q, m)) =
-      let s = stays g (spot_at g b).home (spot_at g b).vars (block_at g b).exit c (numbers b l).exit q in
+      let s = carries_stays g (spot_at g b).home (spot_at g b).vars (block_at g b).exit c (numbers b l).exit q in
       go x k (to_entry (index_of (listing g cut) c) c x (at c s.0) m)
     where
       go : (z : ℕ) → Kept (WrittenIn (block_at g b).ops) z → In z (entries_of g live c) → In z (entries_of g live b)

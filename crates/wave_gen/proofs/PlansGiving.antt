@@ -1,7 +1,6 @@
 -- The plans of a graph give what they make, and have pads only where a wave begins.
 use Rattle.std.proofs.Common.{◌++◌, ℕ, zero, suc, ◌≡◌, ◌<◌, ◌≤◌, ◌||◌, Bool, true, false, cond, List, [], ◌∷◌, length, map, refl, sym, ap, ◌∙◌, subst, inl, inr, arith, ne_eqb}
 use Rattle.std.proofs.lemmas.Bool.{both_ways, cases_eq}
-use Rattle.ws_isa.specs.Image.{In}
 use Rattle.cfg_core.specs.Graph as graph
 use Rattle.cfg_core.specs.Graph.{Graph, Spot, spots, spot_at, block_at, no_spot}
 use Rattle.wave_cut.specs.Cut.{Cut, Returns, is_first}
@@ -11,20 +10,21 @@ use Rattle.wave_gen.specs.Shared.{none_known}
 use Rattle.wave_gen.proofs.Sharing.{shared_give}
 use Rattle.wave_gen.proofs.More.{ItemsGive, SourceGives, PlansGive}
 use Rattle.wave_gen.specs.Listing.{gen_exit, landings_of, in_some, has_pads, listing, place_of, width_of, plans_of}
-use Rattle.wave_gen.specs.Words.{start_block}
 use Rattle.wave_gen.specs.Fitting.{Fits}
 use Rattle.wave_gen.proofs.ItemsGiving.{gives_append, ops_give_all, exit_gives_all, exit_source_gives}
 use Rattle.wave_gen.proofs.Turned.{start_first}
 use Rattle.wave_gen.proofs.Entries.{among_in, to_rules}
 use Rattle.wave_gen.proofs.PlanFacts.{planned, plan_there, as_many, block_there}
 use Rattle.ws_isa.proofs.Images.{nth_within as nth_some}
+use Rattle.ws_words.specs.Items.{nth, or_else, In}
+use Rattle.cfg_core.specs.Weights.{first_block}
 
 -- a block in the list of whose exit this one is
-pub some_of : (f : graph.Exit → List ℕ) (ss : List Spot) (c : ℕ) → in_some f ss c ≡ true → (b : ℕ) × In c (f (graph.or_else (graph.nth ss b) no_spot).block.exit)
+pub some_of : (f : graph.Exit → List ℕ) (ss : List Spot) (c : ℕ) → in_some f ss c ≡ true → (b : ℕ) × In c (f (or_else (nth ss b) no_spot).block.exit)
 some_of f [] c e = absurd (both_ways false refl e)
 some_of f (s ∷ ss) c e = go (is_among c (f s.block.exit)) refl (some_of f ss c) e
   where
-    go : (v : Bool) → is_among c (f s.block.exit) ≡ v → (in_some f ss c ≡ true → (b : ℕ) × In c (f (graph.or_else (graph.nth ss b) no_spot).block.exit)) → (v || in_some f ss c) ≡ true → (b : ℕ) × In c (f (graph.or_else (graph.nth (s ∷ ss) b) no_spot).block.exit)
+    go : (v : Bool) → is_among c (f s.block.exit) ≡ v → (in_some f ss c ≡ true → (b : ℕ) × In c (f (or_else (nth ss b) no_spot).block.exit)) → (v || in_some f ss c) ≡ true → (b : ℕ) × In c (f (or_else (nth (s ∷ ss) b) no_spot).block.exit)
     go true e ih h = (0, among_in c (f s.block.exit) e)
     go false e ih h = let r = ih h in (suc r.0, r.1)
 
@@ -39,9 +39,9 @@ returns graph.Stop c h = absurd h
 module _ (g : Graph) (live : ℕ → ℕ → Bool) (cut : Cut) (fit : Fits g live cut) where
   pads_first : (c : ℕ) → c < length (spots g) → has_pads g c ≡ true → is_first cut c ≡ true
   unfolding spot_at
-  pads_first c l h = elim (cases_eq c (start_block g)) [
+  pads_first c l h = elim (cases_eq c (first_block g)) [
     | inl e ↦ ap (is_first cut) e ∙ start_first g live cut fit
-    | inr d ↦ (let r = some_of landings_of (spots g) c (subst (λ v. (v || in_some landings_of (spots g) c) ≡ true) (ne_eqb c (start_block g) d) h) in
+    | inr d ↦ (let r = some_of landings_of (spots g) c (subst (λ v. (v || in_some landings_of (spots g) c) ≡ true) (ne_eqb c (first_block g) d) h) in
         (fit.cuts.rule c l).1 (inl (inr (inr (r.0, returns (block_at g r.0).exit c r.1)))))
   ]
 

@@ -2,10 +2,9 @@
 use Rattle.std.proofs.Common.{◌++◌, ℕ, zero, suc, ◌≡◌, ◌<◌, ◌≤◌, ◌||◌, Bool, true, false, cond, List, [], ◌∷◌, length, map, Some, refl, sym, ap, ◌∙◌, subst, inl, inr, arith, eq-eqb}
 use Rattle.std.proofs.lemmas.Bool.{both_ways}
 use Rattle.std.specs.List.{AllByRecursion}
-use Rattle.ws_isa.specs.Image.{In, nth, Array, cells_of}
+use Rattle.ws_isa.specs.Image.{Array, cells_of}
 use Rattle.cfg_core.specs.Graph as graph
 use Rattle.cfg_core.specs.Graph.{Graph, Term, spots, spot_at, block_at, entry_of}
-use Rattle.cfg_core.specs.Rules as rules
 use Rattle.cfg_core.specs.Rules.{ExitIn, calls}
 use Rattle.cfg_core.specs.Walk as walks
 use Rattle.wave_cut.specs.Cut.{Cut, is_first}
@@ -20,7 +19,7 @@ use Rattle.wave_gen.specs.Drawn.{exit_next}
 use Rattle.wave_gen.proofs.DrawnPlans.{Leads, here, Keeps, LandsAll, ExitDrawn, BlockDrawn}
 use Rattle.wave_gen.proofs.IsDrawn.{IsDrawn}
 use Rattle.wave_gen.specs.Listing.{gen_exit, entries_of, landings_of, in_some, turned, listing, place_of, index_of, most_vars, width_of, plans_of, needed, nothing_zeroed}
-use Rattle.wave_gen.specs.Words.{live_from, start_block}
+use Rattle.wave_gen.specs.Words.{live_from}
 use Rattle.wave_gen.specs.Fitting.{Fits}
 use Rattle.wave_gen.proofs.ItemKinds.{items_append, ops_items, exit_items, exit_source}
 use Rattle.wave_gen.proofs.Chains.{Step, listed_step, listed_first}
@@ -30,6 +29,8 @@ use Rattle.wave_gen.proofs.Nexts.{ops_next, next_of_exit}
 use Rattle.wave_gen.proofs.PlanFacts.{planned, plan_there, as_many, at, at_place, place_there, place_is, block_there, to_entry, of_entry, live_of_entry, plan_reads, numbers}
 use Rattle.wave_gen.proofs.PlanEdges.{edges_are, values_apart, pads_are}
 use Rattle.ws_isa.proofs.Images.{nth_within as nth_some}
+use Rattle.ws_words.specs.Items.{nth, In}
+use Rattle.cfg_core.specs.Weights.{first_block}
 
 vars_below : (g : Graph) (b : ℕ) → b < length (spots g) → (spot_at g b).vars < width_of g
 unfolding spot_at
@@ -83,11 +84,11 @@ module _ (g : Graph) (live : ℕ → ℕ → Bool) (cut : Cut) (fit : Fits g liv
       let u : suc i ≤ length ps = h.1 in let e : length ps ≡ length (listing g cut) = as_many g live cut fit in
       let r = nth_some (listing g cut) i (omega (arith, u, e)) in plan_is i r.0 r.1
 
-  start_place : index_of (listing g cut) (start_block g) ≡ 0
-  start_place = listed_first (length (spots g)) (turned g cut) (is_first cut) (length cut.heads) (waving g live cut fit) (start_block g) (start_there g fit.graph) (start_wave g live cut fit) (start_first g live cut fit)
+  start_place : index_of (listing g cut) (first_block g) ≡ 0
+  start_place = listed_first (length (spots g)) (turned g cut) (is_first cut) (length cut.heads) (waving g live cut fit) (first_block g) (start_there g fit.graph) (start_wave g live cut fit) (start_first g live cut fit)
 
-  first_plan : plan_at ps 1 ≡ P (start_block g)
-  first_plan = plan_there g live cut fit 0 (start_block g) (ap (nth (listing g cut)) (sym start_place) ∙ at g live cut fit (start_block g) (start_there g fit.graph))
+  first_plan : plan_at ps 1 ≡ P (first_block g)
+  first_plan = plan_there g live cut fit 0 (first_block g) (ap (nth (listing g cut)) (sym start_place) ∙ at g live cut fit (first_block g) (start_there g fit.graph))
 
   step : (b : ℕ) → suc (suc b) ≤ length ps → (a : ℕ) × (c : ℕ) × (plan_at ps (suc b) ≡ P a) × (plan_at ps (suc (suc b)) ≡ P c) × Step (turned g cut) (is_first cut) (turned g cut a) c
   step b l =
@@ -104,19 +105,19 @@ module _ (g : Graph) (live : ℕ → ℕ → Bool) (cut : Cut) (fit : Fits g liv
   pub plans_are : PlansAre ps (width_of g) Need
   plans_are = record {
     each = each;
-    some = (let e : length ps ≡ length (listing g cut) = as_many g live cut fit in let l : place_of g cut (start_block g) ≤ length ps = there in omega (arith, l));
+    some = (let e : length ps ≡ length (listing g cut) = as_many g live cut fit in let l : place_of g cut (first_block g) ≤ length ps = there in omega (arith, l));
     first = rw first_plan (start_first g live cut fit);
     first_wave = rw first_plan (start_wave g live cut fit);
-    first_entries = ap (λ (p : Plan). p.entries) first_plan ∙ (ap (λ v. cond v (entries_of g live (start_block g)) []) (start_first g live cut fit)
-        ∙ ap (λ (r : List ℕ). pulse ∷ r) (live_none (live (start_block g)) 0 (spot_at g (start_block g)).vars
-        (λ y u e. fit.start y ((fit.sets (start_block g) y (start_there g fit.graph) (omega (arith, u))).0 e))));
-    first_pads = ap (λ (p : Plan). nth p.pads 0) first_plan ∙ ap (λ v. nth (cond (v || in_some landings_of (spots g) (start_block g)) (pulse ∷ map suc (block_at g (start_block g)).named) []) 0) (eq-eqb (start_block g) (start_block g) refl);
+    first_entries = ap (λ (p : Plan). p.entries) first_plan ∙ (ap (λ v. cond v (entries_of g live (first_block g)) []) (start_first g live cut fit)
+        ∙ ap (λ (r : List ℕ). pulse ∷ r) (live_none (live (first_block g)) 0 (spot_at g (first_block g)).vars
+        (λ y u e. fit.start y ((fit.sets (first_block g) y (start_there g fit.graph) (omega (arith, u))).0 e))));
+    first_pads = ap (λ (p : Plan). nth p.pads 0) first_plan ∙ ap (λ v. nth (cond (v || in_some landings_of (spots g) (first_block g)) (pulse ∷ map suc (block_at g (first_block g)).named) []) 0) (eq-eqb (first_block g) (first_block g) refl);
     rises = λ b l f. rises b (step b l) f;
     stays = λ b l f. stays b (step b l) f;
   }
     where
-      there : place_of g cut (start_block g) ≤ length ps
-      there = place_there g live cut fit (start_block g) (start_there g fit.graph)
+      there : place_of g cut (first_block g) ≤ length ps
+      there = place_there g live cut fit (first_block g) (start_there g fit.graph)
 
       rises : (b : ℕ) → (a : ℕ) × (c : ℕ) × (plan_at ps (suc b) ≡ P a) × (plan_at ps (suc (suc b)) ≡ P c) × Step (turned g cut) (is_first cut) (turned g cut a) c →
           (plan_at ps (suc (suc b))).first ≡ true → (plan_at ps (suc (suc b))).wave ≡ suc (plan_at ps (suc b)).wave
@@ -134,7 +135,7 @@ module _ (g : Graph) (live : ℕ → ℕ → Bool) (cut : Cut) (fit : Fits g liv
   keeps : (c : ℕ) → Keeps ps (place_of g cut) nothing_zeroed (place_of g cut c) c
   keeps c = record { leads = leads c; none = refl }
 
-  lands_all : (b : ℕ) (t : Term) (ts : List Term) (all ls : List ℕ) → b < length (spots g) → (block_at g b).exit ≡ graph.Send t ts all → ((l : ℕ) → rules.In l ls → rules.In l all) → AllByRecursion (λ l. l < length (spots g)) ls →
+  lands_all : (b : ℕ) (t : Term) (ts : List Term) (all ls : List ℕ) → b < length (spots g) → (block_at g b).exit ≡ graph.Send t ts all → ((l : ℕ) → In l ls → In l all) → AllByRecursion (λ l. l < length (spots g)) ls →
       LandsAll g ps (place_of g cut) nothing_zeroed (map (place_of g cut) ls) ls
   lands_all b t ts all [] u e sub h = tt
   lands_all b t ts all (l ∷ ls) u e sub h =
@@ -168,6 +169,6 @@ module _ (g : Graph) (live : ℕ → ℕ → Bool) (cut : Cut) (fit : Fits g liv
   plans_drawn arrays e = record {
     plans = plans_are;
     rules = fit.graph;
-    drawn = record { blocks = block_drawn; start = here (let f : index_of (listing g cut) (start_block g) ≡ 0 = start_place in omega (arith, f)) };
+    drawn = record { blocks = block_drawn; start = here (let f : index_of (listing g cut) (first_block g) ≡ 0 = start_place in omega (arith, f)) };
     cells = e;
   }

@@ -3,7 +3,7 @@ use Rattle.std.proofs.Common.{ℕ, zero, suc, ◌≡◌, ◌<◌, ◌≤◌, ◌
 use Rattle.std.proofs.lemmas.Bool.{both_ways}
 use Rattle.ws_isa.specs.declared.instr.Op.{Op}
 use Rattle.ws_isa.specs.declared.instr.Op.TheVariants.{Merge}
-use Rattle.ws_isa.specs.Image.{In, nth, edges_of}
+use Rattle.ws_isa.specs.Image.{edges_of}
 use Rattle.cfg_core.specs.Graph as graph
 use Rattle.cfg_core.specs.Graph.{Graph, Spot, Term, spots, spot_at, block_at, no_spot}
 use Rattle.cfg_core.specs.Rules as rules
@@ -17,11 +17,12 @@ use Rattle.wave_gen.proofs.Opening.{OnlyEdgeOf, ArmOf, PlansOpen}
 use Rattle.wave_gen.specs.Listing.{gen_exit, arms_of, in_some, listing, index_of, place_of, width_of, plans_of}
 use Rattle.wave_gen.specs.Fitting.{Fits}
 use Rattle.cfg_core.specs.Edges.{Edge}
-use Rattle.wave_gen.proofs.Sorted.{some_same}
 use Rattle.wave_gen.proofs.PlansGiving.{some_of}
 use Rattle.wave_gen.proofs.PlanFacts.{planned, at, at_place, place_is, place_there, numbers}
 use Rattle.wave_gen.proofs.PlanFacts.{as_many, block_there}
 use Rattle.ws_isa.proofs.Images.{nth_within as nth_some}
+use Rattle.ws_words.specs.Items.{nth, or_else, In}
+use Rattle.ws_words.proofs.Options.{some_same}
 
 abbrev first_arm : Leaves → ℕ
 first_arm (Either op from c d) = c
@@ -32,23 +33,23 @@ second_arm (Either op from c d) = d
 second_arm _ = 0
 
 -- a block to which an edge of a plan's exit leads
-in_map : (f : ℕ → ℕ) (xs : List ℕ) (i n : ℕ) → nth (map f xs) i ≡ Some n → (c : ℕ) × rules.In c xs × (f c ≡ n)
+in_map : (f : ℕ → ℕ) (xs : List ℕ) (i n : ℕ) → nth (map f xs) i ≡ Some n → (c : ℕ) × In c xs × (f c ≡ n)
 in_map f [] i n e = absurd (let h : None ≡ Some n = e in cc)
-in_map f (x ∷ xs) zero n e = (x, inl refl, some_same (f x) n e)
+in_map f (x ∷ xs) zero n e = (x, inl refl, some_same e)
 in_map f (x ∷ xs) (suc i) n e = let r = in_map f xs i n e in (r.0, inr r.1, r.2)
 
 edge_to : (place : ℕ → ℕ) (exit : graph.Exit) (k i n : ℕ) → nth (edges_of (exit_of 0 (gen_exit place k exit).exit)) i ≡ Some n → (c : ℕ) × rules.Leads exit c × (place c ≡ n)
-edge_to place (graph.Goto c) k zero n e = (c, refl, some_same (place c) n e)
+edge_to place (graph.Goto c) k zero n e = (c, refl, some_same e)
 edge_to place (graph.Goto c) k (suc i) n e = absurd (let h : None ≡ Some n = e in cc)
-edge_to place (graph.Branch t a b) k zero n e = (a, inl refl, some_same (place a) n e)
-edge_to place (graph.Branch t a b) k (suc zero) n e = (b, inr refl, some_same (place b) n e)
+edge_to place (graph.Branch t a b) k zero n e = (a, inl refl, some_same e)
+edge_to place (graph.Branch t a b) k (suc zero) n e = (b, inr refl, some_same e)
 edge_to place (graph.Branch t a b) k (suc (suc i)) n e = absurd (let h : None ≡ Some n = e in cc)
 edge_to place (graph.Call r f ts back) k i n e = absurd (let h : None ≡ Some n = e in cc)
 edge_to place (graph.Return t) k i n e = absurd (let h : None ≡ Some n = e in cc)
 edge_to place (graph.Send t ts ls) k i n e = in_map place ls i n e
 edge_to place graph.Stop k i n e = absurd (let h : None ≡ Some n = e in cc)
 
-all_in : (P : ℕ → Type 0) (xs : List ℕ) (c : ℕ) → AllByRecursion P xs → rules.In c xs → P c
+all_in : (P : ℕ → Type 0) (xs : List ℕ) (c : ℕ) → AllByRecursion P xs → In c xs → P c
 all_in P [] c h i = absurd i
 all_in P (x ∷ xs) c h (inl e) = subst P (sym e) h.0
 all_in P (x ∷ xs) c h (inr i) = all_in P xs c h.1 i
@@ -67,10 +68,10 @@ module _ (g : Graph) (live : ℕ → ℕ → Bool) (cut : Cut) (fit : Fits g liv
   ps = plans_of g live cut
 
   -- an arm of a branch is entered by that branch alone
-  alone : (p b c : ℕ) → rules.In c (arms_of (block_at g b).exit) → Edge g p c → p ≡ b
+  alone : (p b c : ℕ) → In c (arms_of (block_at g b).exit) → Edge g p c → p ≡ b
   alone p b c i d = go (block_at g b).exit refl i
     where
-      go : (exit : graph.Exit) → (block_at g b).exit ≡ exit → rules.In c (arms_of exit) → p ≡ b
+      go : (exit : graph.Exit) → (block_at g b).exit ≡ exit → In c (arms_of exit) → p ≡ b
       go (graph.Branch t x y) e (inl q) = (fit.apart b t x y e).first p (subst (λ z. Edge g p z) q d)
       go (graph.Branch t x y) e (inr (inl q)) = (fit.apart b t x y e).second p (subst (λ z. Edge g p z) q d)
       go (graph.Branch t x y) e (inr (inr q)) = absurd q
@@ -83,7 +84,7 @@ module _ (g : Graph) (live : ℕ → ℕ → Bool) (cut : Cut) (fit : Fits g liv
   -- two blocks have two places
   once : (b c : ℕ) → b < length (spots g) → c < length (spots g) → place_of g cut b ≡ place_of g cut c → b ≡ c
   once b c l u e = let f : index_of (listing g cut) b ≡ index_of (listing g cut) c = omega (arith, e) in
-      some_same b c (sym (at g live cut fit b l) ∙ ap (nth (listing g cut)) f ∙ at g live cut fit c u)
+      some_same (sym (at g live cut fit b l) ∙ ap (nth (listing g cut)) f ∙ at g live cut fit c u)
 
   abbrev edge : ℕ → ℕ → ℕ → Type 0
   edge m i n = nth (edges_of (exit_of 0 (plan_at ps m).exit)) i ≡ Some n
@@ -95,7 +96,7 @@ module _ (g : Graph) (live : ℕ → ℕ → Bool) (cut : Cut) (fit : Fits g liv
       let r = nth_some (listing g cut) i (omega (arith, u, e)) in (r.0, block_there g live cut fit i r.0 r.1, place_is g live cut fit i r.0 r.1)
 
   -- an edge to an arm's plan comes from the branch
-  comes : (x b c i : ℕ) → x < length (spots g) → b < length (spots g) → c < length (spots g) → rules.In c (arms_of (block_at g b).exit) → edge (place_of g cut x) i (place_of g cut c) → x ≡ b
+  comes : (x b c i : ℕ) → x < length (spots g) → b < length (spots g) → c < length (spots g) → In c (arms_of (block_at g b).exit) → edge (place_of g cut x) i (place_of g cut c) → x ≡ b
   comes x b c i xl l u k f =
       let d = (gen_ops (width_of g) (block_at g x).ops).next in
       let r = edge_to (place_of g cut) (block_at g x).exit d i (place_of g cut c) (subst (λ (p : Plan). nth (edges_of (exit_of 0 p.exit)) i ≡ Some (place_of g cut c)) (at_place g live cut fit x xl) f) in
@@ -109,11 +110,11 @@ module _ (g : Graph) (live : ℕ → ℕ → Bool) (cut : Cut) (fit : Fits g liv
 
   first_of : (m n i : ℕ) → (m ≡ n → ⊥) → nth (m ∷ n ∷ []) i ≡ Some m → i ≡ 0
   first_of m n zero d e = refl
-  first_of m n (suc zero) d e = absurd (d (sym (some_same n m e)))
+  first_of m n (suc zero) d e = absurd (d (sym (some_same e)))
   first_of m n (suc (suc i)) d e = absurd (let h : None ≡ Some m = e in cc)
 
   second_of : (m n i : ℕ) → (m ≡ n → ⊥) → nth (m ∷ n ∷ []) i ≡ Some n → i ≡ 1
-  second_of m n zero d e = absurd (d (some_same m n e))
+  second_of m n zero d e = absurd (d (some_same e))
   second_of m n (suc zero) d e = refl
   second_of m n (suc (suc i)) d e = absurd (let h : None ≡ Some n = e in cc)
 
@@ -128,14 +129,14 @@ module _ (g : Graph) (live : ℕ → ℕ → Bool) (cut : Cut) (fit : Fits g liv
           is = ap (λ (r : List ℕ). nth r 0) q;
           only = λ m i h f. (let r = found m h in
               let f' : edge (place_of g cut r.0) i (place_of g cut c) = subst (λ z. edge z i (place_of g cut c)) (sym r.2) f in
-              let x : r.0 ≡ b = comes r.0 b c i r.1 l cn (subst (λ z. rules.In c (arms_of z)) (sym e) (inl refl)) f' in
+              let x : r.0 ≡ b = comes r.0 b c i r.1 l cn (subst (λ z. In c (arms_of z)) (sym e) (inl refl)) f' in
               (sym r.2 ∙ ap (place_of g cut) x, first_of (place_of g cut c) (place_of g cut d) i apart (ap (λ (z : List ℕ). nth z i) (sym q) ∙ subst (λ z. edge (place_of g cut z) i (place_of g cut c)) x f')));
         },
         record {
           is = ap (λ (r : List ℕ). nth r 1) q;
           only = λ m i h f. (let r = found m h in
               let f' : edge (place_of g cut r.0) i (place_of g cut d) = subst (λ z. edge z i (place_of g cut d)) (sym r.2) f in
-              let x : r.0 ≡ b = comes r.0 b d i r.1 l dn (subst (λ z. rules.In d (arms_of z)) (sym e) (inr (inl refl))) f' in
+              let x : r.0 ≡ b = comes r.0 b d i r.1 l dn (subst (λ z. In d (arms_of z)) (sym e) (inr (inl refl))) f' in
               (sym r.2 ∙ ap (place_of g cut) x, second_of (place_of g cut c) (place_of g cut d) i apart (ap (λ (z : List ℕ). nth z i) (sym q) ∙ subst (λ z. edge (place_of g cut z) i (place_of g cut d)) x f')));
         },
       )
@@ -163,7 +164,7 @@ module _ (g : Graph) (live : ℕ → ℕ → Bool) (cut : Cut) (fit : Fits g liv
       )
 
   -- a block whose exit has arms is there
-  there_with : (ss : List Spot) (b c : ℕ) → In c (arms_of (graph.or_else (graph.nth ss b) no_spot).block.exit) → b < length ss
+  there_with : (ss : List Spot) (b c : ℕ) → In c (arms_of (or_else (nth ss b) no_spot).block.exit) → b < length ss
   unfolding no_spot
   there_with [] b c i = absurd i
   there_with (s ∷ ss) zero c i = omega arith

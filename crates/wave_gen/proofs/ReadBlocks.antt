@@ -1,7 +1,6 @@
 -- A block's items read the pulse and the variables that the block reads first.
 use Rattle.std.proofs.Common.{ℕ, suc, ◌≡◌, ◌<◌, ◌≤◌, ◌⊎◌, List, [], ◌∷◌, ◌++◌, refl, ap, ◌∙◌, inl, inr, arith}
 use Rattle.ws_isa.specs.declared.instr.Op.TheVariants.{Phi, Store, Output, Take}
-use Rattle.ws_isa.specs.Image.{In}
 use Rattle.cfg_core.specs.Graph as graph
 use Rattle.cfg_core.specs.Graph.{Term}
 use Rattle.live_vars.specs.Live.{Mentions, OneMentions, OpReads, OpWrites, ExitReads, Carries, WrittenIn, ReadsFirst}
@@ -13,6 +12,7 @@ use Rattle.wave_gen.specs.Drawn.{gen_source, gen_terms, exit_next}
 use Rattle.wave_gen.specs.Listing.{gen_exit}
 use Rattle.wave_gen.proofs.ReadTerms.{Ground, ground_more, Beyond, reads_append, from_term, term_reads}
 use Rattle.wave_gen.proofs.ReadExits.{source_reads, many_named, many_reads}
+use Rattle.ws_words.specs.Items.{In}
 
 -- x is no variable that is written
 abbrev pub Kept : (ℕ → Type 0) → ℕ → Type 0
@@ -104,11 +104,6 @@ ops_reads (op ∷ ops) exit k P x h = let d = gen_op k op in let e = gen_ops d.n
       | inl r ↦ elim r [ inl e ↦ inl (inl e) | inr v ↦ inl (inr (v.0, v.1, inr (q.1 v.0 v.1, v.2))) ]
       | inr p ↦ inr (p.0, λ y e w. elim w [ inl a ↦ q.1 y e a | inr a ↦ p.1 y e a ])
     ]
-
--- what an exit reads and no operation writes is read first
-pub exit_first : (ops : List graph.Op) (exit : graph.Exit) (y : ℕ) → (WrittenIn ops y → ⊥) → ExitReads exit y → ReadsFirst ops exit y
-exit_first [] exit y n r = r
-exit_first (op ∷ ops) exit y n r = inr ((λ w. n (inl w)), exit_first ops exit y (λ w. n (inr w)) r)
 
 -- what an exit's items read, where plans need these names
 abbrev pub ExitGives : (ℕ → ℕ) → (ℕ → ℕ → Type 0) → graph.Exit → ℕ → Type 0

@@ -1,7 +1,6 @@
 -- Which names the items of sources and lists of terms read.
 use Rattle.std.proofs.Common.{ℕ, zero, suc, ◌≡◌, ◌<◌, ◌≤◌, ◌⊎◌, List, [], ◌∷◌, refl, inl, inr, arith}
 use Rattle.ws_isa.specs.declared.instr.Op.TheVariants.{Const}
-use Rattle.ws_isa.specs.Image.{In}
 use Rattle.cfg_core.specs.Graph.{Term, Number, Var, Cell, Flip, Not, Neg, Binary}
 use Rattle.live_vars.specs.Live.{Mentions, OneMentions}
 use Rattle.wave_gen.specs.Wire.{Make, Same}
@@ -10,6 +9,7 @@ use Rattle.wave_gen.proofs.Planned.{Reads, Apart, AllBelow}
 use Rattle.wave_gen.specs.Gen.{top_word, gen_term}
 use Rattle.wave_gen.specs.Drawn.{gen_source, gen_terms}
 use Rattle.wave_gen.proofs.ReadTerms.{Ground, ground_more, Beyond, reads_append, next_after, from_term, term_reads}
+use Rattle.ws_words.specs.Items.{In}
 
 -- what is behind a source reads its operands, or Q says that it reads x
 abbrev pub Behind : List ℕ → (ℕ → Type 0) → ℕ → Type 0

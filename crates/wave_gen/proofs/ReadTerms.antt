@@ -3,13 +3,13 @@ use Rattle.std.proofs.Common.{ℕ, zero, suc, ◌≡◌, ◌<◌, ◌≤◌, ◌
 use Rattle.ws_isa.specs.declared.instr.Op.{Op}
 use Rattle.ws_isa.specs.declared.instr.Op.TheVariants.{Const, Alu, Load}
 use Rattle.ws_words.specs.declared.alu.Alu.TheVariants.{Sub, Eq}
-use Rattle.ws_isa.specs.Image.{In}
 use Rattle.cfg_core.specs.Graph.{Term, Number, Var, Cell, Flip, Not, Neg, Binary}
 use Rattle.live_vars.specs.Live.{Mentions}
 use Rattle.wave_gen.specs.Wire.{Item, Make, Act, Same}
 use Rattle.wave_gen.specs.Plans.{pulse}
 use Rattle.wave_gen.proofs.Planned.{Reads}
 use Rattle.wave_gen.specs.Gen.{Got, then_make, got, top_word, gen_term}
+use Rattle.ws_words.specs.Items.{In}
 
 -- the pulse, or a variable with this property
 abbrev pub Ground : (ℕ → Type 0) → ℕ → Type 0

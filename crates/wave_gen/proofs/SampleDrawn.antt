@@ -1,7 +1,6 @@
 -- The sample's plans make a draft, and are drawn from its graph.
 use Rattle.std.proofs.Common.{ℕ, zero, suc, ◌≡◌, ◌≤◌, ◌<◌, true, false, [], ◌∷◌, refl, inl, inr, arith}
 use Rattle.std.proofs.lemmas.Bool.{both_ways}
-use Rattle.ws_isa.specs.Image.{In}
 use Rattle.cfg_core.specs.Graph.{spot_at, entry_of}
 use Rattle.cfg_core.specs.Rules.{IsGraph}
 use Rattle.wave_gen.specs.Plans.{plan_at, pulse}
@@ -9,6 +8,7 @@ use Rattle.wave_gen.proofs.Planned.{PlanIs, PlansAre, Inner}
 use Rattle.wave_gen.proofs.DrawnPlans.{BlockDrawn, Keeps, here}
 use Rattle.wave_gen.proofs.IsDrawn.{IsDrawn}
 use Rattle.wave_gen.proofs.Samples.{asks, asks_plans, asks_live, asks_place, asks_zeroed}
+use Rattle.ws_words.specs.Items.{In}
 
 live_pulse : (b x : ℕ) → x ≡ 0 → asks_live b x ≡ true
 live_pulse b x e = rw e refl

@@ -4,7 +4,7 @@ use Rattle.std.proofs.lemmas.Bool.{cases_eq, both_ways}
 use Rattle.ws_isa.specs.declared.instr.Op.{Op}
 use Rattle.ws_isa.specs.declared.instr.Op.TheVariants.{Steer, Send}
 use Rattle.ws_isa.specs.Image as image
-use Rattle.ws_isa.specs.Image.{Image, Instr, Array, In, nth, instr_at, block_at, first_number, is_first, is_advance, target, stops, IsIn, IsBlock}
+use Rattle.ws_isa.specs.Image.{Image, Instr, Array, instr_at, block_at, first_number, is_first, is_advance, target, stops, IsIn, IsBlock}
 use Rattle.ws_isa.specs.Sound.{BringsResult}
 use Rattle.wave_gen.specs.Waits.{Owner, Step, Fires, Rests, Skips, Copies, count, Stands}
 use Rattle.wave_gen.specs.Wire.{WiredInstr, Wants, Made, with_rooms, make}
@@ -21,6 +21,7 @@ use Rattle.wave_gen.proofs.Edges.{exit_is, target_is}
 use Rattle.wave_gen.proofs.Waiting.{waits, target_there, chooses_by, lands_by, kept_inside, one_is}
 use Rattle.wave_gen.proofs.Number.{number_is, block_at_is, is_block, block_is}
 use Rattle.wave_gen.proofs.WalkShape.{WalkShape}
+use Rattle.ws_words.specs.Items.{nth}
 
 hang_steps : (b n z : ℕ) (ts : List Tail) (w : Wants) → count (hang b n z ts w).steps ≡ length ts
 hang_steps b n z [] w = refl

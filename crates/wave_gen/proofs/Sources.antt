@@ -16,17 +16,17 @@ use Rattle.wave_gen.proofs.Runs.{run_item, run_items}
 use Rattle.wave_gen.specs.Gen.{Got, top_word, gen_term, Agrees, FlipsWords}
 use Rattle.wave_gen.specs.Drawn.{Source, gen_source, gen_terms}
 use Rattle.wave_gen.proofs.Terms.{Gives, term_gives, agrees_on, set_here, set_other, acted_none, acted_more, run_append, joined_gives, subtracted}
-use Rattle.call_gen.proofs.Visible.{with_more as acted}
+use Rattle.ws_words.proofs.Acts.{with_more}
 
 -- what the last instruction of a term does, behind the items before it
 pub record Last (k : ℕ) (s : Names) (q : Source) (v : ℕ) (ls : List outside.Act) : Type 0 where
   pub value : outcome q.op (map (run_items q.items s).env q.from) (run_items q.items s).out ≡ v
-  pub out : effect q.op (map (run_items q.items s).env q.from) (run_items q.items s).out ≡ acted s.out ls
+  pub out : effect q.op (map (run_items q.items s).env q.from) (run_items q.items s).out ≡ with_more s.out ls
   pub keeps : (y : ℕ) → y < k → (run_items q.items s).env y ≡ s.env y
 
 -- one that is no load
 plain_last : (k : ℕ) (s : Names) (q : Source) (v : ℕ) (ls : List outside.Act) → outcome q.op (map (run_items q.items s).env q.from) (run_items q.items s).out ≡ v →
-    effect q.op (map (run_items q.items s).env q.from) (run_items q.items s).out ≡ (run_items q.items s).out → (run_items q.items s).out ≡ acted s.out ls → ((y : ℕ) → y < k → (run_items q.items s).env y ≡ s.env y) → Last k s q v ls
+    effect q.op (map (run_items q.items s).env q.from) (run_items q.items s).out ≡ (run_items q.items s).out → (run_items q.items s).out ≡ with_more s.out ls → ((y : ℕ) → y < k → (run_items q.items s).env y ≡ s.env y) → Last k s q v ls
 plain_last k s q v ls a b c d = record { value = a; out = b ∙ c; keeps = d }
 
 module _ (g : Graph) where
@@ -69,7 +69,7 @@ module _ (g : Graph) where
   pub record GiveMany (k : ℕ) (s : Names) (items : List Item) (names : List ℕ) (vs : List ℕ) (ls : List outside.Act) : Type 0 where
     pub values : map (run_items items s).env names ≡ vs
     pub keeps : (y : ℕ) → y < k → (run_items items s).env y ≡ s.env y
-    pub out : (run_items items s).out ≡ acted s.out ls
+    pub out : (run_items items s).out ≡ with_more s.out ls
 
   abbrev pub Many : List Term → Type 0
   Many ts = (k n : ℕ) (vars : List ℕ) (s : Names) → AllByRecursion (TermIn g n) ts → n ≡ length vars → n < k → Agrees vars s.env → AllByRecursion (λ t. FlipsWords t vars s.out.cells) ts →
@@ -79,7 +79,7 @@ module _ (g : Graph) where
   more_give t ts ih k n vars s i m l a f = record {
     values = ap (λ (x : Names). map x.env (q.next ∷ (gen_terms (suc q.next) ts).names)) e ∙ ap (λ (v : ℕ). v ∷ map (run_items (gen_terms (suc q.next) ts).items s2).env (gen_terms (suc q.next) ts).names) first_value ∙ ap (λ (vs : List ℕ). value t vars s.out.cells ∷ vs) (rest.values ∙ ap (values ts vars) c);
     keeps = λ y u. ap (λ (x : Names). x.env y) e ∙ rest.keeps y (let r : k ≤ q.next = h.next in omega arith) ∙ below y (let r : k ≤ q.next = h.next in omega arith) ∙ h.keeps y u;
-    out = ap (λ (x : Names). x.out) e ∙ rest.out ∙ ap (λ (cs : List (List ℕ)). acted s2.out (all_loads ts vars cs)) c ∙ ap (λ (o : Outside). acted o (all_loads ts vars s.out.cells)) h.out ∙ acted_more s.out (loads_of t vars s.out.cells) (all_loads ts vars s.out.cells);
+    out = ap (λ (x : Names). x.out) e ∙ rest.out ∙ ap (λ (cs : List (List ℕ)). with_more s2.out (all_loads ts vars cs)) c ∙ ap (λ (o : Outside). with_more o (all_loads ts vars s.out.cells)) h.out ∙ acted_more s.out (loads_of t vars s.out.cells) (all_loads ts vars s.out.cells);
   }
     where
       q : Got

@@ -3,7 +3,7 @@ use Rattle.std.proofs.Common.{ℕ, zero, suc, ◌+◌, ◌-◌, ◌≡◌, ◌<�
 use Rattle.std.proofs.lemmas.Bool.{cases_Bool, cond-true}
 use Rattle.ws_isa.specs.declared.instr.Dest.{Dest}
 use Rattle.ws_isa.specs.Image as image
-use Rattle.ws_isa.specs.Image.{Image, Instr, Pad, Array, In, nth, or_else, instr_at, block_at, first_number, is_advance, is_first, start_dests, pad_of, target, stops, IsIn, IsBlock}
+use Rattle.ws_isa.specs.Image.{Image, Instr, Pad, Array, instr_at, block_at, first_number, is_advance, is_first, start_dests, pad_of, target, stops, IsIn, IsBlock}
 use Rattle.ws_isa.specs.Sound.{HasDest}
 use Rattle.wave_gen.specs.Waits.{Code, own, starts}
 use Rattle.wave_gen.specs.Wire.{Spot, Back, Front, dests_of, Wants, Made}
@@ -13,7 +13,8 @@ use Rattle.wave_gen.proofs.Fronts.{nth_in, in_or_not, fronts_none, fronts_at, Fr
 use Rattle.wave_gen.proofs.Blocks.{Facts, facts, begins_next, made_is, starts_inner, starts_outer}
 use Rattle.wave_gen.proofs.Drafts.{advance_front, front_advance}
 use Rattle.wave_gen.proofs.Number.{number_is, block_at_is, is_block}
-use Rattle.ws_isa.proofs.Images.{nth_short as nth_lt}
+use Rattle.ws_words.specs.Items.{nth}
+use Rattle.ws_words.proofs.Places.{nth_short}
 
 module _ (arrays : List Array) (width : ℕ) (ps : List Plan) (Live : ℕ → ℕ → Type 0) (plans : PlansAre ps width Live) where
   abbrev pub I : Image
@@ -59,7 +60,7 @@ module _ (arrays : List Array) (width : ℕ) (ps : List Plan) (Live : ℕ → �
       same =
           let t : F (suc b) ≡ F b + length (made_at width ps b).code = begins_next width ps b h in
           let n : length (made_at width ps b).code ≡ length (plan_at ps b).entries + length core.code = ap (λ (m : Made). length m.code) (made_first b h f) ∙ advances_count b (plan_at ps b).entries core in
-          let l : i < length (plan_at ps b).entries = nth_lt (plan_at ps b).entries i x e in
+          let l : i < length (plan_at ps b).entries = nth_short (plan_at ps b).entries i x e in
           let z : F (suc b) - suc (length core.code + (length (plan_at ps b).entries - suc i)) ≡ F b + (0 + i) = omega arith in
           rw z refl
 
@@ -102,13 +103,13 @@ module _ (arrays : List Array) (width : ℕ) (ps : List Plan) (Live : ℕ → �
       let g : (plan_at ps b).first ≡ true = sym (first_is b h) ∙ f in
       let r = first_front b j q x h g e in
       let i : IsIn I b j = entry_in b h g r.place x r.is j r.instr in
-      (i, front_advance arrays width ps Live plans.each b h g j i (let l : r.place < length (plan_at ps b).entries = nth_lt (plan_at ps b).entries r.place x r.is in let z : j ≡ F b + r.place = r.instr in omega arith), r.port)
+      (i, front_advance arrays width ps Live plans.each b h g j i (let l : r.place < length (plan_at ps b).entries = nth_short (plan_at ps b).entries r.place x r.is in let z : j ≡ F b + r.place = r.instr in omega arith), r.port)
     where
       entry_in : (b : ℕ) (h : Is b) (g : (plan_at ps b).first ≡ true) (i x : ℕ) → nth (plan_at ps b).entries i ≡ Some x → (j : ℕ) → j ≡ F b + i → IsIn I b j
       entry_in b h g i x e j z =
           let t : F (suc b) ≡ F b + length (made_at width ps b).code = begins_next width ps b h in
           let n : length (made_at width ps b).code ≡ length (plan_at ps b).entries + length (renew b (plan_at ps b).entries (body_made width S b (plan_at ps b))).code = ap (λ (m : Made). length m.code) (made_first b h g) ∙ advances_count b (plan_at ps b).entries (renew b (plan_at ps b).entries (body_made width S b (plan_at ps b))) in
-          let l : i < length (plan_at ps b).entries = nth_lt (plan_at ps b).entries i x e in
+          let l : i < length (plan_at ps b).entries = nth_short (plan_at ps b).entries i x e in
           let y : first_number I b ≡ F b = number_is arrays width ps b in let w : first_number I (suc b) ≡ F (suc b) = number_is arrays width ps (suc b) in
           (omega arith, omega arith)
 

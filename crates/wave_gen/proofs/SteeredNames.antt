@@ -1,9 +1,9 @@
 -- The names that a branch steers: those that its arms want in different places, and the pulse where there is no other.
 use Rattle.std.proofs.Common.{ℕ, ◌≡◌, ◌≤◌, ◌⊎◌, true, false, List, [], ◌∷◌, length, Some, refl, inl, inr, arith}
-use Rattle.ws_isa.specs.Image.{In, nth}
 use Rattle.wave_gen.specs.Wire.{Wants}
 use Rattle.wave_gen.specs.Plans.{pulse, or_pulse, is_among, steer_of, steers}
 use Rattle.wave_gen.proofs.Planned.{Apart}
+use Rattle.ws_words.specs.Items.{nth, In}
 
 pub or_in : (xs : List ℕ) (y : ℕ) → In y (or_pulse xs) → (y ≡ pulse) ⊎ In y xs
 or_in [] y (inl e) = inl e

@@ -2,14 +2,14 @@
 use Rattle.std.proofs.Common.{ℕ, zero, suc, ◌+◌, ◌≡◌, ◌≤◌, ◌&&◌, not, Bool, true, false, cond, ltb, List, [], ◌∷◌, length, Some, None, refl, sym, subst}
 use Rattle.std.proofs.lemmas.Bool.{both_ways}
 use Rattle.ws_isa.specs.declared.instr.Op.{Op}
-use Rattle.ws_isa.specs.declared.instr.Op.TheVariants.{Merge, Advance, Steer, Send, Halt}
-use Rattle.ws_isa.specs.Image.{nth, is_memory_op, is_giving_op}
+use Rattle.ws_isa.specs.declared.instr.Op.TheVariants.{Merge, Advance, Send, Halt}
+use Rattle.ws_isa.specs.Image.{is_memory_op, is_giving_op, is_steer_op}
 use Rattle.wave_gen.specs.Wire.{WiredInstr, Wants, Made, emit, gather, with_room, with_rooms, Item, Make, Act, Same, is_nil, skip, make, alias, wire, most}
 use Rattle.wave_gen.specs.Plans.{merges, Tail, Leaves, Onto, Either, Lands, Halts, Plan, pulse, steers, sends, steered, hang, more, chain, tails_of, end_wants, behind_source, exit_made, body_made, renew, advances, has_front, plan_at, made_at, starts_at}
 use Rattle.wave_gen.proofs.Planned.{PlansAre}
 use Rattle.wave_gen.proofs.More.{ItemsGive, SourceGives, PlansGive}
 use Rattle.wave_gen.proofs.Blocks.{made_is}
-use Rattle.wave_link.specs.Layout.{is_steer_op}
+use Rattle.ws_words.specs.Items.{nth}
 
 -- an operation without a result and a send have no list, and a steer alone has two
 pub record Suits (l : WiredInstr) : Type 0 where

@@ -4,7 +4,7 @@ use Rattle.std.proofs.lemmas.Bool.{cases_lt, both_ways}
 use Rattle.ws_isa.specs.declared.instr.Op.{Op}
 use Rattle.ws_isa.specs.declared.instr.Op.TheVariants.{Merge, Halt, Advance, Steer, Send, Store, Output, Take}
 use Rattle.ws_isa.specs.declared.instr.Dest.{Dest}
-use Rattle.ws_isa.specs.Image.{Image, Instr, Array, nth, instr_at, now_of, first_number, IsIn}
+use Rattle.ws_isa.specs.Image.{Image, Instr, Array, instr_at, now_of, first_number, IsIn}
 use Rattle.wave_gen.specs.Wire.{WiredInstr, Wants, Made, emit, Item, Make, Act, Same}
 use Rattle.wave_gen.specs.Plans.{merges, Leaves, Onto, Either, Lands, Halts, Plan, pulse, Tail, TailAt, hang, tails_of, end_wants, behind_source, exit_made, body_made, renew, advances, plan_at, made_at, starts_at, begins, instr_of, draft_of}
 use Rattle.wave_gen.proofs.Planned.{is_act_op, ItemsAre, SourceIs, PlanIs}
@@ -13,8 +13,9 @@ use Rattle.wave_gen.proofs.Lines.{line_at, Items, More, then_more, same_more, em
 use Rattle.wave_gen.proofs.Blocks.{begins_next, made_is}
 use Rattle.wave_gen.proofs.Drafts.{LineOf, line_in}
 use Rattle.wave_gen.proofs.Number.{number_is, instr_is}
-use Rattle.ws_isa.proofs.Blocks.{nth_append_left, nth_append_right}
-use Rattle.ws_isa.proofs.Images.{nth_short as nth_lt}
+use Rattle.ws_isa.proofs.Blocks.{nth_append_right}
+use Rattle.ws_words.specs.Items.{nth}
+use Rattle.ws_words.proofs.Places.{nth_short, nth_append_left}
 
 abbrev pub is_tail_op : Op → Bool
 is_tail_op Steer = true
@@ -124,7 +125,7 @@ module _ (arrays : List Array) (width : ℕ) (ps : List Plan) (Live : ℕ → �
   pub tail_instr : (i : ℕ) (t : Tail) → nth (tails_of width S (plan_at ps b).exit) i ≡ Some t → TailInstr i t
   tail_instr i t e =
       let z : F b + length made_more.front + length (tails_of width S (plan_at ps b).exit) ≡ F (suc b) = tails_end in
-      let l : i < length (tails_of width S (plan_at ps b).exit) = nth_lt (tails_of width S (plan_at ps b).exit) i t e in
+      let l : i < length (tails_of width S (plan_at ps b).exit) = nth_short (tails_of width S (plan_at ps b).exit) i t e in
       let y : first_number I b ≡ F b = number_is arrays width ps b in let w : first_number I (suc b) ≡ F (suc b) = number_is arrays width ps (suc b) in
       record {
         instr = F b + (length made_more.front + i);

@@ -16,7 +16,7 @@ use Rattle.wave_gen.proofs.Runs.{run_item, run_items}
 use Rattle.wave_gen.specs.Gen.{Got, got, then_make, top_word, gen_term, Agrees, FlipsWords}
 use Rattle.ws_words.proofs.Lists.{append_on as append_assoc}
 use Rattle.wave_link.proofs.GrownEdges.{append_nil}
-use Rattle.call_gen.proofs.Visible.{with_more as acted}
+use Rattle.ws_words.proofs.Acts.{with_more}
 
 pub set_here : (f : ℕ → ℕ) (k v : ℕ) → set f k v k ≡ v
 set_here f k v = rw (eq-eqb k k refl) refl
@@ -28,30 +28,30 @@ pub run_append : (xs ys : List Item) (s : Names) → run_items (xs ++ ys) s ≡ 
 run_append [] ys s = refl
 run_append (x ∷ xs) ys s = run_append xs ys (run_item x s)
 
-pub acted_none : (o : Outside) → acted o [] ≡ o
+pub acted_none : (o : Outside) → with_more o [] ≡ o
 acted_none o = ap (λ (acts : List Act). record { cells = o.cells; input = o.input; left = o.left; acts = acts }) (append_nil o.acts)
 
-pub acted_more : (o : Outside) (xs ys : List Act) → acted (acted o xs) ys ≡ acted o (xs ++ ys)
+pub acted_more : (o : Outside) (xs ys : List Act) → with_more (with_more o xs) ys ≡ with_more o (xs ++ ys)
 acted_more o xs ys = ap (λ (acts : List Act). record { cells = o.cells; input = o.input; left = o.left; acts = acts }) (append_assoc o.acts xs ys)
 
 -- what items do: a value at a name, loads, and no name below k changes
 pub record Gives (k : ℕ) (s : Names) (g : Got) (v : ℕ) (ls : List Act) : Type 0 where
   pub value : (run_items g.items s).env g.name ≡ v
   pub keeps : (y : ℕ) → y < k → (run_items g.items s).env y ≡ s.env y
-  pub out : (run_items g.items s).out ≡ acted s.out ls
+  pub out : (run_items g.items s).out ≡ with_more s.out ls
   pub named : g.name < g.next
   pub next : k ≤ g.next
 
 -- one more instruction, which reads what was made
 pub make_gives : (k : ℕ) (s : Names) (g : Got) (v : ℕ) (ls : List Act) → Gives k s g v ls → (op : Op) (from : List ℕ) (w : ℕ) (more : List Act) →
-    outcome op (map (run_items g.items s).env from) (run_items g.items s).out ≡ w → effect op (map (run_items g.items s).env from) (run_items g.items s).out ≡ acted (run_items g.items s).out more →
+    outcome op (map (run_items g.items s).env from) (run_items g.items s).out ≡ w → effect op (map (run_items g.items s).env from) (run_items g.items s).out ≡ with_more (run_items g.items s).out more →
     Gives k s (then_make g (λ n. Make n op from)) w (ls ++ more)
 make_gives k s g v ls h op from w more a b =
     let e : run_items (g.items ++ Make g.next op from ∷ []) s ≡ run_item (Make g.next op from) (run_items g.items s) = run_append g.items (Make g.next op from ∷ []) s in
     record {
       value = ap (λ (n : Names). n.env g.next) e ∙ set_here (run_items g.items s).env g.next _ ∙ a;
       keeps = λ y l. ap (λ (n : Names). n.env y) e ∙ set_other (run_items g.items s).env g.next _ y (λ f. (let m : k ≤ g.next = h.next in omega arith)) ∙ h.keeps y l;
-      out = ap (λ (n : Names). n.out) e ∙ b ∙ ap (λ (o : Outside). acted o more) h.out ∙ acted_more s.out ls more;
+      out = ap (λ (n : Names). n.out) e ∙ b ∙ ap (λ (o : Outside). with_more o more) h.out ∙ acted_more s.out ls more;
       named = omega arith;
       next = let m : k ≤ g.next = h.next in omega arith;
     }
@@ -79,7 +79,7 @@ joined_gives k s g h v w ls ms a b =
       record {
         value = ap (λ (x : Names). x.env h.name) e ∙ b.value;
         keeps = λ y l. ap (λ (x : Names). x.env y) e ∙ b.keeps y (omega arith) ∙ a.keeps y l;
-        out = ap (λ (x : Names). x.out) e ∙ b.out ∙ ap (λ (o : Outside). acted o ms) a.out ∙ acted_more s.out ls ms;
+        out = ap (λ (x : Names). x.out) e ∙ b.out ∙ ap (λ (o : Outside). with_more o ms) a.out ∙ acted_more s.out ls ms;
         named = b.named;
         next = let m : g.next ≤ h.next = b.next in omega arith;
       },

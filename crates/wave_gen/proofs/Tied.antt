@@ -5,7 +5,7 @@ use Rattle.std.specs.List.{AllByRecursion}
 use Rattle.ws_words.specs.Outside.{Outside, State, World, zeros, opening_out}
 use Rattle.ws_isa.specs.declared.instr.Op.TheVariants.{Merge}
 use Rattle.ws_isa.specs.Image as image
-use Rattle.ws_isa.specs.Image.{Image, Array, nth}
+use Rattle.ws_isa.specs.Image.{Image, Array}
 use Rattle.cfg_core.specs.Graph as graph
 use Rattle.cfg_core.specs.Graph.{Graph, Spot, spots, spot_at, no_spot}
 use Rattle.cfg_core.specs.Rules as rules
@@ -21,7 +21,6 @@ use Rattle.wave_gen.specs.Gen.{gen_term, gen_ops, Agrees, FlipsWords}
 use Rattle.wave_gen.specs.Drawn.{Source, gen_source, gen_terms}
 use Rattle.wave_gen.proofs.DrawnPlans.{zero_items, Leads, here, zeroed_at, Keeps, LandsAt, LandsAll, ExitDrawn, BlockDrawn, Drawn, ExitFine, BlockFine, WalkFine}
 use Rattle.wave_gen.proofs.Terms.{run_append, agrees_on, set_here, set_other}
-use Rattle.call_gen.proofs.Visible.{with_more as acted}
 use Rattle.wave_gen.proofs.Ops.{IsState, Left, ops_left, get_set, get_other}
 use Rattle.wave_gen.proofs.Sources.{Last, source_last, GiveMany, terms_give}
 use Rattle.wave_gen.proofs.Running.{Chained}
@@ -31,14 +30,16 @@ use Rattle.ws_words.proofs.Numbers.{zeros_count as zeros_length}
 use Rattle.ws_isa.proofs.Opening.{zeros_index as zeros_at}
 use Rattle.ws_words.proofs.Held.{set_length}
 use Rattle.cfg_core.proofs.Spots.{landed_count as landed_length}
+use Rattle.ws_words.specs.Items.{nth, or_else, In, Distinct}
+use Rattle.ws_words.proofs.Acts.{with_more}
 
-pub all_at : {A : Type 0} (P : A → Type 0) (xs : List A) (d : A) (i : ℕ) → AllByRecursion P xs → i < length xs → P (graph.or_else (graph.nth xs i) d)
+pub all_at : {A : Type 0} (P : A → Type 0) (xs : List A) (d : A) (i : ℕ) → AllByRecursion P xs → i < length xs → P (or_else (nth xs i) d)
 all_at P [] d i h l = absurd (omega arith)
 all_at P (x ∷ xs) d zero h l = h.0
 all_at P (x ∷ xs) d (suc i) h l = all_at P xs d i h.1 (omega arith)
 
 -- blocks of one procedure have as many variables
-in_proc : (h v : ℕ) (bs : List graph.Block) (rest : List Spot) (i : ℕ) (s : Spot) → graph.nth (graph.spots_in h v bs ++ rest) i ≡ Some s → ((s.home ≡ h) × (s.vars ≡ v)) ⊎ ((j : ℕ) × (graph.nth rest j ≡ Some s))
+in_proc : (h v : ℕ) (bs : List graph.Block) (rest : List Spot) (i : ℕ) (s : Spot) → nth (graph.spots_in h v bs ++ rest) i ≡ Some s → ((s.home ≡ h) × (s.vars ≡ v)) ⊎ ((j : ℕ) × (nth rest j ≡ Some s))
 in_proc h v [] rest i s e = inr (i, e)
 in_proc h v (b ∷ bs) rest zero s e = let f : record { home = h; vars = v; block = b } ≡ s = cc in inl (sym (ap (λ (x : Spot). x.home) f), sym (ap (λ (x : Spot). x.vars) f))
 in_proc h v (b ∷ bs) rest (suc i) s e = in_proc h v bs rest i s e
@@ -46,18 +47,18 @@ in_proc h v (b ∷ bs) rest (suc i) s e = in_proc h v bs rest i s e
 record HomeOf (h : ℕ) (procs : List graph.GraphProc) (s : Spot) : Type 0 where
   pub proc : graph.GraphProc
   pub low : h ≤ s.home
-  pub is : graph.nth procs (s.home - h) ≡ Some proc
+  pub is : nth procs (s.home - h) ≡ Some proc
   pub vars : proc.vars ≡ s.vars
 
-home_of : (h : ℕ) (procs : List graph.GraphProc) (i : ℕ) (s : Spot) → graph.nth (graph.spots_from h procs) i ≡ Some s → HomeOf h procs s
+home_of : (h : ℕ) (procs : List graph.GraphProc) (i : ℕ) (s : Spot) → nth (graph.spots_from h procs) i ≡ Some s → HomeOf h procs s
 home_of h [] i s e = absurd (let a : None ≡ Some s = e in cc)
 home_of h (p ∷ procs) i s e = go (in_proc h p.vars p.blocks (graph.spots_from (suc h) procs) i s e) (λ j f. home_of (suc h) procs j s f)
   where
-    go : ((s.home ≡ h) × (s.vars ≡ p.vars)) ⊎ ((j : ℕ) × (graph.nth (graph.spots_from (suc h) procs) j ≡ Some s)) → ((j : ℕ) → graph.nth (graph.spots_from (suc h) procs) j ≡ Some s → HomeOf (suc h) procs s) → HomeOf h (p ∷ procs) s
+    go : ((s.home ≡ h) × (s.vars ≡ p.vars)) ⊎ ((j : ℕ) × (nth (graph.spots_from (suc h) procs) j ≡ Some s)) → ((j : ℕ) → nth (graph.spots_from (suc h) procs) j ≡ Some s → HomeOf (suc h) procs s) → HomeOf h (p ∷ procs) s
     go (inl a) ih = let z : s.home - h ≡ 0 = omega (arith, a.0) in record { proc = p; low = omega (arith, a.0); is = rw z refl; vars = sym a.1 }
     go (inr a) ih = let r = ih a.0 a.1 in let l : suc h ≤ s.home = r.low in let z : s.home - h ≡ suc (s.home - suc h) = omega arith in record { proc = r.proc; low = omega arith; is = rw z r.is; vars = r.vars }
 
-pub spot_nth : (xs : List Spot) (i : ℕ) → i < length xs → graph.nth xs i ≡ Some (graph.or_else (graph.nth xs i) no_spot)
+pub spot_nth : (xs : List Spot) (i : ℕ) → i < length xs → nth xs i ≡ Some (or_else (nth xs i) no_spot)
 spot_nth [] i l = absurd (omega arith)
 spot_nth (x ∷ xs) zero l = refl
 spot_nth (x ∷ xs) (suc i) l = spot_nth xs i (omega arith)
@@ -67,18 +68,18 @@ unfolding spot_at
 same_home g b c l m e =
     let x = home_of 0 g.procs b (spot_at g b) (spot_nth (spots g) b l) in
     let y = home_of 0 g.procs c (spot_at g c) (spot_nth (spots g) c m) in
-    let f : Some y.proc ≡ Some x.proc = sym y.is ∙ ap (λ (h : ℕ). graph.nth g.procs (h - 0)) e ∙ x.is in
+    let f : Some y.proc ≡ Some x.proc = sym y.is ∙ ap (λ (h : ℕ). nth g.procs (h - 0)) e ∙ x.is in
     let q : y.proc ≡ x.proc = cc in
     sym y.vars ∙ ap (λ (p : graph.GraphProc). p.vars) q ∙ x.vars
 
 -- what a Send leaves in a landing's variables
-landed_other : (xs vs vars : List ℕ) (y : ℕ) → (rules.In y xs → ⊥) → slice_index (walks.landed xs vs vars) y ≡ slice_index vars y
+landed_other : (xs vs vars : List ℕ) (y : ℕ) → (In y xs → ⊥) → slice_index (walks.landed xs vs vars) y ≡ slice_index vars y
 landed_other [] vs vars y n = refl
 landed_other (x ∷ xs) [] vars y n = refl
 landed_other (x ∷ xs) (v ∷ vs) vars y n = landed_other xs vs (slice_set vars x v) y (λ h. n (inr h)) ∙ get_other vars x y v (λ e. n (inl e))
 
 -- as names: the pads' names have the values, all others 0
-fills : (xs names vs vars : List ℕ) (env : ℕ → ℕ) (y : ℕ) → rules.Apart xs → map env names ≡ vs → y < length vars → slice_index vars y ≡ 0 → length names ≡ length xs →
+fills : (xs names vs vars : List ℕ) (env : ℕ → ℕ) (y : ℕ) → Distinct xs → map env names ≡ vs → y < length vars → slice_index vars y ≡ 0 → length names ≡ length xs →
     filled (map suc xs) names env (suc y) ≡ slice_index (walks.landed xs vs vars) y
 fills [] names vs vars env y a e l z n = sym z
 fills (x ∷ xs) [] vs vars env y a e l z n = absurd (omega (arith, n))
@@ -88,7 +89,7 @@ fills (x ∷ xs) (m ∷ names) (v ∷ vs) vars env y a e l z n =
     let hd : env m ≡ v = cc in
     let tl : map env names ≡ vs = cc in
     elim (cases_eq y x) [
-      | inl f ↦ rw (eq-eqb (suc y) (suc x) (ap suc f)) (hd ∙ sym (landed_other xs vs (slice_set vars x v) y (λ h. a.0 (subst (λ (w : ℕ). rules.In w xs) f h)) ∙ ap (slice_index (slice_set vars x v)) f ∙ get_set vars x v (omega (arith, f, l))))
+      | inl f ↦ rw (eq-eqb (suc y) (suc x) (ap suc f)) (hd ∙ sym (landed_other xs vs (slice_set vars x v) y (λ h. a.0 (subst (λ (w : ℕ). In w xs) f h)) ∙ ap (slice_index (slice_set vars x v)) f ∙ get_set vars x v (omega (arith, f, l))))
       | inr f ↦ rw (ne_eqb (suc y) (suc x) (λ h. f (let w : y ≡ x = omega arith in w)))
           (fills xs names vs (slice_set vars x v) env y a.1 tl (let u : length (slice_set vars x v) ≡ length vars = set_length vars x v in omega (arith, l)) (get_other vars x y v f ∙ z) (omega (arith, n)))
     ]
@@ -158,7 +159,7 @@ agrees_zero vars env x z a = record {
 }
 
 -- zeroing variables that are 0
-zeroes : (zs : List ℕ) (st : State) (s : Names) → ((x : ℕ) → rules.In x zs → slice_index st.vars x ≡ 0) → IsState st s → IsState st (run_items (zero_items zs) s)
+zeroes : (zs : List ℕ) (st : State) (s : Names) → ((x : ℕ) → In x zs → slice_index st.vars x ≡ 0) → IsState st s → IsState st (run_items (zero_items zs) s)
 zeroes [] st s z i = i
 zeroes (x ∷ xs) st s z i = zeroes xs st (run_item (Same (suc x) pulse) s) (λ y h. z y (inr h)) (record { agrees = agrees_zero st.vars s.env x (z x (inl refl)) i.agrees; out = i.out })
 
@@ -187,7 +188,7 @@ module _ (arrays : List Array) (width : ℕ) (ps : List Plan) (Live : ℕ → �
     pub block : p.block ≡ n
     pub state : IsState st (record { env = p.env; out = p.out })
     pub wide : length st.vars < width
-    pub zero : (x : ℕ) → rules.In x zs → slice_index st.vars x ≡ 0
+    pub zero : (x : ℕ) → In x zs → slice_index st.vars x ≡ 0
 
   -- and so at a block of the graph
   pub record AtBlock (b : ℕ) (st : State) (p : RunPlace) : Type 0 where
@@ -221,7 +222,7 @@ module _ (arrays : List Array) (width : ℕ) (ps : List Plan) (Live : ℕ → �
 
   -- an edge that keeps the variables
   keeps_on : (n c : ℕ) → Keeps ps place zeroed n c → (st : State) (p : RunPlace) → c < length (spots g) → (spot_at g c).vars ≡ length st.vars → p.over ≡ false → There n → p.block ≡ n → IsState st (record { env = p.env; out = p.out }) → length st.vars < width → AtBlock c st p
-  keeps_on n c k st p l v o h b s w = arrives n c k.leads st p l v (record { over = o; there = h; block = b; state = s; wide = w; zero = λ x y. absurd (subst (λ (ys : List ℕ). rules.In x ys) k.none y) })
+  keeps_on n c k st p l v o h b s w = arrives n c k.leads st p l v (record { over = o; there = h; block = b; state = s; wide = w; zero = λ x y. absurd (subst (λ (ys : List ℕ). In x ys) k.none y) })
 
   -- the draft's place says of the graph's walk
   pub data Tied (p : RunPlace) : Config → Type 0 where
@@ -361,7 +362,7 @@ module _ (arrays : List Array) (width : ℕ) (ps : List Plan) (Live : ℕ → �
             agrees = agrees_on st'.vars width (length st'.vars) s2.env E.env (omega arith) small
                 (λ r v. ap (λ (x : Names). x.env r) E_is ∙ set_other (run_items src.items s2).env (plan_at ps (place b)).test _ r (λ e'. (let lt : width ≤ (plan_at ps (place b)).test = wide_test (place b) a.stands.there in omega arith))
                 ∙ w.keeps r (let lt : width ≤ (gen_ops width (graph.block_at g b).ops).next = z.next in omega arith)) z.is.agrees;
-            out = ap (λ (r : Names). r.out) E_is ∙ w.out ∙ ap (λ (o : Outside). acted o (walks.loads_of t st'.vars st'.out.cells)) z.is.out;
+            out = ap (λ (r : Names). r.out) E_is ∙ w.out ∙ ap (λ (o : Outside). with_more o (walks.loads_of t st'.vars st'.out.cells)) z.is.out;
           }
 
           t0 : To arrays width ps Live plans p (place b) a.stands.there a.stands.block (cond (eqb (E.env (plan_at ps (place b)).test) 0) n m) (names_at C p).env
@@ -451,7 +452,7 @@ module _ (arrays : List Array) (width : ℕ) (ps : List Plan) (Live : ℕ → �
             over = t0.over;
             there = (out_of.some, out_of.there);
             block = t0.block ∙ ap (image.landing_of ns) test_value;
-            state = record { agrees = record { zero_pulse = pass_zero; var = pass_var }; out = t0.out ∙ ap (λ (r : Names). r.out) E_is ∙ hM.out ∙ ap (λ (o : Outside). acted o (walks.all_loads ts st'.vars st'.out.cells)) iA.out };
+            state = record { agrees = record { zero_pulse = pass_zero; var = pass_var }; out = t0.out ∙ ap (λ (r : Names). r.out) E_is ∙ hM.out ∙ ap (λ (o : Outside). with_more o (walks.all_loads ts st'.vars st'.out.cells)) iA.out };
             wide = (let x : (spot_at g c').vars < width = (drawn.blocks c' c_there).wide in let y : (spot_at g c').vars ≡ length land.vars = c_vars in omega arith);
             zero = λ x h. landed_other (graph.block_at g c').named (walks.values ts stA.vars stA.out.cells) (zeros (spot_at g c').vars) x (at.apart x h) ∙ zeros_at (spot_at g c').vars x;
           }

@@ -1,8 +1,8 @@
 -- Code that waits keeps the slot rules on all paths.
-use Rattle.std.proofs.Common.{ℕ, zero, suc, ◌+◌, ◌-◌, ◌≡◌, ◌<◌, ◌≤◌, ◌⊎◌, Bool, true, false, cond, ltb, List, [], ◌∷◌, length, Option, Some, None, refl, sym, ap, ◌∙◌, inl, inr, arith, eq-eqb, ne_eqb}
+use Rattle.std.proofs.Common.{ℕ, suc, ◌+◌, ◌-◌, ◌≡◌, ◌<◌, ◌≤◌, ◌⊎◌, Bool, true, false, cond, ltb, List, [], ◌∷◌, length, Option, Some, None, refl, sym, ap, ◌∙◌, inl, inr, arith, eq-eqb, ne_eqb, is_some}
 use Rattle.std.proofs.lemmas.Bool.{cases_Bool, cases_eq, cases_lt, both_ways, cond-true, cond-false, lt-ltb, le-ltb}
 use Rattle.ws_isa.specs.declared.instr.Op.{Op}
-use Rattle.ws_isa.specs.Image.{Image, nth, ports, ports_of, is_advance, is_first, first_number, size_of, stops, target, now_dests, edge_dests, start_dests, IsIn, IsBlock}
+use Rattle.ws_isa.specs.Image.{Image, ports, ports_of, is_advance, is_first, first_number, size_of, stops, target, now_dests, edge_dests, start_dests, IsIn, IsBlock}
 use Rattle.ws_isa.specs.Sound.{OpenSlots, HasDest, none_open, all_opened, Fresh, closed, opens_at, AdvancesOpen, SlotRules}
 use Rattle.ws_isa.proofs.SlotCert.{Alike, SlotCert}
 use Rattle.wave_gen.specs.Waits.{Distinct, Owner, Step, Fires, Rests, Skips, Copies, is_name, without, with_ports, renamed, own, count, FiresAt, RestsAt, Stands, Code, starts, went_past, was_sent, Waits}
@@ -11,10 +11,8 @@ use Rattle.ws_isa.proofs.Certified.{slot_rules}
 use Rattle.wave_gen.proofs.WalkShape.{WalkShape}
 use Rattle.ws_isa.proofs.Slots.{all_opened_from, all_opened_has, all_opened_keeps, closed_cases, edge_all_from, edge_all_has}
 use Rattle.ws_isa.proofs.Steps.{first_up}
-
-abbrev pub is_some : {A : Type 0} → Option A → Bool
-is_some None = false
-is_some (Some x) = true
+use Rattle.ws_words.specs.Items.{nth}
+use Rattle.ws_words.proofs.Places.{nth_there}
 
 pub some_of : {A : Type 0} (o : Option A) → is_some o ≡ true → (x : A) × (o ≡ Some x)
 some_of None e = absurd (both_ways false refl e)
@@ -62,11 +60,6 @@ renamed_some x y o j q = go (cases_Bool (is_name x (o j q)))
     go : (is_name x (o j q) ≡ true) ⊎ (is_name x (o j q) ≡ false) → is_some (renamed x y o j q) ≡ is_some (o j q)
     go (inl h) = ap is_some (cond-true (is_name x (o j q)) (Some y) (o j q) h) ∙ sym (ap is_some (name_is x (o j q) h))
     go (inr h) = ap is_some (cond-false (is_name x (o j q)) (Some y) (o j q) h)
-
-pub nth_there : {A : Type 0} (xs : List A) (q : ℕ) → q < length xs → (x : A) × (nth xs q ≡ Some x)
-nth_there [] q l = absurd (omega arith)
-nth_there (x ∷ xs) zero l = (x, refl)
-nth_there (x ∷ xs) (suc q) l = nth_there xs q (omega arith)
 
 -- what instruction k does to the open slots
 pub record Turn (image : Image) (o p : Owner) (k : ℕ) : Type 0 where

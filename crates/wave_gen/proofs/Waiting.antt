@@ -3,7 +3,7 @@ use Rattle.std.proofs.Common.{ℕ, zero, suc, ◌≡◌, ◌<◌, ◌≤◌, ◌
 use Rattle.std.proofs.lemmas.Bool.{both_ways}
 use Rattle.ws_isa.specs.declared.instr.Dest.{Dest}
 use Rattle.ws_isa.specs.Image as image
-use Rattle.ws_isa.specs.Image.{Image, Pad, Array, In, nth, block_at, first_number, is_first, is_stop, edge_dests, pad_of, start_dests, target, stops, IsIn, IsBlock}
+use Rattle.ws_isa.specs.Image.{Image, Pad, Array, block_at, first_number, is_first, is_stop, edge_dests, pad_of, start_dests, target, stops, IsIn, IsBlock}
 use Rattle.ws_isa.specs.Sound.{HasDest, edge_all, opens_at}
 use Rattle.wave_gen.specs.Waits.{Distinct, Code, starts, Stands, Arrives, Waits}
 use Rattle.wave_gen.specs.Wire.{Spot, dests_of, Wants}
@@ -17,6 +17,7 @@ use Rattle.wave_gen.proofs.Starts.{starts_has, starts_all, waits_first, waits_fi
 use Rattle.wave_gen.proofs.TailLines.{tail_in}
 use Rattle.wave_gen.proofs.Edges.{exit_is, onto_arrives, onto_past, onto_sent, either_arrives, either_past, either_sent, either_once, lands_arrives, lands_sent, lands_once, lands_none, ends_none, empty_distinct, block_size}
 use Rattle.wave_gen.proofs.Number.{block_at_is, is_block}
+use Rattle.ws_words.specs.Items.{nth}
 
 module _ (arrays : List Array) (width : ℕ) (ps : List Plan) (Live : ℕ → ℕ → Type 0) (plans : PlansAre ps width Live) where
   abbrev I : Image

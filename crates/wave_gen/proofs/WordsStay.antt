@@ -8,12 +8,12 @@ use Rattle.ws_words.specs.declared.alu.Alu.{Alu}
 use Rattle.ws_words.specs.declared.alu.Alu.TheVariants.{Add, Sub, Mul, Div, Rem, And, Or, Xor, Shl, Shr, Eq, Ne, Lt, Le, Gt, Ge}
 use Rattle.ws_words.specs.Operators.{applied, flag}
 use Rattle.ws_words.specs.Outside.{State, World, row, with_row, head_or_zero, rest_of, zeros}
-use Rattle.cfg_core.specs.Graph as graph
 use Rattle.cfg_core.specs.Graph.{Term, Number, Var, Cell, Flip, Not, Neg, Binary, Op, Assign, Store, Print, Read, Give, Take, Choose, Tick, TickBy, Exit, Goto, Branch, Call, Return, Send, Stop, Graph, GraphArray, Spot, no_spot, spots, spot_at, block_at, proc_at}
 use Rattle.cfg_core.specs.Walk.{value, values, value_of, Outcome, Done, Out, and_then, spend, run_op, run_ops, Config, At, Over, Going, Frame, landed, with_result, leave, passed, step, walk, cells_of, opening}
 use Rattle.wave_gen.specs.Gen.{FlipsWords, OpFine}
 use Rattle.wave_gen.proofs.DrawnPlans.{OpsFine, ExitFine, BlockFine, WalkFine}
 use Rattle.wave_gen.specs.Words.{TermOfWords, OpOfWords, ExitOfWords, GraphOfWords, WorldOfWords}
+use Rattle.ws_words.specs.Items.{nth, or_else}
 
 abbrev Word : ℕ → Type 0
 Word n = n < 2 ^ 64
@@ -265,7 +265,7 @@ module _ (g : Graph) (words : GraphOfWords g) where
   )
   exit_holds Stop s frames k w h f = tt
 
-  at_spot : (ss : List Spot) (b : ℕ) → AllByRecursion (λ s. AllByRecursion OpOfWords s.block.ops × ExitOfWords s.block.exit) ss → (let s = graph.or_else (graph.nth ss b) no_spot in AllByRecursion OpOfWords s.block.ops × ExitOfWords s.block.exit)
+  at_spot : (ss : List Spot) (b : ℕ) → AllByRecursion (λ s. AllByRecursion OpOfWords s.block.ops × ExitOfWords s.block.exit) ss → (let s = or_else (nth ss b) no_spot in AllByRecursion OpOfWords s.block.ops × ExitOfWords s.block.exit)
   unfolding no_spot
   at_spot [] b h = (tt, tt)
   at_spot (s ∷ ss) zero h = h.0

@@ -5,7 +5,9 @@ use Rattle.std.specs.List.{sum_by}
 use Rattle.ws_words.specs.Outside.{Outside, World}
 use Rattle.ws_isa.specs.Image.{Image}
 use Rattle.ws_isa.specs.Walk.{CostAtMost}
-use Rattle.cfg_core.specs.Graph.{Term, Number, Var, Cell, Flip, Not, Neg, Binary, Op, Assign, Store, Print, Read, Give, Take, Choose, Tick, TickBy, Exit, Goto, Branch, Return, Send, Graph, spot_at, block_at}
+use Rattle.cfg_core.specs.Graph.{Term, Number, Var, Cell, Flip, Not, Neg, Binary, Op, Assign, Store, Print}
+use Rattle.cfg_core.specs.Graph.{Read, Give, Take, Choose, Tick, TickBy, Exit, Goto, Branch, Return, Send}
+use Rattle.cfg_core.specs.Graph.{Graph, spot_at, block_at}
 use Rattle.cfg_core.specs.Walk.{Over, walk, opening}
 use Rattle.cfg_core.specs.Weights.{path}
 use Rattle.wave_link.specs.Passed.{blocks_left}

@@ -6,8 +6,9 @@ use Rattle.ws_isa.specs.Image as image
 use Rattle.ws_isa.specs.Image.{Image, IsBlock, IsIn, flat, instr_at}
 use Rattle.ws_isa.specs.Formed.{ConstWithin, PadsRise}
 use Rattle.cfg_core.specs.Graph.{Term, Send, Graph, spots, spot_at, block_at}
-use Rattle.wave_gen.specs.Words.{GraphOfWords, start_block}
+use Rattle.wave_gen.specs.Words.{GraphOfWords}
 use Rattle.wave_gen.specs.Cost.{quarters}
+use Rattle.cfg_core.specs.Weights.{first_block}
 
 -- How many quarters of an instruction the code of a block has at most: what the block weighs, and
 -- seven for the pulse and for each variable, which past its end is wanted at no more places.
@@ -18,7 +19,7 @@ most_quarters g live b = quarters g live b + 7 * suc (spot_at g b).vars
 pub record BringsAtMost (n : ℕ) (g : Graph) : Type 0 where
   pub sends : (b : ℕ) (t : Term) (ts : List Term) (ls : List ℕ) →
       (block_at g b).exit ≡ Send t ts ls → length ts ≤ n
-  pub start : length (block_at g (start_block g)).named ≤ n
+  pub start : length (block_at g (first_block g)).named ≤ n
 
 -- each Send has at most so many landings
 abbrev pub LandsAtMost : ℕ → Graph → Type 0

@@ -1,16 +1,19 @@
 -- The plans of a graph: a block's exit, its names, and the order of blocks in the draft.
-use Rattle.std.specs.Prelude.{ℕ, zero, suc, ◌+◌, ◌-◌, Bool, false, cond, not, ◌||◌, eqb, ltb, List, [], ◌∷◌, ◌++◌, length, map}
+use Rattle.std.specs.Prelude.{ℕ, zero, suc, ◌+◌, ◌-◌, Bool, false, cond, not, ◌||◌, eqb, ltb, List, [], ◌∷◌}
+use Rattle.std.specs.Prelude.{◌++◌, length, map}
 use Rattle.ws_isa.specs.declared.instr.Op.TheVariants.{Merge}
 use Rattle.cfg_core.specs.Graph as graph
 use Rattle.cfg_core.specs.Graph.{Graph, Spot, spots, spot_at, block_at}
-use Rattle.ws_isa.specs.Image.{Array, Image, nth, or_else}
+use Rattle.ws_isa.specs.Image.{Array, Image}
 use Rattle.wave_cut.specs.Cut.{Cut, wave, is_first}
-use Rattle.wave_gen.specs.Words.{start_block, live_from}
+use Rattle.wave_gen.specs.Words.{live_from}
 use Rattle.wave_gen.specs.Wire.{Item}
 use Rattle.wave_gen.specs.Plans.{Leaves, Onto, Either, Lands, Halts, Plan, pulse, is_among, draft_of}
 use Rattle.wave_gen.specs.Gen.{gen_term, gen_ops}
 use Rattle.wave_gen.specs.Shared.{shared, none_known}
 use Rattle.wave_gen.specs.Drawn.{gen_source, gen_terms, exit_next}
+use Rattle.ws_words.specs.Items.{nth, or_else}
+use Rattle.cfg_core.specs.Weights.{first_block}
 
 -- the items before an exit, and the exit
 pub record Leaving : Type 0 where
@@ -50,7 +53,7 @@ in_some f (s ∷ ss) b = is_among b (f s.block.exit) || in_some f ss b
 
 -- a block to which a Send leads, or where the walk begins
 abbrev pub has_pads : Graph → ℕ → Bool
-has_pads g b = eqb b (start_block g) || in_some landings_of (spots g) b
+has_pads g b = eqb b (first_block g) || in_some landings_of (spots g) b
 
 abbrev pub plan_of : Graph → (ℕ → ℕ → Bool) → (ℕ → ℕ) → (ℕ → Bool) → (ℕ → ℕ) → ℕ → ℕ → Plan
 plan_of g live waves firsts place width b =
@@ -86,7 +89,7 @@ index_of (x ∷ xs) b = cond (eqb x b) 0 (suc (index_of xs b))
 -- behind it.
 abbrev pub turned : Graph → Cut → ℕ → ℕ
 turned g cut b =
-    let s = wave cut (start_block g) in
+    let s = wave cut (first_block g) in
     cond (ltb (wave cut b) s) (wave cut b + length cut.heads - s + 1) (wave cut b - s + 1)
 
 abbrev pub listing : Graph → Cut → List ℕ

@@ -1,5 +1,6 @@
 -- Numbers of instructions, as the code keeps them.
-use Rattle.std.specs.Prelude.{ℕ, zero, suc, ◌+◌, ◌-◌, min, List, [], ◌∷◌, length, map, reverse, slice_index_or}
+use Rattle.std.specs.Prelude.{ℕ, zero, suc, ◌+◌, ◌-◌, min, List, [], ◌∷◌, length, map, reverse}
+use Rattle.std.specs.Prelude.{slice_index_or}
 use Rattle.ws_isa.specs.Image as image
 use Rattle.wave_gen.specs.declared.kept.Kept.{Kept}
 use Rattle.wave_gen.specs.declared.plan.Plan as code

@@ -1,6 +1,6 @@
 -- What contracts say of graphs and of their drafts: where walks begin, arrays, live names; graphs and
 -- worlds of words.
-use Rattle.std.specs.Prelude.{ℕ, zero, suc, ◌-◌, ◌<◌, Bool, cond, List, [], ◌∷◌, length, map}
+use Rattle.std.specs.Prelude.{ℕ, zero, suc, ◌<◌, Bool, cond, List, [], ◌∷◌, map}
 use Rattle.std.specs.List.{AllByRecursion}
 use Rattle.ws_words.specs.Outside.{World}
 use Rattle.ws_isa.specs.Image.{Array}
@@ -8,11 +8,7 @@ use Rattle.ws_isa.specs.Formed.{word_limit}
 use Rattle.cfg_core.specs.Graph.{Term, Number, Var, Cell, Flip, Not, Neg, Binary}
 use Rattle.cfg_core.specs.Graph.{Op, Assign, Store, Print, Read, Give, Take, Choose, Tick, TickBy}
 use Rattle.cfg_core.specs.Graph.{Exit, Goto, Branch, Call, Return, Send, Stop}
-use Rattle.cfg_core.specs.Graph.{GraphArray, Graph, spots, entry_of}
-
--- where the walk of a graph begins
-abbrev pub start_block : Graph → ℕ
-start_block g = entry_of g (length g.procs - 1)
+use Rattle.cfg_core.specs.Graph.{GraphArray, Graph, spots}
 
 -- an array of a graph as a draft has it, under its name
 abbrev pub array_of : GraphArray → Array

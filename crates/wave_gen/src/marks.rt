@@ -6,7 +6,7 @@ ghost use Rattle.cfg_core.specs.View as view;
 ghost use Rattle.cfg_core.specs.Shows.{TableIs};
 ghost use Rattle.wave_gen.specs.Plans.{is_among};
 ghost use Rattle.wave_gen.specs.Listing.{landings_of, arms_of, in_some, width_of};
-ghost use Rattle.wave_gen.specs.Placed.{flag};
+ghost use Rattle.ws_words.specs.Items.{flag_at};
 
 use cfg_core::{GraphTable, Leave};
 use std::alloc::Global;
@@ -16,7 +16,7 @@ use ws_words::NoMemory;
 fn mark(flags: &mut Vec<bool>, b: u32)
     ensures count { length flags.new.items ≡ length flags.old.items }
     ensures marked { (c : ℕ) → c < length flags.old.items →
-        flag flags.new.items c ≡ (flag flags.old.items c || eqb c b) }
+        flag_at flags.new.items c ≡ (flag_at flags.old.items c || eqb c b) }
 {
     let place = b as usize;
     if place < flags.len() {
@@ -27,7 +27,7 @@ fn mark(flags: &mut Vec<bool>, b: u32)
 fn mark_all(flags: &mut Vec<bool>, blocks: &[u32])
     ensures count { length flags.new.items ≡ length flags.old.items }
     ensures marked { (c : ℕ) → c < length flags.old.items →
-        flag flags.new.items c ≡ (flag flags.old.items c || is_among c blocks.now) }
+        flag_at flags.new.items c ≡ (flag_at flags.old.items c || is_among c blocks.now) }
 {
     for b in blocks {
         mark(flags, *b);
@@ -37,8 +37,8 @@ fn mark_all(flags: &mut Vec<bool>, blocks: &[u32])
 // Marks the blocks where an exit lands.
 fn mark_landings(flags: &mut Vec<bool>, exit: &Leave)
     ensures count { length flags.new.items ≡ length flags.old.items }
-    ensures marked { (c : ℕ) → c < length flags.old.items → flag flags.new.items c ≡
-        (flag flags.old.items c || is_among c (landings_of (view.exit exit.now))) }
+    ensures marked { (c : ℕ) → c < length flags.old.items → flag_at flags.new.items c ≡
+        (flag_at flags.old.items c || is_among c (landings_of (view.exit exit.now))) }
 {
     match exit {
         Leave::Send { landings, .. } => mark_all(flags, landings),
@@ -49,8 +49,8 @@ fn mark_landings(flags: &mut Vec<bool>, exit: &Leave)
 // Marks the arms of an exit.
 fn mark_arms(flags: &mut Vec<bool>, exit: &Leave)
     ensures count { length flags.new.items ≡ length flags.old.items }
-    ensures marked { (c : ℕ) → c < length flags.old.items → flag flags.new.items c ≡
-        (flag flags.old.items c || is_among c (arms_of (view.exit exit.now))) }
+    ensures marked { (c : ℕ) → c < length flags.old.items → flag_at flags.new.items c ≡
+        (flag_at flags.old.items c || is_among c (arms_of (view.exit exit.now))) }
 {
     match exit {
         Leave::Branch(_, a, b) => {
@@ -65,8 +65,8 @@ fn mark_arms(flags: &mut Vec<bool>, exit: &Leave)
 fn mark_landings_at(table: &GraphTable<'_>, flags: &mut Vec<bool>, i: usize)
     requires { TableIs table.now }
     ensures count { length flags.new.items ≡ length flags.old.items }
-    ensures marked { (c : ℕ) → c < length flags.old.items → flag flags.new.items c ≡
-        (flag flags.old.items c ||
+    ensures marked { (c : ℕ) → c < length flags.old.items → flag_at flags.new.items c ≡
+        (flag_at flags.old.items c ||
         is_among c (landings_of (block_at (view.graph table.now.graph.now) i).exit)) }
 {
     match table.spot(i) {
@@ -79,8 +79,8 @@ fn mark_landings_at(table: &GraphTable<'_>, flags: &mut Vec<bool>, i: usize)
 fn mark_arms_at(table: &GraphTable<'_>, flags: &mut Vec<bool>, i: usize)
     requires { TableIs table.now }
     ensures count { length flags.new.items ≡ length flags.old.items }
-    ensures marked { (c : ℕ) → c < length flags.old.items → flag flags.new.items c ≡
-        (flag flags.old.items c ||
+    ensures marked { (c : ℕ) → c < length flags.old.items → flag_at flags.new.items c ≡
+        (flag_at flags.old.items c ||
         is_among c (arms_of (block_at (view.graph table.now.graph.now) i).exit)) }
 {
     match table.spot(i) {
@@ -94,7 +94,7 @@ pub(crate) fn landed(alloc: Global, table: &GraphTable<'_>) -> Result<Vec<bool>,
     requires { TableIs table.now }
     ensures { let all = spots (view.graph table.now.graph.now) in
         IfOk result (λ flags. (b : ℕ) → b < length all →
-        flag flags.items b ≡ in_some landings_of all b) }
+        flag_at flags.items b ≡ in_some landings_of all b) }
 {
     let mut flags = vec![in alloc; false; table.spots.len()]?;
     for i in (0..table.spots.len()).rev() {
@@ -108,7 +108,7 @@ pub(crate) fn arms(alloc: Global, table: &GraphTable<'_>) -> Result<Vec<bool>, N
     requires { TableIs table.now }
     ensures { let all = spots (view.graph table.now.graph.now) in
         IfOk result (λ flags. (b : ℕ) → b < length all →
-        flag flags.items b ≡ in_some arms_of all b) }
+        flag_at flags.items b ≡ in_some arms_of all b) }
 {
     let mut flags = vec![in alloc; false; table.spots.len()]?;
     for i in (0..table.spots.len()).rev() {

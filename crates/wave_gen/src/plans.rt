@@ -1,6 +1,7 @@
 //! The plans of a graph.
 
-ghost use Rattle.std.specs.Prelude.{◌≡◌, ◌<◌, ◌∷◌, ◌++◌, ◌||◌, not, cond, eqb, [], suc, length, map, IfOk, OnOk};
+ghost use Rattle.std.specs.Prelude.{◌≡◌, ◌<◌, ◌∷◌, ◌++◌, ◌||◌, not, cond, eqb, [], suc, length, map, IfOk};
+ghost use Rattle.std.specs.Prelude.{OnOk};
 ghost use Rattle.cfg_core.specs.Graph.{spots};
 ghost use Rattle.cfg_core.specs.View as view;
 ghost use Rattle.live_vars.specs.Marks.{has};
@@ -13,7 +14,8 @@ ghost use Rattle.wave_gen.specs.Listing as listing;
 ghost use Rattle.wave_gen.specs.Listing.{gen_exit, plan_of, plans_of, place_of, width_of};
 ghost use Rattle.wave_gen.specs.Words.{live_from};
 ghost use Rattle.wave_gen.specs.View as plans;
-ghost use Rattle.wave_gen.specs.Placed.{OutlineIs, flag, place};
+ghost use Rattle.wave_gen.specs.Placed.{OutlineIs, place};
+ghost use Rattle.ws_words.specs.Items.{flag_at};
 
 use crate::body::{Body, names};
 use crate::marks::{arms, landed, width};
@@ -103,7 +105,7 @@ impl<'a> Outline<'a> {
     // The names that are filled where the walk starts or a Send lands.
     fn pads(&self, alloc: Global, b: u32, named: &[u32]) -> Result<Names, NoMemory>
         ensures { IfOk result (λ made. made.items ≡
-            cond (eqb b self.now.start || flag self.now.landed.items b)
+            cond (eqb b self.now.start || flag_at self.now.landed.items b)
             (pulse ∷ map suc named.now) []) }
     {
         if b != self.start && !is_set(&self.landed, b) {
@@ -118,7 +120,7 @@ impl<'a> Outline<'a> {
 
     // Whether a block is neither the first one of its wave nor an arm.
     fn is_joined(&self, b: u32) -> bool
-        ensures { result ≡ not (is_first self.now.waves.now b || flag self.now.arms.items b) }
+        ensures { result ≡ not (is_first self.now.waves.now b || flag_at self.now.arms.items b) }
     {
         !self.waves.first(b) && !is_set(&self.arms, b)
     }
@@ -193,7 +195,7 @@ fn code_of(alloc: Global, order: &Order, width: usize, block: &GraphBlock) -> Re
 }
 
 fn is_set(flags: &[bool], b: u32) -> bool
-    ensures { result ≡ flag flags.now b }
+    ensures { result ≡ flag_at flags.now b }
 {
     flags.get(b as usize).copied().unwrap_or(false)
 }

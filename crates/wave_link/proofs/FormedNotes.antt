@@ -4,7 +4,7 @@ use Rattle.std.proofs.lemmas.Bool.{cases_Bool, cases_eq}
 use Rattle.ws_isa.specs.declared.instr.Op.{Op}
 use Rattle.ws_isa.specs.declared.instr.Link.{Link}
 use Rattle.ws_isa.specs.declared.instr.Link.TheVariants.{Unknown, Nothing, Is}
-use Rattle.ws_isa.specs.Image.{Instr, Block, Image, flat, is_memory_op, is_writing_op, nth, or_else}
+use Rattle.ws_isa.specs.Image.{Instr, Block, Image, flat, is_memory_op, is_writing_op}
 use Rattle.wave_link.specs.declared.outline.Way.{Way}
 use Rattle.wave_link.specs.declared.outline.Way.TheVariants.{Out, On, Fork}
 use Rattle.wave_link.specs.declared.outline.Outline.{Outline}
@@ -15,6 +15,7 @@ use Rattle.wave_link.specs.Outlines.{one_more_op, ops_from, writer_from, outline
 use Rattle.wave_link.specs.Grown.{seq_next, no_place, added_in}
 use Rattle.wave_link.proofs.Numbers.{seq_in, writer_in, place_of}
 use Rattle.ws_isa.proofs.Images.{writing_memory_op as writes_memory}
+use Rattle.ws_words.specs.Items.{nth, or_else}
 
 -- a link that is said names a number up to this
 abbrev pub UpTo : ℕ → Link → Type 0

@@ -7,15 +7,15 @@ use Rattle.ws_isa.specs.declared.instr.Op.TheVariants.{Const, Alu, Merge, Advanc
 use Rattle.ws_isa.specs.declared.instr.Link.{Link}
 use Rattle.ws_isa.specs.declared.instr.Link.TheVariants.{Unknown, Nothing, Is}
 use Rattle.ws_isa.specs.declared.instr.Dest.{Dest}
-use Rattle.ws_isa.specs.Image.{Instr, Exit, Goto, Branch, Landings, Stop, Pad, Block, Image, In, no_instr, no_block, nth, or_else, flat, instr_at, block_at, first_number, ports, is_memory_op, is_writing_op, is_giving_op, IsIn, IsBlock, IsInstr}
+use Rattle.ws_isa.specs.Image.{Instr, Exit, Goto, Branch, Landings, Stop, Pad, Block, Image, no_instr, no_block, flat, instr_at, block_at, first_number, ports, is_memory_op, is_writing_op, is_giving_op, IsIn, IsBlock, IsInstr, is_steer_op}
 use Rattle.ws_isa.specs.Formed.{SendWithin, ConstWithin, most_instrs, most_dests, most_pads, most_landings, sequence_limit, ArraysFormed, DestsIn, OpIn, ExitIn, References, DestsSuit, OthersSuit, ListsSuit, SomeLanding, PadsRise, RiseFrom, NoteSuits, LinkWithin, NoteWithin, ExitWithin, InstrWithin, BlockWithin, Suited, Formed}
 use Rattle.ws_isa.specs.Sound.{HasDest, ShapeRules}
 use Rattle.ws_isa.specs.Open.{OpenToNotes}
-use Rattle.ws_isa.proofs.Blocks.{number_last}
+use Rattle.ws_isa.proofs.Blocks.{number_last, at_block}
 use Rattle.ws_isa.proofs.Slots.{has_append_cases}
 use Rattle.ws_isa.proofs.There.{There, there, dests_there, others_there}
 use Rattle.wave_link.specs.declared.links.Passage.{Passage}
-use Rattle.wave_link.specs.Layout.{Tables, is_steer_op}
+use Rattle.wave_link.specs.Layout.{Tables}
 use Rattle.wave_link.specs.Notes.{note_at}
 use Rattle.wave_link.specs.Grown.{number_in, renamed, extra_dest, note_for, nop_instr, grown_exit, grown_pad, annotated}
 use Rattle.wave_link.specs.Adds.{adds}
@@ -33,14 +33,11 @@ use Rattle.wave_link.proofs.GrownOf.{ports_kept, nop_ports, op_kept}
 use Rattle.wave_link.proofs.ShapeOf.{ImageCase, old, no_op, image_case, block_on, block_back, new_inside, nop_inside, renamed_back, the_steer, first_edge, second_edge, not_stop, dests_grown, others_grown}
 use Rattle.wave_link.proofs.ShapeOf.{shape_rules}
 use Rattle.wave_link.proofs.FormedNotes.{UpTo, PlaceUpTo, most_ops, place_up, seq_up, writer_up}
-use Rattle.ws_isa.proofs.Images.{nth_short}
 use Rattle.ws_words.proofs.Lists.{all_have as all_each, all_mapped as all_map}
+use Rattle.ws_words.specs.Items.{nth, or_else, In}
+use Rattle.ws_words.proofs.Places.{nth_short, all_of}
 
 -- What holds at each number holds of all.
-
-all_of : {A : Type 0} (P : A → Type 0) (xs : List A) → ((k : ℕ) (x : A) → nth xs k ≡ Some x → P x) → AllByRecursion P xs
-all_of P [] h = tt
-all_of P (x ∷ xs) h = (h 0 x refl, all_of P xs (λ k y e. h (suc k) y e))
 
 instr_read : (image : Image) (k : ℕ) (x : Instr) → nth (flat image.blocks) k ≡ Some x → instr_at image (suc k) ≡ x
 unfolding instr_at
@@ -56,17 +53,6 @@ all_instrs P image h = all_of P (flat image.blocks) (λ k x e. (let l : Located 
 
 all_blocks : (P : Block → Type 0) (image : Image) → ((b : ℕ) → IsBlock image b → P (block_at image b)) → AllByRecursion P image.blocks
 all_blocks P image h = all_of P image.blocks (λ k x e. subst P (block_read image k x e) (h (suc k) (omega arith, nth_short image.blocks k x e)))
-
--- and conversely
-block_of_all : (P : Block → Type 0) (image : Image) (b : ℕ) → AllByRecursion P image.blocks → IsBlock image b → P (block_at image b)
-unfolding block_at
-block_of_all P image zero a h = absurd (omega (arith, h.0))
-block_of_all P image (suc n) a h = go image.blocks n (omega (arith, h.1)) a
-  where
-    go : (xs : List Block) (n : ℕ) → n < length xs → AllByRecursion P xs → P (or_else (nth xs n) no_block)
-    go [] n l a = absurd (omega arith)
-    go (x ∷ xs) zero l a = a.0
-    go (x ∷ xs) (suc n) l a = go xs n (omega arith) a.1
 
 -- what holds of all instructions holds of each
 pub instr_of_all : (P : Instr → Type 0) (image : Image) (k : ℕ) → AllByRecursion P (flat image.blocks) → IsInstr image k → P (instr_at image k)
@@ -372,14 +358,14 @@ module _ (draft : Image) (ok : OpenToNotes draft) where
         (λ b k h i. subst (OpIn (annotated draft)) (sym (op_kept draft b k h i)) (op_in draft (instr_at draft k).op (instr_of_all (λ i. OpIn draft i.op) draft k refs.ops (is_instr draft b k h i))))
         (λ b. tt);
     pads = all_blocks (λ b. AllByRecursion (λ p. DestsIn (annotated draft) p.dests) b.pads) (annotated draft) (λ b h. subst (AllByRecursion (λ p. DestsIn (annotated draft) p.dests)) (sym (pads_kept draft b)) (pads_in b (block_back draft b h)));
-    exits = all_blocks (λ b. ExitIn (annotated draft) b.exit) (annotated draft) (λ b h. subst (ExitIn (annotated draft)) (sym (exit_kept draft b)) (exit_in b (block_back draft b h) (block_at draft b).exit refl (block_of_all (λ b. ExitIn draft b.exit) draft b refs.exits (block_back draft b h))));
+    exits = all_blocks (λ b. ExitIn (annotated draft) b.exit) (annotated draft) (λ b h. subst (ExitIn (annotated draft)) (sym (exit_kept draft b)) (exit_in b (block_back draft b h) (block_at draft b).exit refl (at_block (λ b. ExitIn draft b.exit) draft b refs.exits (block_back draft b h))));
   }
     where
       pads_in : (b : ℕ) → IsBlock draft b → AllByRecursion (λ p. DestsIn (annotated draft) p.dests) (map (grown_pad (tables_in draft.blocks)) (block_at draft b).pads)
       pads_in b h = all_map (λ p. DestsIn (annotated draft) p.dests) (grown_pad (tables_in draft.blocks)) (block_at draft b).pads
           (all_each (λ p. DestsIn draft p.dests) (λ p. DestsIn (annotated draft) (renamed (tables_in draft.blocks) p.dests)) (block_at draft b).pads
           (λ p d. subst (DestsIn (annotated draft)) (sym (same_renamed draft p.dests)) (dests_in (annotated draft) (by_number (new draft) p.dests) (renamed_there p.dests (there draft p.dests d))))
-          (block_of_all (λ b. AllByRecursion (λ p. DestsIn draft p.dests) b.pads) draft b refs.pads h))
+          (at_block (λ b. AllByRecursion (λ p. DestsIn draft p.dests) b.pads) draft b refs.pads h))
 
       exit_in : (b : ℕ) → IsBlock draft b → (x : Exit) → (block_at draft b).exit ≡ x → ExitIn draft x → ExitIn (annotated draft) (grown_exit (tables_in draft.blocks) x)
       exit_in b h (Goto c) e i = block_on draft c i
@@ -413,7 +399,7 @@ module _ (draft : Image) (ok : OpenToNotes draft) where
     references = references;
     lists = lists;
     landings = all_blocks (λ b. SomeLanding b.exit) (annotated draft) (λ b h. subst SomeLanding (sym (exit_kept draft b)) (landing_on (tables_in draft.blocks) (block_at draft b).exit
-        (block_of_all (λ b. SomeLanding b.exit) draft b ok.walkable.suited.landings (block_back draft b h))));
+        (at_block (λ b. SomeLanding b.exit) draft b ok.walkable.suited.landings (block_back draft b h))));
   }
 
   module _ (room : LeavesRoom draft) where
@@ -463,7 +449,7 @@ module _ (draft : Image) (ok : OpenToNotes draft) where
           (all_map (λ p. (p.number < most_pads) × (length p.dests ≤ most_dests)) (grown_pad (tables_in draft.blocks)) (block_at draft b).pads
           (all_members (λ p. (p.number < most_pads) × (length (renamed (tables_in draft.blocks) p.dests) ≤ most_dests)) (block_at draft b).pads
           (λ p i. (
-            member_of (λ p. p.number < most_pads) (block_at draft b).pads p (block_of_all (λ b. AllByRecursion (λ p. p.number < most_pads) b.pads) draft b room.numbers h) i,
+            member_of (λ p. p.number < most_pads) (block_at draft b).pads p (at_block (λ b. AllByRecursion (λ p. p.number < most_pads) b.pads) draft b room.numbers h) i,
             omega (arith, room.pads b p h i, renamed_length (tables_in draft.blocks) p.dests),
           ))));
       exit = subst ExitWithin (sym (exit_kept draft b)) (exit_within (tables_in draft.blocks) (block_at draft b).exit (λ s ls e. room.landings b s ls h e));
@@ -478,6 +464,6 @@ module _ (draft : Image) (ok : OpenToNotes draft) where
       blocks = all_blocks BlockWithin (annotated draft) (λ b h. block_within b (block_back draft b h));
       suited = suited;
       waves = (shape_rules draft ok).waves;
-      pads = all_blocks (λ b. PadsRise b.pads) (annotated draft) (λ b h. subst PadsRise (sym (pads_kept draft b)) (pads_rise (tables_in draft.blocks) (block_at draft b).pads (block_of_all (λ b. PadsRise b.pads) draft b room.rise (block_back draft b h))));
+      pads = all_blocks (λ b. PadsRise b.pads) (annotated draft) (λ b h. subst PadsRise (sym (pads_kept draft b)) (pads_rise (tables_in draft.blocks) (block_at draft b).pads (at_block (λ b. PadsRise b.pads) draft b room.rise (block_back draft b h))));
       notes = all_of (λ i. NoteSuits i.op i.note) (flat (annotated draft).blocks) (λ k x e. (all_good draft k x e).suits);
     }

@@ -9,7 +9,7 @@ use Rattle.ws_isa.proofs.Slots.{all_opened_keeps, all_opened_append, fresh_left,
 use Rattle.wave_link.proofs.GrownForm.{renamed}
 use Rattle.wave_link.proofs.SlotsKept.{swap, all_swap, fresh_append}
 use Rattle.ws_isa.proofs.Opened.{opened_here}
-use Rattle.ws_words.proofs.Bools.{and_parts as and_both}
+use Rattle.ws_words.proofs.Bools.{and_parts as and_both, no_both}
 
 lists_swap : (xs ys : List Dest) (o : OpenSlots) → all_opened xs (all_opened ys o) ≡ all_opened ys (all_opened xs o)
 lists_swap xs [] o = refl
@@ -19,12 +19,9 @@ pub not_true : (v : Bool) → (v ≡ true → ⊥) → v ≡ false
 not_true true h = absurd (h refl)
 not_true false h = refl
 
-clash : (v : Bool) → v ≡ true → v ≡ false → ⊥
-clash v e f = cc
-
 -- what isn't open after a list is opened wasn't before
 shut_before : (ds : List Dest) (o : OpenSlots) (j q : ℕ) → all_opened ds o j q ≡ false → o j q ≡ false
-shut_before ds o j q h = not_true (o j q) (λ e. clash (all_opened ds o j q) (all_opened_keeps ds o j q e) h)
+shut_before ds o j q h = not_true (o j q) (λ e. no_both (all_opened_keeps ds o j q e) h)
 
 -- a slot that a fresh list leaves shut may be opened first
 fresh_opened : (bs : List Dest) (d : Dest) (o : OpenSlots) → Fresh bs o → all_opened bs o d.instr d.port ≡ false → Fresh bs (opened d o)
@@ -35,11 +32,11 @@ fresh_opened (b ∷ bs) d o f h = (
 )
   where
     there : opened d o b.instr b.port ≡ true → ((eqb d.instr b.instr && eqb d.port b.port) ≡ true) ⊎ ((eqb d.instr b.instr && eqb d.port b.port) ≡ false) → ⊥
-    there e (inr n) = clash (o b.instr b.port) (ap (λ (v : Bool). cond v true (o b.instr b.port)) (sym n) ∙ e) f.0
+    there e (inr n) = no_both (ap (λ (v : Bool). cond v true (o b.instr b.port)) (sym n) ∙ e) f.0
     there e (inl y) =
         let s = and_both (eqb d.instr b.instr) (eqb d.port b.port) y in
         let g : opened b o d.instr d.port ≡ true = opened_here b o d.instr d.port (sym (eqb-true d.instr b.instr s.0)) (sym (eqb-true d.port b.port s.1)) in
-        clash (all_opened bs (opened b o) d.instr d.port) (all_opened_keeps bs (opened b o) d.instr d.port g) h
+        no_both (all_opened_keeps bs (opened b o) d.instr d.port g) h
 
 pub append_nil : {A : Type 0} (xs : List A) → xs ++ [] ≡ xs
 append_nil [] = refl

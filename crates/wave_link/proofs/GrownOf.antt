@@ -5,14 +5,13 @@ use Rattle.ws_words.specs.Outside.{World}
 use Rattle.ws_isa.specs.declared.instr.Op.{Op}
 use Rattle.ws_isa.specs.declared.instr.Op.TheVariants.{Steer, Nop, Halt}
 use Rattle.ws_isa.specs.declared.instr.Dest.{Dest}
-use Rattle.ws_isa.specs.Image.{Instr, Exit, Goto, Branch, Landings, Stop, Image, nth, instr_at, block_at, first_number, size_of, ports, ports_of, is_memory, is_memory_op, is_advance, is_advance_op, is_giving, stops, is_stop, target, is_first, edges_of, leave_to, now_of, now_dests, edge_of, edge_dests, IsIn, IsBlock, IsInstr}
+use Rattle.ws_isa.specs.Image.{Instr, Exit, Goto, Branch, Landings, Stop, Image, instr_at, block_at, first_number, size_of, ports, ports_of, is_memory, is_memory_op, is_advance, is_advance_op, is_giving, stops, is_stop, target, is_first, edges_of, leave_to, now_of, now_dests, edge_of, edge_dests, IsIn, IsBlock, IsInstr, is_steer_op}
 use Rattle.ws_isa.specs.Formed.{References}
 use Rattle.ws_isa.specs.Sound.{OpenSlots, HasDest, all_opened, Fresh, edge_all, opens_at, ShapeRules}
 use Rattle.ws_isa.specs.Open.{EnteredBySteer, OpenToNotes}
 use Rattle.ws_isa.specs.Walk.{choice_of, opening_memory}
 use Rattle.ws_isa.proofs.Steps.{first_le}
 use Rattle.ws_isa.proofs.There.{now_there, start_there, edge_there, edges_there}
-use Rattle.wave_link.specs.Layout.{is_steer_op}
 use Rattle.wave_link.specs.Grown.{grown_exit, annotated}
 use Rattle.wave_link.specs.Adds.{adds}
 use Rattle.wave_link.proofs.Parts.{tables_in}
@@ -25,6 +24,7 @@ use Rattle.wave_link.proofs.GrownForm.{Trigger, Whole, Own, Before, renamed, bef
 use Rattle.wave_link.proofs.GrownEdges.{gather, gather_none, gather_one, all_alike, fresh_alike, edge_all_more}
 use Rattle.wave_link.proofs.GrownTriggers.{trigger, whole, before, own, trigger_case, extra_is, added_if, not_added_if, now_grown, start_grown, extras_at, edge_grown, extras_steer, extras_else}
 use Rattle.wave_link.proofs.WalksForm.{ResultsLike, choice_at, WalksAlike}
+use Rattle.ws_words.specs.Items.{nth}
 
 pub steer_is : (op : Op) → is_steer_op op ≡ true → op ≡ Steer
 steer_is Steer e = refl

@@ -1,6 +1,6 @@
 -- Which instruction of the draft an instruction of the image is.
 use Rattle.std.proofs.Common.{ℕ, zero, suc, ◌≡◌, ◌<◌, ◌≤◌, ◌⊎◌, true, cond, eqb, length, Option, Some, None, refl, sym, ap, ◌∙◌, inl, inr, subst, arith, eq-eqb, ne_eqb}
-use Rattle.std.proofs.lemmas.Bool.{cases_eq, cases_lt}
+use Rattle.std.proofs.lemmas.Bool.{cases_eq}
 use Rattle.ws_isa.specs.Image.{Image, flat, first_number, IsIn, IsBlock, IsInstr}
 use Rattle.ws_isa.proofs.Blocks.{number_last}
 use Rattle.ws_isa.proofs.Steps.{first_le}
@@ -8,6 +8,7 @@ use Rattle.wave_link.specs.Grown.{annotated}
 use Rattle.wave_link.specs.Adds.{adds}
 use Rattle.wave_link.proofs.Numbers.{one_if, shift, new, nop, first_is, ends_are, new_is}
 use Rattle.wave_link.proofs.GrownRows.{Located, located, instr_positive}
+use Rattle.ws_words.proofs.Numbers.{three_ways}
 
 -- the last of the first n instructions whose new number is m
 abbrev pub find : Image → ℕ → ℕ → Option ℕ
@@ -58,14 +59,8 @@ new_low draft b k h i = omega (arith, first_is draft b h, new_is draft b k h i, 
 new_high : (draft : Image) (b k : ℕ) → IsBlock draft b → IsIn draft b k → new draft k < first_number (annotated draft) (suc b)
 new_high draft b k h i = omega (arith, ends_are draft b h, new_is draft b k h i, i.1)
 
-order : (b c : ℕ) → (b < c) ⊎ ((b ≡ c) ⊎ (c < b))
-order b c = elim (cases_lt b c) [
-  | inl l ↦ inl l
-  | inr l ↦ elim (cases_eq b c) [ inl e ↦ inr (inl e) | inr n ↦ inr (inr (omega arith)) ]
-]
-
 pub new_apart : (draft : Image) (j k : ℕ) → IsInstr draft j → IsInstr draft k → new draft j ≡ new draft k → j ≡ k
-new_apart draft j k h i e = go (order x.block y.block)
+new_apart draft j k h i e = go (three_ways x.block y.block)
   where
     x : Located draft j
     x = located draft j h
@@ -107,7 +102,7 @@ origin_none draft b h a = go (origin draft (nop draft b)) refl
   where
     go : (o : Option ℕ) → origin draft (nop draft b) ≡ o → o ≡ None
     go None e = refl
-    go (Some k) e = absurd (at (order y.block b))
+    go (Some k) e = absurd (at (three_ways y.block b))
       where
         x : (nop draft b ≡ new draft k) × IsInstr draft k
         x = origin_is draft (nop draft b) k e

@@ -1,9 +1,9 @@
 -- Instructions by their block and their place in it; blocks without an operation are the only ones that get a no-op.
 use Rattle.std.proofs.Common.{ℕ, zero, suc, ◌+◌, ◌-◌, ◌≡◌, ◌<◌, ◌≤◌, ◌⊎◌, Bool, true, false, cond, not, eqb, ◌&&◌, List, [], ◌∷◌, length, length-append, get_or, Some, refl, sym, ap, ◌∙◌, inl, inr, subst, arith, ne_eqb}
 use Rattle.std.proofs.lemmas.Bool.{cases_Bool, cases_eq, cases_lt}
-use Rattle.ws_isa.specs.Image.{Instr, Block, Image, no_instr, no_block, nth, or_else, flat, instr_at, block_at, first_of, first_number, is_memory, is_memory_op, IsIn, IsBlock, IsInstr}
+use Rattle.ws_isa.specs.Image.{Instr, Block, Image, no_instr, no_block, flat, instr_at, block_at, first_of, first_number, is_memory, is_memory_op, IsIn, IsBlock, IsInstr}
 use Rattle.ws_isa.proofs.Blocks.{block_is, instr_is, number_next}
-use Rattle.ws_isa.proofs.Steps.{first_le}
+use Rattle.ws_isa.proofs.Steps.{first_le, first_zero}
 use Rattle.wave_link.specs.declared.outline.Outline.{Outline}
 use Rattle.wave_link.specs.declared.states.Ways.{Ways}
 use Rattle.wave_link.specs.declared.states.State.{State}
@@ -11,6 +11,7 @@ use Rattle.wave_link.specs.States.{reached, is_vain, state_in, states_step, stat
 use Rattle.wave_link.specs.Outlines.{firsts_of, one_more_op, ops_from, outline_of, outlines_from, outlines_of}
 use Rattle.wave_link.specs.Adds.{adds}
 use Rattle.ws_isa.proofs.Counting.{first_one}
+use Rattle.ws_words.specs.Items.{nth, or_else}
 
 -- instruction k of block b, by its place
 pub record InBlock (image : Image) (b k : ℕ) : Type 0 where
@@ -72,10 +73,6 @@ unfolding first_number
 located image k h =
     let p : Placed image.blocks k = placed image.blocks k h.0 h.1 in
     record { block = suc p.place; there = (omega arith, p.within); inside = (p.low, p.high) }
-
-first_zero : (image : Image) → first_number image 0 ≡ 1
-unfolding first_number
-first_zero image = refl
 
 pub instr_positive : (image : Image) (b k : ℕ) → IsBlock image b → IsIn image b k → 1 ≤ k
 instr_positive image b k h i = omega (arith, i.0, first_le image 0 b (omega arith), first_zero image)

@@ -4,13 +4,13 @@ use Rattle.std.proofs.lemmas.Bool.{cases_Bool, cases_eq, cases_lt}
 use Rattle.ws_isa.specs.declared.instr.Op.{Op}
 use Rattle.ws_isa.specs.declared.instr.Op.TheVariants.{Steer}
 use Rattle.ws_isa.specs.declared.instr.Dest.{Dest}
-use Rattle.ws_isa.specs.Image.{Instr, Exit, Goto, Branch, Landings, Stop, Image, nth, or_else, no_instr, flat, instr_at, block_at, first_number, edges_of, is_giving_op, IsIn, IsBlock, IsInstr}
+use Rattle.ws_isa.specs.Image.{Instr, Exit, Goto, Branch, Landings, Stop, Image, no_instr, flat, instr_at, block_at, first_number, edges_of, is_giving_op, IsIn, IsBlock, IsInstr, is_steer_op}
 use Rattle.ws_isa.specs.Formed.{References}
 use Rattle.ws_isa.specs.Sound.{HasDest, ShapeRules}
 use Rattle.ws_isa.specs.Open.{OnlyEdge, EnteredBySteer, OpenToNotes}
 use Rattle.ws_isa.proofs.Slots.{has_append_cases, has_append_right}
 use Rattle.ws_isa.proofs.There.{There, dests_there, others_there}
-use Rattle.wave_link.specs.Layout.{Tables, is_steer_op}
+use Rattle.wave_link.specs.Layout.{Tables}
 use Rattle.wave_link.specs.Grown.{extra_dest, grown_exit, nop_instr, annotated}
 use Rattle.wave_link.specs.Adds.{adds}
 use Rattle.wave_link.specs.Triggers.{IsAdded, Names, IsSteerBefore, TriggeredNear}
@@ -25,6 +25,7 @@ use Rattle.wave_link.proofs.GrownForm.{renamed as by_number}
 use Rattle.wave_link.proofs.GrownTriggers.{trigger, whole, before, own, trigger_case, now_giver, now_none, now_steer, other_none, other_steer, steered_by, steered_is, steer_steers}
 use Rattle.wave_link.proofs.GrownOf.{sizes, op_kept, entered, case_before, steer_is}
 use Rattle.wave_link.proofs.ShapeOf.{ImageCase, old, no_op, image_case, block_back, block_on, old_inside, nop_inside, renamed_back, dests_grown, others_grown, one_extra, no_extra, the_steer, not_stop, first_edge, second_edge}
+use Rattle.ws_words.specs.Items.{nth, or_else}
 
 instr_cases : (image : Image) (m : ℕ) → IsInstr image m ⊎ (instr_at image m ≡ no_instr)
 unfolding instr_at

@@ -4,14 +4,15 @@ use Rattle.std.proofs.lemmas.Bool.{cases_Bool, cases_lt}
 use Rattle.std.proofs.lemmas.List.{get_or-set_other, get_or-replicate, length-replicate}
 use Rattle.std.proofs.Math.ListN.{length-set}
 use Rattle.ws_isa.specs.declared.instr.Op.{Op}
-use Rattle.ws_isa.specs.Image.{Instr, Exit, Goto, Branch, Landings, Stop, Block, Image, no_instr, no_block, nth, or_else, flat, instr_at, block_at, first_of, first_number, is_giving_op, IsIn, IsBlock}
+use Rattle.ws_isa.specs.Image.{Instr, Exit, Goto, Branch, Landings, Stop, Block, Image, no_instr, no_block, flat, instr_at, block_at, first_of, first_number, is_giving_op, IsIn, IsBlock, is_steer_op}
 use Rattle.ws_isa.proofs.Blocks.{block_is}
 use Rattle.ws_isa.proofs.Steps.{first_le}
-use Rattle.wave_link.specs.Layout.{is_steer_op, giving_from, steer_from, givings_from, steers_from, numbers_from, count_up, with_nop, Extras, steered, extras_step, extras_from, givings_table, steers_table, nops_table, numbers_table, no_extras, extras_of}
+use Rattle.wave_link.specs.Layout.{giving_from, steer_from, givings_from, steers_from, numbers_from, count_up, with_nop, Extras, steered, extras_step, extras_from, givings_table, steers_table, nops_table, numbers_table, no_extras, extras_of}
 use Rattle.wave_link.specs.Grown.{added_in}
 use Rattle.wave_link.proofs.Parts.{tables_in}
 use Rattle.wave_link.proofs.GrownRows.{InBlock, in_block, instr_at_place, block_size, instr_positive}
 use Rattle.wave_link.proofs.GrownOrigin.{is_instr}
+use Rattle.ws_words.specs.Items.{nth, or_else}
 
 -- The first instruction of a kind.
 

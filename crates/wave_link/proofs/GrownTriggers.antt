@@ -6,9 +6,9 @@ use Rattle.std.proofs.Math.ListN.{length-set}
 use Rattle.ws_isa.specs.declared.instr.Op.{Op}
 use Rattle.ws_isa.specs.declared.instr.Op.TheVariants.{Const, Alu, Merge, Advance, Steer, Phi, Send, Load, Store, Input, Output, Give, Take, Nop, Halt}
 use Rattle.ws_isa.specs.declared.instr.Dest.{Dest}
-use Rattle.ws_isa.specs.Image.{Instr, Exit, Goto, Branch, Landings, Stop, Pad, Block, Image, no_block, nth, or_else, instr_at, block_at, pad_of, is_giving_op, target, leave_to, now_of, now_dests, edge_of, edge_dests, start_dests, IsIn, IsBlock}
+use Rattle.ws_isa.specs.Image.{Instr, Exit, Goto, Branch, Landings, Stop, Pad, Block, Image, no_block, instr_at, block_at, pad_of, is_giving_op, target, leave_to, now_of, now_dests, edge_of, edge_dests, start_dests, IsIn, IsBlock, is_steer_op}
 use Rattle.wave_link.specs.declared.links.Passage.{Passage}
-use Rattle.wave_link.specs.Layout.{is_steer_op, Tables, Extras, steered, extras_step}
+use Rattle.wave_link.specs.Layout.{Tables, Extras, steered, extras_step}
 use Rattle.wave_link.specs.Grown.{number_in, extra_dest, grown_instr, grown_pad, grown_from, annotated}
 use Rattle.wave_link.specs.Grown.{renamed as table_renamed}
 use Rattle.wave_link.specs.Adds.{adds}
@@ -18,6 +18,7 @@ use Rattle.wave_link.proofs.Numbers.{one_if, shift, new, nop, nops_are, nop_posi
 use Rattle.wave_link.proofs.GrownRows.{instr_positive}
 use Rattle.wave_link.proofs.GrownTables.{giver, steer_in, giver_cases, steer_cases, nops_in, givings_in, steers_in, now_table, other_table, writes}
 use Rattle.wave_link.proofs.GrownForm.{Trigger, Whole, Own, Before, renamed, nop_slot, own_slot, before_slot, extra}
+use Rattle.ws_words.specs.Items.{nth, or_else}
 
 -- what triggers the no-op of block b
 unfoldable pub trigger : Image → ℕ → Trigger

@@ -1,7 +1,7 @@
 -- What the outlines of a draft say of its blocks and edges.
 use Rattle.std.proofs.Common.{ℕ, zero, suc, ◌+◌, ◌-◌, ◌≡◌, ◌<◌, ◌≤◌, ◌⊎◌, Bool, true, false, cond, not, List, [], ◌∷◌, length, get_or, Some, refl, sym, ap, ◌∙◌, inl, inr, subst, arith, eqb, eq-eqb}
 use Rattle.std.proofs.lemmas.Bool.{cases_eq}
-use Rattle.ws_isa.specs.Image.{Exit, Goto, Branch, Landings, Stop, Block, Image, nth, or_else, no_block, block_at, leave_to, is_stop, stops, target, is_first, edges_of, IsBlock}
+use Rattle.ws_isa.specs.Image.{Exit, Goto, Branch, Landings, Stop, Block, Image, no_block, block_at, leave_to, is_stop, stops, target, is_first, edges_of, IsBlock}
 use Rattle.ws_isa.specs.Formed.{WavesFrom, WavesInOrder}
 use Rattle.ws_isa.specs.Sound.{ShapeRules}
 use Rattle.ws_isa.specs.Open.{IsArm}
@@ -13,6 +13,7 @@ use Rattle.wave_link.specs.Grown.{added_in}
 use Rattle.wave_link.specs.Adds.{adds}
 use Rattle.wave_link.proofs.LinksTables.{no_outline, outline_in, Leads, Parts}
 use Rattle.ws_words.proofs.Lists.{same_read as any_default}
+use Rattle.ws_words.specs.Items.{nth, or_else}
 
 -- Outlines.
 

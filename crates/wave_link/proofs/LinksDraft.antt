@@ -21,7 +21,6 @@ use Rattle.wave_link.specs.Adds.{adds}
 use Rattle.wave_link.proofs.Numbers.{place_of}
 use Rattle.wave_link.proofs.LinksTables.{outline_in, stepped, stepped_next, ways_are, nop_at_place, behind_step, place_there, low_next, head_there, Leads}
 use Rattle.wave_link.proofs.LinksRun.{Run}
-use Rattle.wave_link.proofs.LinksPaths.{Marked}
 use Rattle.wave_link.proofs.LinksBlocks.{bare_of, grown_of, bare_length, grown_length, grown_is, outline_at, outline_is, in_wave, On_in, on_in, parts, alone}
 use Rattle.ws_isa.proofs.Images.{writing_memory_op}
 

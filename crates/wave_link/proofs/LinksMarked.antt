@@ -4,7 +4,7 @@ use Rattle.std.proofs.lemmas.Bool.{cases_Bool}
 use Rattle.ws_isa.specs.declared.instr.Op.{Op}
 use Rattle.ws_isa.specs.declared.instr.Op.TheVariants.{Nop}
 use Rattle.ws_isa.specs.declared.instr.Note.{Note}
-use Rattle.ws_isa.specs.Image.{Instr, Block, Image, nth, or_else, no_instr, no_note, instr_at, block_at, first_number, note_of, is_memory, is_writing, stops, target, is_first, is_memory_op, is_writing_op, IsIn, IsBlock}
+use Rattle.ws_isa.specs.Image.{Instr, Block, Image, no_instr, no_note, instr_at, block_at, first_number, note_of, is_memory, is_writing, stops, target, is_first, is_memory_op, is_writing_op, IsIn, IsBlock}
 use Rattle.ws_isa.specs.Sound.{LinkRules, RippleRules}
 use Rattle.ws_isa.specs.Open.{OpenToNotes}
 use Rattle.ws_isa.proofs.Blocks.{block_is, instr_is, number_next}
@@ -25,6 +25,7 @@ use Rattle.wave_link.proofs.LinksTables.{outline_in, Leads}
 use Rattle.wave_link.proofs.LinksPaths.{Marked, link_rules, ripple_rules, exact_ripples}
 use Rattle.wave_link.proofs.LinksBlocks.{bare_of, bare_is, outline_at, outline_is, first_is, in_wave, edge_leads, Back, back, way_out}
 use Rattle.wave_link.proofs.LinksDraft.{low_of, heads_in, ways_in, ways_at, states_at, behind_at, place_is, adds_is, writer_below, empty_needs, eqb_zero, run}
+use Rattle.ws_words.specs.Items.{nth, or_else}
 
 -- Numbers along a list of instructions.
 

@@ -2,7 +2,7 @@
 use Rattle.std.proofs.Common.{ℕ, zero, suc, ◌+◌, ◌≡◌, ◌<◌, ◌≤◌, ◌⊎◌, ◌&&◌, Bool, true, false, cond, not, List, [], ◌∷◌, length, get_or, refl, sym, ap, ◌∙◌, inl, inr, arith, eqb, eq-eqb, ne_eqb}
 use Rattle.std.proofs.lemmas.Bool.{cases_eq, cases_Bool, cases_lt}
 use Rattle.ws_isa.specs.declared.instr.Note.{Note}
-use Rattle.ws_isa.specs.Image.{Block, Image, nth, or_else, no_block, instr_at, block_at, block_of, first_number, is_memory, is_memory_op, note_of, is_first, IsIn, IsBlock}
+use Rattle.ws_isa.specs.Image.{Block, Image, no_block, instr_at, block_at, block_of, first_number, is_memory, is_memory_op, note_of, is_first, IsIn, IsBlock}
 use Rattle.ws_isa.specs.Formed.{WavesInOrder}
 use Rattle.ws_isa.specs.Open.{OpenToNotes}
 use Rattle.ws_isa.proofs.Blocks.{number_one}
@@ -15,6 +15,7 @@ use Rattle.wave_link.proofs.Edges.{count_kept, wave_kept}
 use Rattle.wave_link.proofs.LinksBlocks.{grown_of, outline_at, first_is, waves_rise}
 use Rattle.wave_link.proofs.LinksDraft.{low_of, run}
 use Rattle.wave_link.proofs.LinksMarked.{sq, marked}
+use Rattle.ws_words.specs.Items.{nth, or_else}
 
 wave_one : (bs : List Block) → WavesInOrder bs → (or_else (nth bs 0) no_block).wave ≡ 1
 wave_one [] w = absurd w

@@ -4,8 +4,8 @@ use Rattle.std.proofs.lemmas.Bool.{cases_eq, cases_Bool, cases_lt}
 use Rattle.ws_isa.specs.declared.instr.Link.{Link}
 use Rattle.ws_isa.specs.declared.instr.Link.TheVariants.{Unknown, Nothing, Is}
 use Rattle.ws_isa.specs.declared.instr.Note.{Note}
-use Rattle.ws_isa.specs.Image.{Image, or_else, instr_at, block_at, first_number, is_memory, is_writing, note_of, stops, target, is_first, IsIn, IsBlock}
-use Rattle.ws_isa.specs.Sound.{InWave, first, turn, edge, last_op, ComesNext, PathEnds, seq, IsAmong, LinkRules, RippleRules}
+use Rattle.ws_isa.specs.Image.{Image, instr_at, block_at, first_number, is_memory, is_writing, note_of, stops, target, is_first, IsIn, IsBlock}
+use Rattle.ws_isa.specs.Sound.{InWave, first, turn, edge, last_op, ComesNext, PathEnds, seq, LinkRules, RippleRules}
 use Rattle.wave_link.specs.declared.outline.Way.{Way}
 use Rattle.wave_link.specs.declared.outline.Way.TheVariants.{Out}
 use Rattle.wave_link.specs.declared.outline.Outline.{Outline}
@@ -19,6 +19,7 @@ use Rattle.wave_link.specs.Ripples.{MayPrecede, ExactRipples}
 use Rattle.wave_link.proofs.LinksTables.{Leads, exact}
 use Rattle.wave_link.proofs.LinksRun.{Run, Before, starts, goes, last_of, last_number, Facts, facts, first_linked, first_alone, end_said, Wrote, wrote, further, Attained, attained, wrote_low, writer_on, writer_low, low_rise, head_full, here}
 use Rattle.ws_isa.proofs.Images.{writing_memory_op as writing_op}
+use Rattle.ws_words.specs.Items.{or_else, In}
 
 -- what the image has of the tables: sq and wr are the next sequence number and the last writing one before an instruction
 pub record Marked (image : Image) (n : ℕ) (x : ℕ → Outline) (low : ℕ → ℕ) (heads : List Link) (behind : ℕ → List (Option Behind)) (sq wr : ℕ → ℕ → ℕ) : Type 0 where
@@ -142,7 +143,7 @@ module _ (image : Image) (n : ℕ) (x : ℕ → Outline) (low : ℕ → ℕ) (he
     pub a : ℕ
     pub path : Path b a
     pub last : LastIs b a k (last_op image done)
-    pub below : (j : ℕ) → IsAmong j done → is_writing image j ≡ true → seq image j ≤ wr b k
+    pub below : (j : ℕ) → In j done → is_writing image j ≡ true → seq image j ≤ wr b k
     pub under : wr b k < sq b k
 
   place_writer : (b a : ℕ) (f : Known b a) → (place b).writer ≡ f.y.writer
@@ -167,13 +168,13 @@ module _ (image : Image) (n : ℕ) (x : ℕ → Outline) (low : ℕ → ℕ) (he
   moved b a k m l o e f (entry_some j s z p g) = entry_some j (e ∙ s) z p (f ∙ g)
   moved b a k m l o e f (within j p s g) = within j p (e ∙ s) (f ∙ g)
 
-  below_next : (b k : ℕ) (done : List ℕ) (s : Stands b k done) → k < first_number image (suc b) → (j : ℕ) → IsAmong j (k ∷ done) → is_writing image j ≡ true → seq image j ≤ wr b (suc k)
+  below_next : (b k : ℕ) (done : List ℕ) (s : Stands b k done) → k < first_number image (suc b) → (j : ℕ) → In j (k ∷ done) → is_writing image j ≡ true → seq image j ≤ wr b (suc k)
   below_next b k done s l j a w = go (cases_Bool (is_writing image k)) a
     where
       i : IsIn image b k
       i = (s.low_end, l)
 
-      go : (is_writing image k ≡ true) ⊎ (is_writing image k ≡ false) → (j ≡ k) ⊎ IsAmong j done → seq image j ≤ wr b (suc k)
+      go : (is_writing image k ≡ true) ⊎ (is_writing image k ≡ false) → (j ≡ k) ⊎ In j done → seq image j ≤ wr b (suc k)
       go (inl v) (inl e) =
           let q : wr b (suc k) ≡ sq b k = wr_step b k s.block i v in
           let r : seq image k ≡ sq b k = seq_is b k s.block i (writing_memory k v) in
@@ -502,7 +503,7 @@ module _ (image : Image) (n : ℕ) (x : ℕ → Outline) (low : ℕ → ℕ) (he
   pub record Goes (b m : ℕ) (done : List ℕ) : Type 0 where
     pub more : List ℕ
     pub path : InWave image b m more
-    pub keeps : (j : ℕ) → IsAmong j done → IsAmong j more
+    pub keeps : (j : ℕ) → In j done → In j more
 
   go_on : (b k m : ℕ) (done : List ℕ) → InWave image b k done → k ≤ m → m ≤ first_number image (suc b) → Goes b m done
   go_on b k zero done p l h = let e : k ≡ zero = omega arith in record { more = done; path = subst (λ (i : ℕ). InWave image b i done) e p; keeps = λ j a. a }
@@ -513,7 +514,7 @@ module _ (image : Image) (n : ℕ) (x : ℕ → Outline) (low : ℕ → ℕ) (he
       go (inr d) rec = let g : Goes b m done = rec (omega arith) in record { more = m ∷ g.more; path = turn g.path h; keeps = λ j a. inr (g.keeps j a) }
 
   -- a path in a block has come by its instructions
-  passed : (b k : ℕ) (done : List ℕ) → InWave image b k done → (j : ℕ) → first_number image b ≤ j → j < k → IsAmong j done
+  passed : (b k : ℕ) (done : List ℕ) → InWave image b k done → (j : ℕ) → first_number image b ≤ j → j < k → In j done
   passed b k done (first h f) j l w = absurd (omega arith)
   passed b k done (turn {b = c} {k = i} {done = d} p q) j l w = elim (cases_eq j i) [ inl e ↦ inl e | inr n ↦ inr (passed c i d p j l (omega arith)) ]
   passed b k done (edge p e s r f) j l w = absurd (omega arith)
@@ -544,7 +545,7 @@ module _ (image : Image) (n : ℕ) (x : ℕ → Outline) (low : ℕ → ℕ) (he
     pub done : List ℕ
     pub path : InWave image b (first_number image b) done
     pub op : ℕ
-    pub among : IsAmong op done
+    pub among : In op done
     pub writes : is_writing image op ≡ true
     pub number : seq image op ≡ w
 

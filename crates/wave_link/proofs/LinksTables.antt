@@ -5,7 +5,6 @@ use Rattle.std.proofs.lemmas.Bool.{cases_eq}
 use Rattle.std.proofs.lemmas.List.{length-set, get_or-set_same, get_or-set_other}
 use Rattle.ws_isa.specs.declared.instr.Link.{Link}
 use Rattle.ws_isa.specs.declared.instr.Link.TheVariants.{Unknown, Nothing, Is}
-use Rattle.ws_isa.specs.Image.{nth, or_else}
 use Rattle.wave_link.specs.declared.outline.Way.{Way}
 use Rattle.wave_link.specs.declared.outline.Way.TheVariants.{Out, On, Fork}
 use Rattle.wave_link.specs.declared.outline.Outline.{Outline}
@@ -17,6 +16,7 @@ use Rattle.wave_link.specs.declared.states.State.TheVariants.{Shared, Sole}
 use Rattle.wave_link.specs.States.{more, enter, enter_way, ways_step, ways_from, needs_nop, spread_state, states_step, states_from}
 use Rattle.wave_link.specs.Notes.{both, low_at, lows_from, head_at, out_link, head_link, heads_from, joined, behind_in, hand_on, hand_way, hand_all, place_at, places_from}
 use Rattle.wave_link.specs.Grown.{no_place}
+use Rattle.ws_words.specs.Items.{nth, or_else}
 
 abbrev pub no_outline : Outline
 no_outline = record { first = false; ops = 0; writer = 0; way = Out }

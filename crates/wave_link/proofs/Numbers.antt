@@ -3,8 +3,8 @@
 use Rattle.std.proofs.Common.{ℕ, zero, suc, ◌+◌, ◌-◌, ◌≡◌, ◌<◌, ◌≤◌, Bool, true, false, cond, eqb, List, [], ◌∷◌, ◌++◌, length, length-append, get_or, Option, Some, refl, sym, ap, ap₂, ◌∙◌, subst, arith, ne_eqb}
 use Rattle.std.proofs.lemmas.List.{get_or_append_left, get_or-append_right}
 use Rattle.ws_isa.specs.declared.instr.Note.{Note}
-use Rattle.ws_isa.specs.Image.{Instr, Block, Image, no_instr, no_block, nth, or_else, instr_at, block_at, first_of, first_number, IsIn, IsBlock}
-use Rattle.ws_isa.proofs.Blocks.{nth_append_left, nth_append_right, block_is, instr_is, number_next}
+use Rattle.ws_isa.specs.Image.{Instr, Block, Image, no_instr, no_block, instr_at, block_at, first_of, first_number, IsIn, IsBlock}
+use Rattle.ws_isa.proofs.Blocks.{nth_append_right, block_is, instr_is, number_next}
 use Rattle.wave_link.specs.declared.links.Passage.{Passage}
 use Rattle.wave_link.specs.Notes.{writer_next}
 use Rattle.wave_link.specs.Layout.{with_nop, nops_from, count_up, numbers_from, Tables}
@@ -14,6 +14,8 @@ use Rattle.wave_link.proofs.Parts.{tables_in, places_in}
 use Rattle.wave_link.proofs.Edges.{count_kept}
 use Rattle.ws_isa.proofs.Steps.{first_of_pos as first_positive}
 use Rattle.ws_isa.proofs.Counting.{first_one}
+use Rattle.ws_words.specs.Items.{nth, or_else}
+use Rattle.ws_words.proofs.Places.{nth_append_left}
 
 -- 1 where a no-op is added
 abbrev pub one_if : Bool → ℕ
@@ -226,9 +228,6 @@ ends_are draft (suc n) h =
   where
     sums : (a b c : ℕ) → a + (b + c) ≡ c + (a + b)
     sums a b c = omega arith
-
-first_in_order : (draft : Image) (n : ℕ) → n < length draft.blocks → first_number draft (suc (suc n)) ≡ first_number draft (suc n) + length (or_else (nth draft.blocks n) no_block).instrs
-first_in_order draft n l = number_next draft n l
 
 -- instructions move with their block
 pub new_is : (draft : Image) (b k : ℕ) → IsBlock draft b → IsIn draft b k → new draft k ≡ k + shift draft b

@@ -4,7 +4,7 @@ use Rattle.std.proofs.lemmas.Bool.{cases_Bool, cases_eq, cases_lt}
 use Rattle.ws_isa.specs.declared.instr.Op.{Op}
 use Rattle.ws_isa.specs.declared.instr.Op.TheVariants.{Steer, Send, Nop, Halt}
 use Rattle.ws_isa.specs.declared.instr.Dest.{Dest}
-use Rattle.ws_isa.specs.Image.{Instr, Exit, Goto, Branch, Landings, Stop, Pad, Block, Image, In, nth, instr_at, block_at, block_of, first_number, is_memory, is_memory_op, is_advance, is_giving, is_giving_op, stops, target, is_first, now_dests, IsIn, IsBlock, IsInstr}
+use Rattle.ws_isa.specs.Image.{Instr, Exit, Goto, Branch, Landings, Stop, Pad, Block, Image, instr_at, block_at, block_of, first_number, is_memory, is_memory_op, is_advance, is_giving, is_giving_op, stops, target, is_first, now_dests, IsIn, IsBlock, IsInstr}
 use Rattle.ws_isa.specs.Formed.{References, WavesFrom, WavesInOrder}
 use Rattle.ws_isa.specs.Sound.{HasDest, HasPad, IsAhead, BringsResult, direct, through, EdgeShape, FrontShape, ExitShape, HangShape, HaltShape, DestShape, BlockShape, ShapeRules}
 use Rattle.ws_isa.specs.Open.{OpenToNotes}
@@ -24,6 +24,8 @@ use Rattle.wave_link.proofs.GrownTables.{giver, steer_in, steer_cases}
 use Rattle.wave_link.proofs.GrownForm.{Trigger, Whole, Own, Before, renamed, own_slot, before_slot, extra}
 use Rattle.wave_link.proofs.GrownTriggers.{trigger, added_if, now_grown, now_giver, now_none, now_steer, other_none, other_steer, steered_is, same_renamed, pads_kept, steered_by}
 use Rattle.wave_link.proofs.GrownOf.{op_kept, advance_kept, nop_advance, before_first, steer_is}
+use Rattle.ws_words.specs.Items.{nth, In}
+use Rattle.ws_words.proofs.Bools.{no_both}
 
 -- an instruction of the image's block b is one of the draft's, or the no-op
 pub data ImageCase (draft : Image) (b m : ℕ) : Type 0 where
@@ -147,9 +149,6 @@ carried draft b s k q h i (through place d e f inside merge rest) =
     f (new_inside draft b d.instr h inside)
     (ap (λ (j : ℕ). (instr_at (annotated draft) j).op) (new_is draft b d.instr h inside) ∙ (op_kept draft b d.instr h inside ∙ merge))
     (carried draft b d.instr k q h inside rest)
-
-not_clash : (v : Bool) → v ≡ true → v ≡ false → ⊥
-not_clash v e f = cc
 
 memory_at : (image : Image) (k : ℕ) (op : Op) → (instr_at image k).op ≡ op → is_memory image k ≡ is_memory_op op
 unfolding is_memory
@@ -308,7 +307,7 @@ module _ (draft : Image) (ok : OpenToNotes draft) where
       (subst (λ (ds : List Dest). HasDest ds j q) (ap (λ (l : ℕ). (instr_at (annotated draft) l).others) n ∙ others_grown draft b k h i) x))
 
   advances_in : (b m : ℕ) → IsBlock draft b → ImageCase draft b m → is_advance (annotated draft) m ≡ true → (k : ℕ) × IsIn draft b k × (m ≡ k + shift draft b) × (is_advance draft k ≡ true)
-  advances_in b m h (no_op a n) e = absurd (not_clash (is_advance (annotated draft) m) e (ap (is_advance (annotated draft)) n ∙ nop_advance draft b h a))
+  advances_in b m h (no_op a n) e = absurd (no_both e (ap (is_advance (annotated draft)) n ∙ nop_advance draft b h a))
   advances_in b m h (old k i n) e = (k, i, n, sym (advance_kept draft b k h i) ∙ (ap (is_advance (annotated draft)) (sym n) ∙ e))
 
   front_in : (b j m : ℕ) → IsBlock draft b → ImageCase draft b j → ImageCase draft b m → is_advance (annotated draft) m ≡ true → j ≤ m → is_advance (annotated draft) j ≡ true
@@ -353,7 +352,7 @@ module _ (draft : Image) (ok : OpenToNotes draft) where
   last_in : (b j m : ℕ) → IsBlock draft b → ImageCase draft b j → ImageCase draft b m → (instr_at (annotated draft) m).op ≡ Halt → is_memory (annotated draft) j ≡ true → j ≤ m
   last_in b j m h (no_op a n) c e y =
       let x = halt_in b m h c e in
-      absurd (not_clash (is_memory draft x.0) (memory_at draft x.0 Halt x.3) (no_memory draft b x.0 h a x.1))
+      absurd (no_both (memory_at draft x.0 Halt x.3) (no_memory draft b x.0 h a x.1))
   last_in b j m h (old i p n) c e y =
       let x = halt_in b m h c e in
       let l : i ≤ x.0 = (shape.blocks b h).halt.halt_last i x.0 x.1 x.3 p (sym (memory_kept draft b i h p) ∙ (ap (is_memory (annotated draft)) (sym n) ∙ y)) in

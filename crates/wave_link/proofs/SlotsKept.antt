@@ -1,12 +1,12 @@
 -- Paths of a draft with no-ops are paths of the draft.
-use Rattle.std.proofs.Common.{ℕ, zero, suc, ◌+◌, ◌-◌, ◌≡◌, ◌<◌, ◌≤◌, ◌⊎◌, Bool, true, false, cond, List, [], ◌∷◌, ◌++◌, Option, Some, None, refl, sym, ap, ap₂, ◌∙◌, inl, inr, subst, arith, eq-eqb, ne_eqb, eqb, ltb, ◌&&◌}
+use Rattle.std.proofs.Common.{ℕ, suc, ◌+◌, ◌-◌, ◌≡◌, ◌<◌, ◌≤◌, ◌⊎◌, Bool, true, false, cond, List, [], ◌∷◌, ◌++◌, Option, Some, None, refl, sym, ap, ap₂, ◌∙◌, inl, inr, subst, arith, eq-eqb, ne_eqb, eqb, ltb, ◌&&◌}
 use Rattle.std.proofs.Math.Path.{fun_ext}
 use Rattle.std.proofs.lemmas.Bool.{cases_eq, cases_lt, lt-ltb, le-ltb}
 use Rattle.ws_isa.specs.declared.instr.Dest.{Dest}
 use Rattle.ws_isa.specs.Image.{Image, first_number, ports, is_advance, stops, target, now_dests, is_first, start_dests, IsIn, IsBlock}
 use Rattle.ws_isa.specs.Sound.{OpenSlots, none_open, opened, all_opened, Fresh, closed, HasDest, opens_at, Opens, begin, turn, edge, AdvancesOpen, EndSlots, EdgeInto, SlotRules}
 use Rattle.wave_link.proofs.GrownForm.{Trigger, Whole, Own, Before, renamed, nop_slot, own_slot, before_slot, extra, is_pending, lift, Grown}
-use Rattle.ws_isa.proofs.Steps.{first_of_pos as first_positive, first_of_up as step_first}
+use Rattle.ws_isa.proofs.Steps.{first_up}
 use Rattle.ws_isa.proofs.Opened.{opened_here}
 use Rattle.ws_isa.proofs.Slots.{all_opened_append as all_append}
 
@@ -29,11 +29,6 @@ swap c d o = fun_ext (λ j. fun_ext (λ q. point j q (eqb c.instr j && eqb c.por
 pub all_swap : (ds : List Dest) (c : Dest) (o : OpenSlots) → all_opened ds (opened c o) ≡ opened c (all_opened ds o)
 all_swap [] c o = refl
 all_swap (d ∷ ds) c o = ap (all_opened ds) (swap d c o) ∙ all_swap ds c (opened d o)
-
-pub step_number : (image : Image) (b : ℕ) → first_number image b ≤ first_number image (suc b)
-unfolding first_number
-step_number image zero = first_positive image.blocks 0
-step_number image (suc b) = step_first image.blocks b
 
 -- the no-op's slot is open too
 abbrev pub held : Bool → ℕ → OpenSlots → OpenSlots
@@ -268,7 +263,7 @@ module _ (draft image : Image) (g : Grown draft image) where
     slots = all_opened (start_dests draft) none_open;
     path = begin;
     low = omega arith;
-    high = step_number draft 1;
+    high = first_up draft 1;
     number = g.first 1 g.first_block;
     are = start_turn ∙ (sym (ap (λ (xs : List Dest). all_opened xs (up (all_opened (start_dests draft) none_open))) (first_quiet 1 g.first_block (is_first_one draft))) ∙ start_pending 1 g.first_block (up (all_opened (start_dests draft) none_open)));
   })
@@ -319,7 +314,7 @@ module _ (draft image : Image) (g : Grown draft image) where
             slots = all_opened (opens_at draft c r) q;
             path = edge h.1.1 refl st r;
             low = omega arith;
-            high = step_number draft b;
+            high = first_up draft b;
             number = g.first b here;
             are = ap (all_opened (opens_at image c r)) h.1.2 ∙ (edge_turn c r q h.0 st ∙ start_pending b here (up (all_opened (opens_at draft c r) q)));
           })

@@ -1,11 +1,12 @@
 -- The rules on shape and slots read no notes.
 use Rattle.std.proofs.Common.{ℕ, zero, suc, ◌-◌, ◌≡◌, ◌<◌, ◌≤◌, cond, inl, inr, not, eqb, List, ◌++◌, length, refl, sym, ap, ap₂, ◌∙◌, subst}
 use Rattle.ws_isa.specs.declared.instr.Dest.{Dest}
-use Rattle.ws_isa.specs.Image.{Exit, Pad, Image, In, nth, instr_at, block_at, block_of, first_number, size_of, ports, ports_of, is_memory, is_memory_op, is_advance, is_advance_op, is_giving, is_giving_op, stops, is_stop, target, leave_to, is_first, pad_of, now_of, now_dests, edge_of, edge_dests, start_dests, IsIn, IsBlock}
+use Rattle.ws_isa.specs.Image.{Exit, Pad, Image, instr_at, block_at, block_of, first_number, size_of, ports, ports_of, is_memory, is_memory_op, is_advance, is_advance_op, is_giving, is_giving_op, stops, is_stop, target, leave_to, is_first, pad_of, now_of, now_dests, edge_of, edge_dests, start_dests, IsIn, IsBlock}
 use Rattle.ws_isa.specs.Formed.{WavesInOrder}
 use Rattle.ws_isa.specs.Sound.{OpenSlots, none_open, all_opened, Fresh, closed, HasDest, HasPad, edge_all, opens_at, Opens, begin, turn, edge, AdvancesOpen, TurnSlots, EndSlots, EdgeInto, SlotRules, IsAhead, BringsResult, direct, through, BlockShape, ShapeRules}
 use Rattle.ws_isa.proofs.Along.{path_end}
 use Rattle.wave_link.proofs.GrownTriggers.{OpCase, steers, sends, plain, op_case}
+use Rattle.ws_words.specs.Items.{nth, In}
 
 -- the same image but for notes
 pub record SameShape (image new : Image) : Type 0 where

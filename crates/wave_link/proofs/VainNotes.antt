@@ -4,7 +4,7 @@ use Rattle.std.proofs.lemmas.Bool.{cases_Bool}
 use Rattle.ws_isa.specs.declared.instr.Op.{Op}
 use Rattle.ws_isa.specs.declared.instr.Link.TheVariants.{Is}
 use Rattle.ws_isa.specs.declared.instr.Note.{Note}
-use Rattle.ws_isa.specs.Image.{Instr, Exit, Block, Image, nth, or_else, no_instr, no_block, flat, first_of, instr_at, block_at, first_number, is_memory, is_memory_op, note_of, leave_to, is_stop, stops, target, is_first, IsBlock}
+use Rattle.ws_isa.specs.Image.{Instr, Exit, Block, Image, no_instr, no_block, flat, first_of, instr_at, block_at, first_number, is_memory, is_memory_op, note_of, leave_to, is_stop, stops, target, is_first, IsBlock}
 use Rattle.ws_isa.specs.Sound.{InWave, first, turn, edge, last_op, seq, LinkRules}
 use Rattle.ws_isa.specs.Open.{OpenToNotes}
 use Rattle.wave_link.specs.Grown.{annotated}
@@ -13,6 +13,7 @@ use Rattle.wave_link.proofs.VainWithout.{count_kept, target_kept, stops_kept, fi
 use Rattle.wave_link.proofs.VainDraft.{none_in_vain}
 use Rattle.wave_link.specs.Vain.{without, FollowsIn, EndsIn, OtherNext, OtherBefore, other, none, Unlinkable, no_operation, first_and_not, last_and_not, neighbours}
 use Rattle.wave_link.specs.Renoted.{renoted_instrs, renoted_blocks, renoted, NeverLinked}
+use Rattle.ws_words.specs.Items.{nth, or_else}
 
 -- images with the same paths
 pub record SamePaths (image new : Image) : Type 0 where

@@ -1,11 +1,12 @@
 -- An image without one of its instructions: its blocks, numbers and paths.
 use Rattle.std.proofs.Common.{ℕ, zero, suc, ◌+◌, ◌-◌, ◌≡◌, ◌<◌, ◌≤◌, ◌⊎◌, Bool, true, false, cond, not, List, [], ◌∷◌, ◌++◌, length, Option, Some, None, refl, sym, ap, ap₂, ◌∙◌, inl, inr, subst, arith, eqb, eq-eqb, ne_eqb}
 use Rattle.std.proofs.lemmas.Bool.{cases_eq, cases_lt, lt-ltb, le-ltb}
-use Rattle.ws_isa.specs.Image.{Instr, Exit, Goto, Branch, Landings, Stop, Block, Image, nth, or_else, no_block, flat, first_of, instr_at, block_at, first_number, is_memory, is_memory_op, leave_to, is_stop, stops, target, is_first, IsIn, IsBlock}
+use Rattle.ws_isa.specs.Image.{Instr, Exit, Goto, Branch, Landings, Stop, Block, Image, no_block, flat, first_of, instr_at, block_at, first_number, is_memory, is_memory_op, leave_to, is_stop, stops, target, is_first, IsIn, IsBlock}
 use Rattle.ws_isa.specs.Sound.{InWave, first, turn, edge, last_op}
-use Rattle.ws_isa.proofs.Blocks.{number_next, number_within}
+use Rattle.ws_isa.proofs.Blocks.{number_next, number_within, instr_suc}
 use Rattle.wave_link.specs.Vain.{moved, instr_but, instrs_but, exit_but, blocks_but, without, FollowsIn, EndsIn}
 use Rattle.ws_isa.proofs.Counting.{first_one}
+use Rattle.ws_words.specs.Items.{nth, or_else}
 
 -- Blocks and edges.
 
@@ -214,16 +215,12 @@ nth_but x k (y ∷ ys) (suc n) m i e d h = go (cases_eq k x) (λ j q. nth_but x 
         ap (λ (v : Bool). nth (cond v (instrs_but x (suc k) ys) (instr_but x y ∷ instrs_but x (suc k) ys)) m) (ne_eqb k x q)
         ∙ (ap (λ (j : ℕ). nth (instr_but x y ∷ instrs_but x (suc k) ys) j) u ∙ rec (m - 1) (omega (arith, h, g, u)))
 
-flat_at : (image : Image) (m j : ℕ) (i : Instr) → m ≡ suc j → nth (flat image.blocks) j ≡ Some i → instr_at image m ≡ i
-unfolding instr_at
-flat_at image m j i e f = rw (e, f) refl
-
 instr_moved : (image : Image) (x j : ℕ) (i : Instr) → 1 ≤ x → nth (flat image.blocks) j ≡ Some i → (suc j ≡ x → ⊥) → instr_at (without image x) (moved x (suc j)) ≡ instr_but x i
 unfolding without
 instr_moved image x j i l e d = go (cases_lt x (suc j))
   where
     put : (m : ℕ) → moved x (suc j) ≡ suc m → m + hit x 1 j ≡ j → instr_at (without image x) (moved x (suc j)) ≡ instr_but x i
-    put m f h = flat_at (without image x) (moved x (suc j)) m (instr_but x i) f (ap (λ (is : List Instr). nth is m) (flat_but x 1 image.blocks) ∙ nth_but x 1 (flat image.blocks) j m i e (λ q. d (omega (arith, q))) h)
+    put m f h = instr_suc (without image x) (moved x (suc j)) m (instr_but x i) f (ap (λ (is : List Instr). nth is m) (flat_but x 1 image.blocks) ∙ nth_but x 1 (flat image.blocks) j m i e (λ q. d (omega (arith, q))) h)
 
     go : (x < suc j) ⊎ (suc j ≤ x) → instr_at (without image x) (moved x (suc j)) ≡ instr_but x i
     go (inl h) = let o : hit x 1 j ≡ 1 = hit_once x 1 j l (omega (arith, h)) in put (j - 1) (moved_above x (suc j) h ∙ omega (arith, h, l)) (omega (arith, o, h, l))
@@ -262,7 +259,7 @@ unfolding is_memory
 memory_kept image x b k l h i d =
     let f : InFlat image k = in_flat image b k h i in
     let s : (y : Instr) × (nth (flat image.blocks) f.place ≡ Some y) = nth_some (flat image.blocks) f.place f.below in
-    let here : instr_at image k ≡ s.0 = flat_at image k f.place s.0 f.is s.1 in
+    let here : instr_at image k ≡ s.0 = instr_suc image k f.place s.0 f.is s.1 in
     let there : instr_at (without image x) (moved x k) ≡ instr_but x s.0 = ap (λ (j : ℕ). instr_at (without image x) (moved x j)) f.is ∙ instr_moved image x f.place s.0 l s.1 (λ e. d (f.is ∙ e)) in
     ap (λ (y : Instr). is_memory_op y.op) there ∙ ap (λ (y : Instr). is_memory_op y.op) (sym here)
 

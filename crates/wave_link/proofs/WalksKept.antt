@@ -5,14 +5,16 @@ use Rattle.ws_words.specs.Outside.{Outside, World}
 use Rattle.ws_isa.specs.declared.instr.Dest.{Dest}
 use Rattle.ws_isa.specs.declared.instr.Op.{Op}
 use Rattle.ws_isa.specs.declared.instr.Op.TheVariants.{Nop}
-use Rattle.ws_isa.specs.Image.{Image, Token, or_else, first_number, ports, is_memory, is_memory_op, is_advance, now_dests, edge_dests, size_of, stops, target, is_first, start_dests, result_of, result_of_op, answer, answer_op, after, after_op, tokens_to, IsIn, IsBlock}
+use Rattle.ws_isa.specs.Image.{Image, Token, first_number, ports, is_memory, is_memory_op, is_advance, now_dests, edge_dests, size_of, stops, target, is_first, start_dests, result_of, result_of_op, answer, answer_op, after, after_op, tokens_to, IsIn, IsBlock}
 use Rattle.ws_isa.specs.Sound.{HasDest}
 use Rattle.ws_isa.specs.Walk.{Ports, no_ports, with_token, with_tokens, gather, Inst, Pos, enter, wave_of, operands_at, result_at, fire, choice, edge_tokens, leave, is_within, step, start_tokens, opening, pos, mem, fires_from, fires, with_inst, walk, has_ended}
 use Rattle.ws_isa.proofs.Slots.{with_tokens_append}
 use Rattle.wave_link.proofs.GrownForm.{Grown, renamed, extra, nop_slot, own_slot, Trigger, Whole, Own, Before}
-use Rattle.wave_link.proofs.SlotsKept.{step_number, extra_cases}
+use Rattle.wave_link.proofs.SlotsKept.{extra_cases}
 use Rattle.wave_link.proofs.WalksForm.{SentLike, op_at, choice_at, WalksAlike, StandsFor, AtEnd}
 use Rattle.ws_isa.proofs.Images.{tokens_append}
+use Rattle.ws_words.specs.Items.{or_else}
+use Rattle.ws_isa.proofs.Steps.{first_up}
 
 -- a value is sent to destinations under wave w
 abbrev pub with_dest : ℕ → ℕ → Dest → Ports → Ports
@@ -233,15 +235,15 @@ module _ (draft image : Image) (g : Grown draft image) where
 
     size_grows : (b : ℕ) → IsBlock draft b → size_of image b ≡ extra (g.trigger b) + size_of draft b
     unfolding size_of
-    size_grows b h = omega (arith, g.ends b h, g.first b h, step_number draft b)
+    size_grows b h = omega (arith, g.ends b h, g.first b h, first_up draft b)
 
     end_number : (b : ℕ) → IsBlock draft b → first_number image b + size_of draft b ≡ g.nop b
     unfolding size_of
-    end_number b h = omega (arith, g.nop_is b h, g.first b h, step_number draft b)
+    end_number b h = omega (arith, g.nop_is b h, g.first b h, first_up draft b)
 
     end_size : (b : ℕ) → first_number draft b + size_of draft b ≤ first_number draft (suc b)
     unfolding size_of
-    end_size b = omega (arith, step_number draft b)
+    end_size b = omega (arith, first_up draft b)
 
     -- the no-op keeps nothing for an edge
     edge_whole : (b r w : ℕ) (results : ℕ → ℕ) (a : Ports) → IsBlock draft b → edge_sent image b r w results (first_number image b) (size_of image b) a ≡ edge_sent image b r w results (first_number draft b + g.shift b) (size_of draft b) a
@@ -272,7 +274,7 @@ module _ (draft image : Image) (g : Grown draft image) where
         record {
           here = h;
           low = omega arith;
-          high = step_number draft (target draft old.block r);
+          high = first_up draft (target draft old.block r);
           over = refl;
           block = t;
           wave = ap₂ (λ (f : Bool) (w : ℕ). cond f (suc w) w) (ap (is_first image) t ∙ g.firsts_are (target draft old.block r)) e.wave;
@@ -437,7 +439,7 @@ module _ (draft image : Image) (g : Grown draft image) where
     opens_alike world = record {
       here = g.first_block;
       low = omega arith;
-      high = step_number draft 1;
+      high = first_up draft 1;
       over = refl;
       block = refl;
       wave = refl;

@@ -1,11 +1,11 @@
 -- The walk of an image follows its draft's.
-use Rattle.std.proofs.Common.{ℕ, zero, suc, ◌+◌, ◌-◌, ◌≡◌, ◌≤◌, ◌⊎◌, inl, inr, Bool, true, false, cond, length, refl, sym, ap, ap₂, ◌∙◌, subst, arith}
+use Rattle.std.proofs.Common.{ℕ, zero, suc, ◌+◌, ◌-◌, ◌≡◌, ◌≤◌, ◌⊎◌, inl, inr, Bool, true, false, cond, length, refl, sym, ap, ap₂, ◌∙◌, arith}
 use Rattle.ws_words.specs.Outside.{World}
 use Rattle.ws_isa.specs.Image.{Image, size_of, IsBlock}
 use Rattle.ws_isa.specs.Open.{OpenToNotes}
 use Rattle.ws_isa.specs.Walk.{Pos, is_within, opening, step, pos, walk, has_ended, CostAtMost}
 use Rattle.ws_isa.specs.Sound.{SlotRules}
-use Rattle.ws_isa.proofs.Ending.{walk_up}
+use Rattle.ws_isa.proofs.Ending.{goes_up}
 use Rattle.wave_link.specs.Grown.{annotated}
 use Rattle.wave_link.specs.Passed.{where_left, blocks_left, added_left, FollowsFor, WalksFor}
 use Rattle.wave_link.proofs.GrownOf.{sizes}
@@ -66,16 +66,13 @@ few_passed draft ok world (suc t) = omega (
 pub few_added : (draft : Image) (world : World) → OpenToNotes draft → (t : ℕ) → added_left draft (annotated draft) world t ≤ blocks_left draft world t
 few_added draft world ok t = omega (arith, few_passed draft ok world t, passed_all draft ok world t)
 
-goes_up : (image : Image) (world : World) (t u : ℕ) → t ≤ u → length (walk image world t) ≤ length (walk image world u)
-goes_up image world t u l = let e : (u - t) + t ≡ u = omega arith in subst (λ (n : ℕ). length (walk image world t) ≤ length (walk image world n)) e (walk_up image world (u - t) t)
-
 -- the image costs at most one more for each block that the draft's walk leaves
 pub costs : (draft : Image) (world : World) → OpenToNotes draft → (k : ℕ) → ((t : ℕ) → length (walk draft world t) + blocks_left draft world t ≤ k) → CostAtMost (annotated draft) world k
 costs draft world ok k h t =
     let f : FollowsFor draft (annotated draft) world t = follows draft world ok t in
     omega (arith, goes_up (annotated draft) world t f.steps f.as_many, f.fired, few_added draft world ok t, h t)
 
-over_next : (image : Image) (world : World) (t : ℕ) → (pos image world t).over ≡ true → (pos image world (suc t)).over ≡ true
+pub over_next : (image : Image) (world : World) (t : ℕ) → (pos image world t).over ≡ true → (pos image world (suc t)).over ≡ true
 unfolding pos step
 over_next image world t e = rw e refl
 

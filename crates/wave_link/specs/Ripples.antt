@@ -1,7 +1,8 @@
 -- Which ripple the annotator gives to an operation that doesn't write.
 use Rattle.std.specs.Prelude.{ℕ, suc, ◌≡◌, ◌<◌, ◌≤◌, ◌⊎◌, true, false, List, Option}
 use Rattle.ws_isa.specs.Image.{Image, first_number, is_writing, note_of}
-use Rattle.ws_isa.specs.Sound.{InWave, IsAmong, ComesNext, seq}
+use Rattle.ws_isa.specs.Sound.{InWave, ComesNext, seq}
+use Rattle.ws_words.specs.Items.{In}
 
 -- on some path inside the wave, writing operation j stands before instruction k
 pub record MayPrecede (image : Image) (j k : ℕ) : Type 0 where
@@ -9,7 +10,7 @@ pub record MayPrecede (image : Image) (j k : ℕ) : Type 0 where
   pub done : List ℕ
   pub path : InWave image block k done
   pub within : k < first_number image (suc block)
-  pub among : IsAmong j done
+  pub among : In j done
   pub writes : is_writing image j ≡ true
 
 -- the ripple of operation k is the largest sequence number of these, or 0 if there is none

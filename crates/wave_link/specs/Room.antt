@@ -2,8 +2,10 @@
 use Rattle.std.specs.Prelude.{ℕ, ◌+◌, ◌≡◌, ◌<◌, ◌≤◌, List, length}
 use Rattle.std.specs.List.{AllByRecursion}
 use Rattle.ws_isa.specs.declared.instr.Op.TheVariants.{Send}
-use Rattle.ws_isa.specs.Image.{Landings, Pad, Image, In, flat, instr_at, block_at, IsIn, IsBlock}
-use Rattle.ws_isa.specs.Formed.{most_instrs, most_blocks, most_waves, most_dests, most_pads, most_landings, ArraysFormed, ConstWithin, PadsRise}
+use Rattle.ws_isa.specs.Image.{Landings, Pad, Image, flat, instr_at, block_at, IsIn, IsBlock}
+use Rattle.ws_isa.specs.Formed.{most_instrs, most_blocks, most_waves, most_dests, most_pads, most_landings}
+use Rattle.ws_isa.specs.Formed.{ArraysFormed, ConstWithin, PadsRise}
+use Rattle.ws_words.specs.Items.{In}
 
 -- It is within the limits, with room for one more instruction in each block and for one more
 -- destination in each list of an instruction.

@@ -1,8 +1,10 @@
 -- When an added no-op is needed: without it, no notes would keep the rules on links.
-use Rattle.std.specs.Prelude.{ℕ, suc, ◌+◌, ◌-◌, ◌≡◌, cond, List, [], ◌∷◌, length, map, Option, Some, None, eqb, ltb}
+use Rattle.std.specs.Prelude.{ℕ, suc, ◌+◌, ◌-◌, ◌≡◌, cond, List, [], ◌∷◌, length, map, Option, Some, None}
+use Rattle.std.specs.Prelude.{eqb, ltb}
 use Rattle.ws_isa.specs.declared.instr.Op.TheVariants.{Nop}
 use Rattle.ws_isa.specs.declared.instr.Dest.{Dest}
-use Rattle.ws_isa.specs.Image.{Instr, Exit, Goto, Branch, Landings, Stop, Pad, Block, Image, instr_at, block_at, IsBlock}
+use Rattle.ws_isa.specs.Image.{Instr, Exit, Goto, Branch, Landings, Stop, Pad, Block, Image, instr_at}
+use Rattle.ws_isa.specs.Image.{block_at, IsBlock}
 use Rattle.ws_isa.specs.Sound.{ComesNext, PathEnds, wave_at}
 use Rattle.wave_link.specs.Triggers.{IsAdded}
 

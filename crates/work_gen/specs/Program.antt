@@ -3,7 +3,8 @@ use Rattle.std.specs.Prelude.{ℕ, ◌*◌, List, [], ◌∷◌, Some, None, cod
 use Rattle.ws_words.specs.declared.alu.Alu.TheVariants.{Add, Mul, Lt}
 use Rattle.src_ast.specs.declared.lexeme.Name.{Name}
 use Rattle.src_ast.specs.Lexemes.{start}
-use Rattle.src_ast.specs.Syntax.{Expression, Number, Variable, Cell, Binary, Statement, Assign, Store, Print, Read, Call, While, Statements, Nothing, Then, Procedure, Part, Array, Proc}
+use Rattle.src_ast.specs.Syntax.{Expression, Number, Variable, Cell, Binary, Statement, Assign, Store, Print}
+use Rattle.src_ast.specs.Syntax.{Read, Call, While, Statements, Nothing, Then, Procedure, Part, Array, Proc}
 
 -- its names are told by their texts; where they stand doesn't matter
 abbrev pub named : List ℕ → Name

@@ -1,6 +1,7 @@
 //! A sink over memory.
 
-ghost use Rattle.std.specs.Prelude.{◌≡◌, ◌↔◌, ◌⊎◌, ◌-◌, ◌<◌, ◌≤◌, [], Some, min, take, length, Contains, IfOk, OnOk, OnErr, IsErr};
+ghost use Rattle.std.specs.Prelude.{◌≡◌, ◌↔◌, ◌⊎◌, ◌-◌, ◌<◌, ◌≤◌, [], Some, min, take, length, Contains};
+ghost use Rattle.std.specs.Prelude.{IfOk, OnOk, OnErr, IsErr};
 ghost use Rattle.ws_io.specs.Memory.{one_more, room};
 ghost use Rattle.ws_io.specs.Streams.{Rose, Adds, Flushes};
 

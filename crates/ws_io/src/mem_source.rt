@@ -1,6 +1,7 @@
 //! A source over memory.
 
-ghost use Rattle.std.specs.Prelude.{◌≡◌, ◌↔◌, ◌<◌, ◌≤◌, [], Some, min, take, drop, length, Contains, IfOk, OnOk, OnErr, IsErr};
+ghost use Rattle.std.specs.Prelude.{◌≡◌, ◌↔◌, ◌<◌, ◌≤◌, [], Some, min, take, drop, length, Contains, IfOk};
+ghost use Rattle.std.specs.Prelude.{OnOk, OnErr, IsErr};
 ghost use Rattle.ws_io.specs.Memory.{one_more};
 ghost use Rattle.ws_io.specs.Streams.{Rose, Takes};
 

@@ -1,6 +1,7 @@
 //! Numbers in decimal digits.
 
-ghost use Rattle.std.specs.Prelude.{◌≡◌, ◌+◌, ◌-◌, ◌*◌, ◌^◌, ◌<◌, ◌≤◌, ◌++◌, IsTrue, IfSome, IfNone, OnOk, OnErr, decimal as digits};
+ghost use Rattle.std.specs.Prelude.{◌≡◌, ◌+◌, ◌-◌, ◌*◌, ◌^◌, ◌<◌, ◌≤◌, ◌++◌, IsTrue, IfSome, IfNone, OnOk};
+ghost use Rattle.std.specs.Prelude.{OnErr, decimal as digits};
 ghost use Rattle.std.specs.Option.{SomeIff};
 ghost use Rattle.ws_words.specs.Digits.{is_digit, is_number, value_of};
 

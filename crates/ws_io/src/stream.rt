@@ -1,6 +1,7 @@
 //! What gives bytes and what takes them.
 
-ghost use Rattle.std.specs.Prelude.{◌≡◌, ◌↔◌, ℕ, ◌<◌, ◌≤◌, List, [], take, length, Option, IfOk, OnOk, OnErr, IfSome};
+ghost use Rattle.std.specs.Prelude.{◌≡◌, ◌↔◌, ℕ, ◌<◌, ◌≤◌, List, [], take, length, Option, IfOk, OnOk, OnErr};
+ghost use Rattle.std.specs.Prelude.{IfSome};
 ghost use Rattle.ws_io.specs.Streams.{Rose, Takes, Adds, Flushes};
 
 /// A read, a write or a flush failed.

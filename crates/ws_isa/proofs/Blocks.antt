@@ -1,12 +1,10 @@
 -- Blocks and instructions by number, and by place in the code's lists.
-use Rattle.std.proofs.Common.{ℕ, zero, suc, ◌+◌, ◌-◌, ◌≡◌, ◌<◌, ◌≤◌, List, [], ◌∷◌, ◌++◌, length, Option, refl, ap, ◌∙◌, arith, length-append}
-use Rattle.ws_isa.specs.Image.{Instr, Block, Image, nth, or_else, no_instr, no_block, flat, instr_at, block_at, first_of, first_number, size_of}
+use Rattle.std.proofs.Common.{ℕ, zero, suc, ◌+◌, ◌-◌, ◌≡◌, ◌<◌, ◌≤◌, List, [], ◌∷◌, ◌++◌, length, Option, refl, ap, ◌∙◌, arith, length-append, Some}
+use Rattle.ws_isa.specs.Image.{Instr, Block, Image, no_instr, no_block, flat, instr_at, block_at, first_of, first_number, size_of, IsBlock}
 use Rattle.ws_isa.proofs.Counting.{first_one}
-
-pub nth_append_left : {A : Type 0} (xs ys : List A) (k : ℕ) → k < length xs → nth (xs ++ ys) k ≡ nth xs k
-nth_append_left [] ys k l = absurd (omega arith)
-nth_append_left (x ∷ xs) ys zero l = refl
-nth_append_left (x ∷ xs) ys (suc k) l = nth_append_left xs ys k (omega arith)
+use Rattle.ws_words.specs.Items.{nth, or_else}
+use Rattle.ws_words.proofs.Places.{nth_append_left}
+use Rattle.std.specs.List.{AllByRecursion}
 
 pub nth_append_right : {A : Type 0} (xs ys : List A) (k : ℕ) → nth (xs ++ ys) (length xs + k) ≡ nth ys k
 nth_append_right [] ys k = let e : 0 + k ≡ k = omega arith in rw e refl
@@ -95,3 +93,19 @@ number_within image n l =
     up bs (suc m) zero l = absurd (omega arith)
     up [] (suc m) (suc n) l = omega arith
     up (b ∷ bs) (suc m) (suc n) l = let h : first_of bs m ≤ first_of bs n = up bs m n (omega arith) in omega arith
+
+-- what is said of all blocks is said of one
+pub at_block : (P : Block → Type 0) (image : Image) (b : ℕ) → AllByRecursion P image.blocks → IsBlock image b → P (block_at image b)
+unfolding block_at
+at_block P image zero a h = absurd (omega (arith, h.0))
+at_block P image (suc n) a h = go image.blocks n (omega (arith, h.1)) a
+  where
+    go : (xs : List Block) (n : ℕ) → n < length xs → AllByRecursion P xs → P (or_else (nth xs n) no_block)
+    go [] n l a = absurd (omega arith)
+    go (x ∷ xs) zero l a = a.0
+    go (x ∷ xs) (suc n) l a = go xs n (omega arith) a.1
+
+-- an instruction by its place in the list
+pub instr_suc : (image : Image) (m k : ℕ) (i : Instr) → m ≡ suc k → nth (flat image.blocks) k ≡ Some i → instr_at image m ≡ i
+unfolding instr_at
+instr_suc image m k i e f = rw (e, f) refl

@@ -23,7 +23,7 @@ fresh_alike (d ∷ ds) o p a f = (a d.instr d.port ∙ f.0, fresh_alike ds (open
 advances_alike : (image : Image) (b : ℕ) (o p : OpenSlots) → Alike o p → AdvancesOpen image b p → AdvancesOpen image b o
 advances_alike image b o p a h j q = ((λ e. (h j q).0 (sym (a j q) ∙ e)), λ i. a j q ∙ (h j q).1 i)
 
-first_is : (image : Image) → is_first image 1 ≡ true
+pub first_is : (image : Image) → is_first image 1 ≡ true
 unfolding is_first
 first_is image = refl
 

@@ -5,11 +5,12 @@ use Rattle.std.proofs.lemmas.List.{get_or-set_same, get_or-set_other, length-set
 use Rattle.ws_isa.specs.declared.instr.Op.{Op}
 use Rattle.ws_isa.specs.declared.instr.Op.TheVariants.{Const, Alu, Merge, Advance, Steer, Phi, Send, Load, Store, Input, Output, Give, Take, Nop, Halt}
 use Rattle.ws_isa.specs.declared.instr.Dest.{Dest}
-use Rattle.ws_isa.specs.Image.{Instr, Pad, Image, nth, instr_at, block_at, ports, target, edge_of, edge_dests}
+use Rattle.ws_isa.specs.Image.{Instr, Pad, Image, instr_at, block_at, ports, target, edge_of, edge_dests}
 use Rattle.ws_isa.specs.Sound.{OpenSlots, HasDest, all_opened, Fresh, edge_all}
 use Rattle.ws_isa.specs.Shows.{delivered, edge_by, edge_list, crossed}
 use Rattle.ws_isa.proofs.Slots.{has_append_left, has_append_right, fresh_apart, fresh_right, all_opened_has}
 use Rattle.ws_isa.proofs.Images.{three_ports as few}
+use Rattle.ws_words.specs.Items.{nth}
 
 -- no instruction has more than three ports
 pub few_ports : (image : Image) (k : ℕ) → ports image k ≤ 3

@@ -40,7 +40,7 @@ unfolding ports
 ports_some image k = some_port (instr_at image k).op
 
 module _ (image : Image) (world : World) where
-  walk_silent : (t : ℕ) → fires image world t ≡ None → walk image world (suc t) ≡ walk image world t
+  pub walk_silent : (t : ℕ) → fires image world t ≡ None → walk image world (suc t) ≡ walk image world t
   unfolding walk
   walk_silent t e = ap (with_inst (walk image world t)) e
 
@@ -200,3 +200,7 @@ module _ (image : Image) (world : World) where
     -- where no token comes the walk is whole
     pub dead_is_whole : (t : ℕ) → (pos image world t).over ≡ false → Dead t → CostAtMost image world (length (walk image world t))
     dead_is_whole t o x = quiet_from t (λ d. (dead_on t o x d).1)
+
+-- it never gets shorter
+pub goes_up : (image : Image) (world : World) (t u : ℕ) → t ≤ u → length (walk image world t) ≤ length (walk image world u)
+goes_up image world t u l = let e : (u - t) + t ≡ u = omega arith in subst (λ (n : ℕ). length (walk image world t) ≤ length (walk image world n)) e (walk_up image world (u - t) t)

@@ -7,7 +7,7 @@ use Rattle.ws_words.specs.Outside.{Outside, World}
 use Rattle.ws_isa.specs.declared.instr.Op.{Op}
 use Rattle.ws_isa.specs.declared.instr.Op.TheVariants.{Const, Alu, Merge, Advance, Steer, Phi, Send, Load, Store, Input, Output, Give, Take, Nop, Halt}
 use Rattle.ws_isa.specs.declared.instr.Dest.{Dest}
-use Rattle.ws_isa.specs.Image.{Instr, Array, Image, or_else, flat, instr_at, first_number, ports, ports_of, is_memory, is_memory_op, is_advance, is_advance_op, is_past, is_past_op, array_at, array_of_op, result_of, result_of_op, answer, answer_op, after, after_op, now_of, now_dests}
+use Rattle.ws_isa.specs.Image.{Instr, Array, Image, flat, instr_at, first_number, ports, ports_of, is_memory, is_memory_op, is_advance, is_advance_op, is_past, is_past_op, array_at, array_of_op, result_of, result_of_op, answer, answer_op, after, after_op, now_of, now_dests}
 use Rattle.ws_isa.specs.Walk.{Ports, Inst, Pos, pos, mem, walk, fires, fire, inst_at, wave_of, operands_at, result_at, gather, with_inst}
 use Rattle.ws_isa.specs.Operations.{past, fault_among}
 use Rattle.ws_isa.specs.Sound.{OpenSlots, HasDest, closed, Fresh}
@@ -23,6 +23,7 @@ use Rattle.ws_isa.proofs.Flow.{Ahead, number_ahead, number_else, number_same, sl
 use Rattle.ws_isa.proofs.There.{ports_there, now_there}
 use Rattle.ws_isa.proofs.Blocks.{number_last}
 use Rattle.ws_isa.proofs.Delivered.{Fits, few_ports, delivered_size, delivered_lands, delivered_other}
+use Rattle.ws_words.specs.Items.{or_else}
 
 -- the operands that an operation reads are the same
 abbrev pub Agree : Op → List ℕ → List ℕ → Type 0

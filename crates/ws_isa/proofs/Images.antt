@@ -1,10 +1,11 @@
 -- Lemmas on images and their lists.
-use Rattle.std.proofs.Common.{ℕ, zero, suc, ◌≡◌, List, [], ◌∷◌, ◌++◌, Some, ◌<◌, arith, true, false, refl, ◌≤◌, length, ap, None}
-use Rattle.ws_isa.specs.Image.{Instr, nth, ports_of, is_memory_op, is_writing_op, Token, tokens_to}
+use Rattle.std.proofs.Common.{ℕ, zero, suc, ◌≡◌, List, [], ◌∷◌, ◌++◌, Some, ◌<◌, arith, true, false, refl, ◌≤◌, length, ap}
+use Rattle.ws_isa.specs.Image.{Instr, ports_of, is_memory_op, is_writing_op, Token, tokens_to, is_writing, is_memory, Image, instr_at}
 use Rattle.ws_isa.specs.declared.instr.Op.{Op}
 use Rattle.ws_isa.specs.declared.instr.Op.TheVariants.{Alu, Steer, Phi, Send, Store, Input, Output, Give, Take, Halt}
 use Rattle.std.proofs.lemmas.Bool.{both_ways}
 use Rattle.ws_isa.specs.declared.instr.Dest.{Dest}
+use Rattle.ws_words.specs.Items.{nth}
 
 pub nth_left : (xs ys : List Instr) (n : ℕ) (i : Instr) → nth xs n ≡ Some i → nth (xs ++ ys) n ≡ Some i
 nth_left [] ys n i e = absurd (cc)
@@ -50,7 +51,7 @@ pub tokens_append : (w v : ℕ) (xs ys : List Dest) → tokens_to w v (xs ++ ys)
 tokens_append w v [] ys = refl
 tokens_append w v (x ∷ xs) ys = ap (λ (ts : List Token). record { wave = w; instr = x.instr; port = x.port; value = v } ∷ ts) (tokens_append w v xs ys)
 
-pub nth_short : {A : Type 0} (xs : List A) (k : ℕ) (x : A) → nth xs k ≡ Some x → k < length xs
-nth_short [] k x e = absurd (let q : None ≡ Some x = e in cc)
-nth_short (y ∷ ys) zero x e = omega arith
-nth_short (y ∷ ys) (suc k) x e = let r = nth_short ys k x e in omega (arith, r)
+-- a writing operation is one of memory
+pub writing_memory : (image : Image) (k : ℕ) → is_writing image k ≡ true → is_memory image k ≡ true
+unfolding is_writing is_memory
+writing_memory image k e = writing_memory_op (instr_at image k).op e

@@ -2,7 +2,7 @@
 use Rattle.std.proofs.Common.{ℕ, zero, suc, ◌+◌, ◌*◌, ◌≡◌, ◌<◌, ◌≤◌, true, false, cond, List, [], ◌∷◌, length, Option, Some, None, slice_index, refl, sym, ap, ◌∙◌, subst, inl, inr, arith}
 use Rattle.std.proofs.lemmas.Bool.{cases_Bool, both_ways}
 use Rattle.ws_words.specs.Outside.{World}
-use Rattle.ws_isa.specs.Image.{Instr, Exit, Goto, Branch, Landings, Stop, Image, nth, or_else, no_block, no_instr, flat, block_at, first_number, size_of, ports, stops, target, is_first, IsBlock}
+use Rattle.ws_isa.specs.Image.{Instr, Exit, Goto, Branch, Landings, Stop, Image, no_block, no_instr, flat, block_at, first_number, size_of, ports, stops, target, is_first, IsBlock}
 use Rattle.ws_isa.specs.Walk.{Pos, pos, mem, walk, fires, enter, choice, choice_of, with_tokens, edge_tokens, with_inst}
 use Rattle.ws_isa.specs.Operations.{fault_among}
 use Rattle.ws_isa.specs.Sound.{OpenSlots, PortsThere, HasDest, Fresh, opens_at, edge_all}
@@ -17,6 +17,7 @@ use Rattle.ws_isa.proofs.There.{ports_there, edges_there}
 use Rattle.ws_isa.proofs.Blocks.{block_is, instr_is, size_is}
 use Rattle.ws_isa.proofs.Delivered.{Fits, InRow, few_ports, crossed_size, crossed_other, crossed_lands}
 use Rattle.ws_isa.proofs.Along.{path_end}
+use Rattle.ws_words.specs.Items.{nth, or_else}
 
 same_choice : (exit : Exit) (f g : ℕ → ℕ) → ((j : ℕ) → f j ≡ g j) → choice_of exit f ≡ choice_of exit g
 same_choice (Goto b) f g h = refl

@@ -3,8 +3,9 @@ use Rattle.std.proofs.Common.{ℕ, zero, suc, ◌-◌, ◌≡◌, ◌<◌, ◌�
 use Rattle.ws_isa.specs.declared.image.Block.{Block}
 use Rattle.ws_isa.specs.declared.image.ArrayDecl.{ArrayDecl}
 use Rattle.ws_isa.specs.Image as plain
-use Rattle.ws_isa.specs.Image.{Image, nth, or_else, no_block, block_at, is_first, array_length, landing_of}
+use Rattle.ws_isa.specs.Image.{Image, no_block, block_at, is_first, array_length, landing_of}
 use Rattle.ws_isa.specs.View as view
+use Rattle.ws_words.specs.Items.{nth, or_else}
 
 -- a block by its place, whatever is read past the end
 pub block_read : (xs : List Block) (n : ℕ) (d : Block) → n < length xs → or_else (nth (map view.block xs) n) no_block ≡ view.block (slice_index_or xs n d)

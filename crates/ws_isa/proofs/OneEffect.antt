@@ -30,15 +30,15 @@ module _ (image : Image) (world : World) where
     memory : mem image world (suc t) ≡ mem image world t
     count : length (ops image world (suc t)) ≡ length (ops image world t)
 
-  fired_more : (t : ℕ) (x : Inst) → fires image world t ≡ Some x → is_memory image x.instr ≡ true → length (ops image world (suc t)) ≡ suc (length (ops image world t))
+  pub fired_more : (t : ℕ) (x : Inst) → fires image world t ≡ Some x → is_memory image x.instr ≡ true → length (ops image world (suc t)) ≡ suc (length (ops image world t))
   unfolding ops walk
   fired_more t x f m = ap (λ (o : Option Inst). length (operations image (with_inst (walk image world t) o))) f ∙ one_more image (walk image world t) x m
 
-  fired_other : (t : ℕ) (x : Inst) → fires image world t ≡ Some x → is_memory image x.instr ≡ false → length (ops image world (suc t)) ≡ length (ops image world t)
+  pub fired_other : (t : ℕ) (x : Inst) → fires image world t ≡ Some x → is_memory image x.instr ≡ false → length (ops image world (suc t)) ≡ length (ops image world t)
   unfolding ops walk
   fired_other t x f m = ap (λ (o : Option Inst). length (operations image (with_inst (walk image world t) o))) f ∙ no_more image (walk image world t) x m
 
-  fired_none : (t : ℕ) → fires image world t ≡ None → length (ops image world (suc t)) ≡ length (ops image world t)
+  pub fired_none : (t : ℕ) → fires image world t ≡ None → length (ops image world (suc t)) ≡ length (ops image world t)
   unfolding ops walk
   fired_none t f = ap (λ (o : Option Inst). length (operations image (with_inst (walk image world t) o))) f
 
@@ -53,7 +53,7 @@ module _ (image : Image) (world : World) where
       go (ends a l s e f) m = inl (record { memory = ap (λ (p : Pos). p.memory) e; count = fired_none t f })
       go (leaves a l s e f) m = inl (record { memory = ap (λ (p : Pos). p.memory) e; count = fired_none t f })
 
-  ops_up : (t u : ℕ) → t ≤ u → length (ops image world t) ≤ length (ops image world u)
+  pub ops_up : (t u : ℕ) → t ≤ u → length (ops image world t) ≤ length (ops image world u)
   ops_up t zero l = let e : t ≡ zero = omega arith in rw e (omega arith)
   ops_up t (suc u) l = elim (cases_eq t (suc u)) [
     | inl e ↦ rw e (omega arith)

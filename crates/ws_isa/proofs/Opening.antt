@@ -2,7 +2,7 @@
 use Rattle.std.proofs.Common.{ℕ, zero, suc, ◌+◌, ◌*◌, ◌≡◌, ◌<◌, ◌≤◌, true, false, List, length, Option, Some, None, slice_index, refl, sym, ap, ◌∙◌, inl, inr, arith}
 use Rattle.std.proofs.lemmas.Bool.{cases_Bool, both_ways}
 use Rattle.ws_words.specs.Outside.{World, zeros}
-use Rattle.ws_isa.specs.Image.{Image, or_else, flat, first_number, ports, is_first, tokens_to, start_dests, IsIn}
+use Rattle.ws_isa.specs.Image.{Image, flat, first_number, ports, is_first, tokens_to, start_dests, IsIn}
 use Rattle.ws_isa.specs.Walk.{Pos, pos, opening, opening_memory, start_tokens, mem, walk, no_ports, with_tokens, choice}
 use Rattle.ws_isa.specs.Sound.{OpenSlots, HasDest, none_open, all_opened, AdvancesOpen}
 use Rattle.ws_isa.specs.Open.{Walkable}
@@ -18,6 +18,7 @@ use Rattle.ws_isa.proofs.Delivered.{Fits, few_ports, delivered_size, delivered_l
 use Rattle.ws_isa.proofs.Ending.{Dead, dead_is_whole, at_leaves}
 use Rattle.ws_isa.proofs.Along.{along}
 use Rattle.ws_words.proofs.Numbers.{zeros_count as zeros_length}
+use Rattle.ws_words.specs.Items.{or_else}
 
 pub zeros_index : (n i : ℕ) → slice_index (zeros n) i ≡ 0
 zeros_index zero i = refl

@@ -8,19 +8,20 @@ use Rattle.ws_words.specs.Outside.{World}
 use Rattle.ws_isa.specs.declared.image.Block.{Block}
 use Rattle.ws_isa.specs.declared.instr.Instr.{Instr}
 use Rattle.ws_isa.specs.Image as plain
-use Rattle.ws_isa.specs.Image.{Exit, Image, nth, or_else, no_block, no_instr, instr_at, flat, first_number, block_at, pad_of, start_dests, stops, is_stop, leave_to, target, is_first, IsBlock}
+use Rattle.ws_isa.specs.Image.{Exit, Image, no_block, no_instr, instr_at, flat, first_number, block_at, pad_of, start_dests, stops, is_stop, leave_to, target, is_first, IsBlock}
 use Rattle.ws_isa.specs.View as view
 use Rattle.ws_isa.specs.Walk.{choice_of}
 use Rattle.ws_isa.specs.Open.{Walkable}
 use Rattle.ws_isa.specs.declared.program.BlockTable.{BlockTable}
 use Rattle.ws_isa.specs.declared.walker.Walker.{Walker}
 use Rattle.ws_isa.specs.declared.walker.Edge.{Edge}
-use Rattle.ws_isa.specs.Shows.{ProgramIs, image_of, block_in, crossed, EdgeIs, At, AtStart, AtEnd, Final}
+use Rattle.ws_isa.specs.Shows.{image_of, block_in, crossed, EdgeIs, At, AtStart, AtEnd, Final, BlockTableIs}
 use Rattle.ws_isa.proofs.Blocks.{first_in, number_within, number_next, block_is, instr_is}
 use Rattle.ws_isa.proofs.Leaving.{left_at}
 use Rattle.ws_isa.proofs.Opening.{dead_final}
+use Rattle.ws_words.specs.Items.{nth, or_else}
 
-module _ (p : BlockTable) (is : ProgramIs p) where
+module _ (p : BlockTable) (is : BlockTableIs p) where
   pub blocks_long : length (image_of p).blocks ≡ length p.blocks.now
   blocks_long = length-map p.blocks.now view.block
 

@@ -3,13 +3,14 @@ use Rattle.std.proofs.Common.{ℕ, zero, suc, ◌+◌, ◌≡◌, ◌<◌, List,
 use Rattle.ws_isa.specs.declared.instr.Op.{Op}
 use Rattle.ws_isa.specs.declared.instr.Op.TheVariants.{Const, Alu, Merge, Advance, Steer, Phi, Send, Load, Store, Input, Output, Give, Take, Nop, Halt}
 use Rattle.ws_isa.specs.declared.instr.Dest.{Dest}
-use Rattle.ws_isa.specs.Image.{Instr, Goto, Block, Pad, Image, nth, or_else, no_block, instr_at, block_at, first_number, IsBlock, IsIn}
+use Rattle.ws_isa.specs.Image.{Instr, Goto, Block, Pad, Image, no_block, instr_at, block_at, first_number, IsBlock, IsIn}
 use Rattle.ws_isa.specs.Open.{Walkable}
 use Rattle.ws_isa.specs.declared.program.BlockTable.{BlockTable}
-use Rattle.ws_isa.specs.Shows.{edge_by, edge_list, delivered, crossed, ProgramIs, image_of, block_in}
+use Rattle.ws_isa.specs.Shows.{edge_by, edge_list, delivered, crossed, image_of, block_in, BlockTableIs}
 use Rattle.ws_isa.proofs.Blocks.{block_is, number_next}
 use Rattle.ws_isa.proofs.Leaving.{row_of}
 use Rattle.ws_isa.proofs.Programs.{inside}
+use Rattle.ws_words.specs.Items.{nth, or_else}
 
 -- no steer and no send is among these instructions
 abbrev Quiet : List Instr → Type 0
@@ -67,7 +68,7 @@ goto_quiet image ok n l c goes i x e = (
         (omega arith, omega arith)
 
 -- the edge of a `Goto` brings nothing
-pub goto_crossed : (p : BlockTable) → ProgramIs p → Walkable (image_of p) → (n : ℕ) → n < length p.blocks.now → (c : ℕ) → (block_in p n).exit ≡ Goto c →
+pub goto_crossed : (p : BlockTable) → BlockTableIs p → Walkable (image_of p) → (n : ℕ) → n < length p.blocks.now → (c : ℕ) → (block_in p n).exit ≡ Goto c →
     (pads : List Pad) (r k : ℕ) (results operands : List ℕ) → operands ≡ crossed pads r (block_in p n).instrs k results operands
 goto_crossed p is ok n l c goes pads r k results operands =
     let e : block_at (image_of p) (suc n) ≡ block_in p n = block_is (image_of p) n in

@@ -2,9 +2,10 @@
 use Rattle.std.proofs.Common.{ℕ, zero, suc, ◌+◌, ◌≡◌, ◌<◌, ◌≤◌, ◌⊎◌, true, false, List, [], ◌∷◌, ◌++◌, length, Some, None, refl, sym, ap, ◌∙◌, inl, inr, arith, eq-eqb, ne_eqb}
 use Rattle.std.proofs.lemmas.Bool.{cases_eq, both_ways}
 use Rattle.ws_isa.specs.declared.instr.Dest.{Dest}
-use Rattle.ws_isa.specs.Image.{Image, Token, tokens_to, nth, or_else, edge_dests}
+use Rattle.ws_isa.specs.Image.{Image, Token, tokens_to, edge_dests}
 use Rattle.ws_isa.specs.Walk.{Ports, is_at, with_token, with_tokens, edge_tokens, gather}
 use Rattle.ws_isa.specs.Sound.{OpenSlots, HasDest, opened, all_opened, Fresh, closed, edge_all}
+use Rattle.ws_words.specs.Items.{nth, or_else}
 
 pub opened_cases : (d : Dest) (o : OpenSlots) (j q : ℕ) → ((d.instr ≡ j) × (d.port ≡ q) × (opened d o j q ≡ true)) ⊎ (((d.instr ≡ j) × (d.port ≡ q) → ⊥) × (opened d o j q ≡ o j q))
 opened_cases d o j q = go (cases_eq d.instr j) (cases_eq d.port q)

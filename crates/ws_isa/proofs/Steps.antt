@@ -247,3 +247,7 @@ module _ (image : Image) (world : World) (shape : ShapeRules image) where
       go (inl e) = e
       go (inr (inl l)) = absurd (clash (pos image world t).wave (pos image world u).wave (pos image world t).next (pos image world u).next sw sn (order t u x l fx (turn_at u y fy).over))
       go (inr (inr l)) = absurd (clash (pos image world u).wave (pos image world t).wave (pos image world u).next (pos image world t).next (sym sw) (sym sn) (order u t y l fy (turn_at t x fx).over))
+
+pub first_zero : (image : Image) → first_number image 0 ≡ 1
+unfolding first_number
+first_zero image = refl

@@ -4,10 +4,11 @@ use Rattle.std.specs.List.{AllByRecursion}
 use Rattle.ws_isa.specs.declared.instr.Op.{Op}
 use Rattle.ws_isa.specs.declared.instr.Op.TheVariants.{Const, Alu, Merge, Advance, Steer, Phi, Send, Load, Store, Input, Output, Give, Take, Nop, Halt}
 use Rattle.ws_isa.specs.declared.instr.Dest.{Dest}
-use Rattle.ws_isa.specs.Image.{Instr, Pad, Block, Image, nth, or_else, no_instr, no_block, flat, instr_at, block_at, ports, pad_of, target, now_of, now_dests, edge_of, edge_dests, start_dests, IsInstr}
+use Rattle.ws_isa.specs.Image.{Instr, Pad, Block, Image, no_instr, no_block, flat, instr_at, block_at, ports, pad_of, target, now_of, now_dests, edge_of, edge_dests, start_dests, IsInstr}
 use Rattle.ws_isa.specs.Formed.{DestIn, DestsIn, References}
 use Rattle.ws_isa.specs.Sound.{HasDest, PortsThere, edge_all}
 use Rattle.ws_isa.proofs.Slots.{FromEdge, edge_all_from}
+use Rattle.ws_words.specs.Items.{nth, or_else}
 
 pub all_nth : {A : Type 0} (P : A → Type 0) (xs : List A) (k : ℕ) (d : A) → P d → AllByRecursion P xs → P (or_else (nth xs k) d)
 all_nth P [] k d h all = h

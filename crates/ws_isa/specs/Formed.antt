@@ -1,15 +1,17 @@
 -- When an image is formed: its limits, its references, and that its lists and notes suit its
 -- instructions.
-use Rattle.std.specs.Prelude.{ℕ, suc, ◌+◌, ◌^◌, ◌≡◌, ◌⊎◌, ◌<◌, ◌≤◌, Bool, true, false, ◌&&◌, ◌||◌, nat_le, ◌==◌, List, [], ◌∷◌, length, Option, Some, None}
-use Rattle.std.specs.List.{AllByRecursion, list_all}
-use Rattle.ws_words.specs.Digits.{is_digit}
+use Rattle.std.specs.Prelude.{ℕ, suc, ◌+◌, ◌^◌, ◌≡◌, ◌⊎◌, ◌<◌, ◌≤◌, true, false, List, [], ◌∷◌, length}
+use Rattle.std.specs.Prelude.{Option, Some, None}
+use Rattle.std.specs.List.{AllByRecursion}
 use Rattle.ws_isa.specs.declared.instr.Op.{Op}
 use Rattle.ws_isa.specs.declared.instr.Op.TheVariants.{Const, Send, Load, Store, Give, Take, Steer}
 use Rattle.ws_isa.specs.declared.instr.Link.{Link}
 use Rattle.ws_isa.specs.declared.instr.Link.TheVariants.{Is}
 use Rattle.ws_isa.specs.declared.instr.Note.{Note}
 use Rattle.ws_isa.specs.declared.instr.Dest.{Dest}
-use Rattle.ws_isa.specs.Image.{Instr, Exit, Goto, Branch, Landings, Stop, Pad, Block, Array, Image, flat, ports, is_memory_op, is_silent_op, IsBlock, IsInstr}
+use Rattle.ws_isa.specs.Image.{Instr, Exit, Goto, Branch, Landings, Stop, Pad, Block, Array, Image, flat}
+use Rattle.ws_isa.specs.Image.{ports, is_memory_op, is_silent_op, IsBlock, IsInstr}
+use Rattle.ws_words.specs.Letters.{is_word}
 
 -- The limits.
 
@@ -58,17 +60,6 @@ word_limit = 2 ^ 64
 -- bytes in a name
 unfoldable pub most_name : ℕ
 most_name = 64
-
--- a letter or _, then letters, digits and _
-abbrev pub is_letter : ℕ → Bool
-is_letter b = (nat_le 65 b && nat_le b 90) || (nat_le 97 b && nat_le b 122) || (b == 95)
-
-abbrev pub is_word_byte : ℕ → Bool
-is_word_byte b = is_letter b || is_digit b
-
-abbrev pub is_word : List ℕ → Bool
-is_word [] = false
-is_word (b ∷ bytes) = is_letter b && list_all is_word_byte bytes
 
 -- a name is a word that isn't too long; a hidden array has none
 abbrev pub NameFormed : Option (List ℕ) → Type 0

@@ -1,14 +1,18 @@
 -- An image as plain data, without buffers, and what the machine reads of it: ports, notes, results,
 -- effects, and where results are sent. A draft is the same data without notes.
-use Rattle.std.specs.Prelude.{ℕ, zero, suc, ◌+◌, ◌-◌, ◌≡◌, ◌⊎◌, ◌<◌, ◌≤◌, Bool, true, false, cond, not, List, [], ◌∷◌, ◌++◌, length, Option, Some, None, eqb, ltb, slice_index}
+use Rattle.std.specs.Prelude.{ℕ, zero, suc, ◌+◌, ◌-◌, ◌<◌, ◌≤◌, Bool, true, false, cond, not, List, [], ◌∷◌}
+use Rattle.std.specs.Prelude.{◌++◌, length, Option, None, eqb, ltb, slice_index}
 use Rattle.ws_words.specs.Operators.{applied}
-use Rattle.ws_words.specs.Outside.{Act, loads, stores, reads, prints, gives, takes, Outside, row, array_of, head_or_zero, zeros}
+use Rattle.ws_words.specs.Outside.{Act, loads, stores, reads, prints, gives, takes, Outside, row, array_of}
+use Rattle.ws_words.specs.Outside.{head_or_zero, zeros}
 use Rattle.ws_words.specs.Past.{after_acts}
 use Rattle.ws_isa.specs.declared.instr.Op.{Op}
-use Rattle.ws_isa.specs.declared.instr.Op.TheVariants.{Const, Alu, Advance, Steer, Phi, Send, Load, Store, Input, Output, Give, Take, Nop, Halt}
+use Rattle.ws_isa.specs.declared.instr.Op.TheVariants.{Const, Alu, Advance, Steer, Phi, Send, Load, Store}
+use Rattle.ws_isa.specs.declared.instr.Op.TheVariants.{Input, Output, Give, Take, Nop, Halt}
 use Rattle.ws_isa.specs.declared.instr.Link.TheVariants.{Unknown}
 use Rattle.ws_isa.specs.declared.instr.Note.{Note}
 use Rattle.ws_isa.specs.declared.instr.Dest.{Dest}
+use Rattle.ws_words.specs.Items.{nth, or_else}
 
 -- operations, notes and destinations are the code's own
 pub record Instr : Type 0 where
@@ -49,20 +53,6 @@ pub record Token : Type 0 where
   pub instr : ℕ
   pub port : ℕ
   pub value : ℕ
-
--- the item at a place of a list
-abbrev pub nth : {A : Type 0} → List A → ℕ → Option A
-nth [] k = None
-nth (x ∷ xs) zero = Some x
-nth (x ∷ xs) (suc k) = nth xs k
-
-abbrev pub or_else : {A : Type 0} → Option A → A → A
-or_else None d = d
-or_else (Some x) d = x
-
-abbrev pub In : {A : Type 0} → A → List A → Type 0
-In x [] = ⊥
-In x (y ∷ ys) = (x ≡ y) ⊎ In x ys
 
 -- Instructions and blocks are numbered from 1. These stand for numbers that aren't there.
 unfoldable pub no_instr : Instr
@@ -130,6 +120,10 @@ is_memory_op _ = false
 abbrev pub is_load_op : Op → Bool
 is_load_op (Load a) = true
 is_load_op _ = false
+
+abbrev pub is_steer_op : Op → Bool
+is_steer_op Steer = true
+is_steer_op _ = false
 
 -- counts as a store
 abbrev pub is_writing_op : Op → Bool

@@ -1,9 +1,11 @@
 -- Drafts: what a walk needs of one, and when it is open to notes.
 use Rattle.std.specs.Prelude.{ℕ, ◌≡◌, ◌⊎◌, true, false, Some}
 use Rattle.ws_isa.specs.declared.instr.Op.TheVariants.{Steer}
-use Rattle.ws_isa.specs.Image.{Branch, Image, nth, instr_at, block_at, is_giving, is_first, edges_of, IsIn, IsBlock}
+use Rattle.ws_isa.specs.Image.{Branch, Image, instr_at, block_at, is_giving, is_first, edges_of, IsIn}
+use Rattle.ws_isa.specs.Image.{IsBlock}
 use Rattle.ws_isa.specs.Formed.{Suited, NoNotes}
 use Rattle.ws_isa.specs.Sound.{ShapeRules, SlotRules}
+use Rattle.ws_words.specs.Items.{nth}
 
 -- references exist, lists suit, and the rules on shape and slots are kept: each formed and sound
 -- image has this too

@@ -1,7 +1,8 @@
 -- Small images, for tests and worked walks.
 use Rattle.std.specs.Prelude.{ℕ, List, [], ◌∷◌, Option, Some, None}
 use Rattle.ws_isa.specs.declared.instr.Op.{Op}
-use Rattle.ws_isa.specs.declared.instr.Op.TheVariants.{Const, Merge, Advance, Steer, Load, Store, Input, Output, Nop, Halt}
+use Rattle.ws_isa.specs.declared.instr.Op.TheVariants.{Const, Merge, Advance, Steer, Load, Store, Input}
+use Rattle.ws_isa.specs.declared.instr.Op.TheVariants.{Output, Nop, Halt}
 use Rattle.ws_isa.specs.declared.instr.Link.{Link}
 use Rattle.ws_isa.specs.declared.instr.Link.TheVariants.{Unknown, Nothing, Is}
 use Rattle.ws_isa.specs.declared.instr.Note.{Note}

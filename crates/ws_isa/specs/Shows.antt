@@ -1,13 +1,16 @@
 -- Serves the proof of the code alone; nobody has to believe it.
 -- What the code holds of an image and of its walk.
-use Rattle.std.specs.Prelude.{◌≡◌, ℕ, suc, ◌+◌, ◌-◌, ◌*◌, ◌^◌, ◌<◌, ◌≤◌, Bool, true, false, cond, eqb, List, [], ◌∷◌, map, length, Option, Some, None, slice_index, slice_set}
+use Rattle.std.specs.Prelude.{◌≡◌, ℕ, suc, ◌+◌, ◌-◌, ◌*◌, ◌^◌, ◌<◌, ◌≤◌, Bool, true, false, cond, eqb, List}
+use Rattle.std.specs.Prelude.{[], ◌∷◌, map, length, Option, Some, None, slice_index, slice_set}
 use Rattle.ws_words.specs.Outside.{Outside, World}
 use Rattle.ws_words.specs.Memory.{OutIs}
 use Rattle.ws_words.specs.declared.memory.Memory.{Memory}
 use Rattle.ws_isa.specs.declared.instr.Op.{Op}
 use Rattle.ws_isa.specs.declared.instr.Op.TheVariants.{Steer, Send}
 use Rattle.ws_isa.specs.declared.instr.Dest.{Dest}
-use Rattle.ws_isa.specs.Image.{Instr, Exit, Pad, Block, Array, Image, nth, or_else, no_block, flat, first_of, first_number, pad_of, is_stop, leave_to, is_memory_op, result_of_op, answer_op, after_op, is_past_op, array_of_op}
+use Rattle.ws_isa.specs.Image.{Instr, Exit, Pad, Block, Array, Image, no_block, flat, first_of, first_number}
+use Rattle.ws_isa.specs.Image.{pad_of, is_stop, leave_to, is_memory_op, result_of_op, answer_op, after_op}
+use Rattle.ws_isa.specs.Image.{is_past_op, array_of_op}
 use Rattle.ws_isa.specs.View as view
 use Rattle.ws_isa.specs.Walk.{choice_of, pos, mem, walk, CostAtMost}
 use Rattle.ws_isa.specs.Operations.{fault_among}
@@ -15,6 +18,7 @@ use Rattle.ws_isa.specs.Standing.{turn_number, slots_at}
 use Rattle.ws_isa.specs.declared.program.BlockTable.{BlockTable}
 use Rattle.ws_isa.specs.declared.walker.Walker.{Walker}
 use Rattle.ws_isa.specs.declared.walker.Edge.{Edge}
+use Rattle.ws_words.specs.Items.{nth, or_else}
 
 -- the answer of a memory operation, and what it leaves
 pub record Performs (op : Op) (xs : List ℕ) (o : Outside) (word : ℕ) (m : Memory) : Type 0 where
@@ -62,7 +66,7 @@ pub record EdgeIs (exit : Exit) (results : List ℕ) (e : Edge) : Type 0 where
 abbrev pub image_of : BlockTable → Image
 image_of p = view.parts p.arrays.now p.blocks.now
 
-pub record ProgramIs (p : BlockTable) : Type 0 where
+pub record BlockTableIs (p : BlockTable) : Type 0 where
   pub firsts_length : length p.firsts.items ≡ suc (length p.blocks.now)
   pub firsts : (b : ℕ) → b ≤ length p.blocks.now →
       slice_index p.firsts.items b ≡ first_of (map view.block p.blocks.now) b

@@ -1,11 +1,15 @@
 -- Sound images: the rules on shape, slots, links and ripples. A path is a relation, and a rule
 -- speaks of all paths.
-use Rattle.std.specs.Prelude.{ℕ, zero, suc, ◌≡◌, ◌<◌, ◌≤◌, ◌⊎◌, ◌↔◌, Bool, true, false, cond, ◌&&◌, List, [], ◌∷◌, ◌++◌, Option, Some, None, eqb}
+use Rattle.std.specs.Prelude.{ℕ, zero, suc, ◌≡◌, ◌<◌, ◌≤◌, ◌⊎◌, ◌↔◌, Bool, true, false, cond, ◌&&◌, List, []}
+use Rattle.std.specs.Prelude.{◌∷◌, ◌++◌, Option, Some, None, eqb}
 use Rattle.ws_isa.specs.declared.instr.Op.TheVariants.{Merge, Steer, Send, Halt}
 use Rattle.ws_isa.specs.declared.instr.Link.TheVariants.{Nothing, Is}
 use Rattle.ws_isa.specs.declared.instr.Dest.{Dest}
-use Rattle.ws_isa.specs.Image.{Pad, Branch, Landings, Image, In, nth, instr_at, block_at, block_of, first_number, size_of, ports, is_memory, is_writing, is_advance, is_giving, note_of, stops, target, is_first, now_dests, edge_dests, start_dests, IsIn, IsBlock}
+use Rattle.ws_isa.specs.Image.{Pad, Branch, Landings, Image, instr_at, block_at, block_of, first_number}
+use Rattle.ws_isa.specs.Image.{size_of, ports, is_memory, is_writing, is_advance, is_giving, note_of, stops}
+use Rattle.ws_isa.specs.Image.{target, is_first, now_dests, edge_dests, start_dests, IsIn, IsBlock}
 use Rattle.ws_isa.specs.Formed.{WavesInOrder}
+use Rattle.ws_words.specs.Items.{nth, In}
 
 -- the slots that are open: an instruction with a port
 abbrev pub OpenSlots : Type 0
@@ -261,10 +265,6 @@ pub record LinkRules (image : Image) : Type 0 where
 
 -- Ripples.
 
-abbrev pub IsAmong : ℕ → List ℕ → Type 0
-IsAmong k [] = ⊥
-IsAmong k (j ∷ js) = (k ≡ j) ⊎ IsAmong k js
-
 pub record RippleRules (image : Image) : Type 0 where
   -- that of a writing operation is its own sequence number
   pub own : (k : ℕ) (last : Option ℕ) → ComesNext image last k → is_writing image k ≡ true →
@@ -272,7 +272,7 @@ pub record RippleRules (image : Image) : Type 0 where
   -- that of another is at least that of each writing operation that may stand before it
   pub above : (b k j : ℕ) (done : List ℕ) → InWave image b k done → k < first_number image (suc b) →
       is_memory image k ≡ true → is_writing image k ≡ false →
-      IsAmong j done → is_writing image j ≡ true → seq image j ≤ (note_of image k).ripple
+      In j done → is_writing image j ≡ true → seq image j ≤ (note_of image k).ripple
 
 pub record Sound (image : Image) : Type 0 where
   pub shape : ShapeRules image

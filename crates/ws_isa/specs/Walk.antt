@@ -1,8 +1,12 @@
 -- The walk: block after block, instruction after instruction, memory read and written at once. It
 -- reads no notes.
-use Rattle.std.specs.Prelude.{ℕ, zero, suc, ◌-◌, ◌≤◌, Bool, true, false, cond, ◌&&◌, List, [], ◌∷◌, ◌++◌, length, Option, Some, None, eqb, ltb}
+use Rattle.std.specs.Prelude.{ℕ, zero, suc, ◌-◌, ◌≤◌, Bool, true, false, cond, ◌&&◌, List, [], ◌∷◌, ◌++◌}
+use Rattle.std.specs.Prelude.{length, Option, Some, None, eqb, ltb}
 use Rattle.ws_words.specs.Outside.{Outside, World, opening_out}
-use Rattle.ws_isa.specs.Image.{Exit, Branch, Landings, Image, Token, or_else, ports, is_memory, is_advance, result_of, answer, after, cells_of, tokens_to, block_at, first_number, size_of, stops, target, is_first, now_dests, edge_dests, start_dests}
+use Rattle.ws_isa.specs.Image.{Exit, Branch, Landings, Image, Token, ports, is_memory, is_advance, result_of}
+use Rattle.ws_isa.specs.Image.{answer, after, cells_of, tokens_to, block_at, first_number, size_of, stops}
+use Rattle.ws_isa.specs.Image.{target, is_first, now_dests, edge_dests, start_dests}
+use Rattle.ws_words.specs.Items.{or_else}
 
 -- a value at each port of each instance, by wave number, instruction and port, where there is one
 abbrev pub Ports : Type 0

@@ -105,6 +105,7 @@ impl Op {
     }
 
     /// The result of one that is not of memory on its operands; those past its ports are not read.
+    #[inline(always)]
     pub fn result_on(self, first: u64, second: u64, third: u64) -> u64
         ensures { result ≡ result_of_op self (first ∷ second ∷ third ∷ []) }
     {

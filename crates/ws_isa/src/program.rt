@@ -3,7 +3,7 @@
 ghost use Rattle.std.specs.Prelude.{◌≡◌, ◌==◌, ◌<◌, ◌≤◌, ◌+◌, ◌&&◌, suc, length, map, IfOk};
 ghost use Rattle.ws_isa.specs.Image.{first_number, is_first, array_length};
 ghost use Rattle.ws_isa.specs.View as view;
-ghost use Rattle.ws_isa.specs.Shows.{ProgramIs, image_of, block_in};
+ghost use Rattle.ws_isa.specs.Shows.{image_of, block_in, BlockTableIs};
 
 use crate::{ArrayDecl, Block, first_numbers};
 use std::alloc::Global;
@@ -28,7 +28,7 @@ impl<'a> BlockTable<'a> {
     ) -> Result<BlockTable<'a>, NoMemory>
         ensures arrays { IfOk result (λ program. program.arrays.now ≡ arrays.now) }
         ensures blocks { IfOk result (λ program. program.blocks.now ≡ blocks.now) }
-        ensures program { IfOk result (λ program. ProgramIs program) }
+        ensures program { IfOk result (λ program. BlockTableIs program) }
     {
         let firsts = first_numbers(alloc, blocks)?;
         let total = firsts[blocks.len()];
@@ -53,7 +53,7 @@ impl<'a> BlockTable<'a> {
 
     /// The number of the first instruction of the block at this place.
     pub fn first(&self, place: usize) -> usize
-        requires program { ProgramIs self.now }
+        requires program { BlockTableIs self.now }
         requires place { place < length self.now.blocks.now }
         ensures number { result ≡ first_number (image_of self.now) (suc place) }
         ensures within { result + length (block_in self.now place).instrs ≤ self.now.total }

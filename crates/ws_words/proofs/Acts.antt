@@ -131,3 +131,7 @@ act_of o (takes p w) = refl
 pub acts_of : (o : Outside) (xs : List Act) → (after_acts o xs).acts ≡ o.acts ++ xs
 acts_of o [] = sym (append-nil o.acts)
 acts_of o (x ∷ xs) = acts_of (after_act o x) xs ∙ ap (λ (before : List Act). before ++ xs) (act_of o x) ∙ append_assoc o.acts (x ∷ []) xs
+
+-- the same with acts more
+abbrev pub with_more : Outside → List Act → Outside
+with_more o acts = record { cells = o.cells; input = o.input; left = o.left; acts = o.acts ++ acts }

@@ -60,3 +60,10 @@ or_comm false false = refl
 pub or_none : (a b : Bool) → (a || b) ≡ false → (a ≡ false) × (b ≡ false)
 or_none true b e = absurd (cc)
 or_none false b e = (refl, e)
+
+pub by_bool : (b : Bool) (P : Type 0) → (b ≡ true → P) → (b ≡ false → P) → P
+by_bool true P f h = f refl
+by_bool false P f h = h refl
+
+pub no_both : {v : Bool} → v ≡ true → v ≡ false → ⊥
+no_both h i = absurd (cc)

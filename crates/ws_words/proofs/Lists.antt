@@ -80,3 +80,10 @@ all_mapped P f (x ∷ xs) h = (h.0, all_mapped P f xs h.1)
 pub push_length : {A : Type 0} (xs : List A) (y : A) → length (xs ++ y ∷ []) ≡ suc (length xs)
 push_length [] y = refl
 push_length (x ∷ xs) y = ap suc (push_length xs y)
+
+pub empty_list : {X : Type 0} (xs : List X) → length xs ≤ 0 → xs ≡ []
+empty_list [] le = refl
+empty_list (x ∷ xs) le = absurd (omega (arith, le))
+
+pub map_push : {A B : Type 0} (f : A → B) (xs : List A) (x : A) → map f (xs ++ x ∷ []) ≡ map f xs ++ f x ∷ []
+map_push f xs x = map_append f xs (x ∷ [])

@@ -4,3 +4,5 @@ pub mod Outside
 pub mod Plain
 pub mod Past
 pub mod Memory
+pub mod Items
+pub mod Letters

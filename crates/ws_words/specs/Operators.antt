@@ -1,7 +1,9 @@
 -- Words are whole numbers below 2 ^ 64. What the operators do to them.
-use Rattle.std.specs.Prelude.{ℕ, zero, suc, ◌+◌, ◌-◌, ◌*◌, ◌/◌, ◌%◌, ◌^◌, Bool, true, false, ◌==◌, nat_lt, nat_le, if◌then◌else◌, bit_and, bit_or, bit_xor}
+use Rattle.std.specs.Prelude.{ℕ, zero, suc, ◌+◌, ◌-◌, ◌*◌, ◌/◌, ◌%◌, ◌^◌, Bool, true, false, ◌==◌, nat_lt}
+use Rattle.std.specs.Prelude.{nat_le, if◌then◌else◌, bit_and, bit_or, bit_xor}
 use Rattle.ws_words.specs.declared.alu.Alu.{Alu}
-use Rattle.ws_words.specs.declared.alu.Alu.TheVariants.{Add, Sub, Mul, Div, Rem, And, Or, Xor, Shl, Shr, Eq, Ne, Lt, Le, Gt, Ge}
+use Rattle.ws_words.specs.declared.alu.Alu.TheVariants.{Add, Sub, Mul, Div, Rem, And, Or, Xor, Shl, Shr, Eq}
+use Rattle.ws_words.specs.declared.alu.Alu.TheVariants.{Ne, Lt, Le, Gt, Ge}
 
 -- a truth value as a word
 abbrev pub flag : Bool → ℕ

@@ -1,7 +1,8 @@
 -- Loads and stores past the end of their array, and what a list of acts leaves.
 use Rattle.std.specs.Prelude.{◌≡◌, ℕ, ◌-◌, ◌<◌, ◌≤◌, List, [], ◌∷◌, ◌++◌, slice_index}
 use Rattle.std.specs.List.{AllByRecursion}
-use Rattle.ws_words.specs.Outside.{Act, loads, stores, reads, prints, gives, takes, Outside, State, with_act, stored, has_read, given}
+use Rattle.ws_words.specs.Outside.{Act, loads, stores, reads, prints, gives, takes, Outside, State, with_act}
+use Rattle.ws_words.specs.Outside.{stored, has_read, given}
 
 -- the length of an array by its number from 1; one that isn't there has length 0
 abbrev pub length_of : List ℕ → ℕ → ℕ

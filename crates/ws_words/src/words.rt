@@ -1,6 +1,7 @@
 //! A list of words.
 
-ghost use Rattle.std.specs.Prelude.{nat_eq, ◌≡◌, ◌==◌, ℕ, List, [], ◌∷◌, ◌++◌, length, slice_get, slice_index, slice_set, IfOk, OnOk, OnErr};
+ghost use Rattle.std.specs.Prelude.{nat_eq, ◌≡◌, ◌==◌, ℕ, List, [], ◌∷◌, ◌++◌, length, slice_get};
+ghost use Rattle.std.specs.Prelude.{slice_index, slice_set, IfOk, OnOk, OnErr};
 ghost use Rattle.ws_words.specs.Outside.{zeros};
 ghost use Rattle.std.proofs.Common.{rules};
 ghost use Rattle.std.specs.Cmp.Rules.{comparing};

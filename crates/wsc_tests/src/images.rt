@@ -1,6 +1,7 @@
 //! The images of programs walk as the programs run.
 
-use crate::graphs::{INPUTS, PROGRAMS, accepted, world};
+use crate::graphs::{accepted, world};
+use crate::programs::{INPUTS, PROGRAMS};
 use seq_run::run_plain;
 use src_check::Accepted;
 use std::alloc::Global;

@@ -24,11 +24,19 @@ mod boxed;
 #[cfg(test)]
 mod calls;
 #[cfg(test)]
+mod counted;
+#[cfg(test)]
 mod crews;
+#[cfg(test)]
+mod events;
 #[cfg(test)]
 mod graphs;
 #[cfg(test)]
 mod images;
+#[cfg(test)]
+mod prepared;
+#[cfg(test)]
+mod programs;
 #[cfg(test)]
 mod replies;
 #[cfg(test)]

@@ -1,15 +1,14 @@
 -- What the text of an assembly comes to, and the answers to it.
-use Rattle.std.specs.Prelude.{◌≡◌, ℕ, ◌+◌, ◌-◌, ◌<◌, ◌≤◌, ◌⊎◌, true, false, List, [], ◌∷◌, ◌++◌, length, Option, Some, None, Result, Ok, Err, refl}
+use Rattle.std.specs.Prelude.{◌≡◌, ℕ, ◌+◌, ◌-◌, ◌<◌, ◌≤◌, ◌⊎◌, true, false, List, [], ◌++◌, length, Option, Some, None, Result, Ok, Err, refl}
 use Rattle.std.proofs.Common.{sym, ap, ◌∙◌, subst, inl, inr, arith, append-nil, length-append}
-use Rattle.std.proofs.Math.Nat.{eq-or-lt_of_le}
 use Rattle.std.proofs.lemmas.Bool.{cases_lt}
 use Rattle.std.proofs.lemmas.List.{nil_from_length}
-use Rattle.ws_words.specs.Outside.{Act, loads, stores, reads, prints, gives, takes, Outside, World, printed_words}
+use Rattle.ws_words.specs.Outside.{reads, Outside, World, printed_words}
 use Rattle.src_ast.specs.declared.lexeme.Place.{Place}
 use Rattle.src_ast.specs.Once.{ExactlyOne}
 use Rattle.ws_isa.specs.Image.{Image, array_at}
 use Rattle.ws_isa.specs.Walk.{Inst, mem, walk, fires}
-use Rattle.ws_isa.specs.Operations.{operations, ops, without_loads, effect_of, Effect, FaultsAt, NoFault}
+use Rattle.ws_isa.specs.Operations.{operations, ops, effect_of, Effect, FaultsAt, NoFault}
 use Rattle.ws_isa.specs.Formed.{Formed}
 use Rattle.ws_isa.specs.Sound.{Sound}
 use Rattle.grid_clock.specs.declared.run.Clocked.{Clocked}
@@ -41,6 +40,8 @@ use Rattle.wsc_top.specs.Answers.{assembly_text, AssemblyYields, checked, listed
 use Rattle.wsc_top.specs.Answers as answers
 use Rattle.wsc_top.proofs.Inputs.{one_list, no_fault_in_words, one_fault, one_answer}
 use Rattle.wsc_top.proofs.AnswersOnce.{Reply, same_reply}
+use Rattle.df_core.proofs.Issuing.{printed_alike}
+use Rattle.ws_words.proofs.Numbers.{three_ways}
 
 -- an image that is refused isn't sound
 abbrev pub BreachesBreak : Type 0
@@ -92,15 +93,6 @@ module _ (text : List ℕ) where
 
 -- runs of one image
 
-printed_kept : (acts : List Act) → printed_words (without_loads acts) ≡ printed_words acts
-printed_kept [] = refl
-printed_kept (loads a i ∷ acts) = printed_kept acts
-printed_kept (stores a i w ∷ acts) = printed_kept acts
-printed_kept (reads ∷ acts) = printed_kept acts
-printed_kept (prints w ∷ acts) = ap (λ ws. w ∷ ws) (printed_kept acts)
-printed_kept (gives p ∷ acts) = printed_kept acts
-printed_kept (takes p w ∷ acts) = printed_kept acts
-
 -- what is known of walks
 pub record WalksOnce : Type 0 where
   pub instances : (image : Image) (world : World) (d t : ℕ) → (more : List Inst) × (walk image world (d + t) ≡ walk image world t ++ more)
@@ -112,17 +104,6 @@ either_way t u = go (cases_lt t u)
     go : (t < u) ⊎ (u ≤ t) → (t ≤ u) ⊎ (u ≤ t)
     go (inl lt) = inl (omega (arith, lt))
     go (inr le) = inr le
-
-three_ways : (t u : ℕ) → (t < u) ⊎ ((t ≡ u) ⊎ (u < t))
-three_ways t u = go (cases_lt t u)
-  where
-    past_equal : (u ≡ t) ⊎ (u < t) → (t < u) ⊎ ((t ≡ u) ⊎ (u < t))
-    past_equal (inl e) = inr (inl (sym e))
-    past_equal (inr lt) = inr (inr lt)
-
-    go : (t < u) ⊎ (u ≤ t) → (t < u) ⊎ ((t ≡ u) ⊎ (u < t))
-    go (inl lt) = inl lt
-    go (inr le) = past_equal (eq-or-lt_of_le le)
 
 module _ (known : WalksOnce) (image : Image) (world : World) where
   walk_up : (t u : ℕ) → t ≤ u → length (walk image world t) ≡ length (walk image world u) → walk image world u ≡ walk image world t
@@ -146,7 +127,7 @@ module _ (known : WalksOnce) (image : Image) (world : World) where
       (record { steps = t; count = refl; left = refl }) (record { steps = u; count = ops_same t u e; left = refl })
 
   pub one_print : (t u : ℕ) → effect_of (mem image world t) ≡ effect_of (mem image world u) → printed_words (mem image world t).acts ≡ printed_words (mem image world u).acts
-  one_print t u e = sym (printed_kept (mem image world t).acts) ∙ ap (λ (o : Outside). printed_words o.acts) e ∙ printed_kept (mem image world u).acts
+  one_print t u e = sym (printed_alike (mem image world t).acts) ∙ ap (λ (o : Outside). printed_words o.acts) e ∙ printed_alike (mem image world u).acts
 
   pub one_cells : (t u : ℕ) → effect_of (mem image world t) ≡ effect_of (mem image world u) → (mem image world t).cells ≡ (mem image world u).cells
   one_cells t u e = ap (λ (o : Outside). o.cells) e

@@ -1,10 +1,10 @@
 -- Programs that differ in places alone have one bound.
-use Rattle.std.specs.Prelude.{◌≡◌, suc, ◌+◌, ◌*◌, max, List, [], ◌∷◌, Option, Some, None, length, refl}
+use Rattle.std.specs.Prelude.{◌≡◌, suc, ◌+◌, ◌*◌, max, List, [], ◌∷◌, Option, Some, None, refl}
 use Rattle.std.proofs.Common.{sym, ap, ◌∙◌}
-use Rattle.src_ast.specs.declared.lexeme.Name.{Name}
 use Rattle.src_ast.specs.Syntax.{Expression, Number, Variable, Cell, Signed, Binary, Statement, Assign, Store, Print, Read, Give, Take, Call, If, While, Statements, Nothing, Then, Last, Part, Array, Proc}
-use Rattle.src_ast.specs.Same.{bare_names, bare_expression, bare_expressions, bare_statement, bare_statements, bare_ending, bare_parts, Same}
+use Rattle.src_ast.specs.Same.{bare_expression, bare_expressions, bare_statement, bare_statements, bare_ending, bare_parts, Same}
 use Rattle.src_ast.specs.Bound.{nodes, nodes_of, most_nodes, most_nodes_of, ending_nodes, widest, most_variables, bound}
+use Rattle.src_ast.proofs.Ruled.{names_bare}
 
 both : {A B C : Type 0} (f : A → B → C) (a b : A) (c d : B) → a ≡ b → c ≡ d → f a c ≡ f b d
 both f a b c d e g = ap (λ x. f x c) e ∙ ap (λ x. f b x) g
@@ -45,14 +45,10 @@ widest_bare [] = refl
 widest_bare (Array x n at ∷ parts) = widest_bare parts
 widest_bare (Proc p ∷ parts) = both max _ _ _ _ (both max _ _ _ _ (most_of_bare p.body) (ending_bare p.ending)) (widest_bare parts)
 
-many_bare : (xs : List Name) → length (bare_names xs) ≡ length xs
-many_bare [] = refl
-many_bare (x ∷ xs) = ap suc (many_bare xs)
-
 variables_bare : (parts : List Part) → most_variables (bare_parts parts) ≡ most_variables parts
 variables_bare [] = refl
 variables_bare (Array x n at ∷ parts) = variables_bare parts
-variables_bare (Proc p ∷ parts) = both max _ _ _ _ (both (λ m n. m + n) _ _ _ _ (many_bare p.params) (many_bare p.vars)) (variables_bare parts)
+variables_bare (Proc p ∷ parts) = both max _ _ _ _ (both (λ m n. m + n) _ _ _ _ (names_bare p.params) (names_bare p.vars)) (variables_bare parts)
 
 bound_bare : (parts : List Part) → bound (bare_parts parts) ≡ bound parts
 bound_bare parts = both (λ m n. 2 * m + 16 * (n + 8)) _ _ _ _ (widest_bare parts) (variables_bare parts)

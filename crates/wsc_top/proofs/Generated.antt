@@ -1,10 +1,10 @@
 -- Each generated job is a job.
-use Rattle.std.specs.Prelude.{◌≡◌, ℕ, zero, suc, ◌+◌, ◌*◌, ◌%◌, ◌<◌, true, not, IsTrue, List, [], ◌∷◌, ◌++◌, codes, decimal, flat_map, map, refl}
+use Rattle.std.specs.Prelude.{◌≡◌, ℕ, ◌+◌, ◌*◌, ◌%◌, ◌<◌, true, not, IsTrue, List, [], ◌∷◌, ◌++◌, codes, decimal, flat_map, map, refl}
 use Rattle.std.proofs.Common.{sym, ap, ◌∙◌, subst, arith, append_assoc}
 use Rattle.std.specs.Fmt.{digits}
 use Rattle.std.specs.List.{range_with_len, AllByRecursion}
 use Rattle.src_ast.specs.declared.lexeme.Place.{Place}
-use Rattle.src_ast.specs.Lexemes.{Lex, after, is_blank, starts_without}
+use Rattle.src_ast.specs.Lexemes.{Lex, after, is_blank}
 use Rattle.src_ast.specs.Syntax.{Part}
 use Rattle.src_ast.specs.Printed.{printed_form}
 use Rattle.src_ast.specs.Rules.{IsAccepted}
@@ -14,60 +14,21 @@ use Rattle.wave_gen.specs.Words.{IsWord}
 use Rattle.work_gen.specs.Program.{product}
 use Rattle.work_gen.specs.Job.{size, square, word, words_of, further_word, words_line, job_text}
 use Rattle.work_gen.specs.Jobs.{IsGenerated}
+use Rattle.work_gen.proofs.Sizes.{at_each, sizes}
 use Rattle.wsc_top.specs.Sections.{program_of, input_of, input_place, stop, next, InputWords}
 use Rattle.wsc_top.specs.Generated.{IsGeneratedJob}
 use Rattle.wsc_top.proofs.Bounds.{one_bound}
 use Rattle.wsc_top.proofs.Markers.{is_plain, program_is, input_is, word_item, word_text}
+use Rattle.ws_words.specs.Letters.{starts_without}
 
 -- the printed form of each size is plain
 
-plain_2 : is_plain true (printed_form (product 2)) ≡ true
+plains : map (λ n. is_plain true (printed_form (product n))) sizes ≡ map (λ n. true) sizes
 unfolding product digits
-plain_2 = refl
-
-plain_3 : is_plain true (printed_form (product 3)) ≡ true
-unfolding product digits
-plain_3 = refl
-
-plain_4 : is_plain true (printed_form (product 4)) ≡ true
-unfolding product digits
-plain_4 = refl
-
-plain_5 : is_plain true (printed_form (product 5)) ≡ true
-unfolding product digits
-plain_5 = refl
-
-plain_6 : is_plain true (printed_form (product 6)) ≡ true
-unfolding product digits
-plain_6 = refl
-
-plain_7 : is_plain true (printed_form (product 7)) ≡ true
-unfolding product digits
-plain_7 = refl
-
-plain_8 : is_plain true (printed_form (product 8)) ≡ true
-unfolding product digits
-plain_8 = refl
-
-plain_9 : is_plain true (printed_form (product 9)) ≡ true
-unfolding product digits
-plain_9 = refl
-
-plain_10 : is_plain true (printed_form (product 10)) ≡ true
-unfolding product digits
-plain_10 = refl
+plains = refl
 
 plain_size : (r : ℕ) → r < 9 → is_plain true (printed_form (product (2 + r))) ≡ true
-plain_size zero h = plain_2
-plain_size (suc zero) h = plain_3
-plain_size (suc (suc zero)) h = plain_4
-plain_size (suc (suc (suc zero))) h = plain_5
-plain_size (suc (suc (suc (suc zero)))) h = plain_6
-plain_size (suc (suc (suc (suc (suc zero))))) h = plain_7
-plain_size (suc (suc (suc (suc (suc (suc zero)))))) h = plain_8
-plain_size (suc (suc (suc (suc (suc (suc (suc zero))))))) h = plain_9
-plain_size (suc (suc (suc (suc (suc (suc (suc (suc zero)))))))) h = plain_10
-plain_size (suc (suc (suc (suc (suc (suc (suc (suc (suc r))))))))) h = absurd (omega arith)
+plain_size r l = at_each (λ n. is_plain true (printed_form (product n))) (λ n. true) 2 9 r plains l
 
 -- the two sections of a generated job
 module _ (number : ℕ) where

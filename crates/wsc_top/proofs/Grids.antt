@@ -19,7 +19,7 @@ use Rattle.wsc_top.specs.declared.task.Report.TheVariants.{Full}
 use Rattle.wsc_top.specs.Tasks.{IsLine, task_of, task_by, options_of, decoupled_options, grid_options}
 use Rattle.wsc_top.specs.Executions.{EndsRun}
 use Rattle.wsc_top.specs.Clocked.{InRange, TaskInRange, clocked_status}
-use Rattle.wsc_top.proofs.Replays.{no_fault}
+use Rattle.df_core.proofs.Saying.{no_fault_at}
 
 by_text : {P : Type 0} (o : Option (List ℕ)) → (o ≡ None → P) → ((text : List ℕ) → o ≡ Some text → P) → P
 by_text None f g = f refl
@@ -72,7 +72,7 @@ module _ (image : Image) (world : World) (budget : ℕ) (left : Left) where
   ends_clocked finish.Rest r = record {
     done = λ h. inl refl;
     only = λ e. r.rests.0 refl;
-    fault = λ h. absurd (no_fault image world (r.rests.0 refl).0 h.0.0 h.0.1);
+    fault = λ h. absurd (no_fault_at image world (r.rests.0 refl).0 h.0.0 h.0.1);
     budget = λ h. absurd (h.1 (r.rests.0 refl).1);
   }
   ends_clocked finish.Budget r = record {
@@ -85,5 +85,5 @@ module _ (image : Image) (world : World) (budget : ℕ) (left : Left) where
     done = λ h. (let e : false ≡ true = r.rests.1 h in absurd cc);
     only = λ e. absurd cc;
     fault = λ h. inl refl;
-    budget = λ h. absurd (no_fault image world h.0 r.told.time r.told.fault);
+    budget = λ h. absurd (no_fault_at image world h.0 r.told.time r.told.fault);
   }

@@ -9,7 +9,7 @@ use Rattle.src_ast.specs.Meaning.{lengths_of, empty_cells}
 use Rattle.src_ast.specs.Turns.{CallEnd}
 use Rattle.src_ast.specs.Runs.{outside_of, acts_in, opened, Runs, Faults}
 use Rattle.ws_isa.specs.Image as isa
-use Rattle.ws_isa.specs.Image.{Image, nth, instr_at, no_instr, flat, array_at, cells_of}
+use Rattle.ws_isa.specs.Image.{Image, instr_at, no_instr, flat, array_at, cells_of}
 use Rattle.ws_isa.specs.declared.instr.Op.{Op}
 use Rattle.ws_isa.specs.declared.instr.Op.TheVariants.{Const, Alu, Merge, Advance, Steer, Phi, Send, Load, Store, Input, Output, Give, Take, Nop, Halt}
 use Rattle.ws_isa.specs.Formed.{Formed, OpIn}
@@ -18,7 +18,6 @@ use Rattle.ws_isa.specs.Walk.{Inst, fires, mem, opening_memory, has_ended}
 use Rattle.ws_isa.specs.Operations.{FaultsAt, NoFault}
 use Rattle.ws_isa.proofs.There.{all_nth}
 use Rattle.df_core.specs.Ends.{FirstWithin}
-use Rattle.cfg_core.specs.Graph as graph
 use Rattle.cfg_core.specs.Graph.{GraphArray}
 use Rattle.cfg_core.specs.Shown.{shown_arrays, shown_cells, shown_among, hidden, is_hidden}
 use Rattle.cfg_build.specs.Keeps as program
@@ -34,18 +33,17 @@ use Rattle.store_buf.specs.Outdoors.{SlotsAre, port_of}
 use Rattle.wsc_top.specs.Answers.{Does, to_end, to_fault, so_far, IsOnPort}
 use Rattle.wsc_top.proofs.PortActs.{ports_moved, shown_took, left_shown, port_act, within_next}
 use Rattle.wsc_top.specs.Texts.{names_of, shown_names, name_at, array_name, called, maybe_name, name_or_number}
-use Rattle.wsc_top.proofs.WalkActs.{sizes, HasArray, acts_after, mem_is, mem_within, acts_next, fault_is_first}
-use Rattle.wsc_top.proofs.ShownActs.{lengths, shown_place, shown_within, open_first, shown_first, shown_words, cells_after, left_cells, shown_after, shown_both}
+use Rattle.wsc_top.proofs.WalkActs.{sizes, HasArray, mem_is, mem_within, acts_next, fault_is_first}
+use Rattle.wsc_top.proofs.ShownActs.{lengths, shown_place, shown_within, open_first, shown_first, shown_words, cells_after, left_cells, shown_after}
+use Rattle.ws_words.specs.Items.{nth}
+use Rattle.wave_build.proofs.CompilingShown.{same_arrays, shown_both}
+use Rattle.ws_words.proofs.Acts.{acts_of}
 
 -- arrays of images, of graphs and of programs
 
 same_sizes : (xs : List isa.Array) → sizes xs ≡ lengths (map in_graph xs)
 same_sizes [] = refl
 same_sizes (x ∷ xs) = ap (λ (ns : List ℕ). x.length ∷ ns) (same_sizes xs)
-
-graph_again : (xs : List GraphArray) → map in_graph (map array_of xs) ≡ xs
-graph_again [] = refl
-graph_again (x ∷ xs) = ap (λ (r : List GraphArray). x ∷ r) (graph_again xs)
 
 shown_in_graph : (xs : List isa.Array) → shown_arrays (map in_graph xs) ≡ map in_graph (image_shown.shown_arrays xs)
 shown_in_graph [] = refl
@@ -101,12 +99,12 @@ abbrev text_in : Option GraphArray → List ℕ
 text_in None = []
 text_in (Some x) = unwrap_or x.name []
 
-name_there : (xs : List isa.Array) (k : ℕ) → maybe_name xs k ≡ name_in (graph.nth (map in_graph xs) k)
+name_there : (xs : List isa.Array) (k : ℕ) → maybe_name xs k ≡ name_in (nth (map in_graph xs) k)
 name_there [] k = refl
 name_there (x ∷ xs) zero = refl
 name_there (x ∷ xs) (suc k) = name_there xs k
 
-text_there : (xs : List GraphArray) (k : ℕ) → name_at (graph_names xs) k ≡ text_in (graph.nth xs k)
+text_there : (xs : List GraphArray) (k : ℕ) → name_at (graph_names xs) k ≡ text_in (nth xs k)
 text_there [] k = refl
 text_there (x ∷ xs) zero = refl
 text_there (x ∷ xs) (suc k) = text_there xs k
@@ -167,7 +165,7 @@ module _ (parts : List Part) (image : Image) (world : World) (formed : Formed im
   G = map in_graph image.arrays
 
   shown_are : shown_arrays G ≡ program.arrays_of parts
-  shown_are = shown_in_graph image.arrays ∙ ap (map in_graph) arrays ∙ graph_again (program.arrays_of parts)
+  shown_are = shown_in_graph image.arrays ∙ ap (map in_graph) arrays ∙ same_arrays (program.arrays_of parts)
 
   shown_lengths : lengths (shown_arrays G) ≡ lengths_of parts
   shown_lengths = ap lengths shown_are ∙ program_lengths parts
@@ -179,7 +177,7 @@ module _ (parts : List Part) (image : Image) (world : World) (formed : Formed im
   called_so : (array : ℕ) → is_hidden G array ≡ false → called image.arrays array ≡ array_name (names_of parts) (shown_among array G)
   called_so array h =
       ap (λ (x : Option (List ℕ)). name_or_number x array) (name_there image.arrays (array - 1))
-      ∙ open_name (graph.nth G (array - 1)) array h
+      ∙ open_name (nth G (array - 1)) array h
       ∙ ap text_in (sym (shown_place G array h))
       ∙ sym (text_there (shown_arrays G) (shown_among array G - 1))
       ∙ ap (λ (ns : List (List ℕ)). name_at ns (shown_among array G - 1)) (ap graph_names shown_are ∙ program_names parts)
@@ -225,7 +223,7 @@ module _ (parts : List Part) (image : Image) (world : World) (formed : Formed im
   act_ports began back t h =
       ports_moved began (mem image world t) (after_acts (opened parts world) (shown image (mem image world t).acts)) back
       (ap (λ (o : Outside). o.left) (mem_is image world t) ∙ left_shown G (opening_memory image world) (opened parts world) (mem image world t).acts refl)
-      (λ slot. sym (shown_took G slot (mem image world t).acts) ∙ ap (took_words slot) (sym (acts_after (opened parts world) (shown image (mem image world t).acts)))) h
+      (λ slot. sym (shown_took G slot (mem image world t).acts) ∙ ap (took_words slot) (sym (acts_of (opened parts world) (shown image (mem image world t).acts)))) h
 
   -- what the first steps of the walk do, up to a fault, the sequential run does first
   pub record FrontTold (t : ℕ) : Type 0 where

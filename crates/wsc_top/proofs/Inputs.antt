@@ -7,9 +7,12 @@ use Rattle.std.proofs.lemmas.List.{nil_from_length, take-append-drop}
 use Rattle.std.proofs.lemmas.Bool.{eqb-true, ltb-true, lt-ltb}
 use Rattle.ws_words.specs.Digits.{is_number, value_of}
 use Rattle.src_ast.specs.declared.lexeme.Place.{Place}
-use Rattle.src_ast.specs.Lexemes.{start, after, is_blank, starts_without}
+use Rattle.src_ast.specs.Lexemes.{start, after, is_blank}
 use Rattle.src_ast.specs.Once.{ExactlyOne}
 use Rattle.wsc_top.specs.Sections.{program_of, input_place, IsItem, IsWordText, Items, stop, next, InputWords, InputFault, IsInputAnswer}
+use Rattle.ws_words.specs.Letters.{starts_without}
+use Rattle.ws_words.proofs.Runs.{prefix_all, prefix_stops}
+use Rattle.ws_words.proofs.Numbers.{one_more}
 
 abbrev is_dense : ℕ → Bool
 is_dense b = not (is_blank b)
@@ -102,19 +105,6 @@ pub record Reading (at : Place) (text words : List ℕ) (place : Place) (rest : 
 
 pub reads_none : (at : Place) (text : List ℕ) → Reading at text [] at text
 reads_none at text = record { leads = λ more p r h. h }
-
-one_more : (n : ℕ) → 1 + n ≡ suc n
-one_more n = omega arith
-
-prefix_all : (p : ℕ → Bool) (xs : List ℕ) → IsTrue (list_all p (take (prefix_len p xs) xs))
-prefix_all p [] = refl
-prefix_all p (x ∷ xs) =
-    (elim (p x) as (λ b. p x ≡ b → IsTrue (list_all p (take (cond b (1 + prefix_len p xs) 0) (x ∷ xs)))) [ true ↦ λ e. rw (one_more (prefix_len p xs), e) (prefix_all p xs) | false ↦ λ e. refl ]) refl
-
-prefix_stops : (p : ℕ → Bool) (xs : List ℕ) → IsTrue (starts_without p (drop (prefix_len p xs) xs))
-prefix_stops p [] = refl
-prefix_stops p (x ∷ xs) =
-    (elim (p x) as (λ b. p x ≡ b → IsTrue (starts_without p (drop (cond b (1 + prefix_len p xs) 0) (x ∷ xs)))) [ true ↦ λ e. rw (one_more (prefix_len p xs)) (prefix_stops p xs) | false ↦ λ e. rw e refl ]) refl
 
 -- a run of blanks that is as long as possible
 pub blank_run : (text run rest : List ℕ) (n : ℕ) → n ≡ prefix_len is_blank text → run ≡ take n text → rest ≡ drop n text → IsTrue (list_all is_blank run) × IsTrue (starts_without is_blank rest)

@@ -16,6 +16,7 @@ use Rattle.wsc_top.specs.Answers.{IsCompiled}
 use Rattle.wsc_top.specs.Jobs.{separator, most_jobs, Piece, IsLast, first_job, behind, place_behind, JobsFrom, last, next, Jobs, ProgramAndInput, EachIsJob, IsCrowded, RefusesJobs, faulty, IsJobsFault}
 use Rattle.wsc_top.specs.Threads.{Thread, HasJob, AreThreads, pieces_of, images_of, inputs_of}
 use Rattle.wsc_top.specs.Running.{IsRead, IsPieceFault, AreRead}
+use Rattle.ws_words.proofs.Lists.{map_push}
 
 -- What stands behind a separator is shorter.
 
@@ -133,10 +134,6 @@ all_more : (P : Thread → Type 0) (xs : List Thread) (x : Thread) → AllByRecu
 all_more P [] x h p = (p, tt)
 all_more P (y ∷ xs) x h p = (h.0, all_more P xs x h.1 p)
 
-map_more : {A B : Type 0} (f : A → B) (xs : List A) (x : A) → map f (xs ++ x ∷ []) ≡ map f xs ++ f x ∷ []
-map_more f [] x = refl
-map_more f (y ∷ xs) x = ap (λ ys. f y ∷ ys) (map_more f xs x)
-
 put_between : (xs : List Thread) (x : Thread) (ps : List Piece) → pieces_of xs ++ x.piece ∷ ps ≡ pieces_of (xs ++ x ∷ []) ++ ps
 put_between [] x ps = refl
 put_between (y ∷ xs) x ps = ap (λ (l : List Piece). y.piece ∷ l) (put_between xs x ps)
@@ -178,11 +175,11 @@ module _ (text : List ℕ) (images : List Image) (inputs : List (List ℕ)) (at 
 
     are_images : images_of (r.done ++ thread ∷ []) ≡ more
     unfolding thread
-    are_images = map_more (λ (x : Thread). x.image) r.done thread ∙ ap (λ (l : List Image). l ++ image ∷ []) r.images_are ∙ sym images_more
+    are_images = map_push (λ (x : Thread). x.image) r.done thread ∙ ap (λ (l : List Image). l ++ image ∷ []) r.images_are ∙ sym images_more
 
     are_inputs : inputs_of (r.done ++ thread ∷ []) ≡ words
     unfolding thread
-    are_inputs = map_more (λ (x : Thread). x.input) r.done thread ∙ ap (λ (l : List (List ℕ)). l ++ input ∷ []) r.inputs_are ∙ sym inputs_more
+    are_inputs = map_push (λ (x : Thread). x.input) r.done thread ∙ ap (λ (l : List (List ℕ)). l ++ input ∷ []) r.inputs_are ∙ sym inputs_more
 
     lead_on : (ps : List Piece) → JobsFrom at rest (piece_at at rest ∷ ps) → Jobs text (pieces_of (r.done ++ thread ∷ []) ++ ps)
     unfolding thread

@@ -5,11 +5,13 @@ use Rattle.std.specs.List.{list_all, AllByRecursion}
 use Rattle.std.proofs.lemmas.Bool.{and_parts, and_from, not-true, true≢false}
 use Rattle.ws_words.specs.Digits.{is_digit, is_number}
 use Rattle.src_ast.specs.declared.lexeme.Place.{Place}
-use Rattle.src_ast.specs.Lexemes.{after, is_blank, starts_without}
-use Rattle.asm_text.proofs.Spelt.{decimal_digits, other}
+use Rattle.src_ast.specs.Lexemes.{after, is_blank}
+use Rattle.asm_text.proofs.Spelt.{other}
 use Rattle.wave_gen.specs.Words.{IsWord}
 use Rattle.wsc_top.specs.Sections.{ends_line, is_line, after_line, front_of, rest_of, program_of, input_of, IsItem, IsWordText, stop, next, InputWords}
 use Rattle.wsc_top.specs.Texts.{word_line}
+use Rattle.ws_words.specs.Letters.{starts_without}
+use Rattle.ws_words.proofs.Decimals.{decimal_digits}
 
 -- no byte of a text is `%`, and where it ends a line begins
 abbrev pub is_plain : Bool → List ℕ → Bool

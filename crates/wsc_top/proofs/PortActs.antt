@@ -9,7 +9,7 @@ use Rattle.ws_isa.specs.declared.instr.Op.{Op}
 use Rattle.ws_isa.specs.declared.instr.Op.TheVariants.{Const, Alu, Merge, Advance, Steer, Phi, Send, Load, Store, Input, Output, Give, Take, Nop, Halt}
 use Rattle.ws_isa.specs.Image.{Array, Image, instr_at, acts_of_op, is_past, is_past_op}
 use Rattle.ws_isa.specs.Walk.{Inst, fires}
-use Rattle.ws_isa.specs.Operations.{past, without_loads}
+use Rattle.ws_isa.specs.Operations.{past}
 use Rattle.df_core.specs.Ends.{FirstWithin}
 use Rattle.cfg_core.specs.Graph.{GraphArray}
 use Rattle.cfg_core.specs.Shown.{shown_among, is_hidden, shown_acts}
@@ -86,16 +86,6 @@ module _ (arrays : List GraphArray) where
   left_shown o p acts e =
       left_is o acts ∙ ap (λ (ls : List (List ℕ)). left_after ls acts) e
       ∙ sym (shown_left p.left acts) ∙ sym (left_is p (shown_acts arrays acts))
-
--- loads take nothing
-pub took_kept : (slot : ℕ) (acts : List Act) → took_words slot (without_loads acts) ≡ took_words slot acts
-took_kept slot [] = refl
-took_kept slot (loads a i ∷ acts) = took_kept slot acts
-took_kept slot (stores a i w ∷ acts) = took_kept slot acts
-took_kept slot (reads ∷ acts) = took_kept slot acts
-took_kept slot (prints w ∷ acts) = took_kept slot acts
-took_kept slot (gives p ∷ acts) = took_kept slot acts
-took_kept slot (takes p w ∷ acts) = ap (λ (ws : List ℕ). if p == slot then w ∷ ws else ws) (took_kept slot acts)
 
 -- an operation on a port is never past the end
 port_within : (arrays : List Array) (op : Op) (xs : List ℕ) (port : ℕ) → port_of op ≡ Some port → is_past_op arrays op xs ≡ false

@@ -3,7 +3,6 @@ use Rattle.std.proofs.Common.{◌≡◌, ℕ, ◌+◌, ◌==◌, Bool, true, fal
 use Rattle.std.proofs.lemmas.Bool.{true≢false}
 use Rattle.ws_words.specs.Outside.{World}
 use Rattle.ws_isa.specs.Image.{Image}
-use Rattle.ws_isa.specs.Operations.{FaultsAt, NoFault}
 use Rattle.df_core.specs.Core.{State, Run, core_opening}
 use Rattle.df_core.specs.declared.engine.Event.{Event}
 use Rattle.trace_check.specs.declared.events.Lined.{Lined}
@@ -19,16 +18,14 @@ use Rattle.wsc_top.specs.Executions.{EndsRun}
 use Rattle.wsc_top.specs.Traced as traces
 use Rattle.wsc_top.specs.Traced.{IsMade, illegal, made, IsReplayed, missing, faulty, trace_status, HasTrace, CanReplay, EndsReplay}
 use Rattle.wsc_top.proofs.Inputs.{empty_is}
-
-pub no_fault : (image : Image) (world : World) → NoFault image world → (t : ℕ) → FaultsAt image world t → ⊥
-no_fault image world none t f = true≢false (sym f.is_past ∙ none t f.inst f.fired)
+use Rattle.df_core.proofs.Saying.{no_fault_at}
 
 module _ (image : Image) (world : World) (budget : ℕ) (events : List Event) where
   pub ends_run : (how : TraceEnd) → Traces image world budget events how → EndsRun image world budget (trace_status how)
   ends_run end.Rest t = record {
     done = λ h. inl refl;
     only = λ e. t.rests.0 refl;
-    fault = λ h. absurd (no_fault image world (t.rests.0 refl).0 h.0.0 h.0.1);
+    fault = λ h. absurd (no_fault_at image world (t.rests.0 refl).0 h.0.0 h.0.1);
     budget = λ h. absurd (h.1 (t.rests.0 refl).1);
   }
   ends_run end.Budget t = record {
@@ -41,7 +38,7 @@ module _ (image : Image) (world : World) (budget : ℕ) (events : List Event) wh
     done = λ h. inl (ap trace_status (t.rests.1 h));
     only = λ e. absurd cc;
     fault = λ h. inl refl;
-    budget = λ h. (let f = t.only refl in absurd (no_fault image world h.0 f.0 f.1));
+    budget = λ h. (let f = t.only refl in absurd (no_fault_at image world h.0 f.0 f.1));
   }
 
 -- a text has one trace at most

@@ -1,5 +1,5 @@
 -- What comes of the run of an image, by how the run ended.
-use Rattle.std.specs.Prelude.{◌≡◌, ℕ, ◌≤◌, List, length, Option, Result, Ok, Err, IfOk, OnErr, refl}
+use Rattle.std.specs.Prelude.{◌≡◌, ℕ, ◌≤◌, List, length, Option, Result, Ok, Err, IfOk, refl}
 use Rattle.std.proofs.Common.{sym, ap, ◌∙◌, subst, inl, inr, arith}
 use Rattle.ws_words.specs.Outside.{World, printed_words}
 use Rattle.ws_isa.specs.Image.{Array, Image, array_at}
@@ -16,7 +16,7 @@ use Rattle.wsc_top.specs.declared.task.RunOptions.{RunOptions}
 use Rattle.wsc_top.specs.Texts.{shown_names, called}
 use Rattle.wsc_top.specs.Executions.{Executes, rested, spent, stopped, failed, HasBegun, EndsRun, end_report, fault_report, spent_report, failed_report}
 use Rattle.wsc_top.specs.Finished.{ReportsSo}
-use Rattle.wsc_top.proofs.Replays.{no_fault}
+use Rattle.df_core.proofs.Saying.{no_fault_at}
 
 module _ (options : RunOptions) (image : Image) (world : World) (handed back : List (Option Told)) where
   so : (s status : Status) (o out : List ℕ) → status ≡ s → out ≡ o → Executes options image world handed s o back → Executes options image world handed status out back
@@ -86,7 +86,7 @@ module _ (options : RunOptions) (image : Image) (world : World) (handed back : L
   run_ends status out (rested t none cost le ports) = record {
     done = λ h. inl refl;
     only = λ e. (none, λ u. (let c : length (walk image world u) ≤ length (walk image world t) = cost u in omega (arith, le)));
-    fault = λ h. absurd (no_fault image world none h.0.0 h.0.1);
+    fault = λ h. absurd (no_fault_at image world none h.0.0 h.0.1);
     budget = λ h. absurd (h.1 (λ u. (let c : length (walk image world u) ≤ length (walk image world t) = cost u in omega (arith, le))));
   }
   run_ends status out (spent t s ports) = record {
@@ -96,10 +96,10 @@ module _ (options : RunOptions) (image : Image) (world : World) (handed back : L
     budget = λ h. inl refl;
   }
   run_ends status out (stopped t f ports) = record {
-    done = λ h. absurd (no_fault image world h.0 t f);
+    done = λ h. absurd (no_fault_at image world h.0 t f);
     only = λ e. absurd cc;
     fault = λ h. inl refl;
-    budget = λ h. absurd (no_fault image world h.0 t f);
+    budget = λ h. absurd (no_fault_at image world h.0 t f);
   }
   run_ends status out (failed t port x fires on within rose ports) = record {
     done = λ h. inr (port, refl);
@@ -115,8 +115,3 @@ pub executed_so : {E : Type 0} (options : RunOptions) (image : Image) (world : W
 executed_so options image world handed back finish arrays (Ok y) tells is h =
     run_executes options image world handed back finish y.0 y.1 tells (subst (λ (xs : List Array). ReportsSo options.report options.budget xs finish y.0 y.1) is h)
 executed_so options image world handed back finish arrays (Err x) tells is h = tt
-
--- what is so in any case
-pub where_failed : {A E : Type 0} (P : Type 0) (answer : Result A E) → P → OnErr answer P
-where_failed P (Ok y) p = tt
-where_failed P (Err x) p = p

@@ -1,13 +1,16 @@
 -- What acts show where some arrays are hidden: they stay within the ends, pass the same end first, print the same words and leave the same cells.
 use Rattle.std.specs.Prelude.{◌≡◌, ℕ, zero, suc, ◌+◌, ◌-◌, ◌<◌, ◌≤◌, Bool, true, false, List, [], ◌∷◌, ◌++◌, length, map, Some, if◌then◌else◌, slice_index, slice_set, refl}
-use Rattle.std.proofs.Common.{sym, ap, ◌∙◌, subst, arith, append_assoc}
+use Rattle.std.proofs.Common.{sym, ap, ◌∙◌, subst, arith}
 use Rattle.ws_words.specs.Operators.{flag}
 use Rattle.ws_words.specs.Outside.{Act, loads, stores, reads, prints, gives, takes, Outside, row, with_row, printed_words}
 use Rattle.ws_words.specs.Past.{IsPast, IsWithin, AreWithin, FirstPast, after_act, after_acts}
 use Rattle.ws_words.specs.Past as past
-use Rattle.cfg_core.specs.Graph.{GraphArray, nth}
+use Rattle.cfg_core.specs.Graph.{GraphArray}
 use Rattle.cfg_core.specs.Shown.{has_name, shown_arrays, shown_cells, shown_among, hidden, cell_count, is_hidden, shown_act, shown_acts, IsInside, AllInside}
 use Rattle.seq_run.proofs.FirstPasts.{within_both}
+use Rattle.ws_words.specs.Items.{nth}
+use Rattle.cfg_core.proofs.ArraysThere.{length_with_row}
+use Rattle.wave_build.proofs.CompilingShown.{shown_both}
 
 abbrev pub lengths : List GraphArray → List ℕ
 lengths arrays = map (λ a. a.length) arrays
@@ -63,19 +66,6 @@ at_length (x ∷ xs) (suc k) = at_length xs k
 
 shown_length : (arrays : List GraphArray) (a : ℕ) → is_hidden arrays a ≡ false → past.length_of (lengths (shown_arrays arrays)) (shown_among a arrays) ≡ past.length_of (lengths arrays) a
 shown_length arrays a h = at_length (shown_arrays arrays) (shown_among a arrays - 1) ∙ ap cell_count (shown_place arrays a h) ∙ sym (at_length arrays (a - 1))
-
-pub shown_both : (arrays : List GraphArray) (xs ys : List Act) → shown_acts arrays (xs ++ ys) ≡ shown_acts arrays xs ++ shown_acts arrays ys
-shown_both arrays [] ys = refl
-shown_both arrays (x ∷ xs) ys = ap (λ (z : List Act). shown_act arrays x ++ z) (shown_both arrays xs ys) ∙ sym (append_assoc (shown_act arrays x) (shown_acts arrays xs) (shown_acts arrays ys))
-
-pub words_both : (xs ys : List Act) → printed_words (xs ++ ys) ≡ printed_words xs ++ printed_words ys
-words_both [] ys = refl
-words_both (loads a i ∷ xs) ys = words_both xs ys
-words_both (stores a i w ∷ xs) ys = words_both xs ys
-words_both (reads ∷ xs) ys = words_both xs ys
-words_both (prints w ∷ xs) ys = ap (λ (ws : List ℕ). w ∷ ws) (words_both xs ys)
-words_both (gives p ∷ xs) ys = words_both xs ys
-words_both (takes p w ∷ xs) ys = words_both xs ys
 
 module _ (arrays : List GraphArray) where
   one_within : (act : Act) → IsWithin (lengths arrays) act → AreWithin (lengths (shown_arrays arrays)) (shown_act arrays act)
@@ -186,11 +176,6 @@ left_cells o (prints w ∷ acts) = left_cells (after_act o (prints w)) acts
 left_cells o (gives p ∷ acts) = left_cells (after_act o (gives p)) acts
 left_cells o (takes p w ∷ acts) = left_cells (after_act o (takes p w)) acts
 
-rows_same : (cells : List (List ℕ)) (k : ℕ) (r : List ℕ) → length (with_row cells k r) ≡ length cells
-rows_same [] k r = refl
-rows_same (x ∷ xs) zero r = refl
-rows_same (x ∷ xs) (suc k) r = ap suc (rows_same xs k r)
-
 -- a hidden row is not shown
 hidden_row : (arrays : List GraphArray) (cells : List (List ℕ)) (k : ℕ) (r : List ℕ) → hidden (nth arrays k) ≡ true → shown_cells arrays (with_row cells k r) ≡ shown_cells arrays cells
 hidden_row [] cells k r h = refl
@@ -270,7 +255,7 @@ shown_after arrays (loads a i ∷ acts) cells l = go (is_hidden arrays a) ∙ sh
     go false = refl
 shown_after arrays (stores a i w ∷ acts) cells l =
     stored_after arrays a i w acts cells l (is_hidden arrays a) refl
-    (shown_after arrays acts (with_row cells (a - 1) (slice_set (row cells (a - 1)) i w)) (rows_same cells (a - 1) (slice_set (row cells (a - 1)) i w) ∙ l))
+    (shown_after arrays acts (with_row cells (a - 1) (slice_set (row cells (a - 1)) i w)) (length_with_row cells (a - 1) (slice_set (row cells (a - 1)) i w) ∙ l))
 shown_after arrays (reads ∷ acts) cells l = shown_after arrays acts cells l
 shown_after arrays (prints w ∷ acts) cells l = shown_after arrays acts cells l
 shown_after arrays (gives p ∷ acts) cells l = shown_after arrays acts cells l

@@ -29,9 +29,10 @@ use Rattle.wsc_top.specs.Executions.{PortsAre, IsSpent, Executes, rested, spent,
 use Rattle.wsc_top.specs.Executions as executions
 use Rattle.wsc_top.specs.Answers.{TellWords, IsCompiled, TellsRun, Yields, ran, EndsSo, ComesToItsEnd, MeetsFault}
 use Rattle.wsc_top.specs.Answers as answers
-use Rattle.wsc_top.proofs.PortActs.{ports_moved, took_kept}
+use Rattle.wsc_top.proofs.PortActs.{ports_moved}
 use Rattle.wsc_top.proofs.AssembliesOnce.{WalksOnce, either_way, one_walk, one_effect, one_print, one_cells}
 use Rattle.wsc_top.proofs.Headline.{end_told, end_ports, act_ports, front_told, front_words, fail_told, fault_told, same_names}
+use Rattle.df_core.proofs.Issuing.{took_alike}
 
 -- the words of an input section are words
 items_words : (at place : Place) (text words rest : List ℕ) → Items at text words place rest → AllByRecursion IsWord words
@@ -68,7 +69,7 @@ module _ (known : WalksOnce) (whole : WalksEnd) (options : RunOptions) (parts : 
       (one_print known image world t e.0 same) (one_cells known image world t e.0 same) in
       let there : PortsAre handed (mem image world e.0) back =
       ports_moved (began_of handed) (mem image world t) (mem image world e.0) back (ap (λ (o : Outside). o.left) same)
-      (λ slot. sym (took_kept slot (mem image world t).acts) ∙ ap (λ (o : Outside). took_words slot o.acts) same ∙ took_kept slot (mem image world e.0).acts) ports in
+      (λ slot. sym (took_alike slot (mem image world t).acts) ∙ ap (λ (o : Outside). took_words slot o.acts) same ∙ took_alike slot (mem image world e.0).acts) ports in
       let rows = shown_cells image.arrays (mem image world t).cells in
       let text : end_report options.report (names_of parts) (printed_words r.end.acts) r.end.cells fired
       ≡ end_report options.report (shown_names image.arrays) (printed_words (mem image world t).acts) rows fired =

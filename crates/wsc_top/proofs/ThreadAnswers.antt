@@ -8,15 +8,13 @@ use Rattle.src_ast.specs.Syntax.{Part}
 use Rattle.src_ast.specs.Once.{ExactlyOne}
 use Rattle.ws_isa.specs.Image.{Image, instr_at}
 use Rattle.ws_isa.specs.Formed.{Formed}
-use Rattle.ws_isa.specs.declared.instr.Op.{Op}
-use Rattle.ws_isa.specs.declared.instr.Op.TheVariants.{Give, Take}
 use Rattle.ws_words.specs.Outside.{Outside, World, row}
 use Rattle.ws_words.specs.Plain.{took_words}
 use Rattle.ws_isa.specs.Walk.{mem}
 use Rattle.df_core.specs.Began.{Began}
 use Rattle.port_set.specs.Ports.{Told}
 use Rattle.port_set.specs.Slots.{port_at}
-use Rattle.store_buf.specs.Outdoors.{PortIn, RoseAt, SlotIs, began_of, failures, port_of, world_with}
+use Rattle.store_buf.specs.Outdoors.{RoseAt, SlotIs, began_of, failures, world_with}
 use Rattle.store_buf.proofs.Within.{port_in}
 use Rattle.wsc_top.specs.declared.status.Status.{Status}
 use Rattle.wsc_top.specs.declared.status.Status.TheVariants.{Done, Usage, Refused, Budget, ReadFault, WriteFault, PortFault, NoMemory, Fault}
@@ -42,6 +40,7 @@ use Rattle.wsc_top.proofs.Tells.{WalksEnd, input_words, given_words, run_tells, 
 use Rattle.wsc_top.proofs.JobTexts.{Made, programs_of, each_of, count_pieces, jobs_once}
 use Rattle.wsc_top.proofs.JobsOnce.{never_both, one_jobs, one_jobs_refusal}
 use Rattle.wsc_top.proofs.ThreadRuns.{no_ports_words}
+use Rattle.store_buf.proofs.Failing.{in_seven}
 
 -- A thread without ports doesn't fail.
 
@@ -54,11 +53,6 @@ none_at (suc (suc (suc (suc zero)))) = refl
 none_at (suc (suc (suc (suc (suc zero))))) = refl
 none_at (suc (suc (suc (suc (suc (suc zero)))))) = refl
 none_at (suc (suc (suc (suc (suc (suc (suc k))))))) = refl
-
-in_seven : (op : Op) (p : ℕ) → port_of op ≡ Some p → PortIn op → (1 ≤ p) × (p ≤ 7)
-in_seven (Give q) p e h = let same : q ≡ p = cc in subst (λ (x : ℕ). (1 ≤ x) × (x ≤ 7)) same h
-in_seven (Take q) p e h = let same : q ≡ p = cc in subst (λ (x : ℕ). (1 ≤ x) × (x ≤ 7)) same h
-in_seven _ p e h = absurd (let bad : None ≡ Some p = e in cc)
 
 no_failures : (left took : List ℕ) (port : Option Told) → SlotIs None left took port → failures port ≡ 0
 no_failures left took None h = refl

@@ -1,9 +1,9 @@
 -- The acts of a walk: what is outside is what they leave, and loads and stores past the end are the acts past the end.
 use Rattle.std.specs.Prelude.{◌≡◌, ℕ, zero, suc, ◌-◌, ◌<◌, ◌≤◌, Bool, true, false, not, List, [], ◌∷◌, ◌++◌, map, Option, Some, None, slice_index, refl, ltb}
-use Rattle.std.proofs.Common.{sym, ap, ◌∙◌, subst, arith, append_assoc, append-nil}
+use Rattle.std.proofs.Common.{sym, ap, ◌∙◌, subst, arith}
 use Rattle.std.proofs.lemmas.Bool.{cond-true, cond-false, ltb-true, ltb-false}
-use Rattle.ws_words.specs.Outside.{Act, loads, stores, reads, prints, gives, takes, Outside, World}
-use Rattle.ws_words.specs.Past.{IsPast, IsWithin, AreWithin, FirstPast, after_act, after_acts}
+use Rattle.ws_words.specs.Outside.{Act, loads, stores, Outside, World}
+use Rattle.ws_words.specs.Past.{IsPast, IsWithin, AreWithin, FirstPast, after_acts}
 use Rattle.ws_words.specs.Past as past
 use Rattle.ws_isa.specs.declared.instr.Op.{Op}
 use Rattle.ws_isa.specs.declared.instr.Op.TheVariants.{Const, Alu, Merge, Advance, Steer, Phi, Send, Load, Store, Input, Output, Give, Take, Nop, Halt}
@@ -12,6 +12,7 @@ use Rattle.ws_isa.specs.Walk.{Inst, Pos, pos, mem, fires, fire, operands_at, ope
 use Rattle.ws_isa.specs.Operations.{past as is_past_inst, FaultsAt}
 use Rattle.ws_isa.proofs.Steps.{StepCase, stands, turns, ends, leaves, step_case}
 use Rattle.seq_run.proofs.FirstPasts.{within_both}
+use Rattle.ws_words.proofs.Acts.{acts_of, after_append}
 
 abbrev pub sizes : List Array → List ℕ
 sizes arrays = map (λ a. a.length) arrays
@@ -32,20 +33,6 @@ quiet Advance xs e = refl
 quiet Steer xs e = refl
 quiet Phi xs e = refl
 quiet (Send k) xs e = refl
-
--- the acts come after those before
-pub acts_after : (o : Outside) (acts : List Act) → (after_acts o acts).acts ≡ o.acts ++ acts
-acts_after o [] = sym (append-nil o.acts)
-acts_after o (loads a i ∷ acts) = acts_after (after_act o (loads a i)) acts ∙ append_assoc o.acts (loads a i ∷ []) acts
-acts_after o (stores a i w ∷ acts) = acts_after (after_act o (stores a i w)) acts ∙ append_assoc o.acts (stores a i w ∷ []) acts
-acts_after o (reads ∷ acts) = acts_after (after_act o reads) acts ∙ append_assoc o.acts (reads ∷ []) acts
-acts_after o (prints w ∷ acts) = acts_after (after_act o (prints w)) acts ∙ append_assoc o.acts (prints w ∷ []) acts
-acts_after o (gives p ∷ acts) = acts_after (after_act o (gives p)) acts ∙ append_assoc o.acts (gives p ∷ []) acts
-acts_after o (takes p w ∷ acts) = acts_after (after_act o (takes p w)) acts ∙ append_assoc o.acts (takes p w ∷ []) acts
-
-after_both : (o : Outside) (xs ys : List Act) → after_acts o (xs ++ ys) ≡ after_acts (after_acts o xs) ys
-after_both o [] ys = refl
-after_both o (x ∷ xs) ys = after_both (after_act o x) xs ys
 
 -- one index against one length
 not_past : (i n : ℕ) → not (ltb i n) ≡ false → i < n
@@ -164,14 +151,14 @@ module _ (image : Image) (world : World) where
   mem_upto (suc t) =
       step_leaves t (step_case image world t)
       ∙ ap (λ (o : Outside). after_acts o (acts_at (fires image world t))) (mem_upto t)
-      ∙ sym (after_both (opening_memory image world) (acts_upto t) (acts_at (fires image world t)))
+      ∙ sym (after_append (opening_memory image world) (acts_upto t) (acts_at (fires image world t)))
 
   no_acts : (opening_memory image world).acts ≡ []
   unfolding opening_memory
   no_acts = refl
 
   acts_are : (t : ℕ) → (mem image world t).acts ≡ acts_upto t
-  acts_are t = ap (λ (o : Outside). o.acts) (mem_upto t) ∙ acts_after (opening_memory image world) (acts_upto t) ∙ ap (λ (xs : List Act). xs ++ acts_upto t) no_acts
+  acts_are t = ap (λ (o : Outside). o.acts) (mem_upto t) ∙ acts_of (opening_memory image world) (acts_upto t) ∙ ap (λ (xs : List Act). xs ++ acts_upto t) no_acts
 
   -- what is outside is what the acts leave
   pub mem_is : (t : ℕ) → mem image world t ≡ after_acts (opening_memory image world) (mem image world t).acts

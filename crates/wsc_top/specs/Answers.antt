@@ -1,5 +1,6 @@
 -- What a call of the program answers: the status, and the text that goes out with it.
-use Rattle.std.specs.Prelude.{◌≡◌, ◌⊎◌, ℕ, suc, ◌+◌, ◌*◌, ◌≤◌, false, List, [], ◌∷◌, ◌++◌, length, Option, Some, None}
+use Rattle.std.specs.Prelude.{◌≡◌, ◌⊎◌, ℕ, suc, ◌+◌, ◌*◌, ◌≤◌, false, List, [], ◌∷◌, ◌++◌, length, Option}
+use Rattle.std.specs.Prelude.{Some, None}
 use Rattle.std.specs.List.{AllByRecursion}
 use Rattle.ws_io.specs.Streams.{Rose, Takes, TakesAll}
 use Rattle.ws_words.specs.Outside.{Act, gives, takes, Outside, World, printed_words}
@@ -12,13 +13,15 @@ use Rattle.src_ast.specs.Runs.{Runs, Goes, Faults, opened}
 use Rattle.src_ast.specs.Printed.{printed_form}
 use Rattle.src_ast.specs.Written.{ReadsTheSame}
 use Rattle.wsc_top.specs.declared.status.Status.{Status}
-use Rattle.wsc_top.specs.declared.status.Status.TheVariants.{Done, Usage, Refused, Budget, ReadFault, PortFault, NoMemory, Fault}
+use Rattle.wsc_top.specs.declared.status.Status.TheVariants.{Done, Usage, Refused, Budget, ReadFault}
+use Rattle.wsc_top.specs.declared.status.Status.TheVariants.{PortFault, NoMemory, Fault}
 use Rattle.wsc_top.specs.declared.task.Task.{Task}
 use Rattle.wsc_top.specs.declared.task.Task.TheVariants.{Job, Assembly, Generate, Bench, Multi}
 use Rattle.wsc_top.specs.declared.task.JobTask.{JobTask}
 use Rattle.wsc_top.specs.declared.task.JobTask.TheVariants.{Run, Format, Compile, Plain}
 use Rattle.wsc_top.specs.declared.task.AssemblyTask.{AssemblyTask}
-use Rattle.wsc_top.specs.declared.task.AssemblyTask.TheVariants.{Check, List as Listing, Exec, Trace, Replay, Grid}
+use Rattle.wsc_top.specs.declared.task.AssemblyTask.TheVariants.{Check, List as Listing, Exec, Trace, Replay}
+use Rattle.wsc_top.specs.declared.task.AssemblyTask.TheVariants.{Grid}
 use Rattle.wsc_top.specs.declared.task.PlainOptions.{PlainOptions}
 use Rattle.wsc_top.specs.declared.task.RunOptions.{RunOptions}
 use Rattle.wsc_top.specs.declared.task.GridOptions.{GridOptions}
@@ -40,8 +43,11 @@ use Rattle.wsc_top.specs.Assembly.{assembly_limit, IsAssembly, RefusesAssembly}
 use Rattle.work_gen.specs.Job.{words_of, job_text}
 use Rattle.wsc_top.specs.Tasks.{IsLine, IsNoLine}
 use Rattle.wsc_top.specs.Job.{job_limit, IsJob, Refuses, world_of}
-use Rattle.wsc_top.specs.Texts.{ended_text, faulted_text, going_text, turns_line, names_of, array_name, usage_text, unread_text, long_text, refusal_text, sound_text, asm_refusal_text}
-use Rattle.wsc_top.specs.Executions.{Executes, PortsAre, HasBegun, EndsRun, IsFailed, OrFailed, end_report, fault_report, spent_report, failed_report, tells_firings}
+use Rattle.wsc_top.specs.Texts.{ended_text, faulted_text, going_text, turns_line, names_of, array_name}
+use Rattle.wsc_top.specs.Texts.{usage_text, unread_text, long_text, refusal_text, sound_text}
+use Rattle.wsc_top.specs.Texts.{asm_refusal_text}
+use Rattle.wsc_top.specs.Executions.{Executes, PortsAre, HasBegun, EndsRun, IsFailed, OrFailed, end_report}
+use Rattle.wsc_top.specs.Executions.{fault_report, spent_report, failed_report, tells_firings}
 use Rattle.wsc_top.specs.Generated.{IsGeneratedJob}
 use Rattle.trace_check.specs.declared.events.Lined.{Lined}
 use Rattle.wsc_top.specs.Traced.{IsTraced, IsReplayed, HasTrace, EndsReplay}

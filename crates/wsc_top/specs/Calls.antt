@@ -7,7 +7,8 @@ use Rattle.port_set.specs.Ports.{Told}
 use Rattle.store_buf.specs.Outdoors.{RoseAt}
 use Rattle.wsc_words.specs.Lines.{HasCommand}
 use Rattle.wsc_top.specs.declared.status.Status.{Status}
-use Rattle.wsc_top.specs.declared.status.Status.TheVariants.{Done, Usage, Refused, Budget, ReadFault, WriteFault, PortFault, NoMemory, Fault}
+use Rattle.wsc_top.specs.declared.status.Status.TheVariants.{Done, Usage, Refused, Budget, ReadFault}
+use Rattle.wsc_top.specs.declared.status.Status.TheVariants.{WriteFault, PortFault, NoMemory, Fault}
 use Rattle.wsc_top.specs.declared.task.Task.TheVariants.{Generate, Bench}
 use Rattle.wsc_top.specs.declared.task.BenchOptions.{BenchOptions}
 use Rattle.wsc_top.specs.declared.task.JobTask.{JobTask}
@@ -16,7 +17,9 @@ use Rattle.wsc_top.specs.declared.task.AssemblyTask.{AssemblyTask}
 use Rattle.wsc_top.specs.Codes.{code_of}
 use Rattle.wsc_top.specs.Tasks.{IsLine, IsNoLine}
 use Rattle.wsc_top.specs.Generated.{IsGeneratedJob}
-use Rattle.wsc_top.specs.Answers.{SomeRose, ComesToItsEnd, MeetsFault, WantsTurns, AssemblyEndsSo, BenchEndsSo, IsToldJob, IsToldOther, IsToldAssembly, IsToldNoAssembly, OrNoMemory}
+use Rattle.wsc_top.specs.Answers.{SomeRose, ComesToItsEnd, MeetsFault, WantsTurns, AssemblyEndsSo}
+use Rattle.wsc_top.specs.Answers.{BenchEndsSo, IsToldJob, IsToldOther, IsToldAssembly, IsToldNoAssembly}
+use Rattle.wsc_top.specs.Answers.{OrNoMemory}
 use Rattle.wsc_top.specs.Jobs.{ProgramAndInput}
 use Rattle.wsc_top.specs.Threads.{Replies, Falls, AreToldJobs, AreToldNoJobs, MultiEndsSo, ComeToTheirEnd}
 

@@ -1,7 +1,8 @@
 -- The status codes of the process.
 use Rattle.std.specs.Prelude.{ℕ}
 use Rattle.wsc_top.specs.declared.status.Status.{Status}
-use Rattle.wsc_top.specs.declared.status.Status.TheVariants.{Done, Usage, Refused, Budget, ReadFault, WriteFault, PortFault, NoMemory, Fault}
+use Rattle.wsc_top.specs.declared.status.Status.TheVariants.{Done, Usage, Refused, Budget, ReadFault}
+use Rattle.wsc_top.specs.declared.status.Status.TheVariants.{WriteFault, PortFault, NoMemory, Fault}
 
 abbrev pub code_of : Status → ℕ
 code_of Done = 0

@@ -13,7 +13,8 @@ use Rattle.wsc_top.specs.declared.status.Status.TheVariants.{Done, Budget, Fault
 use Rattle.wsc_top.specs.declared.task.Report.{Report}
 use Rattle.wsc_top.specs.declared.task.Report.TheVariants.{Full, Brief}
 use Rattle.wsc_top.specs.declared.task.RunOptions.{RunOptions}
-use Rattle.wsc_top.specs.Texts.{ended_text, faulted_text, spent_text, failed_text, firings_line, shown_names, called, summary_text, budget_line, fault_line, port_line}
+use Rattle.wsc_top.specs.Texts.{ended_text, faulted_text, spent_text, failed_text, firings_line, shown_names}
+use Rattle.wsc_top.specs.Texts.{called, summary_text, budget_line, fault_line, port_line}
 
 -- what is told of a run that came to its end: of the names and the cells of the arrays that are shown,
 -- of the words that it printed, and of how often it fired

@@ -14,7 +14,8 @@ use Rattle.wsc_top.specs.declared.task.AssemblyTask.{AssemblyTask}
 use Rattle.wsc_top.specs.declared.task.AssemblyTask.TheVariants.{Exec}
 use Rattle.wsc_top.specs.Job.{IsJob}
 use Rattle.wsc_top.specs.Assembly.{IsAssembly}
-use Rattle.wsc_top.specs.Answers.{IsCompiled, Yields, Answered, AssemblyYields, AssemblyAnswered, IsDue, RunsClosed, assembly_text}
+use Rattle.wsc_top.specs.Answers.{IsCompiled, Yields, Answered, AssemblyYields, AssemblyAnswered, IsDue}
+use Rattle.wsc_top.specs.Answers.{RunsClosed, assembly_text}
 use Rattle.wsc_top.specs.Jobs.{RefusesJobs, jobs_refusal_text}
 use Rattle.wsc_top.specs.Threads.{Replies, Thread, AreDue, images_of, inputs_of}
 use Rattle.wsc_top.specs.Running.{AreRead}

@@ -1,11 +1,15 @@
 -- The texts of answers.
-use Rattle.std.specs.Prelude.{ℕ, zero, suc, ◌-◌, ◌%◌, ◌^◌, Bool, List, [], ◌∷◌, ◌++◌, length, Option, Some, None, if◌then◌else◌, codes, decimal, flat_map, map, unwrap_or}
+use Rattle.std.specs.Prelude.{ℕ, zero, suc, ◌-◌, ◌%◌, ◌^◌, Bool, List, [], ◌∷◌, ◌++◌, length, Option, Some}
+use Rattle.std.specs.Prelude.{None, if◌then◌else◌, codes, decimal, flat_map, map, unwrap_or}
 use Rattle.std.specs.List.{sum}
 use Rattle.src_ast.specs.declared.fault.Quantity.{Quantity}
-use Rattle.src_ast.specs.declared.fault.Quantity.TheVariants.{NameBytes, Depth, Lexemes, Arrays, Length, CellSum, Procs, Params, Vars, Statements, PortNumber}
+use Rattle.src_ast.specs.declared.fault.Quantity.TheVariants.{NameBytes, Depth, Lexemes, Arrays, Length}
+use Rattle.src_ast.specs.declared.fault.Quantity.TheVariants.{CellSum, Procs, Params, Vars, Statements}
+use Rattle.src_ast.specs.declared.fault.Quantity.TheVariants.{PortNumber}
 use Rattle.src_ast.specs.declared.fault.Refusal.{Refusal}
 use Rattle.src_ast.specs.declared.fault.RefusalKind.{RefusalKind}
-use Rattle.src_ast.specs.declared.fault.RefusalKind.TheVariants.{Byte, Wide, Syntax, Unknown, Twice, Kind, Count, Main, Limit, TooLong, Input}
+use Rattle.src_ast.specs.declared.fault.RefusalKind.TheVariants.{Byte, Wide, Syntax, Unknown, Twice, Kind}
+use Rattle.src_ast.specs.declared.fault.RefusalKind.TheVariants.{Count, Main, Limit, TooLong, Input}
 use Rattle.src_ast.specs.Syntax.{Part}
 use Rattle.src_ast.specs.Meaning.{arrays_of}
 use Rattle.ws_isa.specs.Image.{Array}

@@ -1,5 +1,6 @@
 -- What comes of several threads, each of which runs its job alone.
-use Rattle.std.specs.Prelude.{◌≡◌, ℕ, suc, ◌≤◌, List, [], ◌∷◌, ◌++◌, codes, decimal, length, map, Option, Some, None}
+use Rattle.std.specs.Prelude.{◌≡◌, ℕ, suc, ◌≤◌, List, [], ◌∷◌, ◌++◌, codes, decimal, length, map, Option}
+use Rattle.std.specs.Prelude.{Some, None}
 use Rattle.std.specs.List.{AllByRecursion}
 use Rattle.ws_io.specs.Streams.{TakesAll}
 use Rattle.src_ast.specs.Syntax.{Part}
@@ -14,7 +15,8 @@ use Rattle.wsc_top.specs.declared.task.JobTask.TheVariants.{Run}
 use Rattle.wsc_top.specs.declared.task.Task.TheVariants.{Multi}
 use Rattle.wsc_top.specs.Tasks.{IsLine}
 use Rattle.wsc_top.specs.Job.{job_limit, IsJob}
-use Rattle.wsc_top.specs.Jobs.{Piece, ProgramAndInput, Jobs, most_jobs, AreJobs, RefusesJobs, jobs_refusal_text}
+use Rattle.wsc_top.specs.Jobs.{Piece, ProgramAndInput, Jobs, most_jobs, AreJobs, RefusesJobs}
+use Rattle.wsc_top.specs.Jobs.{jobs_refusal_text}
 use Rattle.wsc_top.specs.Executions.{Executes, HasBegun, IsFailed}
 use Rattle.wsc_top.specs.Answers.{IsCompiled, Yields, ComesToItsEnd, EndsSo, IsFree, Answers, Starves}
 

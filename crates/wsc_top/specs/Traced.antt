@@ -1,5 +1,6 @@
 -- What comes of `trace` and `replay`.
-use Rattle.std.specs.Prelude.{◌≡◌, ℕ, List, [], ◌++◌, codes, decimal, flat_map, Option, Some, None, Ok, Err, if◌then◌else◌}
+use Rattle.std.specs.Prelude.{◌≡◌, ℕ, List, [], ◌++◌, codes, decimal, flat_map, Option, Some, None, Ok, Err}
+use Rattle.std.specs.Prelude.{if◌then◌else◌}
 use Rattle.ws_isa.specs.Image.{Image}
 use Rattle.df_core.specs.Core.{State, Run, core_opening}
 use Rattle.df_core.specs.declared.engine.Event.{Event}

@@ -1,6 +1,7 @@
 //! The answer, before it is written.
 
-ghost use Rattle.std.specs.Prelude.{◌≡◌, ◌≤◌, ◌+◌, ℕ, List, None, Ok, length, map, IsOk, IfOk, IfErr, IfSome, OnErr, string_bytes};
+ghost use Rattle.std.specs.Prelude.{◌≡◌, ◌≤◌, ◌+◌, ℕ, List, None, Ok, length, map, IsOk, IfOk, IfErr, IfSome};
+ghost use Rattle.std.specs.Prelude.{OnErr, string_bytes};
 ghost use Rattle.ws_io.specs.Streams.{Takes};
 ghost use Rattle.port_set.specs.Slots.{AllOpen, contents};
 ghost use Rattle.wsc_words.specs.Lines.{HasCommand};
@@ -30,7 +31,7 @@ use crate::step::{Starved, Step};
 use crate::task::{AssemblyTask, JobTask, RunOptions, Task, read_task};
 use crate::text::{Phrase, Text};
 use crate::yields::{assembly_yielded, yielded};
-use crate::{job, texts};
+use crate::{job, refusals};
 use fire_crew::Gate;
 use port_set::{Port, Slots};
 use src_ast::{TextFault, read_is_written};
@@ -64,7 +65,7 @@ fn to_text(alloc: Global, task: JobTask, text: &[u8]) -> Result<Step, Starved>
     match job::read(alloc, text) {
         Ok((accepted, input)) => Ok(yielded(alloc, task, &accepted, input)?),
         Err(TextFault::Refused(refusal)) => {
-            let text = texts::refused(alloc, refusal)?;
+            let text = refusals::refused(alloc, refusal)?;
             Ok(Step::Ready(Status::Refused, Text::built(text), None))
         }
         Err(TextFault::NoMemory) => Err(Starved { image: None }),
@@ -111,7 +112,7 @@ fn to_assembly(alloc: Global, task: AssemblyTask, text: &[u8]) -> Result<Step, S
     match assembly::read(alloc, assembly_text(task, text)) {
         Ok((image, input)) => Ok(assembly_yielded(alloc, task, text, image, input)?),
         Err(AssemblyFault::Refused(why)) => {
-            let text = texts::asm_refused(alloc, why)?;
+            let text = refusals::asm_refused(alloc, why)?;
             Ok(Step::Ready(Status::Refused, Text::built(text), None))
         }
         Err(AssemblyFault::NoMemory) => Err(Starved { image: None }),
@@ -148,7 +149,7 @@ fn to_jobs(alloc: Global, options: RunOptions, text: &[u8]) -> Result<Step, NoMe
     match batch::read(alloc, text) {
         Ok(read) => Ok(Step::Threads(options, read)),
         Err(JobsFault::Refused(refusal)) => {
-            let text = texts::jobs_refused(alloc, refusal)?;
+            let text = refusals::jobs_refused(alloc, refusal)?;
             Ok(Step::Ready(Status::Refused, Text::built(text), None))
         }
         Err(JobsFault::NoMemory) => Err(NoMemory),

@@ -5,7 +5,8 @@ ghost use Rattle.ws_isa.specs.Image.{Image};
 ghost use Rattle.ws_isa.specs.Sound.{Sound};
 ghost use Rattle.asm_text.specs.Reading.{read};
 ghost use Rattle.wsc_top.specs.Sections.{program_of};
-ghost use Rattle.wsc_top.specs.Assembly.{assembly_limit, IsAssembly, IsSectionFault, IsAssemblyFault, AnswersAssembly, fault_of_input};
+ghost use Rattle.wsc_top.specs.Assembly.{assembly_limit, IsAssembly, IsSectionFault, IsAssemblyFault};
+ghost use Rattle.wsc_top.specs.Assembly.{AnswersAssembly, fault_of_input};
 
 use crate::input::input_words;
 use crate::sections::split;

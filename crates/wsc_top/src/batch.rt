@@ -1,9 +1,11 @@
 //! The jobs of a text for several threads.
 
-ghost use Rattle.std.specs.Prelude.{◌≡◌, ◌+◌, ◌<◌, ◌≤◌, ◌^◌, ℕ, List, length, true, false, IfOk, IfErr, IfSome, IfNone, OnOk, [], ◌∷◌, ◌++◌};
+ghost use Rattle.std.specs.Prelude.{◌≡◌, ◌+◌, ◌<◌, ◌≤◌, ◌^◌, ℕ, List, length, true, false, IfOk, IfErr};
+ghost use Rattle.std.specs.Prelude.{IfSome, IfNone, OnOk, [], ◌∷◌, ◌++◌};
 ghost use Rattle.wsc_top.specs.Sections.{rest_of};
 ghost use Rattle.wsc_top.specs.Job.{job_limit};
-ghost use Rattle.wsc_top.specs.Jobs.{separator, first_job, behind, place_behind, IsLast, IsCrowded, IsJobsFault, Jobs, Piece, most_jobs};
+ghost use Rattle.wsc_top.specs.Jobs.{separator, first_job, behind, place_behind, IsLast, IsCrowded};
+ghost use Rattle.wsc_top.specs.Jobs.{IsJobsFault, Jobs, Piece, most_jobs};
 ghost use Rattle.wsc_top.specs.Running.{IsRead, IsPieceFault, AreRead};
 
 use crate::job;

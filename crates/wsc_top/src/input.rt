@@ -2,9 +2,11 @@
 
 ghost use Rattle.std.specs.Prelude.{◌≡◌, ℕ, ◌+◌, ◌<◌, ◌≤◌, ◌^◌, ◌++◌, List, length, not, IsTrue, IfOk, IfErr};
 ghost use Rattle.std.specs.List.{list_all, prefix_len};
-ghost use Rattle.src_ast.specs.Lexemes.{is_blank, starts_without};
-ghost use Rattle.wsc_top.specs.Sections.{input_of, input_place, IsItem, InputWords, IsInputFault, AnswersWords};
+ghost use Rattle.src_ast.specs.Lexemes.{is_blank};
+ghost use Rattle.wsc_top.specs.Sections.{input_of, input_place, IsItem, InputWords, IsInputFault};
+ghost use Rattle.wsc_top.specs.Sections.{AnswersWords};
 ghost use Rattle.wsc_top.specs.Assembly.{assembly_limit};
+ghost use Rattle.ws_words.specs.Letters.{starts_without};
 
 use crate::sections::split;
 use src_ast::{Place, Refusal, RefusalKind, TextFault};

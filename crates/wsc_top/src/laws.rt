@@ -34,7 +34,9 @@ ghost use Rattle.wsc_top.specs.Generated.{IsGeneratedJob};
 ghost use Rattle.wsc_top.specs.Texts.{with_input};
 ghost use Rattle.wsc_top.specs.Traced.{IsTraced, HasTrace, CanReplay, replayed_text};
 ghost use Rattle.wsc_top.specs.Tasks.{IsLine};
-ghost use Rattle.wsc_top.specs.Answers.{TellWords, EndsSo, AssemblyEndsSo, BenchEndsSo, Answers, IsDue, IsFixed, IsAnswer, IsFree, IsSettled, Yields, AssemblyAnswered, IsAssemblyReply, IsToldJob, IsToldAssembly};
+ghost use Rattle.wsc_top.specs.Answers.{TellWords, EndsSo, AssemblyEndsSo, BenchEndsSo, Answers, IsDue};
+ghost use Rattle.wsc_top.specs.Answers.{IsFixed, IsAnswer, IsFree, IsSettled, Yields, AssemblyAnswered};
+ghost use Rattle.wsc_top.specs.Answers.{IsAssemblyReply, IsToldJob, IsToldAssembly};
 
 use annot_check::breaches_break;
 use asm_text::{printed_reads_again, printed_texts_have_no_marker, read_images_are_formed};

@@ -20,6 +20,7 @@ mod job;
 mod laws;
 mod multi;
 mod multi_laws;
+mod refusals;
 mod run_texts;
 mod sections;
 mod status;

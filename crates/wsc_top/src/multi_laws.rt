@@ -8,7 +8,8 @@ ghost use Rattle.wsc_top.specs.declared.status.Status.{Status};
 ghost use Rattle.wsc_top.specs.declared.task.RunOptions.{RunOptions};
 ghost use Rattle.wsc_top.specs.Jobs.{ProgramAndInput, IsJobsAnswer};
 ghost use Rattle.wsc_top.specs.Answers.{TellWords};
-ghost use Rattle.wsc_top.specs.Threads.{ThreadsDo, ExecutesAlone, status_of, Thread, images_of, Replies, AreDue, AreToldJobs, MultiEndsSo, IsFreeAnswer};
+ghost use Rattle.wsc_top.specs.Threads.{ThreadsDo, ExecutesAlone, status_of, Thread, images_of, Replies};
+ghost use Rattle.wsc_top.specs.Threads.{AreDue, AreToldJobs, MultiEndsSo, IsFreeAnswer};
 
 use crate::laws::each_text_is_a_job_or_refused;
 use seq_run::one_answer;

@@ -3,7 +3,8 @@
 ghost use Rattle.std.specs.Prelude.{◌≡◌, ◌++◌, ℕ, map, option_copied, slice_get, IfOk, OnOk};
 ghost use Rattle.ws_isa.specs.View as view;
 ghost use Rattle.ws_isa.specs.Shown.{shown_cells};
-ghost use Rattle.wsc_top.specs.Texts.{array_lines, shown_line, shown_names, firings_line, maybe_name, called, fault_line, port_line};
+ghost use Rattle.wsc_top.specs.Texts.{array_lines, shown_line, shown_names, firings_line, maybe_name, called};
+ghost use Rattle.wsc_top.specs.Texts.{fault_line, port_line};
 ghost use Rattle.wsc_top.specs.Executions.{end_report, fault_report, spent_report, failed_report};
 ghost use Rattle.wsc_top.specs.Finished.{ReportsSo};
 

@@ -3,10 +3,11 @@ use Rattle.ws_isa.specs.View as view
 use Rattle.ws_isa.specs.Image.{instr_at, first_number}
 use Rattle.ws_isa.specs.Formed.{most_instrs}
 use Rattle.annot_check.specs.Seen.{op_with, PassState}
-use Rattle.annot_check.proofs.Blocks.{last_number, first_rises}
 use Rattle.annot_check.proofs.Entries.{instrs_read, instrs_count}
 use Rattle.annot_check.proofs.Passing.{instr_here, step_breach, state_init, state_step, state_end, within_read, ends_read}
 use Rattle.annot_check.proofs.sequence.pass_all.Goals as goal
+use Rattle.ws_isa.proofs.Steps.{first_le}
+use Rattle.ws_isa.proofs.Blocks.{number_last}
 
 pub loop-instr-init : goal.loop-instr-init
 loop-instr-init c = record {
@@ -52,8 +53,8 @@ overflow_add-op c =
       arith,
       w,
       c.requires.formed.few_instrs,
-      last_number (view.image c.args.image.now),
-      first_rises (view.image c.args.image.now) (suc c.args.number)
+      number_last (view.image c.args.image.now),
+      first_le (view.image c.args.image.now) (suc c.args.number)
           (suc (length (view.image c.args.image.now).blocks)) (omega (arith, c.requires.block.1)),
     )
 

@@ -1,5 +1,5 @@
-use Rattle.df_core.specs.Cores.{Runs}
 use Rattle.buffer_tests.proofs.beside_core.can_match.Given as goal
+use Rattle.df_core.specs.Cores.{IsRunning}
 
 abbrev pub invariant-loop-wave : goal.invariant-loop-wave
-invariant-loop-wave l = Runs l.core
+invariant-loop-wave l = IsRunning l.core

@@ -4,10 +4,9 @@ use Rattle.std.proofs.lemmas.List.{length-replicate}
 use Rattle.cfg_core.specs.Graph.{entry_of}
 use Rattle.cfg_core.specs.View as view
 use Rattle.call_gen.specs.Part.{Marks}
-use Rattle.call_gen.proofs.Planning.{rooms_are}
 use Rattle.call_gen.proofs.Marking.{found_main, found_more, found_all}
 use Rattle.call_gen.proofs.find.find.Goals as goal
-use Rattle.cfg_core.proofs.Spots.{count_is}
+use Rattle.cfg_core.proofs.Spots.{count_is, rooms_are}
 
 pub loop-b-init : goal.loop-b-init
 loop-b-init c =

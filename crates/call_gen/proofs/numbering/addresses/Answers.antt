@@ -3,10 +3,9 @@ use Rattle.std.proofs.lemmas.List.{length_push}
 use Rattle.live_vars.proofs.Planes.{pushed}
 use Rattle.cfg_core.specs.View as view
 use Rattle.call_gen.specs.Plans.{CallPlaced}
-use Rattle.call_gen.proofs.Planning.{rooms_are}
 use Rattle.call_gen.proofs.Tallying.{tallied_none}
 use Rattle.call_gen.proofs.numbering.addresses.Goals as goal
-use Rattle.cfg_core.proofs.Spots.{count_is}
+use Rattle.cfg_core.proofs.Spots.{count_is, rooms_are}
 
 pub loop-b-init : goal.loop-b-init
 loop-b-init c =

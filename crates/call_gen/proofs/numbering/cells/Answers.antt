@@ -1,7 +1,8 @@
 use Rattle.std.proofs.Common.{arith}
 use Rattle.cfg_core.specs.View as view
-use Rattle.call_gen.proofs.Planning.{rooms_are, cells_all}
+use Rattle.call_gen.proofs.Planning.{cells_all}
 use Rattle.call_gen.proofs.numbering.cells.Goals as goal
+use Rattle.cfg_core.proofs.Spots.{rooms_are}
 
 pub overflow_cast-f-end : goal.overflow_cast-f-end
 overflow_cast-f-end c = omega (arith, rooms_are c.args.table.now c.requires.table, c.args.table.now.rooms.ok.0, c.requires.few.blocks)

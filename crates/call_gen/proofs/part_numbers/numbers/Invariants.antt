@@ -1,7 +1,8 @@
 use Rattle.std.proofs.Common.{ℕ, ◌≡◌, ◌<◌, ◌≤◌, length, slice_index}
 use Rattle.cfg_core.specs.View as view
-use Rattle.call_gen.specs.Part.{number, flag_at}
+use Rattle.call_gen.specs.Part.{number}
 use Rattle.call_gen.proofs.part_numbers.numbers.Given as goal
+use Rattle.ws_words.specs.Items.{flag_at}
 
 abbrev pub invariant-loop-f : goal.invariant-loop-f
 invariant-loop-f l = record {

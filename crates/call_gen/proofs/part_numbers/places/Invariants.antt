@@ -1,6 +1,7 @@
 use Rattle.std.proofs.Common.{ℕ, ◌≡◌, ◌<◌, ◌≤◌, length, slice_index}
-use Rattle.call_gen.specs.Part.{before, flag_at}
+use Rattle.call_gen.specs.Part.{before}
 use Rattle.call_gen.proofs.part_numbers.places.Given as goal
+use Rattle.ws_words.specs.Items.{flag_at}
 
 abbrev pub invariant-loop-b : goal.invariant-loop-b
 invariant-loop-b l = record {

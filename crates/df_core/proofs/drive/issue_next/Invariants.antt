@@ -1,12 +1,12 @@
 use Rattle.std.proofs.Common.{ℕ, ◌≡◌, ◌≤◌}
 use Rattle.df_core.specs.Places.{image_of}
-use Rattle.df_core.specs.Flows.{RunsOn, Room, weight}
+use Rattle.df_core.specs.Flows.{RunsOn, weight, FlowRoom}
 use Rattle.df_core.proofs.drive.issue_next.Given as goal
 
 abbrev pub invariant-loop-place : goal.invariant-loop-place
 invariant-loop-place l = record {
   follows : RunsOn (image_of l.program) l.initial.flow l.flow;
-  room : (n : ℕ) → Room l.initial.flow 0 n → Room l.flow 0 n;
+  room : (n : ℕ) → FlowRoom l.initial.flow 0 n → FlowRoom l.flow 0 n;
   weight : weight l.flow ≤ weight l.initial.flow;
   count : l.flow.fired ≡ l.initial.flow.fired;
 }

@@ -2,7 +2,7 @@ use Rattle.std.proofs.Common.{[], ◌≡◌, ◌-◌, ◌∙◌, sym, ap, subst,
 use Rattle.df_core.specs.Core.{Issue}
 use Rattle.df_core.specs.declared.drive.Finish.{Finish}
 use Rattle.df_core.specs.Places.{image_of}
-use Rattle.df_core.specs.Flows.{FaultIs, Room, asked_at}
+use Rattle.df_core.specs.Flows.{asked_at, FlowFaultIs, FlowRoom}
 use Rattle.df_core.specs.Finishes.{FinishIs}
 use Rattle.df_core.proofs.Driving.{alone, follows_none, follows_on, going_on, leads_on, stands_still, none_may}
 use Rattle.df_core.proofs.Steady.{same_parts, room_less}
@@ -14,7 +14,7 @@ loop-flow-init c = record { follows = follows_none (image_of c.args.program.now)
 pub returns-in-Some-clause-finish : goal.returns-in-Some-clause-finish
 returns-in-Some-clause-finish c = λ world s formed sound h.
     let r = c.loop-flow.invariant.follows world s formed sound h in
-    (r.0, r.1, r.2, (r.2.stopped_is ∙ ap is_some c.in-Some.is, subst (FaultIs (image_of c.args.program.now) world) c.in-Some.is r.2.fault_is))
+    (r.0, r.1, r.2, (r.2.stopped_is ∙ ap is_some c.in-Some.is, subst (FlowFaultIs (image_of c.args.program.now) world) c.in-Some.is r.2.fault_is))
 
 pub loop-flow-preserved-in-Some-issuable : goal.loop-flow-preserved-in-Some-issuable
 loop-flow-preserved-in-Some-issuable c =
@@ -24,7 +24,7 @@ loop-flow-preserved-in-Some-issuable c =
     record {
       follows = follows_on image c.args.flow.now flow c.issue.new.self c.loop-flow.invariant.follows
           (leads_on image (Issue (asked_at flow place).wave (asked_at flow place).instr) flow flow c.issue.new.self (same_parts flow) c.issue.ensures.leads);
-      room = subst (λ n. Room c.issue.new.self 0 (c.args.budget - n)) (sym c.issue.ensures.count) (c.issue.ensures.room (c.args.budget - flow.fired) c.loop-flow.invariant.room);
+      room = subst (λ n. FlowRoom c.issue.new.self 0 (c.args.budget - n)) (sym c.issue.ensures.count) (c.issue.ensures.room (c.args.budget - flow.fired) c.loop-flow.invariant.room);
       within = omega (arith, c.loop-flow.invariant.within, c.issue.ensures.count);
     }
 

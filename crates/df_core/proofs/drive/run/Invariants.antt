@@ -1,12 +1,12 @@
 use Rattle.std.proofs.Common.{◌≤◌, ◌+◌, ◌-◌, ◌*◌}
 use Rattle.df_core.specs.Places.{image_of}
-use Rattle.df_core.specs.Flows.{RunsOn, Room, weight}
+use Rattle.df_core.specs.Flows.{RunsOn, weight, FlowRoom}
 use Rattle.df_core.proofs.drive.run.Given as goal
 
 abbrev pub invariant-loop-flow : goal.invariant-loop-flow
 invariant-loop-flow l = record {
   follows : RunsOn (image_of l.program) l.fn.flow l.flow;
-  room : Room l.flow 0 (l.budget - l.flow.fired);
+  room : FlowRoom l.flow 0 (l.budget - l.flow.fired);
   within : l.flow.fired ≤ l.budget;
 }
 

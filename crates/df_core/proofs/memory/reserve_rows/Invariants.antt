@@ -1,7 +1,7 @@
 use Rattle.std.proofs.Common.{ℕ, ◌≡◌, ◌<◌, ◌≤◌, ◌+◌, length, Some, Vec, Global, vec_len, vec_capacity}
-use Rattle.ws_isa.specs.Image.{nth}
 use Rattle.df_core.specs.Outdoors.{rows_of}
 use Rattle.df_core.proofs.memory.reserve_rows.Given as goal
+use Rattle.ws_words.specs.Items.{nth}
 
 abbrev pub invariant-loop-place : goal.invariant-loop-place
 invariant-loop-place l = record {

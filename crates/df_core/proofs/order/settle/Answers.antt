@@ -1,5 +1,5 @@
 use Rattle.std.proofs.Common.{ℕ, ◌≡◌, ◌<◌, List, length, slice_index, ap, sym, subst, ◌∙◌, arith}
-use Rattle.ws_isa.specs.Image.{In, note_of}
+use Rattle.ws_isa.specs.Image.{note_of}
 use Rattle.df_core.specs.Core as plain
 use Rattle.df_core.specs.Core.{IsNext}
 use Rattle.df_core.specs.Stands.{done, left_after}
@@ -7,6 +7,7 @@ use Rattle.df_core.specs.Chains.{chain_of}
 use Rattle.df_core.specs.Places.{image_of}
 use Rattle.df_core.proofs.Settled.{one_more, index_is, all_passed, same_wave}
 use Rattle.df_core.proofs.order.settle.Goals as goal
+use Rattle.ws_words.specs.Items.{In}
 
 pub returns-then-is_nothing-clause-settles : goal.returns-then-is_nothing-clause-settles
 returns-then-is_nothing-clause-settles c =

@@ -1,4 +1,4 @@
-use Rattle.std.proofs.Common.{ℕ, ◌-◌, refl, sym, ◌∙◌, arith}
+use Rattle.std.proofs.Common.{◌-◌, refl, sym, ◌∙◌, arith}
 use Rattle.df_core.specs.Places.{image_of}
 use Rattle.df_core.proofs.Quietly.{all_fill, fill_further, sent_at}
 use Rattle.df_core.proofs.quiet.quiet_among.Goals as goal

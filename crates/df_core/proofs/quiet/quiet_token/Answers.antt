@@ -1,4 +1,4 @@
-use Rattle.std.proofs.Common.{List, ◌++◌, map, subst}
+use Rattle.std.proofs.Common.{List, map, subst}
 use Rattle.df_core.specs.Core.{IsSent}
 use Rattle.df_core.specs.declared.plain.Token.{Token}
 use Rattle.df_core.specs.Places.{image_of}

@@ -1,7 +1,7 @@
 use Rattle.std.proofs.Common.{◌-◌, ℕ, ap, arith}
 use Rattle.match_table.specs.Rows.{contents}
 use Rattle.match_table.proofs.Growth.{all_grow_on}
-use Rattle.fire_crew.proofs.Phases.{steady_last, steady_moved, steady_more, steady_start}
+use Rattle.fire_crew.proofs.Phases.{steady_last, steady_more, steady_start}
 use Rattle.fire_crew.proofs.crew.run_phases.Goals as goal
 
 pub loop-phases-init : goal.loop-phases-init

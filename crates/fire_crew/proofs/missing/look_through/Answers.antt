@@ -1,27 +1,17 @@
 use Rattle.std.proofs.Common.{arith}
 use Rattle.fire_crew.specs.Together.{part_behind}
 use Rattle.fire_crew.proofs.Paid.{told_more}
-use Rattle.fire_crew.proofs.Rights.{sends_at}
 use Rattle.fire_crew.proofs.missing.look_through.Goals as goal
 
-pub fired_at-requires : goal.fired_at-requires
-fired_at-requires g c = let end = c.min-end.ensures in let count = c.fired_count.ensures in let t = c.loop-place-test.true in omega (arith, end, count, t)
-
-pub look_at-requires : goal.look_at-requires
-look_at-requires g c =
-    let end = c.min-end.ensures in let count = c.fired_count.ensures in let t = c.loop-place-test.true in (
-      omega arith,
-      (
-        c.loop-place.invariant.0,
-        sends_at g.J.Job.image g.J.Job.world c.program.ensures.formed c.program.ensures.sound c.args.table.now c.facts.ensures.part c.fired_at.result c.fired_at.ensures.operands c.loop-place.place (omega (arith, end, count, t)) c.fired_at.ensures.at,
-      ),
-    )
+pub see_at-requires : goal.see_at-requires
+see_at-requires g c = let end = c.min-end.ensures in let count = c.fired_count.ensures in let t = c.loop-place-test.true in
+    (omega arith, (c.loop-place.invariant.0, omega (arith, end, count, t)))
 
 pub loop-place-preserved : goal.loop-place-preserved
 loop-place-preserved g c = (
-  c.in_ok-look_at.ensures.missing,
-  λ e. (let a = c.in_ok-look_at.ensures.none e in let b = c.loop-place.invariant.1 a.0 in
-      (b.0, told_more g.J.Job.image (part_behind c.args.tables.now).held c.args.from c.loop-place.place c.args.table.now c.fired_at.result c.fired_at.ensures.at c.fired_at.ensures.operands b.1 a.1)),
+  c.in_ok-see_at.ensures.missing,
+  λ e. (let a = c.in_ok-see_at.ensures.none e in let b = c.loop-place.invariant.1 a.0 in
+      (b.0, told_more g.J.Job.image (part_behind c.args.tables.now).held c.args.from c.loop-place.place c.args.table.now b.1 a.1)),
 )
 
 pub returns-clause-none : goal.returns-clause-none

@@ -1,12 +1,12 @@
 use Rattle.std.proofs.Common.{◌++◌}
 use Rattle.part_store.specs.Calls.{request_of}
 use Rattle.part_store.proofs.Bringing.{submitted, submitted_whole}
-use Rattle.part_store.proofs.Coming.{map_ok}
 use Rattle.part_store.proofs.Reaching.{offered_beside}
 use Rattle.part_store.proofs.run.ask.Goals as goal
+use Rattle.ws_words.proofs.Results.{on_ok}
 
 pub returns-clause-paid : goal.returns-clause-paid
-returns-clause-paid g c = map_ok c.offer.result
+returns-clause-paid g c = on_ok c.offer.result
     (λ offered t others. submitted g.J.Job.image g.J.Job.world g.J.Job.began c.args.buffer.now
     c.facts.ensures.parted.0
     c.submit-answer.new.self (request_of c.args.request) c.submit-answer.result (c.args.next.now ++ others)
@@ -14,7 +14,7 @@ returns-clause-paid g c = map_ok c.offer.result
     (offered_beside c.submit-answer.result c.args.next.now c.offer.new.way others offered) t) c.offer.ensures
 
 pub returns-clause-asked : goal.returns-clause-asked
-returns-clause-asked g c = map_ok c.offer.result
+returns-clause-asked g c = on_ok c.offer.result
     (submitted_whole g.J.Job.image g.J.Job.world g.J.Job.began c.args.buffer.now c.facts.ensures.parted.0
     c.submit-answer.new.self (request_of c.args.request) c.submit-answer.result c.args.next.now
     c.offer.new.way c.submit-answer.ensures) c.offer.ensures

@@ -5,11 +5,11 @@ use Rattle.match_table.specs.Matching.{Accepted, Refused}
 use Rattle.match_table.specs.Tables.{held, part}
 use Rattle.part_store.specs.Runs.{IsWhole, Paid}
 use Rattle.part_store.proofs.Bringing.{both_ok}
-use Rattle.part_store.proofs.Coming.{map_ok}
 use Rattle.part_store.proofs.Paying.{not_fired, pay_held, taken_waits, taken_fires, taken_asks}
 use Rattle.part_store.proofs.Reaching.{covers_beside, covers_wider}
 use Rattle.part_store.proofs.run.bring.Goals as goal
 use Rattle.df_core.proofs.Ports.{has_some}
+use Rattle.ws_words.proofs.Results.{on_ok}
 
 pub returns-in-Some-clause-paid : goal.returns-in-Some-clause-paid
 returns-in-Some-clause-paid g c =
@@ -21,7 +21,7 @@ returns-in-Some-clause-paid g c =
     c.in-Waits.ensures.answer.0 in
     let fresh = not_fired image world c.program.ensures.formed c.program.ensures.sound
     (part old) c.facts.ensures.part x c.wave.ensures.right answer.0.free in
-    map_ok c.tell.result (λ tell. tell (part c.accept_into-took.new.self) c.args.run.now.way
+    on_ok c.tell.result (λ tell. tell (part c.accept_into-took.new.self) c.args.run.now.way
     (taken_waits image old x c.accept_into-took.new.self answer.0 fresh c.args.run.now.buffer
     (c.args.run.now.next ++ c.args.run.now.way) c.requires.paid answer.2)) c.tell.ensures.paid
 

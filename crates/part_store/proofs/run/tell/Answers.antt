@@ -1,13 +1,13 @@
 use Rattle.std.proofs.Common.{◌++◌}
 use Rattle.part_store.specs.Calls.{address_of}
 use Rattle.part_store.proofs.Bringing.{addressed}
-use Rattle.part_store.proofs.Coming.{map_ok}
 use Rattle.part_store.proofs.Reaching.{offered_beside}
 use Rattle.part_store.proofs.run.tell.Goals as goal
+use Rattle.ws_words.proofs.Results.{on_ok}
 
 pub returns : goal.returns
 returns g c = record {
-  paid = map_ok c.offer.result (λ offered t others.
+  paid = on_ok c.offer.result (λ offered t others.
       addressed g.J.Job.image c.args.buffer.now c.address-answer.new.self
       (address_of c.args.token) c.address-answer.result
       (c.args.next.now ++ others) (c.offer.new.way ++ others) c.address-answer.ensures

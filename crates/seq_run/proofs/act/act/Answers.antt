@@ -3,10 +3,11 @@ use Rattle.ws_words.specs.Memory.{lengths_of}
 use Rattle.ws_words.specs.Outside.{loads}
 use Rattle.cfg_core.specs.Walk.{loads_of}
 use Rattle.cfg_core.specs.View as graph
-use Rattle.seq_run.specs.Firsts.{or_else, past_array, first_past}
+use Rattle.seq_run.specs.Firsts.{past_array, first_past}
 use Rattle.seq_run.specs.declared.tree.Action.TheVariants as code
 use Rattle.seq_run.proofs.Actions.{assign_holds, assign_stops, print_holds, print_stops, take_holds, take_stops, read_holds, give_holds, noted, none_noted, some_done, none_done, some_there, none_there, from_action}
 use Rattle.seq_run.proofs.act.act.Goals as goal
+use Rattle.ws_words.specs.Items.{first_some}
 
 pub returns-then-is_some : goal.returns-then-is_some
 returns-then-is_some c = λ start s h.
@@ -25,7 +26,7 @@ returns-then-is_some-2 c = λ start s h.
     let one = first_past (lengths_of m.cells) (loads_of (graph.term c.in-Store.t) vars m.cells) in
     let two = first_past (lengths_of m.cells) (loads_of (graph.term c.in-Store.u) vars m.cells) in
     let own = past_array (lengths_of m.cells) (loads c.in-Store.a c.value-i.result) in
-    let e : c.note.new.past ≡ or_else (or_else one two) own = c.note.ensures ∙ ap (λ (x : Option ℕ). or_else x own) (c.value-v.ensures.past ∙ ap (λ (x : Option ℕ). or_else x two) c.value-i.ensures.past) in
+    let e : c.note.new.past ≡ first_some (first_some one two) own = c.note.ensures ∙ ap (λ (x : Option ℕ). first_some x own) (c.value-v.ensures.past ∙ ap (λ (x : Option ℕ). first_some x two) c.value-i.ensures.past) in
     some_done start (code.Store c.in-Store.a c.in-Store.t c.in-Store.u) c.args.action.now s c.note.new.past m vars c.in-Store.is
     (λ d is. noted start s m vars h c.in-Store.a c.value-i.result c.value-v.result (graph.term c.in-Store.t) (graph.term c.in-Store.u) c.value-i.ensures.value c.value-v.ensures.value one two own refl refl refl d (sym e ∙ is)) (some_there c.note.new.past c.if-is_some-2.ensures)
 
@@ -35,7 +36,7 @@ returns-else-is_some-2 c = λ start s h.
     let one = first_past (lengths_of m.cells) (loads_of (graph.term c.in-Store.t) vars m.cells) in
     let two = first_past (lengths_of m.cells) (loads_of (graph.term c.in-Store.u) vars m.cells) in
     let own = past_array (lengths_of m.cells) (loads c.in-Store.a c.value-i.result) in
-    let e : c.note.new.past ≡ or_else (or_else one two) own = c.note.ensures ∙ ap (λ (x : Option ℕ). or_else x own) (c.value-v.ensures.past ∙ ap (λ (x : Option ℕ). or_else x two) c.value-i.ensures.past) in
+    let e : c.note.new.past ≡ first_some (first_some one two) own = c.note.ensures ∙ ap (λ (x : Option ℕ). first_some x own) (c.value-v.ensures.past ∙ ap (λ (x : Option ℕ). first_some x two) c.value-i.ensures.past) in
     let none = none_there c.note.new.past c.if-is_some-2.ensures in
     none_done start (code.Store c.in-Store.a c.in-Store.t c.in-Store.u) c.args.action.now s c.note.new.past c.store.new.self vars c.in-Store.is none
     (none_noted start s m vars h c.in-Store.a c.value-i.result c.value-v.result (graph.term c.in-Store.t) (graph.term c.in-Store.u) c.value-i.ensures.value c.value-v.ensures.value c.store.new.self one two own refl refl refl (sym e ∙ none) c.store.ensures)

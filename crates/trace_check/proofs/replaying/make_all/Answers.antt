@@ -1,6 +1,6 @@
-use Rattle.std.proofs.Common.{List, [], ◌∷◌, ◌++◌, take, ap, subst, sym, arith}
+use Rattle.std.proofs.Common.{List, ap, subst, sym, arith}
 use Rattle.df_core.specs.Core.{Event}
-use Rattle.trace_check.specs.Replays.{events_of, event_in}
+use Rattle.trace_check.specs.Replays.{events_of}
 use Rattle.trace_check.proofs.Making.{LedAlong, none_made, one_made, all_made, not_made, events_more, take_all}
 use Rattle.trace_check.proofs.replaying.make_all.Goals as goal
 

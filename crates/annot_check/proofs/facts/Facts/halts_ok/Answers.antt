@@ -1,9 +1,9 @@
 use Rattle.std.proofs.Common.{◌∙◌, sym, arith, inl, inr, suc}
 use Rattle.ws_isa.specs.View as view
-use Rattle.annot_check.proofs.Blocks.{first_rises}
 use Rattle.annot_check.proofs.Shapes.{halt_begin, halt_next, halt_broken, halt_shape, halt_lacks}
 use Rattle.annot_check.proofs.facts.Facts.halts_ok.Goals as goal
 use Rattle.ws_words.proofs.Bools.{not_false, not_true}
+use Rattle.ws_isa.proofs.Steps.{first_le}
 
 pub loop-at-init : goal.loop-at-init
 loop-at-init c = halt_begin (view.image c.args.image.now) c.args.number c.args.first
@@ -28,7 +28,7 @@ returns-then-halted-ne0-clause-yes c x = halt_shape
       c.requires.first,
       c.loop-at.auto.at,
       c.loop-at.auto.at-end,
-      first_rises (view.image c.args.image.now) c.args.number (suc c.args.number)
+      first_le (view.image c.args.image.now) c.args.number (suc c.args.number)
           (omega arith),
     )) c.requires.one (inl (omega arith))
 
@@ -41,7 +41,7 @@ returns-clause-yes c x = halt_shape
       c.requires.first,
       c.loop-at.auto.at,
       c.loop-at.auto.at-end,
-      first_rises (view.image c.args.image.now) c.args.number (suc c.args.number)
+      first_le (view.image c.args.image.now) c.args.number (suc c.args.number)
           (omega arith),
     )) c.requires.one (inr (sym c.stops_at-stops.ensures ∙ not_true _ x))
 
@@ -54,6 +54,6 @@ returns-clause-no c x shape = halt_lacks
       c.requires.first,
       c.loop-at.auto.at,
       c.loop-at.auto.at-end,
-      first_rises (view.image c.args.image.now) c.args.number (suc c.args.number)
+      first_le (view.image c.args.image.now) c.args.number (suc c.args.number)
           (omega arith),
     )) c.requires.one (omega arith) (sym c.stops_at-stops.ensures ∙ not_false _ x) shape

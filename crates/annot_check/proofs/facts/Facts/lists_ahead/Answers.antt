@@ -4,10 +4,11 @@ use Rattle.ws_isa.specs.View as view
 use Rattle.ws_isa.specs.Image.{Instr, instr_at, first_number}
 use Rattle.ws_isa.specs.Formed.{most_instrs}
 use Rattle.ws_isa.specs.Sound.{HasDest, IsAhead}
-use Rattle.annot_check.proofs.Blocks.{last_number, first_rises}
 use Rattle.annot_check.proofs.Entries.{instrs_read, instrs_count}
 use Rattle.annot_check.proofs.Passing.{instr_here, within_read, ends_read}
 use Rattle.annot_check.proofs.facts.Facts.lists_ahead.Goals as goal
+use Rattle.ws_isa.proofs.Steps.{first_le}
+use Rattle.ws_isa.proofs.Blocks.{number_last}
 
 pub returns-then-not-all_ahead-clause-no : goal.returns-then-not-all_ahead-clause-no
 returns-then-not-all_ahead-clause-no c x all =
@@ -62,8 +63,8 @@ overflow_add-op c =
       arith,
       w,
       c.requires.formed.few_instrs,
-      last_number (view.image c.args.image.now),
-      first_rises (view.image c.args.image.now) (suc c.args.number)
+      number_last (view.image c.args.image.now),
+      first_le (view.image c.args.image.now) (suc c.args.number)
           (suc (length (view.image c.args.image.now).blocks)) (omega (arith, c.requires.block.1)),
     )
 

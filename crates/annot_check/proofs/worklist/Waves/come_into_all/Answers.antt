@@ -1,11 +1,11 @@
 use Rattle.std.proofs.Common.{◌≡◌, ◌∙◌, ℕ, true, sym, ap, inl, inr, subst, arith, get_or}
 use Rattle.ws_isa.specs.View as view
 use Rattle.ws_isa.specs.Image.{is_first}
-use Rattle.annot_check.specs.Open.{bit}
 use Rattle.annot_check.specs.Table.{HasNumber}
 use Rattle.annot_check.proofs.Come.{come_twice}
 use Rattle.annot_check.proofs.Entries.{number_there, number_past, number_step}
 use Rattle.annot_check.proofs.worklist.Waves.come_into_all.Goals as goal
+use Rattle.ws_words.specs.Items.{flag_at}
 
 pub come_into-requires-clause-block : goal.come_into-requires-clause-block
 come_into-requires-clause-block c =
@@ -21,7 +21,7 @@ loop-number-preserved c =
       there = λ b h f. elim (c.loop-number.invariant.there b h f) [
         | inl m ↦ inl (made.more.keeps b m)
         | inr m ↦ elim (number_step c.args.numbers.now c.loop-number.number-index 0 b c.loop-number-test.true m) [
-          | inl s ↦ inl (subst (λ (x : ℕ). bit c.come_into.new.self.come.items x ≡ true) s
+          | inl s ↦ inl (subst (λ (x : ℕ). flag_at c.come_into.new.self.come.items x ≡ true) s
               (made.there (ap (is_first (view.image c.args.image.now)) s ∙ f)))
           | inr y ↦ inr y
         ]

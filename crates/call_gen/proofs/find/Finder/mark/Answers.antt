@@ -1,8 +1,8 @@
 use Rattle.std.proofs.Common.{◌≡◌, ◌<◌, false, length, arith}
 use Rattle.std.proofs.lemmas.Grind.{common_steps}
-use Rattle.call_gen.specs.Part.{flag_at}
 use Rattle.call_gen.proofs.Marking.{marks_one}
 use Rattle.call_gen.proofs.find.Finder.mark.Goals as goal
+use Rattle.ws_words.specs.Items.{flag_at}
 
 pub returns-in_ok-push : goal.returns-in_ok-push
 returns-in_ok-push c =

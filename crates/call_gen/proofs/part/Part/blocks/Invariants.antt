@@ -1,7 +1,8 @@
 use Rattle.std.proofs.Common.{◌≡◌, ◌+◌, ◌++◌, map, drop}
 use Rattle.cfg_core.specs.View as view
-use Rattle.call_gen.specs.Part.{flag_at, name, part_blocks, BlocksThere}
+use Rattle.call_gen.specs.Part.{name, part_blocks, BlocksThere}
 use Rattle.call_gen.proofs.part.Part.blocks.Given as goal
+use Rattle.ws_words.specs.Items.{flag_at}
 
 abbrev pub invariant-loop-i : goal.invariant-loop-i
 invariant-loop-i l = record {

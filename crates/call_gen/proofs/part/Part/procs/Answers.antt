@@ -2,11 +2,12 @@ use Rattle.std.proofs.Common.{◌≡◌, ◌+◌, ◌∷◌, suc, drop, length, 
 use Rattle.std.specs.List.{AllByRecursion}
 use Rattle.cfg_core.specs.Graph as plain
 use Rattle.cfg_core.specs.View as view
-use Rattle.call_gen.specs.Part.{flag_at, name, BlocksThere}
+use Rattle.call_gen.specs.Part.{name, BlocksThere}
 use Rattle.call_gen.proofs.Making.{count_next}
 use Rattle.call_gen.proofs.PartMaking.{all_there, part_next}
 use Rattle.call_gen.proofs.part.Part.procs.Goals as goal
 use Rattle.ws_words.proofs.Lists.{drop_next}
+use Rattle.ws_words.specs.Items.{flag_at}
 
 pub loop-proc-init : goal.loop-proc-init
 loop-proc-init c = record { made = search rules; there = all_there (view.graph c.args.self.now.table.graph.now) c.requires.rules; count = omega arith }

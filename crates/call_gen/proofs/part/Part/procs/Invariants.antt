@@ -2,8 +2,9 @@ use Rattle.std.proofs.Common.{◌≡◌, ◌+◌, ◌++◌, map, drop, length}
 use Rattle.std.specs.List.{AllByRecursion}
 use Rattle.cfg_core.specs.Graph.{spots, spots_from}
 use Rattle.cfg_core.specs.View as view
-use Rattle.call_gen.specs.Part.{flag_at, name, part_procs, BlocksThere}
+use Rattle.call_gen.specs.Part.{name, part_procs, BlocksThere}
 use Rattle.call_gen.proofs.part.Part.procs.Given as goal
+use Rattle.ws_words.specs.Items.{flag_at}
 
 abbrev pub invariant-loop-proc : goal.invariant-loop-proc
 invariant-loop-proc l = record {

@@ -2,7 +2,7 @@ use Rattle.std.proofs.Common.{◌≡◌, ◌∙◌, List, slice_index_or, ap, re
 use Rattle.std.specs.Result.{is_err}
 use Rattle.std.proofs.lemmas.Bool.{both_ways}
 use Rattle.df_core.specs.declared.plain.Asked.{Asked}
-use Rattle.df_core.specs.Flows.{asked_at, no_asked, Room}
+use Rattle.df_core.specs.Flows.{asked_at, no_asked, FlowRoom}
 use Rattle.df_core.proofs.Steady.{room_less}
 use Rattle.df_core.proofs.Stepping.{kept_same, not_ready, going_prepared, makes_issue}
 use Rattle.df_core.proofs.engine.Core.make_issue.Goals as goal
@@ -26,7 +26,7 @@ not_both (Err x) o e = both_ways false refl o
 
 pub returns-then-is_err-clause-memory : goal.returns-then-is_err-clause-memory
 returns-then-is_err-clause-memory c = λ room.
-    let less : Room c.args.self.now.flow 0 0 = room_less c.args.self.now.flow 1 0 (omega arith) room.0 in
+    let less : FlowRoom c.args.self.now.flow 0 0 = room_less c.args.self.now.flow 1 0 (omega arith) room.0 in
     let ok : IsOk c.prepare.result = c.prepare.ensures.succeeds (omega arith) less in
     absurd (not_both c.prepare.result ok (sym c.is_err.ensures.value ∙ c.if-is_err.true))
 

@@ -13,7 +13,7 @@ pub returns-then-ports-eq1-clause-leads : goal.returns-then-ports-eq1-clause-lea
 returns-then-ports-eq1-clause-leads c = λ beside world s formed sound h.
     let image = image_of c.args.program.now in
     let e = c.fire.ensures in
-    let one : ports image c.args.token.instr ≡ 1 = ports_is_op image c.args.token.instr ∙ sym (c.ports_of-ports.ensures ∙ ap ports_of c.op-op.ensures) ∙ c.if-ports-eq1.true in
+    let one : ports image c.args.token.instr ≡ 1 = ports_is_op image c.args.token.instr ∙ sym (c.ports-ports.ensures ∙ ap ports_of c.op-op.ensures) ∙ c.if-ports-eq1.true in
     single_fires image world formed sound beside c.args.token c.args.self.now s h c.fire.new.self one e.slots c.op-op.result c.op-op.ensures e.early e.chain e.fault e.memory e.fired e.asked e.not_sent e.not_asked e.sent
 
 pub put-requires-clause-port : goal.put-requires-clause-port
@@ -29,7 +29,7 @@ returns-then-is_full-clause-leads c = λ beside world s formed sound h.
     let image = image_of c.args.program.now in
     let e = c.fire-then-is_full.ensures in
     let p = c.put.new.self in
-    let n : c.ports_of-ports.result ≡ ports image c.args.token.instr = c.ports_of-ports.ensures ∙ ap ports_of c.op-op.ensures ∙ sym (ports_is_op image c.args.token.instr) in
+    let n : c.ports-ports.result ≡ ports image c.args.token.instr = c.ports-ports.ensures ∙ ap ports_of c.op-op.ensures ∙ sym (ports_is_op image c.args.token.instr) in
     arrived_fires image world formed sound beside c.args.token c.args.self.now c.fire-then-is_full.new.self s h (partial_of p.slots.items p.spill) c.put.ensures.partial
     (subst (λ m. is_full (partial_of p.slots.items p.spill) c.args.token.wave c.args.token.instr m ≡ true) n (sym c.is_full.ensures ∙ c.if-is_full.true))
     (λ a b q. ap (λ x. partial_of x.slots.items x.spill a b q) e.slots ∙ c.clear.ensures.partial a b q)
@@ -39,7 +39,7 @@ pub returns-else-is_full-clause-leads : goal.returns-else-is_full-clause-leads
 returns-else-is_full-clause-leads c = λ beside world s formed sound h.
     let image = image_of c.args.program.now in
     let p = c.put.new.self in
-    let n : c.ports_of-ports.result ≡ ports image c.args.token.instr = c.ports_of-ports.ensures ∙ ap ports_of c.op-op.ensures ∙ sym (ports_is_op image c.args.token.instr) in
+    let n : c.ports-ports.result ≡ ports image c.args.token.instr = c.ports-ports.ensures ∙ ap ports_of c.op-op.ensures ∙ sym (ports_is_op image c.args.token.instr) in
     arrived_waits image world formed sound beside c.args.token c.args.self.now _ s h c.put.ensures.partial
     (subst (λ m. is_full (partial_of p.slots.items p.spill) c.args.token.wave c.args.token.instr m ≡ false) n (sym c.is_full.ensures ∙ c.if-is_full.false)) refl refl refl refl refl refl refl
 

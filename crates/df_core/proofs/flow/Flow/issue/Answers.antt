@@ -1,4 +1,4 @@
-use Rattle.std.proofs.Common.{◌≡◌, ◌≤◌, ◌<◌, length, List, [], true, Some, refl, ap, ◌∙◌, subst, sym, arith}
+use Rattle.std.proofs.Common.{◌≡◌, ◌≤◌, ◌<◌, length, List, true, Some, refl, ap, ◌∙◌, subst, sym, arith}
 use Rattle.std.specs.List.{swap_remove}
 use Rattle.ws_isa.specs.declared.instr.Dest.{Dest}
 use Rattle.df_core.specs.Places.{image_of}
@@ -8,7 +8,7 @@ use Rattle.ws_isa.specs.Image.{selector_of, tokens_to}
 use Rattle.df_core.specs.declared.flow.Flow.{Flow}
 use Rattle.df_core.specs.Places.{destinations}
 use Rattle.df_core.specs.Ways.{SentTo}
-use Rattle.df_core.specs.Flows.{Holds, all_of, asked_at, no_asked}
+use Rattle.df_core.specs.Flows.{all_of, asked_at, no_asked, FlowIs}
 use Rattle.df_core.proofs.Few.{few}
 use Rattle.df_core.proofs.Issuing as I
 use Rattle.df_core.proofs.Bounds.{issue_wave}
@@ -22,7 +22,7 @@ returns-then-is_past-clause-leads c = λ beside world s formed sound h.
     let image = image_of c.args.program.now in
     let a_is : a ≡ asked_at old c.args.place = I.or_any old.asked.items c.args.place a no_asked c.requires.place c.index-asked.ensures in
     let new : Flow = record { slots = old.slots; way = old.way; asked = old.asked; hints = old.hints; early = old.early; chain = old.chain; fault = Some c.array_of.result; memory = old.memory; fired = old.fired } in
-    subst (λ b. (t : State) × Step image s (Issue b.wave b.instr) t × Holds image world beside new t) a_is
+    subst (λ b. (t : State) × Step image s (Issue b.wave b.instr) t × FlowIs image world beside new t) a_is
     (I.issue_stops image world formed sound beside old s h c.args.place a c.requires.place c.index-asked.ensures c.requires.running
     (subst (λ b. may_flag image (chain_of old.chain) b.wave b.instr b.operands.first ≡ true) (sym a_is) c.requires.may)
     c.op-op.result c.op-op.ensures (sym c.is_past.ensures ∙ c.if-is_past.true) c.array_of.result c.array_of.ensures new refl refl refl refl refl refl refl refl)
@@ -47,7 +47,7 @@ returns-clause-leads c = λ beside world s formed sound h.
     let to : c.destinations-dests.result.now ≡ destinations image a.instr (selector_of c.op-op.result (all_of a.operands)) = c.destinations-dests.ensures ∙ ap (destinations image a.instr) c.selector.ensures in
     let taken : c.swap_remove.result ≡ a = I.or_any old.asked.items c.args.place c.swap_remove.result no_asked c.requires.place c.swap_remove.ensures.value ∙ sym a_is in
     let swapped : new.asked.items ≡ swap_remove old.asked.items c.args.place a = subst (λ b. new.asked.items ≡ swap_remove old.asked.items c.args.place b) taken c.swap_remove.ensures.items in
-    subst (λ b. (t : State) × Step image s (Issue b.wave b.instr) t × Holds image world beside new t) a_is
+    subst (λ b. (t : State) × Step image s (Issue b.wave b.instr) t × FlowIs image world beside new t) a_is
     (I.issue_goes image world formed sound beside old s h c.args.place a c.requires.place c.index-asked.ensures c.requires.running
     (subst (λ b. may_flag image (chain_of old.chain) b.wave b.instr b.operands.first ≡ true) (sym a_is) c.requires.may)
     c.op-op.result c.op-op.ensures (sym c.is_past.ensures ∙ c.if-is_past.false) c.run-word.result new c.run-word.ensures.answer refl swapped refl refl c.pass_on-self.ensures.passed (subst (λ ds. SentTo old.way c.send.new.self (tokens_to a.wave c.run-word.result ds)) to c.send.ensures.sent))

@@ -1,9 +1,9 @@
 use Rattle.std.proofs.Common.{◌∙◌, ap}
-use Rattle.ws_isa.specs.Image.{or_else}
 use Rattle.df_core.specs.Places.{image_of}
 use Rattle.ws_isa.specs.View as view
 use Rattle.df_core.proofs.Look.{note_is, note_none, unwrapped}
 use Rattle.df_core.proofs.program.Program.note.Goals as goal
+use Rattle.ws_words.specs.Items.{or_else}
 
 pub returns-in-Some : goal.returns-in-Some
 returns-in-Some c = let i = c.in-Some.place.instr.now in

@@ -1,15 +1,15 @@
 use Rattle.std.proofs.Common.{◌≡◌, sym, refl, ap, ◌∙◌, subst, Some}
 use Rattle.match_table.specs.declared.entry.Entry.{Entry}
-use Rattle.match_table.specs.Pages.{Store, arrived_in, instance_of, instance_under}
+use Rattle.match_table.specs.Pages.{arrived_in, instance_of, instance_under, PageStore}
 use Rattle.match_table.proofs.Arrivals.{under_arrived}
 use Rattle.match_table.proofs.pages.Pages.at.Goals as goal
 
 pub returns-clause-instance : goal.returns-clause-instance
 returns-clause-instance c = let e : Entry = c.in-Some.entry.now in
-    subst (λ (s : Store). instance_under s.entries c.args.key ≡ record { wave = e.wave; instr = e.instr }) c.self.view_is
+    subst (λ (s : PageStore). instance_under s.entries c.args.key ≡ record { wave = e.wave; instr = e.instr }) c.self.view_is
     (ap instance_of (sym c.in-Some.ensures))
 
 pub returns-clause-arrived : goal.returns-clause-arrived
 returns-clause-arrived c = let e : Entry = c.in-Some.entry.now in
-    subst (λ (s : Store). arrived_in s.entries e.wave e.instr ≡ Some c.arrived_of.result) c.self.view_is
+    subst (λ (s : PageStore). arrived_in s.entries e.wave e.instr ≡ Some c.arrived_of.result) c.self.view_is
     (under_arrived c.self.inside.entries.slots c.args.key e.wave e.instr c.self.invariant.single (record { entry = e; at = sym c.in-Some.ensures; wave = refl; instr = refl }) ∙ ap Some (sym c.arrived_of.ensures))

@@ -7,20 +7,20 @@ use Rattle.df_core.proofs.Few.{few}
 use Rattle.df_core.specs.Places.{image_of}
 use Rattle.df_core.specs.Rights.{Asked, operands_of}
 use Rattle.match_table.specs.Ports.{listed}
-use Rattle.match_table.specs.Tables.{Content}
 use Rattle.match_table.proofs.Answered.{ok_now, fills, memory_is, sent_is, sends_right, asks_right, request_right}
 use Rattle.match_table.proofs.table.Table.hand_on.Goals as goal
+use Rattle.match_table.specs.Tables.{TableContent}
 
 pub right-request-requires : goal.right-request-requires
 right-request-requires g c =
-    let ok = ok_now g.J.Job.image g.J.Job.world c.self.inside.pages.entries c.self.inside.fired.items c.self.inside.asked.items c.self.invariant c.args.self.now (ap (λ (s : Content). s.entries) c.self.view_is) in
+    let ok = ok_now g.J.Job.image g.J.Job.world c.self.inside.pages.entries c.self.inside.fired.items c.self.inside.asked.items c.self.invariant c.args.self.now (ap (λ (s : TableContent). s.entries) c.self.view_is) in
     subst (λ (k : ℕ × ℕ × ℕ × ℕ). RightRequest g.J.Job.image g.J.Job.world k.0 k.1 (operands_of (ports g.J.Job.image k.1) k.2 k.3))
     (λ j. (sym c.wave-wave.ensures.wave j, sym c.instr-instr.ensures j, sym c.first.ensures j, sym c.second.ensures j))
     (request_right g.J.Job.image g.J.Job.world c.requires.formed c.requires.sound c.args.self.now _ _ ok c.args.token.now c.wave-wave.ensures.right c.args.operands (fills g.J.Job.image g.J.Job.world c.requires.formed c.requires.sound c.args.self.now _ _ ok c.args.token.now c.wave-wave.ensures.right c.args.operands c.requires.seen) (memory_is g.J.Job.image (image_of c.args.program.now) c.args.token.now.instr c.instr-instr.result c.args.op (c.requires.op ∙ ap (λ (k : ℕ). (instr_at (image_of c.args.program.now) k).op) (sym c.instr-instr.ensures)) c.requires.image c.instr-instr.ensures c.is_memory.result c.is_memory.ensures ∙ c.if-is_memory.true))
 
 pub returns-then-is_memory-clause-outcome : goal.returns-then-is_memory-clause-outcome
 returns-then-is_memory-clause-outcome g c =
-    let ok = ok_now g.J.Job.image g.J.Job.world c.self.inside.pages.entries c.self.inside.fired.items c.self.inside.asked.items c.self.invariant c.args.self.now (ap (λ (s : Content). s.entries) c.self.view_is) in (
+    let ok = ok_now g.J.Job.image g.J.Job.world c.self.inside.pages.entries c.self.inside.fired.items c.self.inside.asked.items c.self.invariant c.args.self.now (ap (λ (s : TableContent). s.entries) c.self.view_is) in (
       c.right-request.result,
       refl,
       c.requires.empty.0,
@@ -39,7 +39,7 @@ right-results-requires-clause-few g c = subst (λ ds. length ds ≤ 8) (sym c.de
 
 pub right-results-requires-clause-right : goal.right-results-requires-clause-right
 right-results-requires-clause-right g c =
-    let ok = ok_now g.J.Job.image g.J.Job.world c.self.inside.pages.entries c.self.inside.fired.items c.self.inside.asked.items c.self.invariant c.args.self.now (ap (λ (s : Content). s.entries) c.self.view_is) in
+    let ok = ok_now g.J.Job.image g.J.Job.world c.self.inside.pages.entries c.self.inside.fired.items c.self.inside.asked.items c.self.invariant c.args.self.now (ap (λ (s : TableContent). s.entries) c.self.view_is) in
     λ w i p v s. sends_right g.J.Job.image g.J.Job.world c.requires.formed c.requires.sound c.args.self.now _ _ ok c.args.token.now c.wave-wave.ensures.right (listed c.args.operands) (fills g.J.Job.image g.J.Job.world c.requires.formed c.requires.sound c.args.self.now _ _ ok c.args.token.now c.wave-wave.ensures.right c.args.operands c.requires.seen) (memory_is g.J.Job.image (image_of c.args.program.now) c.args.token.now.instr c.instr-instr.result c.args.op (c.requires.op ∙ ap (λ (k : ℕ). (instr_at (image_of c.args.program.now) k).op) (sym c.instr-instr.ensures)) c.requires.image c.instr-instr.ensures c.is_memory.result c.is_memory.ensures ∙ c.if-is_memory.false) w i p v
     (subst (λ (ts : List Token). IsSent ts w i p v) (sent_is g.J.Job.image (image_of c.args.program.now) c.args.token.now.instr c.instr-instr.result c.args.op (c.requires.op ∙ ap (λ (k : ℕ). (instr_at (image_of c.args.program.now) k).op) (sym c.instr-instr.ensures)) c.requires.image c.instr-instr.ensures (listed c.args.operands) c.args.token.now.wave c.wave-wave.result c.in-Some.number c.result_of-word.result c.selector.result c.destinations-dests.result.now c.wave-wave.ensures.wave c.in-Some.ensures.number c.result_of-word.ensures c.selector.ensures c.destinations-dests.ensures) s)
 

@@ -4,11 +4,9 @@ use Rattle.std.proofs.lemmas.Bool.{both_ways}
 use Rattle.std.specs.List.{list_any}
 use Rattle.ws_isa.specs.Image.{Image, cells_of}
 use Rattle.ws_isa.specs.View as view
-use Rattle.store_buf.specs.declared.order.Order.{Order}
 use Rattle.store_buf.specs.declared.kept.Kept.{Kept}
 use Rattle.store_buf.specs.Finding.{pair_eq}
 use Rattle.store_buf.specs.Requests.{entry_of}
-use Rattle.store_buf.specs.Ordering.{OrderOk, Room}
 use Rattle.store_buf.specs.Outdoors.{AllBegan}
 use Rattle.part_store.specs.declared.bare.Bare.{Bare}
 use Rattle.part_store.specs.declared.parts.Parts.{Parts}
@@ -16,9 +14,7 @@ use Rattle.part_store.specs.Bares.{is_in}
 use Rattle.part_store.proofs.Opening as O
 use Rattle.part_store.proofs.part.PartBuffer.begin.Goals as goal
 use Rattle.store_buf.proofs.Idle.{none_wait}
-
-no_room : (o : Order) → OrderOk o → o.kept.items ≡ [] → o.early.items ≡ [] → Room o
-no_room o ok e f = let w = none_wait o ok e in let l = ap length f in omega (arith, w, l, o.early.ok.0)
+use Rattle.store_buf.proofs.Coming.{no_room}
 
 -- nothing is bare
 none_bare : (b : Bare) (ks : List Kept) → b.set.keys ≡ [] → (w i : ℕ) → is_in b w i ≡ true →

@@ -2,24 +2,24 @@ use Rattle.std.proofs.Common.{◌≡◌, All, Some, subst}
 use Rattle.store_buf.specs.Requests.{entry_of}
 use Rattle.store_buf.specs.Finding.{place_in}
 use Rattle.store_buf.proofs.Once.{own}
-use Rattle.part_store.specs.Contents.{Content}
 use Rattle.part_store.specs.Parted.{Parted}
-use Rattle.part_store.specs.Calls.{FailedSo, Idle}
+use Rattle.part_store.specs.Calls.{PartFailedSo, PartIdle}
 use Rattle.part_store.proofs.part.PartBuffer.facts.Goals as goal
+use Rattle.part_store.specs.Contents.{PartContent}
 
 pub returns-clause-parted : goal.returns-clause-parted
 returns-clause-parted g c = subst (Parted g.J.Job.image g.J.Job.world g.J.Job.began) c.self.view_is
     (c.self.invariant.calm.0.parting, c.self.invariant.calm.1)
 
 pub returns-clause-idle : goal.returns-clause-idle
-returns-clause-idle g c = subst (Idle g.J.Job.image) c.self.view_is c.self.invariant.idle
+returns-clause-idle g c = subst (PartIdle g.J.Job.image) c.self.view_is c.self.invariant.idle
 
 pub returns-clause-failed : goal.returns-clause-failed
-returns-clause-failed g c = subst (FailedSo g.J.Job.image g.J.Job.began) c.self.view_is
+returns-clause-failed g c = subst (PartFailedSo g.J.Job.image g.J.Job.began) c.self.view_is
     c.self.invariant.failed
 
 pub returns-clause-once : goal.returns-clause-once
-returns-clause-once g c = subst (λ (x : Content). All (λ k. entry_of x.kept k.wave k.instr ≡ Some k) x.kept)
+returns-clause-once g c = subst (λ (x : PartContent). All (λ k. entry_of x.kept k.wave k.instr ≡ Some k) x.kept)
     c.self.view_is
     (own c.self.inside.parts.order.kept.items
     (place_in c.self.inside.parts.order.index) c.self.invariant.ok.order.index)

@@ -2,12 +2,12 @@ use Rattle.std.proofs.Common.{◌∙◌, List, Ok, ap, subst}
 use Rattle.ws_isa.specs.Image.{Token}
 use Rattle.df_core.specs.Places.{image_of}
 use Rattle.df_core.specs.Rights.{tokens_of}
-use Rattle.part_store.specs.Contents.{Content}
-use Rattle.part_store.specs.Calls.{SubmitSo, request_of}
+use Rattle.part_store.specs.Calls.{request_of, PartSubmitSo}
 use Rattle.part_store.specs.Parts.{content_of}
 use Rattle.part_store.proofs.After as A
 use Rattle.part_store.proofs.part.PartBuffer.submit.Goals as goal
 use Rattle.part_store.proofs.part.PartBuffer.submit.Goals.{in-Ok, in-Err+in-Heap-1, in-Err+in-Inline-1}
+use Rattle.part_store.specs.Contents.{PartContent}
 
 pub of_right-requires-clause-right : goal.of_right-requires-clause-right
 of_right-requires-clause-right g c = (A.submit_told
@@ -28,9 +28,9 @@ pub returns : goal.returns
 returns g c =
     let tokens : List Token = tokens_of c.submit.new.told.items in
     let new = content_of c.submit.new.self in
-    let told : SubmitSo g.J.Job.image c.args.self.now (request_of c.args.request)
+    let told : PartSubmitSo g.J.Job.image c.args.self.now (request_of c.args.request)
     (tokens_of c.submit.new.told.items) c.submit.result (content_of c.submit.new.self) =
-    subst (λ (x : Content). SubmitSo g.J.Job.image x (request_of c.args.request)
+    subst (λ (x : PartContent). PartSubmitSo g.J.Job.image x (request_of c.args.request)
     (tokens_of c.submit.new.told.items) c.submit.result (content_of c.submit.new.self)) c.self.view_is
     (A.submit_told (image_of c.program.result.now) g.J.Job.image g.J.Job.world g.J.Job.began
     c.program.ensures.image c.program.ensures.formed c.program.ensures.sound c.self.inside.parts

@@ -3,10 +3,10 @@ use Rattle.ws_isa.specs.Image.{Token}
 use Rattle.df_core.specs.Places.{image_of}
 use Rattle.df_core.specs.Rights.{tokens_of}
 use Rattle.store_buf.specs.Contents.{RightTokens}
-use Rattle.part_store.specs.Calls.{SubmitSo}
 use Rattle.part_store.specs.Parts.{content_of}
 use Rattle.part_store.proofs.Draining as D
 use Rattle.part_store.proofs.parts.Parts.complete.Goals as goal
+use Rattle.part_store.specs.Calls.{PartSubmitSo}
 
 pub returns-clause-leads : goal.returns-clause-leads
 returns-clause-leads g c = λ world began formed sound right calm idle.
@@ -31,7 +31,7 @@ returns-clause-leads g c = λ world began formed sound right calm idle.
       subst (RightTokens image world) (sym told)
           (D.right_new image world began formed sound old mid d new k t0 t1 t2 filled drains same lead empty
           c.requires.running c.requires.working right calm),
-      subst (λ (ts : List Token). SubmitSo image (content_of old) k ts c.settle.result (content_of new))
+      subst (λ (ts : List Token). PartSubmitSo image (content_of old) k ts c.settle.result (content_of new))
           (sym told)
           (D.said image world began formed sound old mid d new k t0 t1 t2 filled drains same lead empty
           c.requires.running c.requires.working right calm c.settle.result c.settle.ensures.settled),

@@ -11,7 +11,7 @@ use Rattle.store_buf.proofs.Lists.{or_any}
 use Rattle.part_store.specs.Contents.{cell}
 use Rattle.part_store.specs.Parted.{is_store_op}
 use Rattle.part_store.specs.Rules.{Moves}
-use Rattle.part_store.specs.Parts.{Beside, Stands, content_of}
+use Rattle.part_store.specs.Parts.{Beside, content_of, PartsStand}
 use Rattle.part_store.proofs.Fronts as F
 use Rattle.part_store.proofs.Finishing as N
 use Rattle.part_store.proofs.Times as T
@@ -104,7 +104,7 @@ returns-clause-leads g c = (
       c.in-Some.ensures.within c.in-Some.ensures.is word c.answer_at.ensures.kept word_is cells input read
       printed ports queued beside in
       subst (λ (ts : List Token). Moves image (content_of old) ts (content_of new) ×
-      Stands image world began new) (sym told)
+      PartsStand image world began new) (sym told)
       (N.finishes image world formed sound began old new e p c.requires.ok.order st going fol
       c.in-Some.ensures.within c.in-Some.ensures.is word c.answer_at.ensures.kept word_is cells input read
       printed ports queued beside),

@@ -1,4 +1,4 @@
-use Rattle.std.proofs.Common.{ℕ, ◌<◌, ◌≡◌, ◌∙◌, ◌⊎◌, Bool, List, Some, refl, Result, Ok, Err, OnErr, true}
+use Rattle.std.proofs.Common.{ℕ, ◌<◌, ◌≡◌, ◌∙◌, ◌⊎◌, Bool, List, Some, refl, true}
 use Rattle.std.proofs.Common.{false, [], ◌∷◌, length, slice_index_or, ap, sym, subst, inl, inr, arith}
 use Rattle.std.proofs.lemmas.List.{append-nil}
 use Rattle.std.proofs.lemmas.Result.{err_from_is_err_and}
@@ -21,13 +21,14 @@ use Rattle.part_store.specs.declared.parts.Parts.{Parts}
 use Rattle.part_store.specs.Bares.{is_in}
 use Rattle.part_store.specs.Contents.{holds_op}
 use Rattle.part_store.specs.Rules.{Moves, is_past_at, operands_at}
-use Rattle.part_store.specs.Parts.{Calm, SilentSo, content_of}
+use Rattle.part_store.specs.Parts.{Calm, content_of, PartsSilentSo}
 use Rattle.part_store.proofs.Goes as G
 use Rattle.part_store.proofs.Sending as N
 use Rattle.part_store.proofs.Turning as U
 use Rattle.part_store.proofs.parts.Parts.go.Goals as goal
 use Rattle.part_store.proofs.parts.Parts.go.Goals.{then-has-via-then-has, then-has-via-else-has+then-holds}
 use Rattle.df_core.proofs.Few.{few_sent}
+use Rattle.ws_words.proofs.Results.{on_err}
 
 past_so : (image : Image) (op : Op) (k m : Kept) (b : Bool) → is_past_op image.arrays op (k.first ∷ []) ≡ b →
     op ≡ (instr_at image k.instr).op → k ≡ m → is_past_at image m ≡ b
@@ -111,10 +112,6 @@ run-requires-clause-room g c = let s = C.some_wait
     (image_of c.args.program.now) c.args.self.now.order c.requires.ok.order c.args.at c.requires.goes.may in
     omega (arith, s, c.requires.ok.printed)
 
-on_err : {A E : Type 0} {X : Type 0} (r : Result A E) → X → OnErr r X
-on_err (Ok a) h = tt
-on_err (Err e) h = h
-
 pub returns-in_err-word-clause-stays : goal.returns-in_err-word-clause-stays
 returns-in_err-word-clause-stays g c = on_err c.from_residual.result (λ world began calm.
     let n : Parts g.row.P.Denot = record {
@@ -133,7 +130,7 @@ silent_so : (image : Image) {P : Type 0} (old new : Parts P) (op : Op) (k : Kept
     OrderOk old.order → (q : ℕ) → q < length old.order.kept.items →
     ready_flag image old.order (kept_at old.order q) ≡ true → k ≡ kept_at old.order q →
     op ≡ (instr_at image k.instr).op →
-    new.order ≡ old.order → SilentAt op old.outer.ports new.outer.ports why → SilentSo image old new why
+    new.order ≡ old.order → SilentAt op old.outer.ports new.outer.ports why → PartsSilentSo image old new why
 silent_so image old new op k (Failed p) ok q l ready is at same s = (
   subst (λ o. PortWaits image o.kept.items (chain_of o.chain) p) (sym same)
       (port_waits image old.order ok q l ready p

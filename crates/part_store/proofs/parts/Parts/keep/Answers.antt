@@ -3,6 +3,7 @@ use Rattle.store_buf.specs.declared.kept.Kept.{Kept}
 use Rattle.store_buf.specs.Requests.{entry_of}
 use Rattle.part_store.proofs.Coming as C
 use Rattle.part_store.proofs.parts.Parts.keep.Goals as goal
+use Rattle.ws_words.proofs.Results.{on_ok}
 
 pub returns-clause-ok : goal.returns-clause-ok
 returns-clause-ok g c =
@@ -22,7 +23,7 @@ returns-clause-ok g c =
       lines = omega (arith, m, c.in_ok-reserve-2.ensures.lines);
       counted = c.in_ok-reserve-2.ensures.ok c.requires.ok.counted;
       bare = λ w i e. let old = c.requires.ok.bare w i e in
-          C.both c.add.result (C.map_ok c.add.result
+          C.both c.add.result (on_ok c.add.result
           (λ (q : n.kept.items ≡ o.kept.items ++ c.args.kept ∷ []).
           subst (λ (ks : List Kept). (x : Kept) × (entry_of ks w i ≡ Some x)) (sym q)
           (C.kept_more o.kept.items c.args.kept w i old)) c.add.ensures.kept)

@@ -2,10 +2,10 @@ use Rattle.std.proofs.Common.{List, ap, sym, subst}
 use Rattle.ws_isa.specs.Image.{Token}
 use Rattle.df_core.specs.Places.{image_of}
 use Rattle.df_core.specs.Rights.{tokens_of}
-use Rattle.part_store.specs.Parts.{SubmitLeads}
 use Rattle.part_store.proofs.parts.Parts.submit.Goals as goal
+use Rattle.part_store.specs.Parts.{PartsSubmitLeads}
 
 pub returns-else-lets-clause-leads : goal.returns-else-lets-clause-leads
 returns-else-lets-clause-leads g c = let image = image_of c.args.program.now in
-    subst (λ (ts : List Token). SubmitLeads image c.args.self.now c.args.kept ts c.put_by.result
+    subst (λ (ts : List Token). PartsSubmitLeads image c.args.self.now c.args.kept ts c.put_by.result
     c.put_by.new.self) (sym (ap tokens_of c.requires.told)) c.put_by.ensures.leads

@@ -4,10 +4,10 @@ use Rattle.df_core.specs.Places.{image_of}
 use Rattle.df_core.specs.Rights.{tokens_of}
 use Rattle.store_buf.specs.Contents.{RightTokens}
 use Rattle.part_store.specs.Bares.{is_in}
-use Rattle.part_store.specs.Calls.{SubmitSo}
 use Rattle.part_store.specs.Parts.{content_of}
 use Rattle.part_store.proofs.Coming as C
 use Rattle.part_store.proofs.parts.Parts.take_request.Goals as goal
+use Rattle.part_store.specs.Calls.{PartSubmitSo}
 
 pub returns-in-Ok-clause-leads : goal.returns-in-Ok-clause-leads
 returns-in-Ok-clause-leads g c = λ world began formed sound right calm idle.
@@ -28,7 +28,7 @@ returns-in-Ok-clause-leads g c = λ world began formed sound right calm idle.
           c.requires.waits c.in-Ok.ensures.keeps
           (C.whole_bare old mid c.args.kept c.requires.ok c.requires.fresh c.in-Ok.ensures.bare)
           c.requires.running c.requires.working right calm c.settle.new.self lead.0 led),
-      subst (λ (ts : List Token). SubmitSo image (content_of old) c.args.kept ts c.settle.result
+      subst (λ (ts : List Token). PartSubmitSo image (content_of old) c.args.kept ts c.settle.result
           (content_of c.settle.new.self)) (sym told)
           (C.took image world began formed sound old mid c.args.kept false c.requires.fresh c.requires.waits
           c.in-Ok.ensures.keeps (C.whole_bare old mid c.args.kept c.requires.ok c.requires.fresh

@@ -1,19 +1,15 @@
-use Rattle.std.proofs.Common.{◌≡◌, None, false, [], map, length, ap, ◌∙◌, sym, subst, arith}
+use Rattle.std.proofs.Common.{◌≡◌, None, false, map, ap, ◌∙◌, sym, subst, arith}
 use Rattle.ws_isa.specs.Image.{Image, cells_of}
 use Rattle.ws_isa.specs.View as view
 use Rattle.ws_isa.specs.Walk.{opening_memory}
-use Rattle.store_buf.specs.declared.order.Order.{Order}
 use Rattle.store_buf.specs.declared.store.Store.{Store}
-use Rattle.store_buf.specs.Ordering.{OrderOk, Room}
 use Rattle.store_buf.specs.Outdoors.{AllBegan}
 use Rattle.store_buf.specs.Contents.{Content, IsBuffer, opening_content}
 use Rattle.store_buf.specs.Stores.{content_of}
 use Rattle.store_buf.proofs.Opening as O
 use Rattle.store_buf.proofs.buffer.Buffer.begin.Goals as goal
 use Rattle.store_buf.proofs.Idle.{none_wait}
-
-no_room : (o : Order) → OrderOk o → o.kept.items ≡ [] → o.early.items ≡ [] → Room o
-no_room o ok e f = let w = none_wait o ok e in let l = ap length f in omega (arith, w, l, o.early.ok.0)
+use Rattle.store_buf.proofs.Coming.{no_room}
 
 pub invariant_of-result : goal.invariant_of-result
 invariant_of-result g c =

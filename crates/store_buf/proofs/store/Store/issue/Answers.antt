@@ -1,4 +1,4 @@
-use Rattle.std.proofs.Common.{ℕ, ◌<◌, Some, refl, cond, ◌≡◌, ◌+◌, vec_len, vec_capacity, Result, Ok, Err, OnErr, ◌≤◌, ◌∙◌, true, false, [], ◌∷◌, length, slice_index_or, ap, sym, subst, inl, inr, arith}
+use Rattle.std.proofs.Common.{ℕ, ◌<◌, Some, refl, cond, ◌≡◌, ◌+◌, vec_len, vec_capacity, ◌≤◌, ◌∙◌, true, false, [], ◌∷◌, length, slice_index_or, ap, sym, subst, inl, inr, arith}
 use Rattle.std.proofs.lemmas.List.{append-nil}
 use Rattle.std.proofs.lemmas.Result.{err_from_is_err_and}
 use Rattle.ws_isa.specs.declared.instr.Op.{Op}
@@ -25,6 +25,7 @@ use Rattle.store_buf.proofs.Silence.{port_waits}
 use Rattle.store_buf.proofs.Stepping as S
 use Rattle.store_buf.proofs.store.Store.issue.Goals as goal
 use Rattle.df_core.proofs.Few.{few_sent}
+use Rattle.ws_words.proofs.Results.{on_err}
 
 pub run-requires-clause-port : goal.run-requires-clause-port
 run-requires-clause-port g c = subst PortIn (sym c.op-op.ensures) (port_in (image_of c.args.program.now) c.request-kept.result.instr c.requires.formed)
@@ -65,10 +66,6 @@ returns-then-is_past-clause-leads g c = (
         stands = r.1;
       },
 )
-
-on_err : {A E : Type 0} {X : Type 0} (r : Result A E) → X → OnErr r X
-on_err (Ok a) h = tt
-on_err (Err e) h = h
 
 pub returns-in_err-word-clause-stays : goal.returns-in_err-word-clause-stays
 returns-in_err-word-clause-stays g c = on_err c.from_residual.result (λ world began m stands. record {

@@ -11,8 +11,8 @@ pub returns-then-is_err-clause-leads : goal.returns-then-is_err-clause-leads
 returns-then-is_err-clause-leads g c = λ world began formed sound ask standing.
     (standing, subst (RightTokens (image_of c.args.program.now) world) (sym (ap tokens_of (c.make_room.ensures.items ∙ c.requires.told))) (λ w i p v e. absurd e), inl ((c.requires.running, c.requires.working), c.requires.fresh, refl))
 
-pub returns-in-Ok-clause-leads : goal.returns-in-Ok-clause-leads
-returns-in-Ok-clause-leads g c = λ world began formed sound ask standing.
+pub returns-after-lets-clause-leads : goal.returns-after-lets-clause-leads
+returns-after-lets-clause-leads g c = λ world began formed sound ask standing.
     let image = image_of c.args.program.now in
     let lead = c.settle.ensures.lead in
     let told = lead.1 ∙ ap (λ xs. xs ++ lead.0) (ap tokens_of (c.make_room.ensures.items ∙ c.requires.told)) in

@@ -1,8 +1,0 @@
-use Rattle.std.proofs.Common.{◌≡◌, [], All, take}
-use Rattle.ws_isa.specs.Image.{tokens_to}
-use Rattle.fire_crew.specs.Together.{part_behind}
-use Rattle.fire_crew.specs.Owing.{HaveCome, IsMissing}
-use Rattle.fire_crew.proofs.missing.keep_sent.Given as goal
-
-abbrev pub invariant-loop-dest : goal.invariant-loop-dest
-invariant-loop-dest g l = All (IsMissing (part_behind l.tables).held) l.found × (l.found ≡ [] → (l.initial.found ≡ []) × HaveCome (part_behind l.tables).held (tokens_to l.wave l.word (take l.dest-index l.dests)))

@@ -1,0 +1,189 @@
+//! The tokens that an instance or an operation owes.
+
+ghost use Rattle.std.specs.Prelude.{◌≡◌, ◌<◌, ℕ, suc, [], All, OnOk, IfSome, length, true, false, cond};
+ghost use Rattle.ws_isa.specs.Image.{is_memory, is_advance_op, sends, result_of, result_of_op, selector_of};
+ghost use Rattle.ws_isa.specs.Image.{tokens_to, ports};
+ghost use Rattle.df_core.specs.Core.{IsSent};
+ghost use Rattle.df_core.specs.Fit.{RightToken};
+ghost use Rattle.df_core.specs.Rights.{operands_of};
+ghost use Rattle.match_table.specs.Ports.{listed};
+ghost use Rattle.match_table.specs.Tables.{key_of};
+ghost use Rattle.fire_crew.specs.Together.{part_behind};
+ghost use Rattle.fire_crew.specs.Owing.{HasAnswered, HasTold, HasToldAt, HaveCome, IsMissing};
+
+use crate::tables::holds;
+use crate::told::has_told;
+use df_core::{Code, Job, Token, TokenList};
+use match_table::{Course, Fired, Operands, Table};
+use store_buf::Kept;
+use ws_isa::{Dest, Op};
+use ws_words::NoMemory;
+
+// Those of the instance that fired at this place of a table's list.
+#[inline(always)]
+pub(crate) fn see_at<J: Job>(
+    code: &Code<'_, J>,
+    tables: &[&Table<J>; 16],
+    courses: &mut [Course; 16],
+    table: &Table<J>,
+    place: usize,
+    found: &mut TokenList<J>,
+) -> Result<(), NoMemory>
+    requires missing { All (IsMissing (part_behind tables.now).held) found.old }
+    requires place { place < length table.now.fired }
+    ensures missing { OnOk result (All (IsMissing (part_behind tables.now).held) found.new) }
+    ensures none { OnOk result (found.new ≡ [] → (found.old ≡ [])
+        × HasToldAt J.image (part_behind tables.now).held place table.now) }
+{
+    if has_told(code, tables, courses, table, place) {
+        return Ok(());
+    }
+    table.facts();
+    let _ = code.program();
+    look_at(code, tables, courses, table.fired_at(code, place), found)
+}
+
+// Those of an instance that has fired; it owes none where it is one of memory.
+#[inline(never)]
+fn look_at<J: Job>(
+    code: &Code<'_, J>,
+    tables: &[&Table<J>; 16],
+    courses: &mut [Course; 16],
+    fired: Fired,
+    found: &mut TokenList<J>,
+) -> Result<(), NoMemory>
+    requires missing { All (IsMissing (part_behind tables.now).held) found.old }
+    requires right { is_memory J.image fired.instr ≡ false → (w i p v : ℕ)
+        → IsSent (sends J.image fired.wave fired.instr (listed fired.operands)
+        (result_of J.image fired.instr (listed fired.operands))) w i p v
+        → RightToken J.image J.world w i p v }
+    ensures missing { OnOk result (All (IsMissing (part_behind tables.now).held) found.new) }
+    ensures none { OnOk result (found.new ≡ [] → (found.old ≡ [])
+        × HasTold J.image (part_behind tables.now).held (listed fired.operands) (key_of fired)) }
+{
+    let op = code.program().op(fired.instr);
+    if op.is_memory() {
+        return Ok(());
+    }
+    let Some(number) = number_of(op, fired.wave) else {
+        return Err(NoMemory);
+    };
+    let choice = choice_of(op, fired.operands);
+    let word = word_of(op, fired.operands);
+    let dests = code.program().destinations(fired.instr, choice);
+    keep_sent(tables, courses, number, dests, word, found)?;
+    Ok(())
+}
+
+// Those of a request that the buffer keeps; it owes none until it is issued.
+pub(crate) fn look_up<J: Job>(
+    code: &Code<'_, J>,
+    tables: &[&Table<J>; 16],
+    courses: &mut [Course; 16],
+    kept: Kept,
+    found: &mut TokenList<J>,
+) -> Result<(), NoMemory>
+    requires missing { All (IsMissing (part_behind tables.now).held) found.old }
+    requires memory { is_memory J.image kept.instr ≡ true }
+    requires right { (a w i p v : ℕ) → kept.answer ≡ Some a
+        → IsSent (sends J.image kept.wave kept.instr
+        (operands_of (ports J.image kept.instr) kept.first kept.second) a) w i p v
+        → RightToken J.image J.world w i p v }
+    ensures missing { OnOk result (All (IsMissing (part_behind tables.now).held) found.new) }
+    ensures none { OnOk result (found.new ≡ [] → (found.old ≡ [])
+        × HasAnswered J.image (part_behind tables.now).held kept) }
+{
+    let Some(word) = kept.answer else {
+        return Ok(());
+    };
+    let program = code.program();
+    let Some(number) = number_of(program.op(kept.instr), kept.wave) else {
+        return Err(NoMemory);
+    };
+    keep_sent(
+        tables,
+        courses,
+        number,
+        program.destinations(kept.instr, 0),
+        word,
+        found,
+    )?;
+    Ok(())
+}
+
+// Puts those tokens of a word to destinations that no table has had behind the ones found.
+fn keep_sent<J: Job>(
+    tables: &[&Table<J>; 16],
+    courses: &mut [Course; 16],
+    wave: u64,
+    dests: &[Dest],
+    word: u64,
+    found: &mut TokenList<J>,
+) -> Result<(), NoMemory>
+    requires missing { All (IsMissing (part_behind tables.now).held) found.old }
+    requires right { (w i p v : ℕ) → IsSent (tokens_to wave word dests.now) w i p v
+        → RightToken J.image J.world w i p v }
+    ensures missing { OnOk result (All (IsMissing (part_behind tables.now).held) found.new) }
+    ensures none { OnOk result (found.new ≡ [] → (found.old ≡ [])
+        × HaveCome (part_behind tables.now).held (tokens_to wave word dests.now)) }
+{
+    for dest in dests {
+        if !holds(tables, courses, wave, dest.instr, dest.port) {
+            found.push(Token::right(wave, dest.instr, dest.port, word))?;
+        }
+    }
+    Ok(())
+}
+
+// Puts those of these tokens that no table has had behind the ones found.
+pub(crate) fn keep<J: Job>(
+    tables: &[&Table<J>; 16],
+    courses: &mut [Course; 16],
+    tokens: TokenList<J>,
+    found: &mut TokenList<J>,
+) -> Result<(), NoMemory>
+    requires { All (IsMissing (part_behind tables.now).held) found.old }
+    ensures missing { OnOk result (All (IsMissing (part_behind tables.now).held) found.new) }
+    ensures none { OnOk result (found.new ≡ [] → (found.old ≡ [])
+        × HaveCome (part_behind tables.now).held tokens) }
+{
+    let mut tokens = tokens;
+    while let Some(token) = tokens.pop() {
+        if !holds(tables, courses, token.wave(), token.instr(), token.port()) {
+            found.push(token)?;
+        }
+    }
+    Ok(())
+}
+
+// The wave number of an instance's results, where there is one.
+#[inline(always)]
+pub(crate) fn number_of(op: Op, wave: u64) -> Option<u64>
+    ensures { IfSome result (λ number. number ≡ cond (is_advance_op op) (suc wave) wave) }
+{
+    if op.is_advance() {
+        wave.checked_add(1)
+    } else {
+        Some(wave)
+    }
+}
+
+// The operand by which an instance chooses where its result goes.
+#[inline(always)]
+pub(crate) fn choice_of(op: Op, operands: Operands) -> u64
+    ensures { result ≡ selector_of op (listed operands) }
+{
+    match op {
+        Op::Steer => operands.second(),
+        Op::Send(_) => operands.first(),
+        _ => 0,
+    }
+}
+
+// The result of an operation that isn't memory's.
+#[inline(always)]
+fn word_of(op: Op, operands: Operands) -> u64
+    ensures { result ≡ result_of_op op (listed operands) }
+{
+    op.result_on(operands.first(), operands.second(), operands.third())
+}

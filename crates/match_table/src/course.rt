@@ -1,0 +1,51 @@
+//! Where a page may stand in its list.
+
+use crate::entry::Page;
+use crate::places::number_of;
+
+/// How the places of a table's pages rise with their wave numbers: about how many pages a wave has, and by
+/// how much the page that was found last was ahead of that. Whatever it says serves; where it is right a page
+/// is found at once.
+#[derive(Clone, Copy)]
+pub struct Course {
+    pace: u64,
+    ahead: u64,
+}
+
+impl Course {
+    /// Where nothing is known of the pages.
+    pub fn none() -> Course {
+        Course { pace: 1, ahead: 0 }
+    }
+
+    // That of these pages.
+    pub(crate) fn of(pages: &[Page]) -> Course {
+        let (Some(first), Some(last)) = (pages.first(), pages.last()) else {
+            return Course::none();
+        };
+        let waves = last.number.saturating_sub(first.number) / number_of(1, 0).max(1);
+        Course {
+            pace: ((pages.len() as u64).saturating_add(waves / 2) / waves.max(1)).max(1),
+            ahead: 0,
+        }
+    }
+
+    // How far the places of pages have risen at an instance's page.
+    #[inline(always)]
+    fn risen(&self, wave: u64, instr: u32) -> u64 {
+        wave.wrapping_mul(self.pace)
+            .wrapping_add(number_of(0, instr))
+    }
+
+    // The place at which an instance's page may stand.
+    #[inline(always)]
+    pub(crate) fn place(&self, wave: u64, instr: u32) -> usize {
+        self.risen(wave, instr).wrapping_add(self.ahead) as usize
+    }
+
+    // An instance's page was found at this place.
+    #[inline(always)]
+    pub(crate) fn found(&mut self, wave: u64, instr: u32, place: usize) {
+        self.ahead = (place as u64).wrapping_sub(self.risen(wave, instr));
+    }
+}
