@@ -4,7 +4,7 @@ use Rattle.std.specs.List.{AllByRecursion, list_all}
 use Rattle.std.proofs.lemmas.List.{map-append}
 use Rattle.std.proofs.lemmas.Bool.{and_parts, le-leb, lt-ltb, leb-true, eq-eqb}
 use Rattle.std.proofs.lemmas.Option.{none-some}
-use Rattle.ws_isa.specs.Image.{flat, ports_of}
+use Rattle.ws_isa.specs.Image.{flat}
 use Rattle.ws_isa.specs.Formed.{most_instrs, most_blocks, most_waves, most_arrays, most_length, most_cells, most_pads, most_landings, most_name, NameFormed, total_length, DestsIn, ExitWithin, WavesFrom, WavesInOrder, Formed}
 use Rattle.asm_text.specs.declared.line.Label.{Label}
 use Rattle.asm_text.specs.declared.line.Target.{Target}

@@ -3,7 +3,7 @@ use Rattle.std.proofs.Common.{◌≡◌, ℕ, ◌<◌, ◌≤◌, length, Bool, 
 use Rattle.std.proofs.lemmas.Bool.{le-leb, lt-ltb, eq-eqb, ne_eqb}
 use Rattle.ws_isa.specs.declared.instr.Op.{Op}
 use Rattle.ws_isa.specs.declared.instr.Op.TheVariants.{Const, Alu, Merge, Advance, Steer, Phi, Send, Load, Store, Input, Output, Give, Take, Nop, Halt}
-use Rattle.ws_isa.specs.Image.{flat, ports_of}
+use Rattle.ws_isa.specs.Image.{ports_of}
 use Rattle.ws_isa.specs.Formed.{most_dests, most_pads, OpIn, SendWithin, RiseFrom, PadsRise}
 use Rattle.asm_text.specs.declared.state.Expected.{Expected}
 use Rattle.asm_text.specs.State.{next_place, is_above, is_within_op, limit}

@@ -11,7 +11,7 @@ use Rattle.ws_isa.specs.declared.instr.Link.TheVariants as link
 use Rattle.ws_isa.specs.declared.instr.Note.{Note}
 use Rattle.ws_isa.specs.declared.instr.Dest.{Dest}
 use Rattle.ws_isa.specs.Image as plain
-use Rattle.ws_isa.specs.Image.{is_giving_op, IsBlock, flat, is_steer_op}
+use Rattle.ws_isa.specs.Image.{is_giving_op, IsBlock, is_steer_op}
 use Rattle.ws_isa.specs.Formed.{most_instrs, most_blocks, most_arrays, most_length, most_pads, NameFormed, OpIn, ExitIn, SomeLanding, DestsIn, DestsSuit, OthersSuit, LinkWithin, NoteWithin, ConstWithin, SendWithin, Formed}
 use Rattle.asm_text.specs.declared.lexeme.Mark.TheVariants.{Bar}
 use Rattle.asm_text.specs.declared.lexeme.Lexeme.{Lexeme}

@@ -221,10 +221,10 @@ first_by false e = absurd (omega (arith, e))
 
 -- no byte of the text is `%`
 
-abbrev is_plain : ℕ → Bool
-is_plain b = not (b == 37)
+abbrev pub not_percent : ℕ → Bool
+not_percent b = not (b == 37)
 
-mark_plain : (m : marks.Mark) → list_all is_plain (mark_bytes m) ≡ true
+mark_plain : (m : marks.Mark) → list_all not_percent (mark_bytes m) ≡ true
 mark_plain Colon = refl
 mark_plain Arrow = refl
 mark_plain Bar = refl
@@ -234,11 +234,11 @@ mark_plain Less = refl
 mark_plain More = refl
 mark_plain Query = refl
 
-pub printed_plain : (image : plain.Image) → Formed image → list_all is_plain (printed image) ≡ true
+pub printed_plain : (image : plain.Image) → Formed image → list_all not_percent (printed image) ≡ true
 unfolding printed
 printed_plain image f =
     let h = image_shown image f in
-    lines_all is_plain (λ b k. rw (other is_word_byte b 37 k refl) refl) mark_plain refl refl (image_lines image)
+    lines_all not_percent (λ b k. rw (other is_word_byte b 37 k refl) refl) mark_plain refl refl (image_lines image)
     (lexemes_of (image_lines image) h.lines (items (version image) image) h.prints)
 
 -- the last byte of lines is a line feed

@@ -2,7 +2,7 @@
 use Rattle.std.proofs.Common.{ℕ, zero, suc, ◌+◌, ◌-◌, ◌≡◌, ◌<◌, ◌≤◌, Bool, true, false, if◌then◌else◌, List, [], ◌∷◌, ◌++◌, length, take, refl, sym, ap, ◌∙◌, subst, inl, inr, Option, Some, arith}
 use Rattle.std.proofs.lemmas.Bool.{cases_lt}
 use Rattle.std.proofs.lemmas.List.{length_push}
-use Rattle.cfg_core.specs.Graph.{Term, Exit, Goto, Branch, Call, Return, Send, Stop, Block, GraphProc, Graph, Spot, spots, spots_in, spots_from, no_spot, no_proc, spot_at, block_at, proc_at, entry_of, entry_from}
+use Rattle.cfg_core.specs.Graph.{Term, Exit, Goto, Branch, Call, Return, Send, Stop, Block, GraphProc, Graph, Spot, spots, spots_in, spots_from, no_spot, spot_at, block_at, proc_at, entry_of, entry_from}
 use Rattle.cfg_core.specs.Rules.{calls, Leads}
 use Rattle.cfg_core.specs.Edges.{Edge}
 use Rattle.cfg_core.specs.Shape.{OnlyFrom, IsShaped, ArmsAlone}

@@ -2,7 +2,6 @@
 use Rattle.std.proofs.Common.{ℕ, List}
 use Rattle.ws_words.specs.Outside.{World}
 use Rattle.cfg_core.specs.Graph.{Graph}
-use Rattle.cfg_core.specs.Walk.{Ends, Goes}
 use Rattle.cfg_core.specs.Shown.{SameWalks, SameArrays}
 use Rattle.cfg_core.proofs.Paired as paired
 use Rattle.call_gen.specs.Spelled.{spelled, hidden_arrays}

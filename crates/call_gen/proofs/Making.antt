@@ -3,7 +3,7 @@ use Rattle.std.proofs.Common.{ℕ, suc, ◌+◌, ◌/◌, ◌≡◌, min, List, 
 use Rattle.std.specs.List.{AllByRecursion}
 use Rattle.std.proofs.lemmas.List.{map-append, length-map, length-append}
 use Rattle.cfg_core.specs.Graph as plain
-use Rattle.cfg_core.specs.Graph.{Graph, GraphArray, Spot, spots, spots_in, spots_from, block_at}
+use Rattle.cfg_core.specs.Graph.{Graph, GraphArray, Spot, spots_in, spots_from, block_at}
 use Rattle.cfg_core.specs.Rules.{IsGraph}
 use Rattle.cfg_core.specs.Shape.{ArmsAlone}
 use Rattle.cfg_core.specs.Weights.{first_block}

@@ -3,7 +3,7 @@ use Rattle.std.proofs.Common.{ℕ, suc, ◌+◌, ◌≡◌, Bool, true, false, i
 use Rattle.std.specs.List.{AllByRecursion}
 use Rattle.std.proofs.lemmas.List.{length-map}
 use Rattle.cfg_core.specs.Graph as plain
-use Rattle.cfg_core.specs.Graph.{Exit, Goto, Branch, Call, Return, Send, Stop, Block, Graph, spots, spots_in, spots_from}
+use Rattle.cfg_core.specs.Graph.{Exit, Goto, Branch, Call, Return, Send, Stop, Block, Graph, spots_in, spots_from}
 use Rattle.cfg_core.specs.Rules.{ExitIn, BlockNumbers, IsGraph}
 use Rattle.cfg_core.specs.Shape.{IsShaped, ArmsAlone}
 use Rattle.cfg_core.specs.Shown.{SameWalks, SameArrays}

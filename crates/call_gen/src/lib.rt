@@ -19,7 +19,6 @@
 //! new graph has no other block (`charged`).
 #![tactic(auto)]
 
-mod copy;
 mod counts;
 mod doors;
 mod find;

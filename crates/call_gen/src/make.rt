@@ -17,10 +17,10 @@ ghost use Rattle.call_gen.specs.Keeps.{HasNoSend, HasNoCall, NoneLiveAcross, Par
 ghost use Rattle.call_gen.specs.Sizes.{Sizes, IsWithin, spelled_sizes};
 ghost use Rattle.call_gen.specs.Charged.{CallsCharged};
 
-use crate::copy::arrays;
 use crate::plan::{HIDDEN_ARRAYS, Plan};
 use cfg_core::{
     Graph, GraphArray, GraphArrays, GraphBlock, GraphBlocks, GraphProc, GraphProcs, Leave,
+    copy_arrays,
 };
 use live_vars::LiveSets;
 use std::alloc::Global;
@@ -141,7 +141,7 @@ fn made(alloc: Global, plan: &Plan<'_>) -> Result<Graph, NoMemory>
     ensures { IfOk result (λ graph. view.graph graph ≡
         spelled.spelled (view.graph plan.now.table.graph.now) plan.now.live.now) }
 {
-    let mut arrays = arrays(alloc, &plan.table.graph.arrays)?;
+    let mut arrays = copy_arrays(alloc, &plan.table.graph.arrays)?;
     add_hidden(plan, &mut arrays)?;
     let procs = spelled_procs(alloc, plan)?;
     Ok(Graph { arrays, procs })

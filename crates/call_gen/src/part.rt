@@ -15,11 +15,11 @@ ghost use Rattle.call_gen.specs.Part.{PartIs, ExitThere, BlocksThere, before, nu
 ghost use Rattle.call_gen.specs.Part.{part_blocks, part_proc, part_procs, part};
 ghost use Rattle.ws_words.specs.Items.{flag_at};
 
-use crate::copy::{arrays, numbers as copy_numbers, operations};
 use crate::find::find;
 use crate::part_numbers::{flag, number_at, numbers, places};
 use cfg_core::{
-    Graph, GraphBlock, GraphBlocks, GraphProc, GraphProcs, GraphTable, Leave, copy_term, copy_terms,
+    Graph, GraphBlock, GraphBlocks, GraphProc, GraphProcs, GraphTable, Leave, copy_arrays,
+    copy_numbers, copy_ops, copy_term, copy_terms,
 };
 use std::alloc::Global;
 use ws_words::NoMemory;
@@ -93,7 +93,7 @@ impl<'a> Part<'a> {
             (flag_at self.now.flags.items)) (view.block block.now)) }
     {
         let named = copy_numbers(alloc, &block.named)?;
-        let ops = operations(alloc, &block.ops)?;
+        let ops = copy_ops(alloc, &block.ops)?;
         let exit = self.exit(alloc, &block.exit)?;
         Ok(GraphBlock { named, ops, exit })
     }
@@ -197,7 +197,7 @@ impl<'a> Part<'a> {
         ensures { IfOk result (λ made. view.graph made ≡
             part (view.graph self.now.table.graph.now) (flag_at self.now.flags.items)) }
     {
-        let arrays = arrays(alloc, &self.table.graph.arrays)?;
+        let arrays = copy_arrays(alloc, &self.table.graph.arrays)?;
         let procs = self.procs(alloc)?;
         Ok(Graph { arrays, procs })
     }

@@ -8,9 +8,8 @@ ghost use Rattle.cfg_core.specs.View as view;
 ghost use Rattle.call_gen.specs.Spelled as spelled;
 ghost use Rattle.call_gen.specs.Plans.{PlanIs};
 
-use crate::copy::operations;
 use crate::plan::Plan;
-use cfg_core::{GraphBlock, Leave, Term, copy_term, copy_terms};
+use cfg_core::{GraphBlock, Leave, Term, copy_ops, copy_term, copy_terms};
 use std::alloc::Global;
 use ws_words::NoMemory;
 
@@ -111,7 +110,7 @@ impl<'a> Plan<'a> {
             spelled.spelled_block (view.graph self.now.table.graph.now) self.now.live.now home vars
             b (view.block block.now)) }
     {
-        let mut ops = operations(alloc, &block.ops)?;
+        let mut ops = copy_ops(alloc, &block.ops)?;
         self.add_exit_saves(alloc, &mut ops, home, vars, &block.exit)?;
         let exit = self.left(alloc, home, vars, b, &block.exit)?;
         Ok(GraphBlock {

@@ -5,7 +5,7 @@ use Rattle.std.proofs.lemmas.List.{length-append}
 use Rattle.std.proofs.lemmas.List.Sums.{sum_by-cons}
 use Rattle.seq_run.specs.Resolved.{Action, Do, Call, If, While, Steps, Nothing, Then, Proc, ResolvedProgram}
 use Rattle.cfg_core.specs.Graph as graph
-use Rattle.cfg_core.specs.Graph.{Op, Tick, Exit, Goto, Branch, Block, Graph, Spot, no_spot, spots, spots_in, spots_from, spot_at, block_at, entry_from, entry_of}
+use Rattle.cfg_core.specs.Graph.{Tick, Exit, Branch, Block, Graph, Spot, no_spot, spots, spots_in, spot_at, entry_from, entry_of}
 use Rattle.cfg_core.specs.Weights.{turns_of, handed_on, TwoBlocksATurn}
 use Rattle.cfg_build.specs.Lowered.{Part, leaves, goes_to, last_part, ticked, op, begun, block, whole, made, proc_blocks, procs, lowered}
 use Rattle.cfg_build.proofs.Places.{StandAt, stand_all, stand_front, stand_back}

@@ -8,9 +8,9 @@ use Rattle.seq_run.specs.Resolved.{Action, Do, Call, If, While, Steps, Nothing, 
 use Rattle.seq_run.specs.InRange.{StepsIn}
 use Rattle.seq_run.specs.TurnsLeft.{AtMost}
 use Rattle.cfg_core.specs.Graph as graph
-use Rattle.cfg_core.specs.Graph.{Term, Op, Tick, Exit, Goto, Branch, Return, Graph, Spot, spot_at, proc_at, entry_of}
+use Rattle.cfg_core.specs.Graph.{Term, Exit, Branch, Graph, Spot, proc_at, entry_of}
 use Rattle.cfg_core.specs.Walk as walks
-use Rattle.cfg_core.specs.Walk.{Frame, Config, At, Over, Going, Done, value_of, values_of, run_ops, entered, returned, leave, passed, step, walk}
+use Rattle.cfg_core.specs.Walk.{Frame, Config, At, Going, value_of, values_of, run_ops, entered, returned, leave, passed, step, walk}
 use Rattle.cfg_build.specs.Lowered.{Part, Made, op, ticked, leaves, goes_to, last_part, begun, whole, made}
 use Rattle.cfg_build.proofs.Values.{action_same, result_same}
 use Rattle.cfg_build.proofs.Stand.{HasAt, front, next_at}

@@ -8,16 +8,16 @@ use Rattle.src_ast.specs.declared.lexeme.Name.{Name}
 use Rattle.src_ast.specs.declared.tree.Unary.{Unary}
 use Rattle.src_ast.specs.declared.tree.Unary.TheVariants.{Flip, Not, Neg}
 use Rattle.src_ast.specs.Syntax as source
-use Rattle.src_ast.specs.Syntax.{Expression, Statement, Statements, Last, Procedure, Part as Item}
+use Rattle.src_ast.specs.Syntax.{Expression, Statement, Statements, Last, Part as Item}
 use Rattle.src_ast.specs.Bound.{nodes, nodes_of, most_nodes_of, ending_nodes, widest, most_variables}
 use Rattle.src_ast.specs.Meaning.{Scope, scope_of, procs_of}
 use Rattle.src_ast.specs.Rules.{statements_in}
 use Rattle.seq_run.specs.Resolved as resolved
-use Rattle.seq_run.specs.Resolved.{Action, Step, Do, Call, If, While, Steps, Nothing, Then, Proc, nth_proc, ResolvedProgram}
+use Rattle.seq_run.specs.Resolved.{Action, Step, Do, Call, If, While, Steps, Nothing, Then, Proc, nth_proc}
 use Rattle.seq_run.specs.Resolving as resolving
 use Rattle.seq_run.specs.InRange.{steps_in, ProgramIn}
 use Rattle.cfg_core.specs.Graph as graph
-use Rattle.cfg_core.specs.Graph.{Term, Op, Tick, Exit, Goto, Branch, Return, Block, GraphProc, GraphArray, Graph, Spot, no_spot, spots, spots_in, spot_at, block_at}
+use Rattle.cfg_core.specs.Graph.{Term, Tick, Exit, Branch, Return, Block, GraphProc, GraphArray, Spot, no_spot, spots, spots_in, spot_at}
 use Rattle.cfg_core.specs.Weights.{turns_of, acts_of, jumps_of, term_nodes, op_nodes, exit_nodes, block_nodes, TurnsPayWork}
 use Rattle.cfg_build.specs.Lowered.{Part, op, begun, block, ticked, leaves, goes_to, last_part, whole, made, proc_blocks, procs, lowered}
 use Rattle.src_ast.specs.LanguageLimits.{most_procedures, most_statements, most_parameters, most_array_cells}

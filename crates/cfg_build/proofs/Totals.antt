@@ -11,7 +11,7 @@ use Rattle.seq_run.specs.Resolved.{Step, Do, Call, If, While, Steps, Nothing, Th
 use Rattle.seq_run.specs.Resolving as resolving
 use Rattle.seq_run.specs.InRange.{size_all, steps_in}
 use Rattle.cfg_core.specs.Graph as graph
-use Rattle.cfg_core.specs.Graph.{Term, Op, Exit, Goto, Branch, Block, Spot, spots_in}
+use Rattle.cfg_core.specs.Graph.{Term, Op, Exit, Branch, Block, Spot, spots_in}
 use Rattle.cfg_build.specs.Lowered.{Part, op, begun, block, ticked, leaves, goes_to, last_part, whole, made, proc_blocks}
 use Rattle.cfg_build.specs.Sizes.{sum_over, sum_procs}
 use Rattle.cfg_build.proofs.Stand.{proc_spots}

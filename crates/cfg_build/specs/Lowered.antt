@@ -1,7 +1,7 @@
 -- The graph of a program: the blocks of its steps, in the order of the text.
 use Rattle.std.specs.Prelude.{ℕ, suc, ◌+◌, List, [], ◌∷◌, ◌++◌, Option, Some, None}
 use Rattle.seq_run.specs.Resolved as resolved
-use Rattle.seq_run.specs.Resolved.{Action, Assign, Store, Print, Read, Give, Take, Step, Do, Call, If, While}
+use Rattle.seq_run.specs.Resolved.{Action, Assign, Store, Print, Read, Give, Take, Do, Call, If, While}
 use Rattle.seq_run.specs.Resolved.{Steps, Nothing, Then, Proc}
 use Rattle.cfg_core.specs.Graph as graph
 use Rattle.cfg_core.specs.Graph.{Op, Tick, Exit, Goto, Branch, Return, Block, GraphProc, GraphArray, Graph}

@@ -3,7 +3,7 @@ use Rattle.std.proofs.Common.{ℕ, zero, suc, ◌-◌, ◌≡◌, ◌<◌, ◌�
 use Rattle.ws_words.specs.Outside.{State, zeros}
 use Rattle.ws_words.proofs.Rows.{zeros_more}
 use Rattle.cfg_core.specs.Walk as walks
-use Rattle.cfg_core.specs.Walk.{value, values, value_of, values_of, leave, landing, Config, At, Over, Going, landed, returned, with_result}
+use Rattle.cfg_core.specs.Walk.{value, values, value_of, values_of, leave, landing, Config, At, Over, landed, returned, with_result}
 use Rattle.ws_words.specs.Memory.{OutIs}
 use Rattle.cfg_core.specs.Shows.{Shows, NextIs, stacked}
 use Rattle.cfg_core.specs.declared.walker.Walker.{Walker}

@@ -7,7 +7,7 @@ use Rattle.cfg_core.specs.View as view
 use Rattle.cfg_core.specs.Shown.{has_name, shown_cells}
 use Rattle.cfg_core.specs.declared.blocks.GraphArray.{GraphArray as CodeArray}
 use Rattle.cfg_core.specs.Walk as walks
-use Rattle.cfg_core.specs.Walk.{Config, At, Over, Going, step, walk, opening, Ends, EndsWith, Goes}
+use Rattle.cfg_core.specs.Walk.{Config, At, Over, Going, step, walk, opening, Ends, EndsWith}
 use Rattle.cfg_core.specs.Answer.{EndsSo, GoesSo}
 use Rattle.cfg_core.specs.Rules.{IsGraph}
 use Rattle.ws_words.specs.Memory.{OutIs}

@@ -20,7 +20,7 @@ pub use blocks::{
     Graph, GraphArray, GraphArrays, GraphBlock, GraphBlocks, GraphOp, GraphOps, GraphProc,
     GraphProcs, Leave, Numbers, Term, Terms,
 };
-pub use copies::{copy_term, copy_terms};
+pub use copies::{copy_arrays, copy_exit, copy_numbers, copy_ops, copy_term, copy_terms};
 pub use laws::{nothing_hidden, turns_are_exact, walks_answer, weights_are_paid};
 pub use run::run_graph;
 pub use table::{GraphTable, Room, Spot};

@@ -28,9 +28,10 @@ use Rattle.df_core.specs.Places.{destinations}
 use Rattle.df_core.specs.Ways.{token_of, way_of, SentTo}
 use Rattle.df_core.specs.Chains.{chain_of}
 use Rattle.df_core.specs.Flows.{request_of, all_of, FlowIs}
-use Rattle.ws_isa.proofs.Images.{tokens_append, nth_below}
+use Rattle.ws_isa.proofs.Images.{tokens_append}
 use Rattle.ws_words.specs.Items.{or_else}
 use Rattle.ws_words.proofs.Lists.{map_push}
+use Rattle.ws_words.proofs.Places.{nth_short}
 
 -- the operands beyond an operation's ports don't matter
 pub same_result : (op : Op) (o : Operands) → is_memory_op op ≡ false → result_of_op op (listed (ports_of op) o) ≡ result_of_op op (all_of o)
@@ -223,7 +224,7 @@ module _ (image : Image) (world : World) (formed : Formed image) (sound : Sound 
     pub arrival_port : tok.port < ports image tok.instr
     arrival_port =
         let r : RightToken image world tok.wave tok.instr tok.port tok.value = h.stands.fit.way_right tok.wave tok.instr tok.port tok.value there in
-        let l : tok.port < length r.inst.operands = nth_below r.inst.operands tok.port tok.value r.operand in
+        let l : tok.port < length r.inst.operands = nth_short r.inst.operands tok.port tok.value r.operand in
         let n : length r.inst.operands ≡ ports image tok.instr = facts.filled r.time r.inst r.at.fires ∙ ap (ports image) r.at.instr in
         omega arith
 
@@ -254,7 +255,7 @@ module _ (image : Image) (world : World) (formed : Formed image) (sound : Sound 
     held_below q None e one = e
     held_below q (Some u) e one =
         let r : RightToken image world tok.wave tok.instr q u = h.stands.fit.held_right tok.wave tok.instr q u e in
-        let l : q < length r.inst.operands = nth_below r.inst.operands q u r.operand in
+        let l : q < length r.inst.operands = nth_short r.inst.operands q u r.operand in
         let n : length r.inst.operands ≡ ports image tok.instr = facts.filled r.time r.inst r.at.fires ∙ ap (ports image) r.at.instr in
         let p : tok.port < ports image tok.instr = arrival_port in
         let same : q ≡ tok.port = omega arith in

@@ -9,8 +9,8 @@ use Rattle.df_core.specs.Fit.{RightToken, Fit}
 use Rattle.ws_isa.specs.Operations.{operations}
 use Rattle.df_core.proofs.Facts.{WalkFacts}
 use Rattle.df_core.proofs.Pauses.{cases_fires}
-use Rattle.ws_isa.proofs.Images.{nth_below}
 use Rattle.ws_isa.proofs.Ending.{walk_silent}
+use Rattle.ws_words.proofs.Places.{nth_short}
 
 abbrev pub keys_of : List Inst → List Key
 keys_of [] = []
@@ -196,7 +196,7 @@ module _ (image : Image) (world : World) (facts : WalkFacts image world) where
       new' h =
           let f = fit.fired_full w i h in
           let r : RightToken image world w i p st.value = fit.way_right w i p st.value st.on_way in
-          let l : p < length r.inst.operands = nth_below r.inst.operands p st.value r.operand in
+          let l : p < length r.inst.operands = nth_short r.inst.operands p st.value r.operand in
           let e : length r.inst.operands ≡ ports image i = facts.filled r.time r.inst r.at.fires ∙ ap (ports image) r.at.instr in
           let g = f.1 p (omega arith) in
           let c : Some st.value ≡ None = sym st.on_way ∙ fit.one w i p g.0 g.1 in
@@ -245,7 +245,7 @@ module _ (image : Image) (world : World) (facts : WalkFacts image world) where
       unfired : RightToken image world w i p v → HasFired s.fired w i → ⊥
       unfired r h =
           let f = fit.fired_full w i h in
-          let l : p < length r.inst.operands = nth_below r.inst.operands p v r.operand in
+          let l : p < length r.inst.operands = nth_short r.inst.operands p v r.operand in
           let n : length r.inst.operands ≡ ports image i = facts.filled r.time r.inst r.at.fires ∙ ap (ports image) r.at.instr in
           let g = f.1 p (omega arith) in
           clash (sym e ∙ fit.one w i p g.0 g.1)

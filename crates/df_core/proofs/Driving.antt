@@ -9,7 +9,7 @@ use Rattle.ws_isa.specs.Formed.{Formed}
 use Rattle.ws_isa.specs.Walk.{Ports}
 use Rattle.ws_isa.specs.Sound.{Sound}
 use Rattle.df_core.specs.Core as law
-use Rattle.df_core.specs.Core.{State, Event, Match, Issue, Step, IsSent, IsNext, Issuable, Rest, Enabled, position_after}
+use Rattle.df_core.specs.Core.{State, Event, Match, Issue, IsSent, Issuable, Rest, Enabled}
 use Rattle.df_core.specs.Stands.{Request, HasRequest, Stands}
 use Rattle.df_core.proofs.FromSound.{facts_of}
 use Rattle.df_core.proofs.PortsThere.{ports_there}

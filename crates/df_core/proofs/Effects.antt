@@ -8,7 +8,7 @@ use Rattle.ws_isa.specs.Image.{Image, instr_at, is_writing, is_writing_op, answe
 use Rattle.ws_isa.specs.Walk.{mem, pos, opening, opening_memory}
 use Rattle.ws_isa.specs.Operations.{without_loads, effect_of}
 use Rattle.df_core.specs.Effect.{effect_at, effect_after}
-use Rattle.ws_isa.proofs.GoesOn.{answer_by_effect as answer_effect_op, keep_others as loads_gone}
+use Rattle.ws_isa.proofs.GoesOn.{answer_by_effect as answer_effect_op, keep_others as loads_gone, with_acts_of}
 
 gone_twice : (xs : List Act) → without_loads (without_loads xs) ≡ without_loads xs
 gone_twice [] = refl
@@ -19,14 +19,11 @@ gone_twice (prints v ∷ xs) = ap (λ (l : List Act). prints v ∷ l) (gone_twic
 gone_twice (gives p ∷ xs) = ap (λ (l : List Act). gives p ∷ l) (gone_twice xs)
 gone_twice (takes p v ∷ xs) = ap (λ (l : List Act). takes p v ∷ l) (gone_twice xs)
 
-abbrev with_acts : Outside → List Act → Outside
-with_acts o acts = record { cells = o.cells; input = o.input; left = o.left; acts = acts }
-
 abbrev outside : List (List ℕ) → List ℕ → List (List ℕ) → List Act → Outside
 outside cells input left acts = record { cells = cells; input = input; left = left; acts = acts }
 
 effect_again : (o : Outside) → effect_of (effect_of o) ≡ effect_of o
-effect_again o = ap (with_acts o) (gone_twice o.acts)
+effect_again o = ap (with_acts_of o) (gone_twice o.acts)
 
 -- one more act
 act_more : (cells : List (List ℕ)) (input : List ℕ) (left : List (List ℕ)) (acts : List Act) (act : Act) →
@@ -49,7 +46,7 @@ quiet_op Output xs o e = absurd (both_ways true e refl)
 quiet_op (Give p) xs o e = absurd (both_ways true e refl)
 quiet_op (Take p) xs o e = absurd (both_ways true e refl)
 quiet_op Halt xs o e = absurd (both_ways true e refl)
-quiet_op (Load a) xs o e = ap (with_acts o) (loads_gone (without_loads o.acts) (loads a _ ∷ []) ∙ append_none (without_loads (without_loads o.acts)) ∙ gone_twice o.acts)
+quiet_op (Load a) xs o e = ap (with_acts_of o) (loads_gone (without_loads o.acts) (loads a _ ∷ []) ∙ append_none (without_loads (without_loads o.acts)) ∙ gone_twice o.acts)
   where
     append_none : (l : List Act) → l ++ [] ≡ l
     append_none [] = refl

@@ -10,7 +10,6 @@ pub mod BufferKept
 pub mod IssueKept
 pub mod Progress
 pub mod Reachable
-pub mod Steps
 pub mod SlotLists
 pub mod Flowing
 pub mod SentTokens
@@ -32,10 +31,10 @@ pub mod Owing
 pub mod Reached
 pub mod States
 pub mod Spilled
-pub mod Lists
 pub mod Acts
 pub mod Held
 pub mod Nexts
+pub mod Firsts
 pub mod Placed
 pub mod Look
 pub mod Settled

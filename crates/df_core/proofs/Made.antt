@@ -12,10 +12,10 @@ use Rattle.df_core.proofs.SlotLists.{sent_to, is_sent_append_left, is_sent_appen
 use Rattle.ws_isa.proofs.Flow.{number_ahead, number_else, slots_turn, slots_leave, slots_start, path, Stays, leave_stays, turn_on, end_number, cross_number, same_wave_number}
 use Rattle.ws_isa.specs.Standing.{turn_number, slots_at}
 use Rattle.df_core.proofs.SentTokens.{sends_wave, now_number, start_number, start_value, Done, done_at, agreed, EdgeSlot, edge_slot}
-use Rattle.ws_isa.proofs.Images.{nth_below}
 use Rattle.ws_isa.proofs.Slots.{all_opened_from, closed_cases, gather_length, gather_nth, with_tokens_lands, edge_all_from}
 use Rattle.ws_isa.proofs.Steps.{first_up, StepCase, stands, turns, ends, leaves, step_case, Turn, turn_at, inst_instr}
 use Rattle.ws_words.specs.Items.{nth, or_else}
+use Rattle.ws_words.proofs.Places.{nth_short}
 
 module _ (image : Image) (world : World) (formed : PortsThere image) (shape : ShapeRules image) (slots : SlotRules image) where
   abbrev P : ℕ → Pos
@@ -160,7 +160,7 @@ module _ (image : Image) (world : World) (formed : PortsThere image) (shape : Sh
   unfolding operands_at
   made t x fx p v e =
       let k : Turn image world shape t x = turn_at image world shape t x fx in
-      let l : p < length x.operands = nth_below x.operands p v e in
+      let l : p < length x.operands = nth_short x.operands p v e in
       let len : length x.operands ≡ ports image x.instr = operands_length t x fx in
       let xi : x.instr ≡ (P t).next = inst_instr image world shape t x fx in
       let pl : p < ports image (P t).next = subst (λ (n : ℕ). p < ports image n) xi (let g : p < ports image x.instr = omega arith in g) in

@@ -8,8 +8,8 @@ use Rattle.df_core.specs.Core.{State, HasFired, IsSent, with_key, put_all, is_fu
 use Rattle.df_core.specs.Fit.{FiresAt, RightToken, RightRequest, IsThere, IsFilled, Fit, StoppedAt, FromInst, Grounded}
 use Rattle.df_core.proofs.Facts.{WalkFacts}
 use Rattle.df_core.proofs.Ports.{SamePlace, SameKey, with_at_cases, with_key_cases, put_all_keeps, put_all_held, put_all_from, put_all_lands, full_all, all_full, gather_is}
-use Rattle.ws_isa.proofs.Images.{nth_below}
 use Rattle.ws_words.specs.Items.{nth}
+use Rattle.ws_words.proofs.Places.{nth_short}
 
 module _ (image : Image) (world : World) (facts : WalkFacts image world) where
   -- one instance, one value at each port
@@ -33,7 +33,7 @@ module _ (image : Image) (world : World) (facts : WalkFacts image world) where
       let len : length x.operands ≡ ports image i = facts.filled t x at.fires ∙ ap (ports image) at.instr in
       let each : (q v : ℕ) → nth x.operands q ≡ Some v → held w i (0 + q) ≡ Some v =
       λ q v e.
-      let l : q < length x.operands = nth_below x.operands q v e in
+      let l : q < length x.operands = nth_short x.operands q v e in
       let f : (u : ℕ) × (held w i q ≡ Some u) = filled q (omega arith) in
       let g : f.0 ≡ v = same_value w i q f.0 v (right q f.0 f.1) (record { time = t; inst = x; at = at; operand = e }) in
       let z : 0 + q ≡ q = omega arith in

@@ -33,7 +33,7 @@ pass_ends : (c : Chain) (n : Note) → n.succ ≡ Nothing → pass c n ≡ recor
 pass_ends c n h = ap (λ (l : Link). pass_by c n l) h
 
 -- where the chain stands in wave w after the last operation
-abbrev chain_of : Image → ℕ → Option ℕ → Chain
+abbrev pub chain_of : Image → ℕ → Option ℕ → Chain
 chain_of image w None = record { wave = w; last = None }
 chain_of image w (Some k) = pass (record { wave = w; last = None }) (note_of image k)
 

@@ -8,8 +8,8 @@ use Rattle.df_core.specs.Core.{Chain, State, HasFired, Match, Issue, Rest}
 use Rattle.df_core.specs.Fit.{chain_at, NoOp, IsThere, Fit}
 use Rattle.df_core.proofs.Facts.{WalkFacts}
 use Rattle.df_core.proofs.Pauses.{chain_same}
-use Rattle.ws_isa.proofs.Images.{nth_within}
 use Rattle.ws_words.specs.Items.{nth}
+use Rattle.ws_words.proofs.Places.{nth_there}
 
 -- the instance has fired, and was issued if it is a memory one
 pub record IsDone (image : Image) (s : State) (x : Inst) : Type 0 where
@@ -27,7 +27,7 @@ module _ (image : Image) (world : World) (facts : WalkFacts image world) (s : St
   has_fired : (t : ℕ) (x : Inst) → ((k : ℕ) (y : Inst) → k < t → fires image world k ≡ Some y → IsDone image s y) → fires image world t ≡ Some x → HasFired s.fired x.wave x.instr
   has_fired t x below fx = fit.full_fired x.wave x.instr (facts.has_port t x fx) (λ p l.
       let len : length x.operands ≡ ports image x.instr = facts.filled t x fx in
-      let n : (v : ℕ) × (nth x.operands p ≡ Some v) = nth_within x.operands p (omega arith) in
+      let n : (v : ℕ) × (nth x.operands p ≡ Some v) = nth_there x.operands p (omega arith) in
       elim (facts.made t x fx p n.0 n.1) [
         | inl h ↦ held_of x.wave x.instr p n.0 (fit.start_there x.wave x.instr p n.0 h)
         | inr m ↦ (let d : IsDone image s m.inst = below m.time m.inst m.earlier m.fires in

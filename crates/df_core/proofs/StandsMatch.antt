@@ -11,7 +11,7 @@ use Rattle.df_core.proofs.Facts.{WalkFacts}
 use Rattle.df_core.proofs.Ports.{SameKey, with_at_cases, with_key_cases, with_key_same, put_all_keeps, put_all_from, full_all}
 use Rattle.df_core.proofs.SlotLists.{is_sent_append_left, is_sent_append_right, is_sent_append_cases}
 use Rattle.df_core.proofs.MatchKept.{right_operands, match_fit, match_grounded}
-use Rattle.ws_isa.proofs.Images.{nth_below}
+use Rattle.ws_words.proofs.Places.{nth_short}
 
 pub apart_append : (ts us : List Token) → Apart ts → Apart us → ((w i p a b : ℕ) → IsSent ts w i p a → IsSent us w i p b → ⊥) → Apart (ts ++ us)
 apart_append [] us a b f = b
@@ -51,7 +51,7 @@ module _ (image : Image) (world : World) (facts : WalkFacts image world) where
       r = fit.way_right w i p v e
 
       l : p < length r.inst.operands
-      l = nth_below r.inst.operands p v r.operand
+      l = nth_short r.inst.operands p v r.operand
 
       n : length r.inst.operands ≡ ports image i
       n = facts.filled r.time r.inst r.at.fires ∙ ap (ports image) r.at.instr

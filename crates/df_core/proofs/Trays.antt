@@ -56,11 +56,6 @@ length_set [] k w = refl
 length_set (x ∷ rows) zero w = refl
 length_set (x ∷ rows) (suc k) w = ap suc (length_set rows k w)
 
-pub nth_below : (rows : List (Vec ℕ Global)) (p : ℕ) (v : Vec ℕ Global) → nth rows p ≡ Some v → p < length rows
-nth_below [] p v e = absurd (cc)
-nth_below (x ∷ rows) zero v e = omega arith
-nth_below (x ∷ rows) (suc p) v e = let l : p < length rows = nth_below rows p v e in omega arith
-
 pub past_row : (rows : List (Vec ℕ Global)) (k : ℕ) → length rows ≤ k → [] ≡ row (rows_of rows) k
 past_row [] k l = refl
 past_row (x ∷ rows) zero l = absurd (omega arith)

@@ -37,6 +37,10 @@ pub record Key : Type 0 where
   pub wave : ℕ
   pub instr : ℕ
 
+-- the instance of a token
+abbrev pub key_of_token : Token → Key
+key_of_token t = record { wave = t.wave; instr = t.instr }
+
 pub record State : Type 0 where
   pub held : Ports
   pub way : Ports

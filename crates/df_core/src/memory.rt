@@ -11,6 +11,8 @@ ghost use Rattle.df_core.specs.Outdoors.{CarriesOut, Space, HasSpace, rows_of, S
 
 use std::alloc::Global;
 use ws_isa::{ArrayDecl, Op};
+use ws_words::memory::place_of;
+use ws_words::tape::{next_of, tapes};
 use ws_words::{Cells, NoMemory, PORTS, Tape, Words, World};
 
 /// What a run has outside. Of its acts it keeps the words that were printed and taken.
@@ -93,26 +95,6 @@ impl<'a> Memory<'a> {
     }
 }
 
-// The place of an array by its number from 1.
-fn place_of(array: u32) -> usize
-    ensures { result ≡ array - 1 }
-{
-    (array as usize).saturating_sub(1)
-}
-
-// The next word at a place, or 0 where none is left.
-fn next_of(tapes: &mut Vec<Tape<'_>>, place: usize) -> u64
-    ensures word { result ≡ head_or_zero (row tapes.old.items place) }
-    ensures rest { let before = tapes.old.items in
-        tapes.new.items ≡ with_row before place (rest_of (row before place)) }
-{
-    if place < tapes.len() {
-        tapes[place].next()
-    } else {
-        0
-    }
-}
-
 // Puts a word behind the others of a row; past the last row nothing changes.
 fn add_word(rows: &mut Vec<Vec<u64>>, place: usize, word: u64)
     requires { HasSpace rows.old.items 1 }
@@ -145,26 +127,6 @@ fn empty_cells(alloc: Global, arrays: &[ArrayDecl]) -> Result<Cells, NoMemory>
         cells.push(Words::zeros(alloc, array.length as usize)?)?;
     }
     Ok(cells)
-}
-
-fn tapes<'a>(alloc: Global, left: &'a Cells) -> Result<Vec<Tape<'a>>, NoMemory>
-    ensures { IfOk result (λ tapes. tapes.items ≡ left.now) }
-{
-    let mut tapes = Vec::new(alloc);
-    for port in 0..left.len() {
-        tapes.push(tape_of(left, port))?;
-    }
-    Ok(tapes)
-}
-
-// The words of a port that stands at this place; past the last one none.
-fn tape_of<'a>(left: &'a Cells, place: usize) -> Tape<'a>
-    ensures { result ≡ row left.now place }
-{
-    match left.get(place) {
-        Some(words) => Tape::new(words.as_slice()),
-        None => Tape::new(&[]),
-    }
 }
 
 // No words for each of the ports.

@@ -30,7 +30,7 @@ use Rattle.store_buf.proofs.Outside.{out_of}
 use Rattle.fire_crew.specs.Owing.{AllKnown, HaveCome, IsMissing}
 use Rattle.fire_crew.specs.Ends.{AllRun, SomeRun, FaultRun}
 use Rattle.df_core.proofs.Owing.{nothing, some_only, waits_cases}
-use Rattle.ws_isa.proofs.Images.{nth_below}
+use Rattle.ws_words.proofs.Places.{nth_short}
 
 kept_of : (image : Image) (o : Option Kept) → is_some o ≡ true → (xs : List ℕ) × (operands_if image o ≡ Some xs)
 kept_of image None e = cc
@@ -106,7 +106,7 @@ module _ (image : Image) (world : World) (formed : Formed image) (sound : Sound 
   pub not_fired : (x : Token) (right : IsRight image world x) → IsMissing t.held x → HasFired s.fired right.inst.wave right.inst.instr → ⊥
   not_fired x right missing h =
       let f = tok.fired_full x.wave x.instr (subst (λ (k : ℕ × ℕ). HasFired t.fired k.0 k.1) (λ j. (right.at.wave j, right.at.instr j)) (subst (λ ks. HasFired ks right.inst.wave right.inst.instr) fired_is h)) in
-      let l = nth_below right.inst.operands x.port x.value right.operand in
+      let l = nth_short right.inst.operands x.port x.value right.operand in
       let n : length right.inst.operands ≡ ports image x.instr = facts.filled right.time right.inst right.at.fires ∙ ap (ports image) right.at.instr in
       let g = f.1 x.port (omega (arith, l, n)) in
       nothing g.0 (sym missing ∙ g.1)

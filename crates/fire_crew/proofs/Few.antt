@@ -6,7 +6,7 @@ use Rattle.ws_isa.specs.Image.{Image, Token, instr_at, ports, ports_of}
 use Rattle.ws_isa.specs.Formed.{Formed}
 use Rattle.ws_isa.specs.Sound.{Sound}
 use Rattle.ws_isa.specs.Walk.{Ports, CostAtMost, walk}
-use Rattle.df_core.specs.Core.{Apart, HasFired, IsSent, Key, Once}
+use Rattle.df_core.specs.Core.{Apart, HasFired, IsSent, Key, Once, key_of_token}
 use Rattle.df_core.specs.Fit.{RightToken}
 use Rattle.df_core.proofs.Facts.{WalkFacts}
 use Rattle.df_core.proofs.FromSound.{facts_of}
@@ -14,38 +14,36 @@ use Rattle.df_core.proofs.PortsThere.{ports_there}
 use Rattle.df_core.proofs.Counting.{count_within, keys_of, walk_has}
 use Rattle.df_core.proofs.Arriving.{ports_is_op}
 use Rattle.fire_crew.specs.Coming.{Came}
-use Rattle.ws_isa.proofs.Images.{three_ports as few_ports, nth_below}
-
-abbrev key_of : Token → Key
-key_of t = record { wave = t.wave; instr = t.instr }
+use Rattle.ws_isa.proofs.Images.{three_ports as few_ports}
+use Rattle.ws_words.proofs.Places.{nth_short}
 
 -- the instances of the tokens to one port
 abbrev keys_at : ℕ → List Token → List Key
 keys_at p [] = []
-keys_at p (t ∷ ts) = cond (eqb t.port p) (key_of t ∷ keys_at p ts) (keys_at p ts)
+keys_at p (t ∷ ts) = cond (eqb t.port p) (key_of_token t ∷ keys_at p ts) (keys_at p ts)
 
 key_sent : (p : ℕ) (ts : List Token) (w i : ℕ) → HasFired (keys_at p ts) w i → (v : ℕ) × IsSent ts w i p v
 key_sent p [] w i h = absurd h
 key_sent p (t ∷ ts) w i h = go (λ k. let r = key_sent p ts w i k in (r.0, inr r.1)) (cases_eq t.port p) h
   where
     go : (HasFired (keys_at p ts) w i → (v : ℕ) × IsSent (t ∷ ts) w i p v) → (t.port ≡ p) ⊎ (t.port ≡ p → ⊥) → HasFired (keys_at p (t ∷ ts)) w i → (v : ℕ) × IsSent (t ∷ ts) w i p v
-    go later (inl e) h = elim (subst (λ (b : Bool). HasFired (cond b (key_of t ∷ keys_at p ts) (keys_at p ts)) w i) (eq-eqb t.port p e) h) [
+    go later (inl e) h = elim (subst (λ (b : Bool). HasFired (cond b (key_of_token t ∷ keys_at p ts) (keys_at p ts)) w i) (eq-eqb t.port p e) h) [
       | inl x ↦ (t.value, inl (x.0, x.1, e, refl))
       | inr x ↦ later x
     ]
-    go later (inr n) h = later (subst (λ (b : Bool). HasFired (cond b (key_of t ∷ keys_at p ts) (keys_at p ts)) w i) (ne_eqb t.port p n) h)
+    go later (inr n) h = later (subst (λ (b : Bool). HasFired (cond b (key_of_token t ∷ keys_at p ts) (keys_at p ts)) w i) (ne_eqb t.port p n) h)
 
 keys_once : (p : ℕ) (ts : List Token) → Apart ts → Once (keys_at p ts)
 keys_once p [] a = tt
 keys_once p (t ∷ ts) a = elim (cases_eq t.port p) [
-  | inl e ↦ subst (λ (b : Bool). Once (cond b (key_of t ∷ keys_at p ts) (keys_at p ts))) (sym (eq-eqb t.port p e))
+  | inl e ↦ subst (λ (b : Bool). Once (cond b (key_of_token t ∷ keys_at p ts) (keys_at p ts))) (sym (eq-eqb t.port p e))
       ((λ h. let r = key_sent p ts t.wave t.instr h in a.0 r.0 (subst (λ (q : ℕ). IsSent ts t.wave t.instr q r.0) (sym e) r.1)), keys_once p ts a.1)
-  | inr n ↦ subst (λ (b : Bool). Once (cond b (key_of t ∷ keys_at p ts) (keys_at p ts))) (sym (ne_eqb t.port p n)) (keys_once p ts a.1)
+  | inr n ↦ subst (λ (b : Bool). Once (cond b (key_of_token t ∷ keys_at p ts) (keys_at p ts))) (sym (ne_eqb t.port p n)) (keys_once p ts a.1)
 ]
 
 -- how many there are to the ports 0, 1 and 2, if the first of the tokens is to port n
 abbrev with_first : Token → List Token → ℕ → ℕ
-with_first t ts n = length (cond (eqb n 0) (key_of t ∷ keys_at 0 ts) (keys_at 0 ts)) + (length (cond (eqb n 1) (key_of t ∷ keys_at 1 ts) (keys_at 1 ts)) + length (cond (eqb n 2) (key_of t ∷ keys_at 2 ts) (keys_at 2 ts)))
+with_first t ts n = length (cond (eqb n 0) (key_of_token t ∷ keys_at 0 ts) (keys_at 0 ts)) + (length (cond (eqb n 1) (key_of_token t ∷ keys_at 1 ts) (keys_at 1 ts)) + length (cond (eqb n 2) (key_of_token t ∷ keys_at 2 ts) (keys_at 2 ts)))
 
 one_more : (t : Token) (ts : List Token) (n : ℕ) → n < 3 → length ts ≤ length (keys_at 0 ts) + (length (keys_at 1 ts) + length (keys_at 2 ts)) → length (t ∷ ts) ≤ with_first t ts n
 one_more t ts zero lt r = omega (arith, r)
@@ -63,7 +61,7 @@ module _ (image : Image) (world : World) (formed : Formed image) (sound : Sound 
 
   port_below : (w i p v : ℕ) → RightToken image world w i p v → p < 3
   port_below w i p v r =
-      let l : p < length r.inst.operands = nth_below r.inst.operands p v r.operand in
+      let l : p < length r.inst.operands = nth_short r.inst.operands p v r.operand in
       let n : length r.inst.operands ≡ ports image r.inst.instr = facts.filled r.time r.inst r.at.fires in
       let e : ports image r.inst.instr ≡ ports_of (instr_at image r.inst.instr).op = ports_is_op image r.inst.instr in
       let f : ports_of (instr_at image r.inst.instr).op ≤ 3 = few_ports (instr_at image r.inst.instr).op in

@@ -1,7 +1,7 @@
 //! What a worker does once a table has had a token.
 
 use crate::hand::{Hand, Wrap};
-use df_core::{Code, Job, Request, Token, TokenList};
+use df_core::{Code, Job, Token, TokenList};
 use match_table::{Offer, Took};
 use port_set::Port;
 use ready_pool::Seat;
@@ -36,10 +36,7 @@ pub fn carry_on<L: Wrap<Token<J>, T>, J: Job, T: Drop, P: Port, R: Wait>(
             hand.hand_on::<L, T>(seat, let_go);
             Next::More
         }
-        Offer::Took(Took::Asks) => match hand.results.request.take() {
-            Some(request) => ask::<L, J, T, P, R>(rt, request, hand, seat, let_go, buffer, code),
-            None => Next::More,
-        },
+        Offer::Took(Took::Asks) => ask::<L, J, T, P, R>(rt, hand, seat, let_go, buffer, code),
         Offer::Took(Took::NoMemory) => Next::Starved,
         Offer::Spent => {
             let _ = let_go.push(token);
@@ -48,16 +45,19 @@ pub fn carry_on<L: Wrap<Token<J>, T>, J: Job, T: Drop, P: Port, R: Wait>(
     }
 }
 
-// Submits a request, under the buffer's lock.
+// Submits the request in hand, under the buffer's lock. Its answers are put by.
+#[inline(always)]
 fn ask<L: Wrap<Token<J>, T>, J: Job, T: Drop, P: Port, R: Wait>(
     rt: &R,
-    request: Request<J>,
     hand: &mut Hand<'_, J>,
     seat: &mut Seat<T>,
     let_go: &mut TokenList<J>,
     buffer: &Mutex<Buffer<J, P>>,
     code: &Code<'_, J>,
 ) -> Next {
+    let Some(request) = hand.results.request.take() else {
+        return Next::More;
+    };
     let answer = buffer
         .lock(rt)
         .submit_into(code, request, &mut hand.answers);

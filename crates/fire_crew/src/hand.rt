@@ -33,9 +33,9 @@ impl<X: Drop> Wrap<X, X> for Bare {
     }
 }
 
-// How many tokens in a row a worker takes of what its firings hand on. Then all that it has go behind the
-// tokens that wait, so that it runs along no chain of instances for ever while older tokens wait.
-const STREAK: u32 = 64;
+/// How many tokens in a row a worker takes of what its firings hand on. Then all that it has go behind the
+/// tokens that wait, so that it runs along no chain of instances for ever while older tokens wait.
+pub const STREAK: u32 = 64;
 
 /// What a worker has in hand of a job: the results of its last firing, of which at most one token is left
 /// between two turns; the buffer's answers, while they are put by; and what waits in hand where the worker is
@@ -49,19 +49,25 @@ pub struct Hand<'i, J: Job> {
 }
 
 impl<'i, J: Job> Hand<'i, J> {
-    /// Nothing. From the seat of a worker that is alone nobody takes, so it keeps its tokens in hand.
-    pub fn empty(alloc: Global, alone: bool) -> Hand<'i, J> {
+    /// Nothing, in the hand of a worker from whose seat others may take.
+    pub fn empty(alloc: Global) -> Hand<'i, J> {
         Hand {
             results: Results::none(),
             answers: Answers::none(alloc),
-            waiting: Waiting::none(alloc, alone),
+            waiting: Waiting::none(alloc),
             streak: 0,
         }
     }
 
-    /// Takes into the hand what lies in the worker's seat, if the worker is alone.
-    pub fn take_up<R: Wait>(&mut self, rt: &R, seat: &mut Seat<Token<J>>) {
-        self.waiting.take_up(rt, seat);
+    /// Whether the worker keeps its tokens in hand.
+    pub fn is_alone(&self) -> bool {
+        self.waiting.is_alone()
+    }
+
+    /// From now on nobody else takes from the worker's seat: it takes into its hand what lies there, and
+    /// keeps its tokens in hand.
+    pub fn stay_alone<R: Wait>(&mut self, rt: &R, seat: &mut Seat<Token<J>>) {
+        self.waiting.stay_alone(rt, seat);
     }
 
     /// A token in hand, if there is one.
@@ -69,7 +75,7 @@ impl<'i, J: Job> Hand<'i, J> {
     pub fn next(&mut self) -> Option<Token<J>> {
         match self.results.sent.next() {
             Some(token) => {
-                self.streak = self.streak.saturating_add(1);
+                self.streak = self.streak.wrapping_add(1);
                 Some(token)
             }
             None => {
@@ -77,6 +83,33 @@ impl<'i, J: Job> Hand<'i, J> {
                 self.waiting.next()
             }
         }
+    }
+
+    /// A token that waits in hand, if there is one.
+    #[inline(always)]
+    pub fn waiting(&mut self) -> Option<Token<J>> {
+        self.waiting.next()
+    }
+
+    /// Puts a token by. One that the seat refuses is let go.
+    #[inline(always)]
+    pub fn put<L: Wrap<Token<J>, T>, T: Drop>(
+        &mut self,
+        seat: &mut Seat<T>,
+        let_go: &mut TokenList<J>,
+        token: Token<J>,
+    ) {
+        self.waiting.put::<L, T>(seat, let_go, token);
+    }
+
+    /// Puts all results by. Those that the seat refuses are let go.
+    #[inline(always)]
+    pub fn put_results<L: Wrap<Token<J>, T>, T: Drop>(
+        &mut self,
+        seat: &mut Seat<T>,
+        let_go: &mut TokenList<J>,
+    ) {
+        put_sent::<L, J, T>(&mut self.waiting, seat, let_go, &mut self.results.sent, 0);
     }
 
     // How many results of a firing the worker may go on with.

@@ -12,6 +12,7 @@ use match_table::{Quotas, Row, Tables};
 use port_set::Port;
 use ready_pool::{Seat, SeatList};
 use std::alloc::Global;
+use std::sync::atomic::AtomicU64;
 use std::sync::{Mutex, Wait};
 use std::thread;
 use std::thread::Threads;
@@ -54,12 +55,13 @@ pub fn phase<
     let lock = Mutex::new(buffer);
     let shared = &row;
     let behind = &lock;
-    let alone = deal.len() == 1;
+    let at_work = AtomicU64::new(deal.len() as u64);
+    let counted = &at_work;
     let back = thread::map_vec(
         rt,
         deal,
         &|seat: Seat<Token<J>>| -> Worked<J> {
-            work(rt, alloc, seat, alone, shared, behind, code, gate)
+            work(rt, alloc, seat, counted, shared, behind, code, gate)
         },
     );
     let (let_go, starved) = match back {

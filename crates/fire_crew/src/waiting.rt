@@ -19,12 +19,17 @@ pub struct Waiting<J: Job> {
 }
 
 impl<J: Job> Waiting<J> {
-    /// No tokens.
-    pub fn none(alloc: Global, alone: bool) -> Waiting<J> {
+    /// No tokens, and none may wait here.
+    pub fn none(alloc: Global) -> Waiting<J> {
         Waiting {
             tokens: VecDeque::new(alloc),
-            alone,
+            alone: false,
         }
+    }
+
+    /// Whether tokens may wait here.
+    pub fn is_alone(&self) -> bool {
+        self.alone
     }
 
     // Whether one more token may wait here, and there is room for it.
@@ -43,8 +48,9 @@ impl<J: Job> Waiting<J> {
         self.alone && self.tokens.reserve(1).is_ok()
     }
 
-    /// Takes up what lies in a seat, if it may wait here.
-    pub fn take_up<R: Wait>(&mut self, rt: &R, seat: &mut Seat<Token<J>>) {
+    /// From now on tokens may wait here. Takes up those that lie in a seat, as far as there is memory.
+    pub fn stay_alone<R: Wait>(&mut self, rt: &R, seat: &mut Seat<Token<J>>) {
+        self.alone = true;
         for _ in rt.forever() {
             if !self.has_room() {
                 break;

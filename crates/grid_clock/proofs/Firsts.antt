@@ -1,22 +1,11 @@
 -- The first in the chain of the operations that may be issued.
 use Rattle.std.proofs.Common.{ℕ, suc, ◌≡◌, ◌<◌, ◌≤◌, ◌⊎◌, true, false, List, length, [], Option, Some, None, is_some, IfSome, MatchOption, refl, sym, ap, ◌∙◌, subst, inl, inr, eqb-true, ◌==◌, arith}
-use Rattle.std.proofs.lemmas.Bool.{cases_Bool, cases_lt, cases_eq, and_parts}
+use Rattle.std.proofs.lemmas.Bool.{cases_Bool, cases_eq, and_parts}
 use Rattle.ws_words.specs.Outside.{World}
-use Rattle.ws_isa.specs.declared.instr.Link.{Link}
-use Rattle.ws_isa.specs.declared.instr.Link.TheVariants.{Unknown, Nothing, Is}
-use Rattle.ws_isa.specs.declared.instr.Note.{Note}
 use Rattle.ws_isa.specs.Image as plain
-use Rattle.ws_isa.specs.Image.{Image, ports, is_memory, note_of}
-use Rattle.ws_isa.specs.Formed.{Formed}
-use Rattle.ws_isa.specs.Walk.{Inst, fires, pos}
-use Rattle.ws_isa.specs.Sound.{Sound, LinkRules, ComesNext, last_op, seq}
-use Rattle.df_core.specs.Core.{Chain, State, Issuable, IsNext, pass, pass_by, position_after}
-use Rattle.df_core.specs.Fit.{RightRequest, Fit, chain_at}
-use Rattle.df_core.proofs.Facts.{WalkFacts}
-use Rattle.df_core.proofs.FromSound.{facts_of}
-use Rattle.df_core.proofs.PortsThere.{ports_there}
-use Rattle.df_core.proofs.Steps.{turn_at}
-use Rattle.df_core.proofs.Ops as O
+use Rattle.ws_isa.specs.Image.{Image, ports, note_of}
+use Rattle.ws_isa.specs.Sound.{seq}
+use Rattle.df_core.specs.Core.{Chain, State, Issuable, IsNext}
 use Rattle.df_core.specs.declared.flow.Flow.{Flow}
 use Rattle.df_core.specs.Chains.{chain_of, next_flag, may_flag}
 use Rattle.df_core.specs.Flows.{GoingBeside, asked_at, AskedMay, NoneAskedMay, FlowIs}
@@ -24,100 +13,9 @@ use Rattle.df_core.specs.Partial.{listed}
 use Rattle.df_core.proofs.Driving.{has_at, flagged}
 use Rattle.df_core.proofs.Bounds.{has_asked}
 use Rattle.df_core.proofs.Nexts.{next_is}
+use Rattle.df_core.proofs.Firsts.{next_first}
 use Rattle.grid_clock.specs.Schedule.{FirstIssue}
 use Rattle.grid_clock.specs.During.{IsFirst, Least}
-
--- sequence numbers rise along the walk, inside a wave
-abbrev pub behind_last : Image → ℕ → Option ℕ → Chain
-behind_last image w None = record { wave = w; last = None }
-behind_last image w (Some k) = pass (record { wave = w; last = None }) (note_of image k)
-
-goes : (c : Chain) (n : Note) (l : Link) → (l ≡ Nothing → ⊥) → (pass_by c n l).last ≡ Some n
-goes c n Nothing h = absurd (h refl)
-goes c n Unknown h = refl
-goes c n (Is k) h = refl
-
-rise_behind : (image : Image) → LinkRules image → (w : ℕ) (l : Option ℕ) (k : ℕ) → ComesNext image l k → position_after (behind_last image w l).last < seq image k
-rise_behind image links w None k f = links.positive k None f
-rise_behind image links w (Some j) k f =
-    rw (goes (record { wave = w; last = None }) (note_of image j) (note_of image j).succ (λ e. links.succ_ends j k e f)) (links.rise j k f)
-
-module _ (image : Image) (world : World) (formed : Formed image) (sound : Sound image) where
-  facts : WalkFacts image world
-  facts = facts_of image world (ports_there image formed) sound
-
-  seq_up : (k u : ℕ) (z y : Inst) → fires image world k ≡ Some z → fires image world u ≡ Some y → is_memory image z.instr ≡ true → is_memory image y.instr ≡ true → z.wave ≡ y.wave → k < u → seq image z.instr < seq image y.instr
-  seq_up k u z y fz fy mz my w l =
-      let yw : y.wave ≡ (chain_at image world u).wave = facts.turn_wave u y fy my in
-      let p : seq image z.instr ≤ position_after (chain_at image world u).last = O.reach image world sound.shape sound.links k u z fz mz l (sym yw ∙ sym w) in
-      let t = turn_at image world sound.shape u y fy in
-      let c : chain_at image world u ≡ behind_last image (pos image world u).wave (last_op image (O.done_in image world u)) = O.chain_is image world sound.shape sound.links u t.over in
-      let f : ComesNext image (last_op image (O.done_in image world u)) y.instr = O.follows image world sound.shape sound.links u y fy my in
-      let q : position_after (behind_last image (pos image world u).wave (last_op image (O.done_in image world u))).last < seq image y.instr = rise_behind image sound.links (pos image world u).wave (last_op image (O.done_in image world u)) y.instr f in
-      let r : position_after (chain_at image world u).last ≡ position_after (behind_last image (pos image world u).wave (last_op image (O.done_in image world u))).last = ap (λ (d : Chain). position_after d.last) c in
-      omega (arith, p, q, r)
-
-  -- requests that wait, of operations of the walk
-  module _ (s : State) (fit : Fit image world s) where
-    -- a request of an operation that wasn't issued is of one that the chain hasn't passed
-    not_passed : (w i : ℕ) (xs : List ℕ) (r : RightRequest image world w i xs) → s.issued w i ≡ None → fit.legal.cut ≤ r.time
-    not_passed w i xs r fresh = elim (cases_lt r.time fit.legal.cut) [
-      | inl l ↦ absurd (
-          let e : s.issued r.inst.wave r.inst.instr ≡ Some r.inst.result = fit.legal.ordered.passed r.time r.inst l r.at.fires (ap (is_memory image) r.at.instr ∙ r.memory) in
-          let f : s.issued w i ≡ Some r.inst.result = rw (r.at.wave, r.at.instr) at e in
-          let g : None ≡ Some r.inst.result = sym fresh ∙ f in
-          cc)
-      | inr l ↦ l
-    ]
-
-    -- the operation that is next comes before the others
-    pub next_first : (w i : ℕ) (xs : List ℕ) (a j : ℕ) (ys : List ℕ) → s.waiting w i ≡ Some xs → s.waiting a j ≡ Some ys → s.issued a j ≡ None → w ≡ s.chain.wave → a ≡ s.chain.wave → IsNext s.chain (note_of image i) → seq image i ≤ seq image j
-    next_first w i xs a j ys e f fresh wc ac next =
-        let x = fit.request_right w i xs e in
-        let y = fit.request_right a j ys f in
-        let mx : is_memory image x.inst.instr ≡ true = ap (is_memory image) x.at.instr ∙ x.memory in
-        let my : is_memory image y.inst.instr ≡ true = ap (is_memory image) y.at.instr ∙ y.memory in
-        let c : s.chain ≡ chain_at image world fit.legal.cut = fit.legal.ordered.chain in
-        let xw : x.inst.wave ≡ (chain_at image world fit.legal.cut).wave = x.at.wave ∙ wc ∙ ap (λ (d : Chain). d.wave) c in
-        let n0 : IsNext (chain_at image world fit.legal.cut) (note_of image i) = subst (λ (d : Chain). IsNext d (note_of image i)) c next in
-        let n : IsNext (chain_at image world fit.legal.cut) (note_of image x.inst.instr) = subst (λ (k : ℕ). IsNext (chain_at image world fit.legal.cut) (note_of image k)) (sym x.at.instr) n0 in
-        let from : fit.legal.cut ≤ y.time = not_passed a j ys y fresh in
-        let si : seq image x.inst.instr ≡ seq image i = ap (seq image) x.at.instr in
-        let sj : seq image y.inst.instr ≡ seq image j = ap (seq image) y.at.instr in
-        elim (cases_lt y.time x.time) [
-          | inl l ↦ absurd (facts.only_first fit.legal.cut x.time x.inst x.at.fires mx xw n y.time y.inst from l y.at.fires my)
-          | inr l ↦ elim (cases_eq x.time y.time) [
-            | inl q ↦ (
-                let same : Some x.inst ≡ Some y.inst = sym x.at.fires ∙ ap (fires image world) q ∙ y.at.fires in
-                let inst : x.inst ≡ y.inst = cc in
-                let sq : seq image x.inst.instr ≡ seq image y.inst.instr = ap (λ (z : Inst). seq image z.instr) inst in
-                omega (arith, si, sj, sq))
-            | inr q ↦ (
-                let up : seq image x.inst.instr < seq image y.inst.instr = seq_up x.time y.time x.inst y.inst x.at.fires y.at.fires mx my (x.at.wave ∙ wc ∙ sym ac ∙ sym y.at.wave) (omega (arith, l, q)) in
-                omega (arith, si, sj, up))
-          ]
-        ]
-
-    -- two of one place are one
-    pub same_op : (w i : ℕ) (xs : List ℕ) (a j : ℕ) (ys : List ℕ) → s.waiting w i ≡ Some xs → s.waiting a j ≡ Some ys → w ≡ a → seq image i ≡ seq image j → i ≡ j
-    same_op w i xs a j ys e f wa same =
-        let x = fit.request_right w i xs e in
-        let y = fit.request_right a j ys f in
-        let mx : is_memory image x.inst.instr ≡ true = ap (is_memory image) x.at.instr ∙ x.memory in
-        let my : is_memory image y.inst.instr ≡ true = ap (is_memory image) y.at.instr ∙ y.memory in
-        let si : seq image x.inst.instr ≡ seq image i = ap (seq image) x.at.instr in
-        let sj : seq image y.inst.instr ≡ seq image j = ap (seq image) y.at.instr in
-        let ww : x.inst.wave ≡ y.inst.wave = x.at.wave ∙ wa ∙ sym y.at.wave in
-        elim (cases_eq x.time y.time) [
-          | inl q ↦ (
-              let one : Some x.inst ≡ Some y.inst = sym x.at.fires ∙ ap (fires image world) q ∙ y.at.fires in
-              let inst : x.inst ≡ y.inst = cc in
-              sym x.at.instr ∙ ap (λ (z : Inst). z.instr) inst ∙ y.at.instr)
-          | inr q ↦ absurd (elim (cases_lt x.time y.time) [
-            | inl l ↦ (let up : seq image x.inst.instr < seq image y.inst.instr = seq_up x.time y.time x.inst y.inst x.at.fires y.at.fires mx my ww l in omega (arith, si, sj, up, same))
-            | inr l ↦ (let up : seq image y.inst.instr < seq image x.inst.instr = seq_up y.time x.time y.inst x.inst y.at.fires x.at.fires my mx (sym ww) (omega (arith, l, q)) in omega (arith, si, sj, up, same))
-          ])
-        ]
 
 -- as the code holds it: where a request is next, it comes first of those that may be issued
 pub next_is_first : (image : Image) (flow : Flow) (place : ℕ) → GoingBeside image [] flow → place < length flow.asked.items → AskedMay image flow place →
@@ -132,8 +30,11 @@ next_is_first image flow place g l may next k b may_k =
     let a : (asked_at flow k).wave ≡ flow.chain.wave = eqb-true (asked_at flow k).wave flow.chain.wave (and_parts ((asked_at flow k).wave == flow.chain.wave) _ may_k).0 in
     let c : flow.chain.wave ≡ s.chain.wave = ap (λ (d : Chain). d.wave) (sym h.chain_is) in
     let n : IsNext s.chain (note_of image (asked_at flow place).instr) = subst (λ (d : Chain). IsNext d (note_of image (asked_at flow place).instr)) (sym h.chain_is) (next_is (chain_of flow.chain) (note_of image (asked_at flow place).instr) next) in
-    next_first image g.going.world g.going.formed g.going.sound g.going.state st.fit (asked_at flow place).wave (asked_at flow place).instr (listed (ports image (asked_at flow place).instr) (asked_at flow place).operands)
-    (asked_at flow k).wave (asked_at flow k).instr (listed (ports image (asked_at flow k).instr) (asked_at flow k).operands) waits waits_k
+    next_first image g.going.world g.going.formed g.going.sound st.fit.legal
+    (asked_at flow place).wave (asked_at flow place).instr (listed (ports image (asked_at flow place).instr) (asked_at flow place).operands)
+    (asked_at flow k).wave (asked_at flow k).instr (listed (ports image (asked_at flow k).instr) (asked_at flow k).operands)
+    (st.fit.request_right (asked_at flow place).wave (asked_at flow place).instr (listed (ports image (asked_at flow place).instr) (asked_at flow place).operands) waits)
+    (st.fit.request_right (asked_at flow k).wave (asked_at flow k).instr (listed (ports image (asked_at flow k).instr) (asked_at flow k).operands) waits_k)
     (st.unissued (asked_at flow k).wave (asked_at flow k).instr (listed (ports image (asked_at flow k).instr) (asked_at flow k).operands) waits_k) (w ∙ c) (a ∙ c) n
 
 -- what comes first of those comes first of the issues that are enabled

@@ -29,10 +29,10 @@ use Rattle.grid_clock.specs.declared.run.Clocked.{Clocked}
 use Rattle.grid_clock.specs.Clocks.{Clocks, last_cycle}
 use Rattle.grid_clock.specs.declared.timed.Timed.{Timed}
 use Rattle.grid_clock.specs.Schedule.{Grid, Fires, FiresNothing, IsOld, NoIssue, NotAfter, NotBehind, Issues, no_issue, issue, Quiets, no_quiet, quiet, Turns, no_turn, idle, turn, Cycle, Stopping, Blocked, Cycles, blocked, stops, goes, Schedule, in_cycle}
-use Rattle.grid_clock.proofs.Firsts.{same_op}
-use Rattle.ws_isa.proofs.Images.{nth_below}
+use Rattle.df_core.proofs.Firsts.{same_op}
 use Rattle.df_core.proofs.States.{same_is}
 use Rattle.df_core.proofs.Same.{same_refl}
+use Rattle.ws_words.proofs.Places.{nth_short}
 
 -- of numbers in order
 not_after_both : (w i a j : ℕ) → NotAfter w i a j → NotAfter a j w i → (w ≡ a) × (i ≡ j)
@@ -93,7 +93,7 @@ module _ (image : Image) (world : World) (formed : Formed image) (sound : Sound 
     | inl e ↦ e
     | inr n ↦ absurd (
         let r : RightToken image world w i q b.0 = fit.way_right w i q b.0 b.1 in
-        let l : q < length r.inst.operands = nth_below r.inst.operands q b.0 r.operand in
+        let l : q < length r.inst.operands = nth_short r.inst.operands q b.0 r.operand in
         let m : length r.inst.operands ≡ ports image r.inst.instr = facts.filled r.time r.inst r.at.fires in
         let o : ports image r.inst.instr ≡ ports image i = ap (ports image) r.at.instr in
         let h = full_all (with_at w i p (Some a.0) s.held) w i (ports image i) a.2 q (omega (arith, l, m, o)) in
@@ -121,7 +121,7 @@ module _ (image : Image) (world : World) (formed : Formed image) (sound : Sound 
       let l : seq image i ≤ seq image j = first a j y in
       let k : seq image j ≤ seq image i = least w i x in
       let wa : w ≡ a = x.1.issuable.current ∙ sym y.1.issuable.current in
-      let ij : i ≡ j = same_op image world formed sound s fit w i x.0 a j y.0 x.1.waits y.1.waits wa (omega (arith, l, k)) in
+      let ij : i ≡ j = same_op image world formed sound w i x.0 a j y.0 (fit.request_right w i x.0 x.1.waits) (fit.request_right a j y.0 y.1.waits) wa (omega (arith, l, k)) in
       let same : Issue w i ≡ Issue a j = issue_is w i a j wa ij in
       let bd : b ≡ d = step_same s b d (Issue w i) (Issue a j) fit same st st2 in
       let on : Issues image b ys u = subst (λ (z : State). Issues image z ys u) (sym bd) rest2 in

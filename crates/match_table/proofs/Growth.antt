@@ -1,7 +1,7 @@
 -- A table grows where it takes a token.
 use Rattle.std.proofs.Common.{◌≡◌, ⊎_elim, ℕ, List, [], ◌∷◌, ◌++◌, Option, Some, None, append-nil, append_assoc, sym, ap, ◌∙◌, subst}
 use Rattle.ws_isa.specs.Image.{Image, Token}
-use Rattle.df_core.specs.Core.{Key, with_at}
+use Rattle.df_core.specs.Core.{Key, with_at, key_of_token}
 use Rattle.df_core.proofs.Ports.{SamePlace, with_at_cases}
 use Rattle.match_table.specs.declared.entry.Entry.{Entry}
 use Rattle.match_table.specs.declared.table.Results.{Results}
@@ -42,13 +42,10 @@ arrives_keeps old new t a w i p v e = ⊎_elim
 same_keeps : (old new : TableContent) → new.entries ≡ old.entries → (w i p v : ℕ) → held old w i p ≡ Some v → held new w i p ≡ Some v
 same_keeps old new e w i p v h = ap (λ (x : List (Option Entry)). held_in x w i p) e ∙ h
 
-abbrev key_of : Token → Key
-key_of t = record { wave = t.wave; instr = t.instr }
-
 module _ {J : Type 0} where
   pub all_grows : (image : Image) (old new : TableContent) (t : Token) (rs : Results J) (answer : Took) → Answered image old t new rs answer → Grows old new
   all_grows image old new t rs took.Waits m = record { keeps = arrives_keeps old new t m.0.0; goes_on = ([], m.0.2 ∙ sym (append-nil old.fired)) }
-  all_grows image old new t rs took.Fires m = record { keeps = arrives_keeps old new t m.0.0; goes_on = (key_of t ∷ [], m.0.1.1.fired) }
-  all_grows image old new t rs took.Asks m = record { keeps = arrives_keeps old new t m.3.0; goes_on = (key_of t ∷ [], m.3.1.1.fired) }
+  all_grows image old new t rs took.Fires m = record { keeps = arrives_keeps old new t m.0.0; goes_on = (key_of_token t ∷ [], m.0.1.1.fired) }
+  all_grows image old new t rs took.Asks m = record { keeps = arrives_keeps old new t m.3.0; goes_on = (key_of_token t ∷ [], m.3.1.1.fired) }
   all_grows image old new t rs took.Old m = subst (λ (c : TableContent). Grows old c) (sym m.0.1) (grows_same old)
   all_grows image old new t rs took.NoMemory m = record { keeps = same_keeps old new m.0.1; goes_on = ([], m.0.2 ∙ sym (append-nil old.fired)) }

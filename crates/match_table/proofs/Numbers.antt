@@ -7,7 +7,7 @@ use Rattle.std.proofs.lemmas.List.Recursion.{found_set_other}
 use Rattle.std.proofs.lemmas.Grind.{get_or-set_at}
 use Rattle.std.specs.List.{insert}
 use Rattle.match_table.specs.declared.entry.Page.{Page}
-use Rattle.match_table.specs.Pages.{page_key, RisingPages}
+use Rattle.match_table.specs.Pages.{page_key, IsFirstFrom, RisingPages}
 
 -- none of these has the number
 key_none : (pages : List Page) (w : ℕ) → ((i : ℕ) (d : Page) → i < length pages → (get_or pages i d).number ≢ w) → page_key pages w ≡ None
@@ -134,6 +134,24 @@ inserted_rises pages place s rising le none below above i j d lt len =
     (cases_order i place)) apart)
     (cases_order j place)
 
+-- the place of a number is its place once the number stands there
+pub inserted_first : (pages : List Page) (place : ℕ) (s : Page) → IsFirstFrom pages place s.number → IsFirstFrom (insert pages place s) place s.number
+inserted_first pages place s first =
+    let n : length (insert pages place s) ≡ length pages + 1 = length-insert pages place s first.bound in
+    let W : Page → ℕ = λ t. t.number in record {
+      bound = (let b = first.bound in omega (arith, n, b));
+      below = λ i d lt. let u = ap W (get_or-insert_below pages place s d i lt first.bound) in let b = first.below i d lt in omega (arith, u, b);
+      above = λ i d le lt. ⊎_elim
+          (λ (same : i ≡ place). let u = ap W (get_or-insert_at pages place s d first.bound) in let v = subst (λ k. W (get_or (insert pages place s) k d) ≡ s.number) (sym same) u in omega (arith, v))
+          (λ (apart : (i < place) ⊎ (place < i)). ⊎_elim
+          (λ (l : i < place). absurd (omega (arith, l, le)))
+          (λ (g : place < i). let b = back_of place i g in
+          let u = ap W (get_or-insert_above pages place s d b.0 b.2 first.bound) in
+          let v = subst (λ k. W (get_or (insert pages place s) k d) ≡ W (get_or pages b.0 d)) (sym b.1) u in
+          let e = b.1 in let a = first.above b.0 d b.2 (omega (arith, e, n, lt)) in omega (arith, v, a)) apart)
+          (cases_order i place);
+    }
+
 pub other_default : (pages : List Page) (place w : ℕ) (e : Page) → ((get_or pages place e).number ≡ w → ⊥) → (d : Page) → place < length pages → (get_or pages place d).number ≢ w
 other_default pages place w e apart d lt is = apart (sym (same_page pages place d e lt) ∙ is)
 
@@ -147,6 +165,13 @@ module _ (pages : List Page) (place : ℕ) (s : Page) (within : place < length p
 
   pub set_rises : RisingPages pages → RisingPages (set pages place s)
   set_rises rising i j d lt len = let n = length-set pages place s in let r = rising i j d lt (omega arith) in let u = number_kept i d in let v = number_kept j d in omega arith
+
+  pub set_first : (at w : ℕ) → IsFirstFrom pages at w → IsFirstFrom (set pages place s) at w
+  set_first at w first = let n = length-set pages place s in record {
+    bound = (let b = first.bound in omega (arith, n, b));
+    below = λ i d lt. let b = first.below i d lt in let u = number_kept i d in omega (arith, b, u);
+    above = λ i d le lt. let a = first.above i d le (omega (arith, n, lt)) in let u = number_kept i d in omega (arith, a, u);
+  }
 
   pub set_key : ((i : ℕ) (d : Page) → i < place → (get_or pages i d).number < s.number) → page_key (set pages place s) s.number ≡ Some s.first
   set_key below = let n = length-set pages place s in

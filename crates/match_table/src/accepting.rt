@@ -1,9 +1,9 @@
 //! How a table takes a token.
 
-ghost use Rattle.std.specs.Prelude.{◌<◌, ◌≡◌, ◌≤◌, ◌+◌, ◌^◌, IfErr, IsOk, IsSome, None, true, false, cond, suc};
-ghost use Rattle.std.specs.Prelude.{IfSome, IfOk, MatchResult};
+ghost use Rattle.std.specs.Prelude.{◌<◌, ◌≡◌, ◌≤◌, ◌+◌, ◌^◌, IfErr, IsOk, None, true, false, IfOk};
+ghost use Rattle.std.specs.Prelude.{MatchResult};
 ghost use Rattle.ws_isa.specs.Formed.{Formed};
-ghost use Rattle.ws_isa.specs.Image.{instr_at, is_advance_op, is_memory, ports};
+ghost use Rattle.ws_isa.specs.Image.{instr_at, is_memory, no_instr, ports};
 ghost use Rattle.ws_isa.specs.Sound.{Sound};
 ghost use Rattle.ws_isa.specs.Walk.{gather};
 ghost use Rattle.df_core.specs.Core.{is_full};
@@ -14,22 +14,21 @@ ghost use Rattle.match_table.specs.Matching.{Accepted, Answered, Arrives, FiresS
 ghost use Rattle.match_table.specs.Matching.{IfNoMemory, NoResults, Refused, has_fired, will_fire};
 ghost use Rattle.match_table.specs.Pages.{KeyIs, arrived_in};
 ghost use Rattle.match_table.specs.Ports.{listed, is_taken, with_port, alone, SeenSo};
-ghost use Rattle.match_table.specs.Tables.{held};
+ghost use Rattle.match_table.specs.Tables.{IsPlacedAt, held};
 
+use crate::entry::Arrived;
 use crate::meeting::{Operands, Seen, is_taken, meet};
-use crate::ops::{result_of, selector};
-use crate::pages::Found;
+use crate::ops::{dests_of, number_of, op_of, result_of, selector};
 use crate::table::{Accept, AcceptFault, Results, Table, Took};
-use df_core::program::Program;
+use df_core::program::{PlacedInstr, Program};
 use df_core::{Code, Job, Request, Sent, Token};
 use std::alloc::Global;
-use ws_isa::Op;
 use ws_words::NoMemory;
 
 impl<J: Job> Table<J> {
     // The token waits at its port.
     #[inline(always)]
-    pub(crate) fn keep(&mut self, token: &Token<J>, place: usize, key: Option<usize>, count: u8)
+    pub(crate) fn keep(&mut self, token: &Token<J>, key: Option<usize>, count: u8)
         requires formed { Formed J.image }
         requires sound { Sound J.image }
         requires ports { (count ≡ ports J.image token.now.instr) × (count ≤ 3) }
@@ -47,12 +46,13 @@ impl<J: Job> Table<J> {
         let instr = token.instr();
         let port = token.port();
         let value = token.value();
-        self.pages.put(place, key, wave, instr, port, value);
+        self.room -= 1;
+        self.pages.put(key, wave, instr, port, value);
     }
 
     // The token's instance is full, and fires. `asks` says whether it is one of memory.
     #[inline(always)]
-    pub(crate) fn fire(&mut self, token: &Token<J>, place: usize, key: Option<usize>, asks: bool)
+    pub(crate) fn fire(&mut self, token: &Token<J>, key: Option<usize>, asks: bool)
         requires formed { Formed J.image }
         requires sound { Sound J.image }
         requires asks { is_memory J.image token.now.instr ≡ asks }
@@ -73,7 +73,8 @@ impl<J: Job> Table<J> {
         let instr = token.instr();
         let port = token.port();
         let value = token.value();
-        let key = self.pages.put(place, key, wave, instr, port, value);
+        self.room -= 1;
+        let key = self.pages.put(key, wave, instr, port, value);
         self.fired.push_reserved(key);
         if asks {
             self.asked.push_reserved(key);
@@ -125,70 +126,83 @@ impl<J: Job> Table<J> {
         ensures memory { result ≡ took.NoMemory → 0 < self.old.spare → token.now.wave + 1 < 2 ^ 64 → ⊥ }
         ensures spare { self.old.spare ≤ self.new.spare + 1 }
     {
-        results.clear();
         let program = code.program();
-        let wave = token.wave();
         let instr = token.instr();
-        let op = program.op(instr);
-        let spotted = self.pages.find(self.pages.near(), wave, instr);
-        let place = spotted.place;
-        match spotted.key {
-            None => {
-                let found = Found {
-                    place,
-                    key: None,
-                    arrived: None,
-                };
-                self.take(program, op, token, found, results)
-            }
-            Some(key) => {
-                let arrived = self.pages.arrived(key);
-                let found = Found {
-                    place,
-                    key: Some(key),
-                    arrived: Some(arrived),
-                };
-                self.take(program, op, token, found, results)
+        let Some(placed) = program.place(instr) else {
+            return self.accept_unplaced(code, token, results);
+        };
+        let placed = Some(placed);
+        match self.pages.find(token.wave(), instr) {
+            None => self.take(program, placed, token, None, None, results),
+            Some((key, arrived)) => {
+                self.take(program, placed, token, Some(key), Some(arrived), results)
             }
         }
     }
 
-    // Takes a token, whose instance is found so.
-    #[inline(always)]
-    pub(crate) fn take<'i>(
+    // The same for a token that comes to no instruction of the code.
+    #[inline(never)]
+    pub(crate) fn accept_unplaced<'i>(
         &mut self,
-        program: &Program<'i>,
-        op: Op,
+        code: &Code<'i, J>,
         token: &Token<J>,
-        found: Found,
         results: &mut Results<'i, J>,
     ) -> Took
-        requires program { ProgramIs program.now }
-        requires image { image_of program.now ≡ J.image }
-        requires op { op ≡ (instr_at (image_of program.now) token.now.instr).op }
-        requires formed { Formed J.image }
-        requires sound { Sound J.image }
-        requires key { KeyIs self.old.entries found.key token.now.wave token.now.instr }
-        requires arrived { found.arrived ≡ arrived_in self.old.entries token.now.wave token.now.instr }
-        requires empty { NoResults results.old }
+        requires { instr_at J.image token.now.instr ≡ no_instr }
         ensures answer { Answered J.image self.old token.now self.new results.new result }
         ensures fires { FiresSo result (will_fire J.image self.old token.now) }
         ensures memory { result ≡ took.NoMemory → 0 < self.old.spare → token.now.wave + 1 < 2 ^ 64 → ⊥ }
         ensures spare { self.old.spare ≤ self.new.spare + 1 }
     {
+        let program = code.program();
+        let (key, arrived) = match self.pages.find(token.wave(), token.instr()) {
+            None => (None, None),
+            Some((key, arrived)) => (Some(key), Some(arrived)),
+        };
+        self.take(program, None, token, key, arrived, results)
+    }
+
+    // Takes a token, whose instance has this entry.
+    #[inline(always)]
+    pub(crate) fn take<'i>(
+        &mut self,
+        program: &Program<'i>,
+        placed: Option<PlacedInstr<'i>>,
+        token: &Token<J>,
+        key: Option<usize>,
+        arrived: Option<Arrived>,
+        results: &mut Results<'i, J>,
+    ) -> Took
+        requires program { ProgramIs program.now }
+        requires image { image_of program.now ≡ J.image }
+        requires placed { IsPlacedAt (image_of program.now) token.now.instr placed }
+        requires formed { Formed J.image }
+        requires sound { Sound J.image }
+        requires key { KeyIs self.old.entries key token.now.wave token.now.instr }
+        requires arrived { arrived ≡ arrived_in self.old.entries token.now.wave token.now.instr }
+        ensures answer { Answered J.image self.old token.now self.new results.new result }
+        ensures fires { FiresSo result (will_fire J.image self.old token.now) }
+        ensures memory { result ≡ took.NoMemory → 0 < self.old.spare → token.now.wave + 1 < 2 ^ 64 → ⊥ }
+        ensures spare { self.old.spare ≤ self.new.spare + 1 }
+    {
+        let op = op_of(placed);
         let count = op.ports();
-        let seen = self.meet(token, count, found.arrived);
+        let seen = self.meet(token, count, arrived);
         match seen {
-            Seen::Old => Took::Old,
+            Seen::Old => {
+                results.clear();
+                Took::Old
+            }
             Seen::Waits => {
+                results.clear();
                 if self.make_room().is_err() {
                     return Took::NoMemory;
                 }
-                self.keep(token, found.place, found.key, count);
+                self.keep(token, key, count);
                 Took::Waits
             }
             Seen::Fills(operands) => {
-                let Ok(took) = self.hand_on(program, op, token, operands, results) else {
+                let Ok(took) = self.hand_on(program, placed, token, operands, results) else {
                     results.clear();
                     return Took::NoMemory;
                 };
@@ -196,7 +210,7 @@ impl<J: Job> Table<J> {
                     results.clear();
                     return Took::NoMemory;
                 }
-                self.fire(token, found.place, found.key, op.is_memory());
+                self.fire(token, key, op.is_memory());
                 took
             }
         }
@@ -207,49 +221,36 @@ impl<J: Job> Table<J> {
     pub(crate) fn hand_on<'i>(
         &self,
         program: &Program<'i>,
-        op: Op,
+        placed: Option<PlacedInstr<'i>>,
         token: &Token<J>,
         operands: Operands,
         results: &mut Results<'i, J>,
     ) -> Result<Took, NoMemory>
         requires program { ProgramIs program.now }
         requires image { image_of program.now ≡ J.image }
-        requires op { op ≡ (instr_at (image_of program.now) token.now.instr).op }
+        requires placed { IsPlacedAt (image_of program.now) token.now.instr placed }
         requires formed { Formed J.image }
         requires sound { Sound J.image }
         requires seen { SeenSo (arrived_in self.now.entries token.now.wave token.now.instr)
             token.now.port token.now.value (ports J.image token.now.instr) (Fills operands) }
-        requires empty { NoResults results.old }
         ensures outcome { IfOk result (HandedOn J.image token.now (listed operands) results.new) }
         ensures few { token.now.wave + 1 < 2 ^ 64 → IsOk result }
     {
         let _ = &self.fired;
         let wave = token.wave();
         let instr = token.instr();
+        let op = op_of(placed);
         if op.is_memory() {
             let request = Request::right(wave, instr, operands.first(), operands.second());
-            results.request = Some(request);
+            results.ask(request);
             return Ok(Took::Asks);
         }
         let Some(number) = number_of(op, wave) else {
             return Err(NoMemory);
         };
-        let dests = program.destinations(instr, selector(op, operands));
+        let dests = dests_of(program, placed, instr, selector(op, operands));
         let word = result_of(op, operands);
-        results.sent = Sent::right(number, dests, word);
+        results.send(Sent::right(number, dests, word));
         Ok(Took::Fires)
-    }
-}
-
-// The wave number of an instance's results, where there is one.
-#[inline(always)]
-fn number_of(op: Op, wave: u64) -> Option<u64>
-    ensures number { IfSome result (λ number. number ≡ cond (is_advance_op op) (suc wave) wave) }
-    ensures some { wave + 1 < 2 ^ 64 → IsSome result }
-{
-    if op.is_advance() {
-        wave.checked_add(1)
-    } else {
-        Some(wave)
     }
 }

@@ -1,7 +1,7 @@
 //! Where a page may stand in its list.
 
 use crate::entry::Page;
-use crate::places::number_of;
+use crate::places::{PARTS, WAVE};
 
 /// How the places of a table's pages rise with their wave numbers: about how many pages a wave has, and by
 /// how much the page that was found last was ahead of that. Whatever it says serves; where it is right a page
@@ -23,7 +23,7 @@ impl Course {
         let (Some(first), Some(last)) = (pages.first(), pages.last()) else {
             return Course::none();
         };
-        let waves = last.number.saturating_sub(first.number) / number_of(1, 0).max(1);
+        let waves = last.number.saturating_sub(first.number) / WAVE;
         Course {
             pace: ((pages.len() as u64).saturating_add(waves / 2) / waves.max(1)).max(1),
             ahead: 0,
@@ -34,13 +34,29 @@ impl Course {
     #[inline(always)]
     fn risen(&self, wave: u64, instr: u32) -> u64 {
         wave.wrapping_mul(self.pace)
-            .wrapping_add(number_of(0, instr))
+            .wrapping_add(u64::from(instr / 32))
     }
 
     // The place at which an instance's page may stand.
     #[inline(always)]
     pub(crate) fn place(&self, wave: u64, instr: u32) -> usize {
         self.risen(wave, instr).wrapping_add(self.ahead) as usize
+    }
+
+    // The place at which the page with a number may stand, where the page with another stands at this place.
+    #[inline(always)]
+    pub(crate) fn beside(&self, place: usize, number: u64, sought: u64) -> usize {
+        (place as u64)
+            .wrapping_add(self.steps(sought))
+            .wrapping_sub(self.steps(number)) as usize
+    }
+
+    // How far the places of pages have risen at the page with a number.
+    #[inline(always)]
+    fn steps(&self, number: u64) -> u64 {
+        (number / WAVE)
+            .wrapping_mul(self.pace)
+            .wrapping_add(number % WAVE / PARTS)
     }
 
     // An instance's page was found at this place.

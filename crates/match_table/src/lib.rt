@@ -10,7 +10,7 @@
 //! holds; `fired_count` and `fired_at` what it lists, each instance with the operands that it holds, and
 //! `asked_count` and `asked_at` those of memory among them. With room for a token (`reserve`, `spare`)
 //! `accept` isn't want of memory below the last wave number, and takes room for one at most. A table keeps a
-//! page for each wave number and 32 instruction numbers, as facts of its type: the numbers of pages rise,
+//! page for each wave number and eight instruction numbers, as facts of its type: the numbers of pages rise,
 //! each has the key of its page's first entry, and each entry stands in its page's chain, once. What it holds
 //! is right, and an instance fires once, exactly when it is full (`facts`).
 //!

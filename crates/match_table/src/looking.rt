@@ -22,7 +22,7 @@ impl<J: Job> Table<J> {
     pub fn holds(&self, wave: u64, instr: u32, port: u8) -> bool
         ensures { result ≡ has (held self.now wave instr port) }
     {
-        self.holds_near(self.pages.near(), wave, instr, port).0
+        is_taken(self.pages.look(self.pages.near(), wave, instr).1, port)
     }
 
     /// The same. Its page is looked for first where the course says, which then knows where it stands.
@@ -30,9 +30,10 @@ impl<J: Job> Table<J> {
     pub fn holds_on(&self, course: &mut Course, wave: u64, instr: u32, port: u8) -> bool
         ensures { result ≡ has (held self.now wave instr port) }
     {
-        let (holds, place) = self.holds_near(course.place(wave, instr), wave, instr, port);
-        course.found(wave, instr, place);
-        holds
+        match self.pages.spot(course.place(wave, instr), wave, instr) {
+            Some(arrived) => is_taken(Some(arrived), port),
+            None => self.holds_around(course, wave, instr, port),
+        }
     }
 
     /// How the places of its pages rise.
@@ -40,31 +41,25 @@ impl<J: Job> Table<J> {
         self.pages.course()
     }
 
-    // The same, and the place at which the instance's page stands or would stand among the pages. It is
-    // looked for from a place on that may be any; from a near one it is found sooner.
-    #[inline(always)]
-    pub(crate) fn holds_near(&self, near: usize, wave: u64, instr: u32, port: u8) -> (bool, usize)
-        ensures { result.0 ≡ has (held self.now wave instr port) }
-    {
-        match self.pages.spot(near, wave, instr) {
-            Some((place, key)) => (is_taken(Some(self.pages.arrived(key)), port), place),
-            None => self.holds_anywhere(near, wave, instr, port),
-        }
-    }
-
-    // The same where the page stands elsewhere.
+    // The same where the page stands elsewhere, or the instance has no entry.
     #[inline(never)]
-    pub(crate) fn holds_anywhere(
-        &self,
-        near: usize,
-        wave: u64,
-        instr: u32,
-        port: u8,
-    ) -> (bool, usize)
-        ensures { result.0 ≡ has (held self.now wave instr port) }
+    pub(crate) fn holds_around(&self, course: &mut Course, wave: u64, instr: u32, port: u8) -> bool
+        ensures { result ≡ has (held self.now wave instr port) }
     {
-        let found = self.pages.look(near, wave, instr);
-        (is_taken(found.arrived, port), found.place)
+        let near = self
+            .pages
+            .nearer(course, course.place(wave, instr), wave, instr);
+        match self.pages.spot(near, wave, instr) {
+            Some(arrived) => {
+                course.found(wave, instr, near);
+                is_taken(Some(arrived), port)
+            }
+            None => {
+                let (place, arrived) = self.pages.look(near, wave, instr);
+                course.found(wave, instr, place);
+                is_taken(arrived, port)
+            }
+        }
     }
 
     /// How many instances have fired here.
@@ -91,8 +86,7 @@ impl<J: Job> Table<J> {
         ensures { (d : Key) → slice_index_or self.now.fired place d
             ≡ record { wave = result.0; instr = result.1 } }
     {
-        let instance = self.pages.at(self.fired[place]);
-        (instance.wave, instance.instr)
+        self.pages.instance(self.fired[place])
     }
 
     /// The instance that fired here at this place, from 0, in the order of firing.
@@ -165,8 +159,8 @@ impl<J: Job> Table<J> {
         let instr = token.instr();
         let program = code.program();
         let count = program.op(instr).ports();
-        let found = self.pages.look(self.pages.near(), wave, instr);
-        let seen = self.meet(token, count, found.arrived);
+        let (_, arrived) = self.pages.look(self.pages.near(), wave, instr);
+        let seen = self.meet(token, count, arrived);
         match seen {
             Seen::Fills(_) => true,
             Seen::Waits => false,

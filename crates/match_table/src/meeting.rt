@@ -24,7 +24,7 @@ pub enum Seen {
     Fills(Operands),
 }
 
-const NONE: Arrived = Arrived {
+pub(crate) const NONE: Arrived = Arrived {
     had: Had {
         first: false,
         second: false,
@@ -42,12 +42,15 @@ pub(crate) fn is_taken(arrived: Option<Arrived>, port: u8) -> bool
 {
     match arrived {
         None => false,
-        Some(arrived) => match port {
-            0 => arrived.had.first,
-            1 => arrived.had.second,
-            2 => arrived.had.third,
-            _ => false,
-        },
+        Some(arrived) => {
+            if port == 0 {
+                arrived.had.first
+            } else if port == 1 {
+                arrived.had.second
+            } else {
+                port == 2 && arrived.had.third
+            }
+        }
     }
 }
 

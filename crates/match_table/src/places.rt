@@ -3,17 +3,24 @@
 ghost use Rattle.std.specs.Prelude.{◌≡◌, ◌+◌, ◌<◌, ◌≤◌, ℕ, true, length, slice_index_or, vec_len};
 ghost use Rattle.std.specs.Prelude.{vec_capacity, IfSome};
 ghost use Rattle.std.specs.List.{insert};
-ghost use Rattle.match_table.specs.Pages.{page_key, page_number, RisingPages};
+ghost use Rattle.match_table.specs.Pages.{IsFirstFrom, page_key, page_number, RisingPages};
 
 use crate::entry::Page;
 
-// The number of an instance's page.
+/// How many pages a wave has for 32 instruction numbers.
+pub(crate) const PARTS: u64 = 4;
+
+/// By how much the numbers of a wave's pages are above those of the wave before it.
+pub(crate) const WAVE: u64 = 1 << 29;
+
+// The number of an instance's page. Instructions that one table of sixteen serves have one remainder by 16,
+// so 32 of them in a row have one page there; a table that serves all has four pages for these.
 #[inline(always)]
 pub(crate) fn number_of(wave: u64, instr: u32) -> u64
     ensures { result ≡ page_number wave instr }
 {
-    wave.wrapping_mul(1 << 27)
-        .wrapping_add(u64::from(instr / 32))
+    wave.wrapping_mul(WAVE)
+        .wrapping_add(u64::from(instr / 32 * 4 + instr % 16 / 4))
 }
 
 // How far from a place that is guessed a number is looked for first.
@@ -119,37 +126,32 @@ fn search(pages: &[Page], number: u64) -> usize
 
 // Whether the number stands at this place.
 #[inline(always)]
-fn is_at(pages: &[Page], at: usize, number: u64) -> bool
+pub(crate) fn is_at(pages: &[Page], at: usize, number: u64) -> bool
     ensures within { result ≡ true → at < length pages.now }
     ensures number { (d : _) → result ≡ true → (slice_index_or pages.now at d).number ≡ number }
 {
     at < pages.len() && pages[at].number == number
 }
 
-// This place or the next one, where the number stands there.
+// The first place whose number isn't below this one, where this is the first for a number that was sought.
 #[inline(always)]
-pub(crate) fn first_of_two(pages: &[Page], near: usize, number: u64) -> Option<usize>
-    ensures within { IfSome result (λ place. place < length pages.now) }
-    ensures number { IfSome result (λ place. (d : _) → (slice_index_or pages.now place d).number ≡ number) }
+pub(crate) fn place_from(pages: &[Page], near: usize, sought: u64, number: u64) -> usize
+    requires rising { RisingPages pages.now }
+    requires first { IsFirstFrom pages.now near sought }
+    ensures { IsFirstFrom pages.now result number }
 {
-    if is_at(pages, near, number) {
-        return Some(near);
+    if sought == number {
+        near
+    } else {
+        place_of(pages, near, number)
     }
-    let next = near.wrapping_add(1);
-    if is_at(pages, next, number) {
-        return Some(next);
-    }
-    None
 }
 
 // The first place whose number isn't below this one, looked for from a place on that may be any.
 #[inline(always)]
 pub(crate) fn place_of(pages: &[Page], near: usize, number: u64) -> usize
     requires { RisingPages pages.now }
-    ensures bound { result ≤ length pages.now }
-    ensures below { (i : ℕ) (d : _) → i < result → (slice_index_or pages.now i d).number < number }
-    ensures above { (i : ℕ) (d : _) → result ≤ i → i < length pages.now
-        → number ≤ (slice_index_or pages.now i d).number }
+    ensures { IsFirstFrom pages.now result number }
 {
     if is_at(pages, near, number) {
         return near;
@@ -174,9 +176,7 @@ pub(crate) fn place_of(pages: &[Page], near: usize, number: u64) -> usize
 #[inline(always)]
 pub(crate) fn key_at(pages: &[Page], place: usize, number: u64) -> Option<usize>
     requires rising { RisingPages pages.now }
-    requires below { (i : ℕ) (d : _) → i < place → (slice_index_or pages.now i d).number < number }
-    requires above { (i : ℕ) (d : _) → place ≤ i → i < length pages.now
-        → number ≤ (slice_index_or pages.now i d).number }
+    requires first { IsFirstFrom pages.now place number }
     ensures key { result ≡ page_key pages.now number }
     ensures within { IfSome result (λ _. place < length pages.now) }
     ensures number { IfSome result (λ _. (d : _) → (slice_index_or pages.now place d).number ≡ number) }

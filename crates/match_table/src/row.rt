@@ -91,19 +91,6 @@ fn unlocked<J: Job, Q: Quotas, const K: u64>(locked: Locked<J, Q, K>) -> Limited
     locked.into_inner().into_inner()
 }
 
-#[inline(always)]
-fn offer_at<'i, J: Job, Q: Quotas, const K: u64, R: Wait>(
-    rt: &R,
-    locked: &Locked<J, Q, K>,
-    code: &Code<'i, J>,
-    token: &Token<J>,
-    results: &mut Results<'i, J>,
-) -> Offer
-    requires { (token.now.wave + token.now.instr) % 16 ≡ K }
-{
-    locked.lock(rt).offer(code, token, results)
-}
-
 /// The number of the table that serves an instance.
 pub fn table_of(wave: u64, instr: u32) -> u64
     ensures { result ≡ (wave + instr) % 16 }
@@ -149,22 +136,22 @@ impl<J: Job, Q: Quotas> Row<J, Q> {
         results: &mut Results<'i, J>,
     ) -> Offer {
         match table_of(token.wave(), token.instr()) {
-            0 => offer_at::<J, Q, 0, R>(rt, &self.t0, code, token, results),
-            1 => offer_at::<J, Q, 1, R>(rt, &self.t1, code, token, results),
-            2 => offer_at::<J, Q, 2, R>(rt, &self.t2, code, token, results),
-            3 => offer_at::<J, Q, 3, R>(rt, &self.t3, code, token, results),
-            4 => offer_at::<J, Q, 4, R>(rt, &self.t4, code, token, results),
-            5 => offer_at::<J, Q, 5, R>(rt, &self.t5, code, token, results),
-            6 => offer_at::<J, Q, 6, R>(rt, &self.t6, code, token, results),
-            7 => offer_at::<J, Q, 7, R>(rt, &self.t7, code, token, results),
-            8 => offer_at::<J, Q, 8, R>(rt, &self.t8, code, token, results),
-            9 => offer_at::<J, Q, 9, R>(rt, &self.t9, code, token, results),
-            10 => offer_at::<J, Q, 10, R>(rt, &self.t10, code, token, results),
-            11 => offer_at::<J, Q, 11, R>(rt, &self.t11, code, token, results),
-            12 => offer_at::<J, Q, 12, R>(rt, &self.t12, code, token, results),
-            13 => offer_at::<J, Q, 13, R>(rt, &self.t13, code, token, results),
-            14 => offer_at::<J, Q, 14, R>(rt, &self.t14, code, token, results),
-            _ => offer_at::<J, Q, 15, R>(rt, &self.t15, code, token, results),
+            0 => self.t0.lock(rt).offer(code, token, results),
+            1 => self.t1.lock(rt).offer(code, token, results),
+            2 => self.t2.lock(rt).offer(code, token, results),
+            3 => self.t3.lock(rt).offer(code, token, results),
+            4 => self.t4.lock(rt).offer(code, token, results),
+            5 => self.t5.lock(rt).offer(code, token, results),
+            6 => self.t6.lock(rt).offer(code, token, results),
+            7 => self.t7.lock(rt).offer(code, token, results),
+            8 => self.t8.lock(rt).offer(code, token, results),
+            9 => self.t9.lock(rt).offer(code, token, results),
+            10 => self.t10.lock(rt).offer(code, token, results),
+            11 => self.t11.lock(rt).offer(code, token, results),
+            12 => self.t12.lock(rt).offer(code, token, results),
+            13 => self.t13.lock(rt).offer(code, token, results),
+            14 => self.t14.lock(rt).offer(code, token, results),
+            _ => self.t15.lock(rt).offer(code, token, results),
         }
     }
 

@@ -1,6 +1,6 @@
 //! Tables.
 
-ghost use Rattle.std.specs.Prelude.{[], ◌<◌, ◌≡◌, ◌≤◌, ℕ, IsOk, None, true, OnOk};
+ghost use Rattle.std.specs.Prelude.{[], ◌<◌, ◌≡◌, ◌≤◌, ℕ, IsOk, Some, None, true, OnOk};
 ghost use Rattle.df_core.specs.Core.{Once, has};
 ghost use Rattle.df_core.specs.Shown.{TablesOk};
 ghost use Rattle.match_table.specs.declared.meeting.Seen.TheVariants.{Waits};
@@ -68,7 +68,38 @@ impl<'i, J: Job> Results<'i, J> {
         ensures { NoResults self.new }
     {
         self.sent.clear();
-        self.request = None;
+        self.drop_request();
+    }
+
+    // Lets the request go.
+    #[inline(always)]
+    fn drop_request(&mut self)
+        ensures request { self.new.request ≡ None }
+        ensures sent { self.new.sent ≡ self.old.sent }
+    {
+        if self.request.is_some() {
+            self.request = None;
+        }
+    }
+
+    // Hands on these tokens alone.
+    #[inline(always)]
+    pub(crate) fn send(&mut self, sent: Sent<'i, J>)
+        ensures sent { self.new.sent ≡ sent.entry }
+        ensures request { self.new.request ≡ None }
+    {
+        self.sent = sent;
+        self.drop_request();
+    }
+
+    // Hands on this request alone.
+    #[inline(always)]
+    pub(crate) fn ask(&mut self, request: Request<J>)
+        ensures request { self.new.request ≡ Some request }
+        ensures sent { self.new.sent ≡ [] }
+    {
+        self.sent.clear();
+        self.request = Some(request);
     }
 }
 
@@ -80,17 +111,19 @@ pub enum AcceptFault<J: Job> {
 }
 
 /// The instances of which tokens have come, with their tokens. Those that have fired are listed in the
-/// order of firing by the keys of their entries, and those of memory among them once more.
+/// order of firing by the keys of their entries, and those of memory among them once more. There is room for
+/// so many more tokens at least.
 #[derive(Drop)]
 pub struct Table<J: Job> {
     pub(crate) pages: Pages,
     pub(crate) fired: Vec<usize>,
     pub(crate) asked: Vec<usize>,
+    pub(crate) room: usize,
     pub(crate) of: PhantomData<J>,
 }
 
 impl<J: Job> Model for Table<J> {
-    ghost use Rattle.std.specs.Prelude.{◌-◌, min, vec_len, vec_capacity};
+    ghost use Rattle.std.specs.Prelude.{◌+◌, ◌≤◌, vec_len, vec_capacity};
     ghost use Rattle.match_table.specs.Tables.{TableContent, TableOk, instances};
 
     ghost Value = { TableContent };
@@ -98,11 +131,12 @@ impl<J: Job> Model for Table<J> {
     ghost view = { λ t. record {
       entries = t.pages.entries;
       fired = instances t.pages.entries t.fired.items;
-      spare = min t.pages.spare
-          (min (vec_capacity t.fired - vec_len t.fired) (vec_capacity t.asked - vec_len t.asked));
+      spare = t.room;
     } };
 
-    ghost invariant = { λ t. TableOk J.image J.world t.pages.entries t.fired.items t.asked.items };
+    ghost invariant = { λ t. TableOk J.image J.world t.pages.entries t.fired.items t.asked.items
+        × (t.room ≤ t.pages.spare) × (vec_len t.fired + t.room ≤ vec_capacity t.fired)
+        × (vec_len t.asked + t.room ≤ vec_capacity t.asked) };
 }
 
 impl<J: Job> Table<J> {
@@ -115,6 +149,7 @@ impl<J: Job> Table<J> {
             pages: Pages::new(alloc),
             fired: Vec::new(alloc),
             asked: Vec::new(alloc),
+            room: 0,
             of: PhantomData,
         }
     }
@@ -127,9 +162,13 @@ impl<J: Job> Table<J> {
         ensures kept { self.old.spare ≤ self.new.spare }
         ensures succeeds { 0 < tokens → tokens ≤ self.old.spare → IsOk result }
     {
-        self.pages.reserve(tokens as usize)?;
-        self.fired.reserve(tokens as usize)?;
-        self.asked.reserve(tokens as usize)?;
+        let tokens = tokens as usize;
+        if self.room < tokens {
+            self.pages.reserve(tokens)?;
+            self.fired.reserve(tokens)?;
+            self.asked.reserve(tokens)?;
+            self.room = tokens;
+        }
         Ok(())
     }
 
@@ -142,7 +181,7 @@ impl<J: Job> Table<J> {
         let _ = &self.fired;
     }
 
-    // Makes room for one token.
+    // Makes room for one token; for some more, where there is none.
     #[inline(always)]
     pub(crate) fn make_room(&mut self) -> Result<(), NoMemory>
         ensures entries { self.new.entries ≡ self.old.entries }
@@ -151,12 +190,12 @@ impl<J: Job> Table<J> {
         ensures succeeds { 0 < self.old.spare → IsOk result }
         ensures kept { self.old.spare ≤ self.new.spare }
     {
-        if self.pages.has_room()
-            && self.fired.len() < self.fired.capacity()
-            && self.asked.len() < self.asked.capacity()
-        {
+        if self.room > 0 {
             return Ok(());
         }
-        self.reserve(1)
+        self.reserve(MORE)
     }
 }
+
+// For how many tokens room is made at once.
+const MORE: u32 = 64;

@@ -16,21 +16,22 @@ use Rattle.store_buf.specs.declared.fault.BufFault.TheVariants as fault
 use Rattle.store_buf.specs.declared.kept.Kept.{Kept}
 use Rattle.store_buf.specs.Outdoors.{Holding, RoseAt, RoseSince}
 use Rattle.store_buf.specs.Outers.{holding}
-use Rattle.store_buf.specs.Contents.{PortWaits, RightTokens}
+use Rattle.store_buf.specs.Contents.{PortWaits, RightTokens, with_tokens}
 use Rattle.store_buf.specs.Stores.{asked_of}
 use Rattle.store_buf.proofs.Failing.{rose_since}
 use Rattle.store_buf.proofs.Within.{port_in}
 use Rattle.part_store.specs.declared.parts.Parts.{Parts}
 use Rattle.part_store.specs.Parted.{IsAddressed, is_store_op}
 use Rattle.part_store.specs.Calls.{AddressSo, AddressedSo, SameAs, SubmittedSo, PartFailedSo, PartIdle, PartSubmitSo}
-use Rattle.part_store.specs.Parts.{AddressLeads, Calm, PartsOk, content_of, PartsStanding, PartsSubmitLeads}
+use Rattle.part_store.specs.Parts.{AddressLeads, Calm, PartsOk, PartsFiled, content_of, PartsStanding}
+use Rattle.part_store.specs.Parts.{PartsSubmitLeads}
 use Rattle.part_store.proofs.Resting as R
 use Rattle.ws_words.specs.Items.{nth}
 use Rattle.part_store.specs.Contents.{PartContent}
 
 module _ {P : Type 0} (image : Image) (world : World) (began : List (Option Began)) (formed : Formed image)
     (old new : Parts P) (standing : PartsStanding image world began old) (calm : Calm image world began new)
-    (ok : PartsOk new) where
+    (ok : PartsOk new) (filed : PartsFiled image new) where
   idle_same : SameAs (content_of old) (content_of new) → PartIdle image (content_of new)
   idle_same s f t = R.no_rule_same image (content_of old) (content_of new) s
       (standing.idle (sym s.failed ∙ f) (sym s.starved ∙ t))
@@ -59,7 +60,7 @@ module _ {P : Type 0} (image : Image) (world : World) (began : List (Option Bega
 
   stands : PartIdle image (content_of new) → PartFailedSo image began (content_of new) →
       PartsStanding image world began new
-  stands idle failed = record { ok = ok; calm = calm; idle = idle; failed = failed }
+  stands idle failed = record { ok = ok; filed = filed; calm = calm; idle = idle; failed = failed }
 
   stopped : (array : ℕ) → new.fault ≡ Some array → new.failed ≡ None → PartsStanding image world began new
   stopped array e n = stands (λ f t. R.no_rule_stopped image (content_of new) array e calm.1) (none_failed n)
@@ -105,14 +106,15 @@ module _ {P : Type 0} (image : Image) (world : World) (began : List (Option Bega
 module _ {P : Type 0} (im image : Image) (world : World) (began : List (Option Began)) (same : im ≡ image)
     (formed : Formed image) (sound : Sound image) (old new : Parts P) (k a : Kept) (tokens : List Token)
     (r : Result (Unit {0}) BufFault) (is : k ≡ a) (ok : PartsOk new)
-    (standing : PartsStanding image world began old) where
+    (filed : PartsFiled im new) (standing : PartsStanding image world began old) where
   pub address_told : IsAddressed image world k.wave k.instr k.first → AddressLeads im old k tokens r new →
       PartsStanding image world began new × RightTokens image world tokens ×
       AddressSo image (content_of old) a tokens r (content_of new)
   address_told right leads =
       let l = subst (λ (i : Image). AddressLeads i old k tokens r new) same leads world began formed sound
       right standing.calm standing.idle in (
-        addressed image world began formed old new standing l.0 ok k tokens r l.2,
+        addressed image world began formed old new standing l.0 ok
+            (subst (λ (i : Image). PartsFiled i new) same filed) k tokens r l.2,
         l.1,
         subst
             (λ (x : Kept). AddressSo image (content_of old) x tokens r (content_of new)) is l.2,
@@ -124,34 +126,25 @@ module _ {P : Type 0} (im image : Image) (world : World) (began : List (Option B
   submit_told right leads =
       let l = subst (λ (i : Image). PartsSubmitLeads i old k tokens r new) same leads world began formed sound
       right standing.calm standing.idle in (
-        submitted image world began formed old new standing l.0 ok k tokens r l.2,
+        submitted image world began formed old new standing l.0 ok
+            (subst (λ (i : Image). PartsFiled i new) same filed) k tokens r l.2,
         l.1,
         subst
             (λ (x : Kept). PartSubmitSo image (content_of old) x tokens r (content_of new)) is l.2,
       )
 
 -- the same with a list of tokens as the answer
-module _ (image : Image) (old : PartContent) (k : Kept) (tokens : List Token) (r : Result (Unit {0}) BufFault)
-    (new : PartContent) (answer : Result (List Token) BufFault) where
-  pub address_ok : AddressSo image old k tokens r new → r ≡ Ok tt → answer ≡ Ok tokens →
-      AddressedSo image old k answer new
-  address_ok a e f = subst (λ (x : Result (List Token) BufFault). AddressedSo image old k x new) (sym f)
-      (subst (λ (x : Result (Unit {0}) BufFault). AddressSo image old k tokens x new) e a)
+pub addressed_as : (image : Image) (old : PartContent) (k : Kept) (tokens : List Token)
+    (r : Result (Unit {0}) BufFault) (new : PartContent) → AddressSo image old k tokens r new →
+    AddressedSo image old k (with_tokens tokens r) new
+addressed_as image old k tokens (Ok u) new a = a
+addressed_as image old k tokens (Err f) new a = (tokens, a)
 
-  pub address_err : (f : BufFault) → AddressSo image old k tokens r new → r ≡ Err f → answer ≡ Err f →
-      AddressedSo image old k answer new
-  address_err f a e g = subst (λ (x : Result (List Token) BufFault). AddressedSo image old k x new) (sym g)
-      (tokens, subst (λ (x : Result (Unit {0}) BufFault). AddressSo image old k tokens x new) e a)
-
-  pub submit_ok : PartSubmitSo image old k tokens r new → r ≡ Ok tt → answer ≡ Ok tokens →
-      SubmittedSo image old k answer new
-  submit_ok a e f = subst (λ (x : Result (List Token) BufFault). SubmittedSo image old k x new) (sym f)
-      (subst (λ (x : Result (Unit {0}) BufFault). PartSubmitSo image old k tokens x new) e a)
-
-  pub submit_err : (f : BufFault) → PartSubmitSo image old k tokens r new → r ≡ Err f → answer ≡ Err f →
-      SubmittedSo image old k answer new
-  submit_err f a e g = subst (λ (x : Result (List Token) BufFault). SubmittedSo image old k x new) (sym g)
-      (tokens, subst (λ (x : Result (Unit {0}) BufFault). PartSubmitSo image old k tokens x new) e a)
+pub submitted_as : (image : Image) (old : PartContent) (k : Kept) (tokens : List Token)
+    (r : Result (Unit {0}) BufFault) (new : PartContent) → PartSubmitSo image old k tokens r new →
+    SubmittedSo image old k (with_tokens tokens r) new
+submitted_as image old k tokens (Ok u) new a = a
+submitted_as image old k tokens (Err f) new a = (tokens, a)
 
 -- a right token at a store's port 0 is its address
 pub is_address : (image : Image) (world : World) (t : Token) → IsRight image world t →

@@ -11,12 +11,10 @@ use Rattle.store_buf.specs.declared.kept.Kept.{Kept}
 use Rattle.store_buf.specs.declared.order.Order.{Order}
 use Rattle.store_buf.specs.Requests.{entry_of, unissued, one_if}
 use Rattle.store_buf.specs.Finding.{place_in}
-use Rattle.store_buf.specs.Laters.{places_in}
 use Rattle.store_buf.specs.Ordering.{OrderOk, no_request, kept_at}
 use Rattle.store_buf.proofs.Found as F
 use Rattle.store_buf.proofs.Lists.{set_here, set_other, set_length}
 use Rattle.part_store.specs.Parts.{issued_flag, kept_flag}
-use Rattle.ws_words.specs.Items.{In}
 
 some_of : (o : Option ℕ) → is_some o ≡ true → (a : ℕ) × (o ≡ Some a)
 some_of None e = absurd (both_ways false refl e)
@@ -41,12 +39,10 @@ unissued_like (x ∷ ks) zero k d l e = sym (ap (λ (o : Option ℕ). one_if o (
 unissued_like (x ∷ ks) (suc p) k d l e = ap (one_if x.answer) (unissued_like ks p k d (omega (arith, l)) e)
 
 module _ (o n : Order) (ok : OrderOk o) (p : ℕ) (k : Kept) (l : p < length o.kept.items)
-    (alike : k.answer ≡ None → (kept_at o p).answer ≡ None)
     (as_many : unissued (slice_set o.kept.items p k) ≡ unissued o.kept.items)
     (wave_is : k.wave ≡ (kept_at o p).wave) (instr_is : k.instr ≡ (kept_at o p).instr)
     (kept : n.kept.items ≡ slice_set o.kept.items p k) (waiting : n.waiting ≡ o.waiting)
-    (index : n.index ≡ o.index) (chain : n.chain ≡ o.chain) (near : n.near.items ≡ o.near.items)
-    (later : n.later ≡ o.later) where
+    (index : n.index ≡ o.index) (chain : n.chain ≡ o.chain) where
   size : length n.kept.items ≡ length o.kept.items
   size = ap length kept ∙ set_length o.kept.items p k
 
@@ -74,14 +70,6 @@ module _ (o n : Order) (ok : OrderOk o) (p : ℕ) (k : Kept) (l : p < length o.k
     | inr m ↦ ap (λ (x : Kept). x.instr) (at_q q m)
   ]
 
-  still_waits : (q : ℕ) → (kept_at n q).answer ≡ None → (kept_at o q).answer ≡ None
-  still_waits q e = elim (cases_eq p q) [
-    | inl h ↦ subst (λ (z : ℕ). (kept_at o z).answer ≡ None) h
-        (alike (ap (λ (x : Kept). x.answer) (sym at_p)
-        ∙ subst (λ (z : ℕ). (kept_at n z).answer ≡ None) (sym h) e))
-    | inr m ↦ ap (λ (x : Kept). x.answer) (sym (at_q q m)) ∙ e
-  ]
-
   wave_chain : n.chain.wave ≡ o.chain.wave
   wave_chain = ap (λ (c : _). c.wave) chain
 
@@ -92,28 +80,20 @@ module _ (o n : Order) (ok : OrderOk o) (p : ℕ) (k : Kept) (l : p < length o.k
         (subst (λ (z : ℕ). place_in o.index z (kept_at o q).instr ≡ Some q) (sym (wave_same q))
         (ok.index q (within q m))));
     count = waiting ∙ ok.count ∙ sym (ap unissued kept ∙ as_many);
-    near = λ q m w e. subst (In q) (sym near)
-        (ok.near q (within q m) (sym (wave_same q) ∙ w ∙ wave_chain) (still_waits q e));
-    far = λ q m lt. subst (λ (x : _). In q (places_in x (kept_at n q).wave)) (sym later)
-        (subst (λ (z : ℕ). In q (places_in o.later z)) (sym (wave_same q))
-        (ok.far q (within q m) (omega (arith, lt, wave_chain, wave_same q))));
     waves = (let w = ok.waves in omega (arith, w, waiting, wave_chain, size));
   }
 
 module _ (o n : Order) (ok : OrderOk o) (p : ℕ) (k : Kept) (l : p < length o.kept.items)
     (wave_is : k.wave ≡ (kept_at o p).wave) (instr_is : k.instr ≡ (kept_at o p).instr)
     (kept : n.kept.items ≡ slice_set o.kept.items p k) (waiting : n.waiting ≡ o.waiting)
-    (index : n.index ≡ o.index) (chain : n.chain ≡ o.chain) (near : n.near.items ≡ o.near.items)
-    (later : n.later ≡ o.later) where
+    (index : n.index ≡ o.index) (chain : n.chain ≡ o.chain) where
   pub answered : (a b : ℕ) → (kept_at o p).answer ≡ Some a → k.answer ≡ Some b → OrderOk n
-  answered a b had has = changed o n ok p k l (λ e. absurd (let f : Some b ≡ None = sym has ∙ e in cc))
-      (unissued_same o.kept.items p a b k no_request l had has) wave_is instr_is kept waiting index chain near
-      later
+  answered a b had has = changed o n ok p k l
+      (unissued_same o.kept.items p a b k no_request l had has) wave_is instr_is kept waiting index chain
 
   pub refilled : k.answer ≡ (kept_at o p).answer → OrderOk n
-  refilled e = changed o n ok p k l (λ f. sym e ∙ f)
-      (unissued_like o.kept.items p k no_request l (sym e)) wave_is instr_is kept waiting index chain near
-      later
+  refilled e = changed o n ok p k l
+      (unissued_like o.kept.items p k no_request l (sym e)) wave_is instr_is kept waiting index chain
 
 -- a request that is kept stands where its place is kept
 pub record Standing (o : Order) (w i : ℕ) (k : Kept) : Type 0 where

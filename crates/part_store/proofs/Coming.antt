@@ -215,7 +215,7 @@ module _ {P : Type 0} where
       said t (Ok u) s = (
         on_true (came None None false s.0 (s.1 ∙ keeps.failed ∙ working) s.2),
         R.no_rule
-            image new s.3 lead.1.1,
+            image new (s.3 world began formed sound lead.1.0) lead.1.1,
       )
         where
           on_true : CameSo image (content_of old) k b tokens None None false (content_of new) →
@@ -265,7 +265,7 @@ module _ {P : Type 0} where
                   ∙ working,
               s.2,
             ),
-            R.no_rule image new s.3 lead.1.1,
+            R.no_rule image new (s.3 world began formed sound lead.1.0) lead.1.1,
           )
           by_result (Err (fault.Index array)) s = (
             (running, working),

@@ -1,6 +1,6 @@
 -- A request or address at hand goes: the moves, and what is true afterwards.
 use Rattle.std.proofs.Common.{ℕ, ◌-◌, ◌≡◌, ◌≤◌, ◌⊎◌, Bool, true, false, not, cond, ◌&&◌, ◌||◌, ltb, nat_eq}
-use Rattle.std.proofs.Common.{List, [], ◌∷◌, ◌++◌, length, Option, Some, None, slice_index, slice_index_or}
+use Rattle.std.proofs.Common.{List, [], ◌∷◌, ◌++◌, length, Option, Some, None, slice_index}
 use Rattle.std.proofs.Common.{slice_set, refl, sym, ap, ◌∙◌, subst, inl, inr, ltb-true, eqb-true, arith}
 use Rattle.std.proofs.lemmas.Bool.{and_parts, both_ways}
 use Rattle.std.proofs.lemmas.List.{append-nil}
@@ -70,12 +70,9 @@ same_after image counts memory ks ls k word xs same kept w i =
 
 module _ {P : Type 0} (image : Image) (world : World) (formed : Formed image) (sound : Sound image)
     (began : List (Option Began)) (s : Parts P) (ok : PartsOk s) (calm : Calm image world began s)
-    (going : s.fault ≡ None) (at : ℕ) (goes : GoesAt image s at) where
-  abbrev p : ℕ
-  p = slice_index_or s.order.near.items at (length s.order.kept.items)
-
+    (going : s.fault ≡ None) (p : ℕ) (goes : GoesAt image s p) where
   abbrev k : Kept
-  k = kept_at s.order (slice_index_or s.order.near.items at (length s.order.kept.items))
+  k = kept_at s.order p
 
   abbrev c : PartContent
   c = content_of s
@@ -88,11 +85,11 @@ module _ {P : Type 0} (image : Image) (world : World) (formed : Formed image) (s
   legal = K.legal image world formed sound began (content_of s) parting going
 
   waits_now : ((kept_at s.order p).answer ≡ None) × ((kept_at s.order p).wave ≡ s.order.chain.wave)
-  waits_now = U.waits image s.order ok.order p goes.may.place goes.may.ready
+  waits_now = U.waits image s.order ok.order p goes.may.within goes.may.ready
 
   waits : (b : Bool) → is_in s.bare k.wave k.instr ≡ b → Waits (content_of s) (kept_at s.order p) b
   waits b e = record {
-    kept = U.found image s.order ok.order p goes.may.place;
+    kept = U.found image s.order ok.order p goes.may.within;
     waits = waits_now.0;
     bare_is = e;
   }
@@ -100,7 +97,7 @@ module _ {P : Type 0} (image : Image) (world : World) (formed : Formed image) (s
   turn : IsNext (chain_of s.order.chain) (note_of image k.instr) ⊎
       ((is_load image k.instr ≡ true) × (is_past_at image k ≡ false) ×
       ((note_of image k.instr).ripple ≤ position_after s.order.chain.last))
-  turn = U.turn image s.order ok.order p goes.may.place goes.may.ready
+  turn = U.turn image s.order ok.order p goes.may.within goes.may.ready
 
   -- the operands of the walk, with which it may be issued
   record Ask : Type 0 where
@@ -110,7 +107,7 @@ module _ {P : Type 0} (image : Image) (world : World) (formed : Formed image) (s
     first : slice_index xs 0 ≡ k.first
 
   fresh : issued_in s.order.kept.items k.wave k.instr ≡ None
-  fresh = ap answer_if (U.found image s.order ok.order p goes.may.place) ∙ waits_now.0
+  fresh = ap answer_if (U.found image s.order ok.order p goes.may.within) ∙ waits_now.0
 
   may_whole : Issuable image (issued_in s.order.kept.items) (chain_of s.order.chain) false k.wave k.instr
       (operands_at image k)
@@ -128,7 +125,7 @@ module _ {P : Type 0} (image : Image) (world : World) (formed : Formed image) (s
   -- an address is that of a store, which is next
   address : is_in s.bare k.wave k.instr ≡ true → IsAddressed image world k.wave k.instr k.first
   address b = S.bare_kept image world (is_in s.bare k.wave k.instr) k b
-      (parting.partly.right k.wave k.instr k (U.found image s.order ok.order p goes.may.place))
+      (parting.partly.right k.wave k.instr k (U.found image s.order ok.order p goes.may.within))
 
   next_bare : is_in s.bare k.wave k.instr ≡ true → IsNext (chain_of s.order.chain) (note_of image k.instr)
   next_bare b = elim turn [
@@ -191,7 +188,7 @@ module _ {P : Type 0} (image : Image) (world : World) (formed : Formed image) (s
           second = k.second;
           answer = Some word;
         })) (entry_of s.order.kept.items) w i
-    entries = U.answered image s.order ok.order p goes.may.place word n.order.kept.items kept
+    entries = U.answered image s.order ok.order p goes.may.within word n.order.kept.items kept
 
     new_same : (w i : ℕ) → has (issued_with image parting.counts parting.memory k.wave k.instr a.xs w i) ≡ has
         (issued_in n.order.kept.items w i)

@@ -1,20 +1,15 @@
 -- Moves in turn.
-use Rattle.std.proofs.Common.{ℕ, ◌≡◌, ◌<◌, ◌&&◌, Bool, false, List, [], ◌++◌, length, Option, Some, None}
-use Rattle.std.proofs.Common.{slice_index_or, refl, sym, ap, ◌∙◌, subst, inl, inr}
-use Rattle.std.proofs.lemmas.Bool.{cases_Bool}
+use Rattle.std.proofs.Common.{ℕ, ◌≡◌, Bool, List, [], ◌++◌, Option, Some, None}
+use Rattle.std.proofs.Common.{refl, sym, ap, ◌∙◌, subst}
 use Rattle.std.proofs.lemmas.List.{append_assoc, append-nil}
 use Rattle.ws_isa.specs.Image.{Image, Token, sends}
 use Rattle.store_buf.specs.declared.fault.Silent.{Silent}
 use Rattle.store_buf.specs.declared.fault.Silent.TheVariants.{Failed, NoMemory}
-use Rattle.store_buf.specs.Ordering.{OrderOk, kept_at, ready_flag}
 use Rattle.store_buf.specs.Outdoors.{FaultsGrow}
-use Rattle.store_buf.proofs.Lists.{in_at, or_any}
-use Rattle.store_buf.proofs.Ordered.{ready_waits}
 use Rattle.part_store.specs.declared.parts.Parts.{Parts}
 use Rattle.part_store.proofs.Goes as G
 use Rattle.part_store.specs.Rules.{Alike, Moves, stays, opens, joins, issues, follows, stops, operands_at}
-use Rattle.part_store.specs.Parts.{MovesOn, NoneGo, StaysCalm, content_of, go_flag, PartsSilentSo, PartsLeadTo}
-use Rattle.part_store.specs.Parts.{rule_flag}
+use Rattle.part_store.specs.Parts.{MovesOn, Calm, StaysCalm, content_of, PartsSilentSo, PartsLeadTo}
 use Rattle.store_buf.proofs.Failing.{rose_from}
 use Rattle.part_store.specs.Contents.{PartContent}
 
@@ -104,33 +99,28 @@ module _ {P : Type 0} where
   silent_from image a b c (Failed p) grow s = (s.0, rose_from _ _ _ (grow p) s.1)
   silent_from image a b c (NoMemory p) grow s = s
 
-  -- one at hand that was looked at
-  pub stays_at : (image : Image) (s : Parts P) (at k p : ℕ) (b : Bool) → at ≡ k →
-      k < length s.order.near.items → p ≡ slice_index_or s.order.near.items at p →
-      (p < length s.order.kept.items → b ≡ go_flag image s (kept_at s.order p)) → b ≡ false →
-      slice_index_or s.order.near.items k (length s.order.kept.items) < length s.order.kept.items →
-      go_flag image s (kept_at s.order (slice_index_or s.order.near.items k (length s.order.kept.items)))
-      ≡ false
-  stays_at image s at k p b same l is goes held m =
-      let e : p ≡ slice_index_or s.order.near.items k (length s.order.kept.items) = is
-      ∙ ap (λ (j : ℕ). slice_index_or s.order.near.items j p) same
-      ∙ or_any s.order.near.items k p (length s.order.kept.items) l in
-      subst (λ (q : ℕ). go_flag image s (kept_at s.order q) ≡ false) e
-      (sym (goes (subst (λ (q : ℕ). q < length s.order.kept.items) (sym e) m)) ∙ held)
-
-  -- none at hand may go, so none may
-  pub none_go : (image : Image) (s : Parts P) → OrderOk s.order →
-      ((k : ℕ) → k < length s.order.near.items →
-      slice_index_or s.order.near.items k (length s.order.kept.items) < length s.order.kept.items →
-      go_flag image s (kept_at s.order (slice_index_or s.order.near.items k (length s.order.kept.items))) ≡
-      false) → NoneGo image s
-  none_go image s ok f p l = elim (cases_Bool (ready_flag image s.order (kept_at s.order p))) [
-    | inl r ↦ (let w = ready_waits image s.order (kept_at s.order p) r in
-        let q = in_at s.order.near.items p (length s.order.kept.items) (ok.near p l w.1 w.0) in
-        subst (λ (n : ℕ). go_flag image s (kept_at s.order n) ≡ false) q.2
-        (f q.0 q.1 (subst (λ (n : ℕ). n < length s.order.kept.items) (sym q.2) l)))
-    | inr r ↦ ap (λ (b : Bool). b && rule_flag image s (kept_at s.order p)) r
-  ]
+  -- it doesn't matter where what waits is found
+  pub sought : (image : Image) (a b c : Parts P) (t0 t1 : List Token) →
+      c ≡ record b { order = record b.order { near = c.order.near } } → MovesOn image a b t0 t1 →
+      MovesOn image a c t0 t1
+  sought image a b c t0 t1 same all = (
+    all.0,
+    all.1,
+    λ world began formed sound calm.
+        let r = all.2 world began formed sound calm in
+        subst (λ (x : Parts P). Moves image (content_of a) all.0 (content_of x) × Calm image world began x)
+        (sym same) (
+          r.0,
+          (
+            record {
+              parting = r.1.0.parting;
+              early_issued = r.1.0.early_issued;
+              early_all = r.1.0.early_all;
+            },
+            r.1.1,
+          ),
+        ),
+  )
 
 alike_on : (a b c : PartContent) → Alike a b → Alike b c → Alike a c
 alike_on a b c x y = record {

@@ -1,6 +1,5 @@
 pub mod Keys
 pub mod Fronts
-pub mod Numbers
 pub mod Times
 pub mod Cells
 pub mod Ops
@@ -35,3 +34,4 @@ pub mod Paying
 pub mod Bringing
 pub mod Whole
 pub mod Telling
+pub mod Sought

@@ -14,7 +14,7 @@ use Rattle.part_store.specs.declared.parts.Parts.{Parts}
 use Rattle.part_store.specs.Contents.{opening_content, PartContent}
 use Rattle.part_store.specs.Parted.{Fronts, Parting}
 use Rattle.part_store.specs.Rules.{NoRule}
-use Rattle.part_store.specs.Parts.{PartsOk, content_of, PartsStanding}
+use Rattle.part_store.specs.Parts.{PartsOk, PartsFiled, content_of, PartsStanding}
 use Rattle.ws_words.specs.Items.{In}
 use Rattle.part_store.specs.Calls.{PartFailedSo}
 
@@ -60,10 +60,11 @@ module _ (image : Image) (world : World) (began : List (Option Began))
   }
 
   module _ {P : Type 0} where
-    pub opening_stands : (s : Parts P) → PartsOk s → s.order.early.items ≡ [] →
+    pub opening_stands : (s : Parts P) → PartsOk s → PartsFiled image s → s.order.early.items ≡ [] →
         content_of s ≡ opening_content image world ports → PartsStanding image world began s
-    opening_stands s ok early is = record {
+    opening_stands s ok filed early is = record {
       ok = ok;
+      filed = filed;
       calm = (
         record {
           parting = subst (Parting image world began) (sym is) opening_parting;

@@ -22,8 +22,8 @@ use Rattle.part_store.specs.Runs.{AllReach, Covers, IsWhole, Paid}
 use Rattle.part_store.proofs.Reaching as R
 use Rattle.part_store.proofs.Times as T
 use Rattle.df_core.proofs.Owing.{nothing}
-use Rattle.ws_isa.proofs.Images.{nth_below}
 use Rattle.part_store.specs.Contents.{PartContent}
+use Rattle.ws_words.proofs.Places.{nth_short}
 
 -- an instance to which a token hasn't come hasn't fired
 pub not_fired : (image : Image) (world : World) (formed : Formed image) (sound : Sound image) (t : Tables) →
@@ -32,7 +32,7 @@ pub not_fired : (image : Image) (world : World) (formed : Formed image) (sound :
 not_fired image world formed sound t tok x right missing h =
     let facts : WalkFacts image world = T.facts image world formed sound in
     let f = tok.fired_full x.wave x.instr h in
-    let l = nth_below right.inst.operands x.port x.value right.operand in
+    let l = nth_short right.inst.operands x.port x.value right.operand in
     let n : length right.inst.operands ≡ ports image x.instr =
     facts.filled right.time right.inst right.at.fires ∙ ap (ports image) right.at.instr in
     let g = f.1 x.port (omega (arith, l, n)) in

@@ -32,8 +32,9 @@ use Rattle.part_store.proofs.Fronts as F
 use Rattle.part_store.proofs.Ops as O
 use Rattle.part_store.proofs.Times as T
 use Rattle.df_core.proofs.Owing.{nothing}
-use Rattle.ws_isa.proofs.Images.{nth_within, writing_memory}
+use Rattle.ws_isa.proofs.Images.{writing_memory}
 use Rattle.ws_words.specs.Items.{nth, In}
+use Rattle.ws_words.proofs.Places.{nth_there}
 
 none_in : (es : List Entry) → ((e : Entry) → In e es → ⊥) → es ≡ []
 none_in [] f = refl
@@ -135,7 +136,7 @@ module _ (image : Image) (world : World) (formed : Formed image) (sound : Sound 
       HasFired t.fired x.wave x.instr
   has_fired u x below fx = tok.full_fired x.wave x.instr (facts.has_port u x fx) (λ p l.
       let len : length x.operands ≡ ports image x.instr = facts.filled u x fx in
-      let n : (v : ℕ) × (nth x.operands p ≡ Some v) = nth_within x.operands p (omega (arith, l, len)) in
+      let n : (v : ℕ) × (nth x.operands p ≡ Some v) = nth_there x.operands p (omega (arith, l, len)) in
       elim (facts.made u x fx p n.0 n.1) [
         | inl h ↦ come _ paid.start x.wave x.instr p n.0 h
         | inr m ↦ sent_come m.time m.inst m.fires

@@ -16,7 +16,8 @@ use Rattle.df_core.specs.Chains.{chain_of}
 use Rattle.df_core.specs.Stands.{HasEarly, EarlyIssued}
 use Rattle.store_buf.specs.declared.kept.Kept.{Kept}
 use Rattle.store_buf.specs.Requests.{entry_of, issued_in}
-use Rattle.store_buf.specs.Ordering.{OrderOk, Room, kept_at, near_at, ready_flag, MayAt}
+use Rattle.store_buf.specs.Ordering.{OrderOk, AllFiled, Room, IsForemost, NoneEarly, WaitsHere, kept_at}
+use Rattle.store_buf.specs.Ordering.{ready_flag, MayAt}
 use Rattle.store_buf.specs.declared.fault.BufFault.{BufFault}
 use Rattle.store_buf.specs.declared.fault.BufFault.TheVariants as fault
 use Rattle.store_buf.specs.declared.fault.Silent.{Silent}
@@ -31,7 +32,7 @@ use Rattle.part_store.specs.Held.{QueuesOk}
 use Rattle.store_buf.specs.declared.order.Order.{Order}
 use Rattle.part_store.specs.Queues.{front, open_queues}
 use Rattle.part_store.specs.Contents.{is_bare, holds_op, PartContent}
-use Rattle.part_store.specs.Parted.{Fronts, IsAddressed, Parting}
+use Rattle.part_store.specs.Parted.{Fronts, IsAddressed, Parting, is_store_op}
 use Rattle.part_store.specs.Calls.{AddressSo, PartFailedSo, PartIdle, PartSubmitSo}
 use Rattle.part_store.specs.Rules.{Alike, Fills, FrontGoes, Moves, MovesTo, is_past_at}
 
@@ -63,6 +64,11 @@ module _ {P : Type 0} where
     pub counted : QueuesOk s.queues
     pub bare : (w i : ℕ) → is_in s.bare w i ≡ true → (k : Kept) × (entry_of s.order.kept.items w i ≡ Some k)
 
+  -- what waits is found, and addresses alone are those of stores
+  pub record PartsFiled (image : Image) (s : Parts P) : Type 0 where
+    pub filed : AllFiled image s.order
+    pub stores : (w i : ℕ) → is_in s.bare w i ≡ true → is_store_op (instr_at image i).op ≡ true
+
   -- it is a buffer of a run, and the loads that count as issued and that the chain hasn't passed are listed
   pub record PartsStand (image : Image) (world : World) (began : List (Option Began))
       (s : Parts P) : Type 0 where
@@ -89,9 +95,20 @@ module _ {P : Type 0} where
   abbrev pub NoneGo : Image → Parts P → Type 0
   NoneGo image s = (p : ℕ) → p < length s.order.kept.items → go_flag image s (kept_at s.order p) ≡ false
 
-  pub record GoesAt (image : Image) (s : Parts P) (at : ℕ) : Type 0 where
-    pub may : MayAt image s.order at
-    pub rule : rule_flag image s (near_at s.order at) ≡ true
+  pub record GoesAt (image : Image) (s : Parts P) (p : ℕ) : Type 0 where
+    pub may : MayAt image s.order p
+    pub rule : rule_flag image s (kept_at s.order p) ≡ true
+
+  -- none was found that may go: neither a load before its turn, nor the first that waits
+  pub record NoneSought (image : Image) (s : Parts P) : Type 0 where
+    pub early : NoneEarly image s.order
+    pub first : (p : ℕ) → WaitsHere s.order p → (q : ℕ) × IsForemost image s.order q
+        × (go_flag image s (kept_at s.order q) ≡ false)
+
+  -- of each buffer of a run that they are none may go
+  abbrev pub NoneGoSo : Image → Parts P → Type 0
+  NoneGoSo image s = (world : World) (began : List (Option Began)) → Formed image → Sound image →
+      PartsStand image world began s → NoneGo image s
 
   -- moves lead on from each calm buffer to a calm one; their tokens come behind others
   abbrev pub MovesOn : Image → Parts P → Parts P → List Token → List Token → Type 0
@@ -138,7 +155,7 @@ module _ {P : Type 0} where
   -- how moves in turn have ended
   abbrev pub PartsSettledSo : Image → Parts P → Result (Unit {0}) BufFault → Parts P → Type 0
   PartsSettledSo image old (Ok _) new = (new.fault ≡ None) × (new.failed ≡ old.failed) × (new.starved ≡ false)
-      × NoneGo image new
+      × NoneGoSo image new
   PartsSettledSo image old (Err (fault.Index array)) new =
       (new.fault ≡ Some array) × (new.failed ≡ old.failed)
       × (new.starved ≡ false)
@@ -233,6 +250,7 @@ module _ {P : Type 0} where
   pub record PartsStanding (image : Image) (world : World) (began : List (Option Began))
       (s : Parts P) : Type 0 where
     pub ok : PartsOk s
+    pub filed : PartsFiled image s
     pub calm : Calm image world began s
     pub idle : PartIdle image (content_of s)
     pub failed : PartFailedSo image began (content_of s)

@@ -5,6 +5,7 @@ ghost use Rattle.std.specs.Prelude.{is_some, IfSome, IfNone};
 ghost use Rattle.smallvec.specs.SmallVec.{HasRoomFor};
 ghost use Rattle.ws_words.specs.Outside.{row, with_row};
 ghost use Rattle.ws_isa.specs.Formed.{Formed};
+ghost use Rattle.ws_isa.specs.Image.{Image};
 ghost use Rattle.df_core.specs.Places.{ProgramIs, image_of};
 ghost use Rattle.df_core.specs.Rights.{tokens_of};
 ghost use Rattle.store_buf.specs.Requests.{entry_of};
@@ -15,7 +16,8 @@ ghost use Rattle.part_store.specs.Queues.{front, without_first};
 ghost use Rattle.part_store.specs.Parted.{is_store_op};
 ghost use Rattle.part_store.specs.Contents.{cell};
 ghost use Rattle.part_store.specs.Bares.{is_in};
-ghost use Rattle.part_store.specs.Parts.{PartsOk, Beside, DrainLeads, FinishLeads, FollowsOn, issued_flag};
+ghost use Rattle.part_store.specs.Parts.{PartsOk, PartsFiled, Beside, DrainLeads, FinishLeads};
+ghost use Rattle.part_store.specs.Parts.{FollowsOn, issued_flag};
 
 use crate::entry::Entry;
 use crate::parts::Parts;
@@ -33,9 +35,11 @@ impl<P: Port> Parts<P> {
         requires program { ProgramIs program.now }
         requires formed { Formed (image_of program.now) }
         requires ok { PartsOk self.old }
+        requires filed { PartsFiled (image_of program.now) self.old }
         requires room { HasRoomFor told.old
             (8 * (self.old.order.waiting + length self.old.queues.entries.items)) }
         ensures ok { PartsOk self.new }
+        ensures filed { PartsFiled (image_of program.now) self.new }
         ensures leads { DrainLeads (image_of program.now) kept self.old self.new
             (tokens_of told.old.items) (tokens_of told.new.items) }
         ensures same { Beside self.old self.new }
@@ -50,9 +54,11 @@ impl<P: Port> Parts<P> {
         requires program { ProgramIs program.now }
         requires formed { Formed (image_of program.now) }
         requires ok { PartsOk self.old }
+        requires filed { PartsFiled (image_of program.now) self.old }
         requires room { HasRoomFor told.old
             (8 * (self.old.order.waiting + length self.old.queues.entries.items)) }
         ensures ok { PartsOk self.new }
+        ensures filed { PartsFiled (image_of program.now) self.new }
         ensures leads { FollowsOn (image_of program.now) row index self.old self.new
             (tokens_of told.old.items) (tokens_of told.new.items) }
         ensures none { (e : Entry) → front self.new.queues.entries.items row index ≡ Some e →
@@ -92,10 +98,12 @@ impl<P: Port> Parts<P> {
         requires program { ProgramIs program.now }
         requires formed { Formed (image_of program.now) }
         requires ok { PartsOk self.old }
+        requires filed { PartsFiled (image_of program.now) self.old }
         requires first { front self.old.queues.entries.items entry.row entry.index ≡ Some entry }
         requires room { HasRoomFor told.old
             (8 * (self.old.order.waiting + length self.old.queues.entries.items)) }
         ensures ok { PartsOk self.new }
+        ensures filed { PartsFiled (image_of program.now) self.new }
         ensures leads { FinishLeads (image_of program.now) entry self.old self.new
             (tokens_of told.old.items) (tokens_of told.new.items) }
         ensures queued { self.new.queues.entries.items
@@ -155,6 +163,7 @@ impl<P: Port> Parts<P> {
         requires within { place < length self.old.order.kept.items }
         requires issued { is_some (kept_at self.old.order place).answer ≡ true }
         ensures ok { PartsOk self.new }
+        ensures filed { (image : Image) → PartsFiled image self.old → PartsFiled image self.new }
         ensures kept { self.new.order.kept.items ≡ slice_set self.old.order.kept.items place
             (record (kept_at self.old.order place) { answer = Some word }) }
         ensures same { Beside self.old self.new }

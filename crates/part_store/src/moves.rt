@@ -1,6 +1,6 @@
 //! What the chain and the rules let go.
 
-ghost use Rattle.std.specs.Prelude.{◌≡◌, ◌<◌, ◌*◌, ◌⊎◌, true, false, Some, None, length, slice_index_or};
+ghost use Rattle.std.specs.Prelude.{◌≡◌, ◌<◌, ◌*◌, ◌⊎◌, true, false, Some, None, length};
 ghost use Rattle.std.specs.Prelude.{slice_set, IfErr, OnOk, OnErr, MatchOption};
 ghost use Rattle.smallvec.specs.SmallVec.{HasRoomFor};
 ghost use Rattle.ws_isa.specs.Formed.{Formed};
@@ -8,13 +8,14 @@ ghost use Rattle.df_core.specs.Core.{has};
 ghost use Rattle.df_core.specs.Chains.{PassedOn, chain_of};
 ghost use Rattle.df_core.specs.Places.{ProgramIs, image_of};
 ghost use Rattle.df_core.specs.Rights.{tokens_of};
-ghost use Rattle.store_buf.specs.Ordering.{MayAt, kept_at, near_at};
+ghost use Rattle.store_buf.specs.Ordering.{MayAt, kept_at};
 ghost use Rattle.store_buf.specs.Outdoors.{FaultsGrow};
 ghost use Rattle.part_store.specs.Queues.{joined};
 ghost use Rattle.part_store.specs.Contents.{holds_op};
 ghost use Rattle.part_store.specs.Rules.{entry_at};
-ghost use Rattle.part_store.specs.Parts.{GoesAt, MovesOn, NoneGo, PartsOk, PartsSilentSo, PartsLeadTo};
-ghost use Rattle.part_store.specs.Parts.{PartsSettledSo, StaysCalm, go_flag, left_over, rule_flag};
+ghost use Rattle.part_store.specs.Parts.{GoesAt, MovesOn, NoneGoSo, NoneSought, PartsOk, PartsFiled};
+ghost use Rattle.part_store.specs.Parts.{PartsSilentSo, PartsLeadTo, PartsSettledSo, StaysCalm, go_flag};
+ghost use Rattle.part_store.specs.Parts.{left_over, rule_flag};
 
 use crate::entry::Entry;
 use crate::parts::Parts;
@@ -29,20 +30,27 @@ use ws_isa::Op;
 use ws_words::NoMemory;
 
 impl<P: Port> Parts<P> {
-    // Does what the rules let, and keeps in mind how that ends.
-    pub(crate) fn settle(&mut self, program: &Program<'_>, told: &mut Told) -> Result<(), BufFault>
+    // Does what the rules let, first at this place, and keeps in mind how that ends.
+    pub(crate) fn settle(
+        &mut self,
+        program: &Program<'_>,
+        first: Option<usize>,
+        told: &mut Told,
+    ) -> Result<(), BufFault>
         requires program { ProgramIs program.now }
         requires formed { Formed (image_of program.now) }
         requires ok { PartsOk self.old }
+        requires filed { PartsFiled (image_of program.now) self.old }
         requires room { HasRoomFor told.old (8 * self.old.order.waiting) }
         ensures ok { PartsOk self.new }
+        ensures filed { PartsFiled (image_of program.now) self.new }
         ensures lead { PartsLeadTo (image_of program.now) (record self.old { starved = false }) self.new
             (tokens_of told.old.items) (tokens_of told.new.items) }
         ensures settled { PartsSettledSo (image_of program.now) self.old result self.new }
         ensures room { told.new.capacity ≡ told.old.capacity }
     {
         self.starved = false;
-        match self.go_on(program, told) {
+        match self.go_on(program, first, told) {
             Ok(()) => match self.fault {
                 Some(array) => Err(BufFault::Index { array }),
                 None => Ok(()),
@@ -58,54 +66,69 @@ impl<P: Port> Parts<P> {
         }
     }
 
-    /// Lets requests and addresses go until none may, or the chain is stopped, or a port doesn't
-    /// answer.
-    pub fn go_on(&mut self, program: &Program<'_>, told: &mut Told) -> Result<(), Silent>
+    /// Lets requests and addresses go, first this one if it may, until none may, or the chain is
+    /// stopped, or a port doesn't answer.
+    pub fn go_on(
+        &mut self,
+        program: &Program<'_>,
+        first: Option<usize>,
+        told: &mut Told,
+    ) -> Result<(), Silent>
         requires program { ProgramIs program.now }
         requires formed { Formed (image_of program.now) }
         requires ok { PartsOk self.old }
+        requires filed { PartsFiled (image_of program.now) self.old }
         requires room { HasRoomFor told.old (8 * self.old.order.waiting) }
         ensures ok { PartsOk self.new }
+        ensures filed { PartsFiled (image_of program.now) self.new }
         ensures lead { PartsLeadTo (image_of program.now) self.old self.new
             (tokens_of told.old.items) (tokens_of told.new.items) }
         ensures none { OnOk result ((has self.new.fault ≡ true)
-            ⊎ NoneGo (image_of program.now) self.new) }
+            ⊎ NoneGoSo (image_of program.now) self.new) }
         ensures silent { IfErr result (PartsSilentSo (image_of program.now) self.old self.new) }
         ensures going { OnErr result (self.new.fault ≡ None) }
         ensures failed { self.new.failed ≡ self.old.failed }
         ensures starved { self.new.starved ≡ self.old.starved }
         ensures same_room { told.new.capacity ≡ told.old.capacity }
     {
+        let mut next = first;
         while self.fault.is_none() {
-            match self.ready(program) {
+            match self.ready(program, next) {
                 None => return Ok(()),
-                Some(at) => self.go(program, at, told)?,
+                Some(place) => self.go(program, place, told)?,
             }
+            next = None;
         }
         Ok(())
     }
 
-    // The place in the list at hand of a request or address that may go. It is looked for from both
-    // ends: mostly it stands at one of them.
-    fn ready(&self, program: &Program<'_>) -> Option<usize>
+    // The place of a request or address that may go: this one, or the one that waits in the current
+    // wave with the smallest sequence number, or a load before its turn. In a buffer of a run it is
+    // None only where none may.
+    fn ready(&mut self, program: &Program<'_>, this: Option<usize>) -> Option<usize>
         requires program { ProgramIs program.now }
-        requires ok { PartsOk self.now }
-        ensures { MatchOption result (NoneGo (image_of program.now) self.now)
-            (GoesAt (image_of program.now) self.now) }
+        requires ok { PartsOk self.old }
+        requires filed { PartsFiled (image_of program.now) self.old }
+        ensures ok { PartsOk self.new }
+        ensures filed { PartsFiled (image_of program.now) self.new }
+        ensures same { self.new ≡ record self.old
+            { order = record self.old.order { near = self.new.order.near } } }
+        ensures goes { MatchOption result (NoneSought (image_of program.now) self.new)
+            (GoesAt (image_of program.now) self.new) }
     {
-        let mut front = 0;
-        let mut back = self.order.near.len();
-        while front < back {
-            back -= 1;
-            if self.may_go(program, self.order.near[back]) {
-                return Some(back);
+        if let Some(place) = this {
+            if self.may_go(program, place) {
+                return Some(place);
             }
-            if self.may_go(program, self.order.near[front]) {
-                return Some(front);
-            }
-            front += 1;
         }
-        None
+        let Some(place) = self.order.first(program) else {
+            return None;
+        };
+        if self.may_go(program, place) {
+            Some(place)
+        } else {
+            self.order.early(program)
+        }
     }
 
     // Whether the request or address at a place may go.
@@ -151,16 +174,18 @@ impl<P: Port> Parts<P> {
         }
     }
 
-    /// Lets the request or address at a place of the list at hand go. At one past the end the chain
-    /// stops. Where a port doesn't answer, the request still waits.
-    pub fn go(&mut self, program: &Program<'_>, at: usize, told: &mut Told) -> Result<(), Silent>
+    /// Lets the request or address at a place go. At one past the end the chain stops. Where a port
+    /// doesn't answer, the request still waits.
+    pub fn go(&mut self, program: &Program<'_>, place: usize, told: &mut Told) -> Result<(), Silent>
         requires program { ProgramIs program.now }
         requires formed { Formed (image_of program.now) }
         requires ok { PartsOk self.old }
-        requires goes { GoesAt (image_of program.now) self.old at }
+        requires filed { PartsFiled (image_of program.now) self.old }
+        requires goes { GoesAt (image_of program.now) self.old place }
         requires going { self.old.fault ≡ None }
         requires room { HasRoomFor told.old (8 * self.old.order.waiting) }
         ensures ok { PartsOk self.new }
+        ensures filed { PartsFiled (image_of program.now) self.new }
         ensures leads { OnOk result (MovesOn (image_of program.now) self.old self.new
             (tokens_of told.old.items) (tokens_of told.new.items)) }
         ensures stays { OnErr result (StaysCalm (image_of program.now) self.old self.new) }
@@ -175,37 +200,37 @@ impl<P: Port> Parts<P> {
         ensures room { HasRoomFor told.new (8 * self.new.order.waiting) }
         ensures same_room { told.new.capacity ≡ told.old.capacity }
     {
-        let kept = self.order.request(at);
+        let kept = self.order.request(place);
         let op = program.op(kept.instr);
         if program.is_past(op, kept.first) {
             self.fault = Some(array_of(op));
             return Ok(());
         }
         if self.bare.has(kept.wave, kept.instr) || self.holds(op, kept.first) {
-            self.wait_on(program, at);
+            self.wait_on(program, place);
             return Ok(());
         }
         let word = self.outer.run(op, kept.first, kept.second)?;
-        self.order.issue(program, at, word);
+        self.order.issue(program, place, word);
         tell(told, kept.wave, program.destinations(kept.instr, 0), word);
         Ok(())
     }
 
-    // The request or address at a place of the list at hand joins the queue of its cell, and counts
-    // as issued.
-    fn wait_on(&mut self, program: &Program<'_>, at: usize)
+    // The request or address at a place joins the queue of its cell, and counts as issued.
+    fn wait_on(&mut self, program: &Program<'_>, place: usize)
         requires program { ProgramIs program.now }
         requires ok { PartsOk self.old }
-        requires may { MayAt (image_of program.now) self.old.order at }
+        requires filed { PartsFiled (image_of program.now) self.old }
+        requires may { MayAt (image_of program.now) self.old.order place }
         ensures ok { PartsOk self.new }
-        ensures kept { self.new.order.kept.items ≡ slice_set self.old.order.kept.items
-            (slice_index_or self.old.order.near.items at (length self.old.order.kept.items))
-            (record (near_at self.old.order at) { answer = Some 0 }) }
+        ensures filed { PartsFiled (image_of program.now) self.new }
+        ensures kept { self.new.order.kept.items ≡ slice_set self.old.order.kept.items place
+            (record (kept_at self.old.order place) { answer = Some 0 }) }
         ensures passed { PassedOn (image_of program.now) (chain_of self.old.order.chain)
-            (near_at self.old.order at).instr self.old.order.early.items
+            (kept_at self.old.order place).instr self.old.order.early.items
             (chain_of self.new.order.chain) self.new.order.early.items }
         ensures queued { self.new.queues.entries.items ≡ joined
-            (entry_at (image_of program.now) (near_at self.old.order at))
+            (entry_at (image_of program.now) (kept_at self.old.order place))
             self.old.queues.entries.items }
         ensures fewer { self.new.order.waiting < self.old.order.waiting }
         ensures bare { self.new.bare ≡ self.old.bare }
@@ -214,7 +239,7 @@ impl<P: Port> Parts<P> {
         ensures failed { self.new.failed ≡ self.old.failed }
         ensures starved { self.new.starved ≡ self.old.starved }
     {
-        let kept = self.order.request(at);
+        let kept = self.order.request(place);
         let entry = Entry {
             wave: kept.wave,
             instr: kept.instr,
@@ -223,6 +248,6 @@ impl<P: Port> Parts<P> {
             index: kept.first,
         };
         self.queues.join(entry);
-        self.order.issue(program, at, 0);
+        self.order.issue(program, place, 0);
     }
 }

@@ -7,7 +7,7 @@ ghost use Rattle.df_core.specs.Rights.{IsAsked};
 ghost use Rattle.store_buf.specs.Stores.{asked_of};
 ghost use Rattle.store_buf.specs.Requests.{entry_of};
 ghost use Rattle.store_buf.specs.Outdoors.{AllBegan};
-ghost use Rattle.store_buf.specs.Contents.{gives_word, stop_of};
+ghost use Rattle.store_buf.specs.Contents.{gives_word, stop_of, with_tokens};
 ghost use Rattle.part_store.specs.Queues.{open_queues};
 ghost use Rattle.part_store.specs.Contents.{answer_of, is_bare, opening_content, PartContent};
 ghost use Rattle.part_store.specs.Parted.{IsAddressed, Parted, is_store_op};
@@ -20,13 +20,12 @@ use crate::parts::Parts;
 use crate::queues::Queues;
 use df_core::{Code, Job, Request, Token, TokenList, every_list_of_events};
 use port_set::{OpenSet, Port, Slots};
-use smallvec::SmallVec;
 use std::alloc::Global;
 use std::marker::{Model, PhantomData};
-use store_buf::BufFault;
 use store_buf::kept::Kept;
 use store_buf::order::Order;
 use store_buf::outer::{BufferEnd, Outer, empty_cells};
+use store_buf::{Answers, BufFault};
 use ws_isa::Op;
 use ws_words::Words;
 
@@ -99,12 +98,28 @@ impl<J: Job, P: Port> PartBuffer<J, P> {
         requires port { token.port ≡ 0 }
         ensures { AddressedSo J.image self.old (address_of token) result self.new }
     {
-        let kept = kept_address(&token);
-        let mut told = SmallVec::new(self.alloc);
-        match self.parts.address(code.program(), kept, &mut told) {
-            Ok(()) => Ok(TokenList::of_right(told)),
+        let mut answers = Answers::none(self.alloc);
+        match self.address_into(code, token, &mut answers) {
+            Ok(()) => Ok(answers.listed()),
             Err(fault) => Err(fault),
         }
+    }
+
+    /// The same, with the result tokens in place of earlier answers.
+    #[inline(always)]
+    pub fn address_into(
+        &mut self,
+        code: &Code<'_, J>,
+        token: Token<J>,
+        answers: &mut Answers<J>,
+    ) -> Result<(), BufFault>
+        requires store { is_store_op (instr_at J.image token.instr).op ≡ true }
+        requires port { token.port ≡ 0 }
+        ensures { AddressedSo J.image self.old (address_of token) (with_tokens answers.new result) self.new }
+    {
+        let kept = kept_address(&token);
+        answers.told.clear();
+        self.parts.address(code.program(), kept, &mut answers.told)
     }
 
     /// Keeps a request, and does what the rules let until they let nothing more. Answers the result
@@ -116,12 +131,26 @@ impl<J: Job, P: Port> PartBuffer<J, P> {
     ) -> Result<TokenList<J>, BufFault>
         ensures { SubmittedSo J.image self.old (request_of request) result self.new }
     {
-        let kept = kept_request(&request);
-        let mut told = SmallVec::new(self.alloc);
-        match self.parts.submit(code.program(), kept, &mut told) {
-            Ok(()) => Ok(TokenList::of_right(told)),
+        let mut answers = Answers::none(self.alloc);
+        match self.submit_into(code, request, &mut answers) {
+            Ok(()) => Ok(answers.listed()),
             Err(fault) => Err(fault),
         }
+    }
+
+    /// The same, with the result tokens in place of earlier answers.
+    #[inline(always)]
+    pub fn submit_into(
+        &mut self,
+        code: &Code<'_, J>,
+        request: Request<J>,
+        answers: &mut Answers<J>,
+    ) -> Result<(), BufFault>
+        ensures { SubmittedSo J.image self.old (request_of request) (with_tokens answers.new result) self.new }
+    {
+        let kept = kept_request(&request);
+        answers.told.clear();
+        self.parts.submit(code.program(), kept, &mut answers.told)
     }
 
     /// Whether the whole request of an instance was kept.

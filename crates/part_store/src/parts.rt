@@ -2,13 +2,15 @@
 
 ghost use Rattle.std.specs.Prelude.{◌≡◌, ◌≤◌, [], true, false, None};
 ghost use Rattle.ws_isa.specs.Formed.{Formed};
+ghost use Rattle.ws_isa.specs.Image.{instr_at};
 ghost use Rattle.store_buf.specs.Contents.{stop_of};
 ghost use Rattle.df_core.specs.Chains.{chain_of, may_flag};
 ghost use Rattle.df_core.specs.Places.{ProgramIs, image_of};
 ghost use Rattle.df_core.specs.Rights.{tokens_of};
 ghost use Rattle.store_buf.specs.Requests.{entry_of};
 ghost use Rattle.part_store.specs.Bares.{is_in};
-ghost use Rattle.part_store.specs.Parts.{AddressLeads, PartsOk, PartsSubmitLeads};
+ghost use Rattle.part_store.specs.Parted.{is_store_op};
+ghost use Rattle.part_store.specs.Parts.{AddressLeads, PartsOk, PartsFiled, PartsSubmitLeads};
 
 use crate::bare::Bare;
 use crate::queues::Queues;
@@ -60,9 +62,12 @@ impl<P: Port> Parts<P> {
         requires program { ProgramIs program.now }
         requires formed { Formed (image_of program.now) }
         requires ok { PartsOk self.old }
+        requires filed { PartsFiled (image_of program.now) self.old }
         requires waits { kept.answer ≡ None }
+        requires store { is_store_op (instr_at (image_of program.now) kept.instr).op ≡ true }
         requires told { told.old.items ≡ [] }
         ensures ok { PartsOk self.new }
+        ensures filed { PartsFiled (image_of program.now) self.new }
         ensures leads { AddressLeads (image_of program.now) self.old kept
             (tokens_of told.new.items) result self.new }
         ensures room { told.old.capacity ≤ told.new.capacity }
@@ -103,17 +108,20 @@ impl<P: Port> Parts<P> {
     fn put_by_address(&mut self, program: &Program<'_>, kept: Kept) -> Result<(), BufFault>
         requires program { ProgramIs program.now }
         requires ok { PartsOk self.old }
+        requires filed { PartsFiled (image_of program.now) self.old }
         requires fresh { entry_of self.old.order.kept.items kept.wave kept.instr ≡ None }
         requires waits { kept.answer ≡ None }
+        requires store { is_store_op (instr_at (image_of program.now) kept.instr).op ≡ true }
         requires running { self.old.fault ≡ None }
         requires working { self.old.failed ≡ None }
         requires fed { self.old.starved ≡ false }
         requires held { may_flag (image_of program.now) (chain_of self.old.order.chain)
             kept.wave kept.instr kept.first ≡ false }
         ensures ok { PartsOk self.new }
+        ensures filed { PartsFiled (image_of program.now) self.new }
         ensures leads { AddressLeads (image_of program.now) self.old kept [] result self.new }
     {
-        match self.keep_bare(kept) {
+        match self.keep_bare(program, kept) {
             Ok(()) => Ok(()),
             Err(_) => Err(BufFault::NoMemory),
         }
@@ -129,12 +137,15 @@ impl<P: Port> Parts<P> {
         requires program { ProgramIs program.now }
         requires formed { Formed (image_of program.now) }
         requires ok { PartsOk self.old }
+        requires filed { PartsFiled (image_of program.now) self.old }
         requires fresh { entry_of self.old.order.kept.items kept.wave kept.instr ≡ None }
         requires waits { kept.answer ≡ None }
+        requires store { is_store_op (instr_at (image_of program.now) kept.instr).op ≡ true }
         requires running { self.old.fault ≡ None }
         requires working { self.old.failed ≡ None }
         requires told { told.old.items ≡ [] }
         ensures ok { PartsOk self.new }
+        ensures filed { PartsFiled (image_of program.now) self.new }
         ensures leads { AddressLeads (image_of program.now) self.old kept
             (tokens_of told.new.items) result self.new }
         ensures room { told.old.capacity ≤ told.new.capacity }
@@ -142,8 +153,9 @@ impl<P: Port> Parts<P> {
         if self.make_room(told).is_err() {
             return Err(BufFault::NoMemory);
         }
-        match self.keep_bare(kept) {
-            Ok(()) => self.settle(program, told),
+        let place = self.order.kept.len();
+        match self.keep_bare(program, kept) {
+            Ok(()) => self.settle(program, Some(place), told),
             Err(_) => Err(BufFault::NoMemory),
         }
     }
@@ -158,9 +170,11 @@ impl<P: Port> Parts<P> {
         requires program { ProgramIs program.now }
         requires formed { Formed (image_of program.now) }
         requires ok { PartsOk self.old }
+        requires filed { PartsFiled (image_of program.now) self.old }
         requires waits { kept.answer ≡ None }
         requires told { told.old.items ≡ [] }
         ensures ok { PartsOk self.new }
+        ensures filed { PartsFiled (image_of program.now) self.new }
         ensures leads { PartsSubmitLeads (image_of program.now) self.old kept
             (tokens_of told.new.items) result self.new }
         ensures room { told.old.capacity ≤ told.new.capacity }
@@ -190,6 +204,7 @@ impl<P: Port> Parts<P> {
     fn put_by(&mut self, program: &Program<'_>, kept: Kept) -> Result<(), BufFault>
         requires program { ProgramIs program.now }
         requires ok { PartsOk self.old }
+        requires filed { PartsFiled (image_of program.now) self.old }
         requires fresh { entry_of self.old.order.kept.items kept.wave kept.instr ≡ None }
         requires waits { kept.answer ≡ None }
         requires running { self.old.fault ≡ None }
@@ -198,9 +213,10 @@ impl<P: Port> Parts<P> {
         requires held { may_flag (image_of program.now) (chain_of self.old.order.chain)
             kept.wave kept.instr kept.first ≡ false }
         ensures ok { PartsOk self.new }
+        ensures filed { PartsFiled (image_of program.now) self.new }
         ensures leads { PartsSubmitLeads (image_of program.now) self.old kept [] result self.new }
     {
-        match self.keep(kept) {
+        match self.keep(program, kept) {
             Ok(()) => Ok(()),
             Err(_) => Err(BufFault::NoMemory),
         }
@@ -216,12 +232,14 @@ impl<P: Port> Parts<P> {
         requires program { ProgramIs program.now }
         requires formed { Formed (image_of program.now) }
         requires ok { PartsOk self.old }
+        requires filed { PartsFiled (image_of program.now) self.old }
         requires fresh { entry_of self.old.order.kept.items kept.wave kept.instr ≡ None }
         requires waits { kept.answer ≡ None }
         requires running { self.old.fault ≡ None }
         requires working { self.old.failed ≡ None }
         requires told { told.old.items ≡ [] }
         ensures ok { PartsOk self.new }
+        ensures filed { PartsFiled (image_of program.now) self.new }
         ensures leads { PartsSubmitLeads (image_of program.now) self.old kept
             (tokens_of told.new.items) result self.new }
         ensures room { told.old.capacity ≤ told.new.capacity }
@@ -229,8 +247,9 @@ impl<P: Port> Parts<P> {
         if self.make_room(told).is_err() {
             return Err(BufFault::NoMemory);
         }
-        match self.keep(kept) {
-            Ok(()) => self.settle(program, told),
+        let place = self.order.kept.len();
+        match self.keep(program, kept) {
+            Ok(()) => self.settle(program, Some(place), told),
             Err(_) => Err(BufFault::NoMemory),
         }
     }
@@ -245,12 +264,14 @@ impl<P: Port> Parts<P> {
         requires program { ProgramIs program.now }
         requires formed { Formed (image_of program.now) }
         requires ok { PartsOk self.old }
+        requires filed { PartsFiled (image_of program.now) self.old }
         requires bare { is_in self.old.bare kept.wave kept.instr ≡ true }
         requires waits { kept.answer ≡ None }
         requires running { self.old.fault ≡ None }
         requires working { self.old.failed ≡ None }
         requires told { told.old.items ≡ [] }
         ensures ok { PartsOk self.new }
+        ensures filed { PartsFiled (image_of program.now) self.new }
         ensures leads { PartsSubmitLeads (image_of program.now) self.old kept
             (tokens_of told.new.items) result self.new }
         ensures room { told.old.capacity ≤ told.new.capacity }
@@ -261,6 +282,6 @@ impl<P: Port> Parts<P> {
         self.put_data(kept);
         self.starved = false;
         self.drain(program, kept, told);
-        self.settle(program, told)
+        self.settle(program, None, told)
     }
 }

@@ -3,15 +3,19 @@
 ghost use Rattle.std.specs.Prelude.{◌≡◌, ◌<◌, ◌≤◌, ◌+◌, ◌*◌, ◌++◌, ◌∷◌, ℕ, [], true, cond, Some, None};
 ghost use Rattle.std.specs.Prelude.{length, IfSome, IfNone, OnOk, OnErr};
 ghost use Rattle.smallvec.specs.SmallVec.{HasRoomFor};
+ghost use Rattle.ws_isa.specs.Image.{Image, instr_at};
 ghost use Rattle.df_core.specs.Core.{same_key};
+ghost use Rattle.df_core.specs.Places.{ProgramIs, image_of};
 ghost use Rattle.std.specs.HashSet.{spare};
 ghost use Rattle.store_buf.specs.Requests.{entry_of};
 ghost use Rattle.store_buf.specs.Ordering.{OrderOk};
 ghost use Rattle.store_buf.specs.declared.kept.Kept.{Kept};
 ghost use Rattle.part_store.specs.Bares.{is_in};
-ghost use Rattle.part_store.specs.Parts.{PartsOk, Filled, kept_flag, PartsKeep};
+ghost use Rattle.part_store.specs.Parted.{is_store_op};
+ghost use Rattle.part_store.specs.Parts.{PartsOk, PartsFiled, Filled, kept_flag, PartsKeep};
 
 use crate::parts::Parts;
+use df_core::program::Program;
 use port_set::Port;
 use store_buf::kept::Kept;
 use store_buf::told::Told;
@@ -39,11 +43,14 @@ impl<P: Port> Parts<P> {
 
     // PartsKeep a request of an instance that had none, and makes room for the word that it may print and
     // the queue that it may join.
-    pub(crate) fn keep(&mut self, kept: Kept) -> Result<(), NoMemory>
+    pub(crate) fn keep(&mut self, program: &Program<'_>, kept: Kept) -> Result<(), NoMemory>
+        requires program { ProgramIs program.now }
         requires ok { PartsOk self.old }
+        requires filed { PartsFiled (image_of program.now) self.old }
         requires fresh { entry_of self.old.order.kept.items kept.wave kept.instr ≡ None }
         requires waits { kept.answer ≡ None }
         ensures ok { PartsOk self.new }
+        ensures filed { PartsFiled (image_of program.now) self.new }
         ensures keeps { OnOk result (PartsKeep self.old (self.old.order.kept.items ++ kept ∷ []) self.new) }
         ensures unchanged { OnErr result (PartsKeep self.old self.old.order.kept.items self.new) }
         ensures waiting { OnOk result (self.new.order.waiting ≡ self.old.order.waiting + 1) }
@@ -55,15 +62,19 @@ impl<P: Port> Parts<P> {
         }
         self.outer.printed.reserve(waiting + 1)?;
         self.queues.reserve(waiting + 1)?;
-        self.order.add(kept)
+        self.order.add(program, kept)
     }
 
     // PartsKeep an address of an instance that had none.
-    pub(crate) fn keep_bare(&mut self, kept: Kept) -> Result<(), NoMemory>
+    pub(crate) fn keep_bare(&mut self, program: &Program<'_>, kept: Kept) -> Result<(), NoMemory>
+        requires program { ProgramIs program.now }
         requires ok { PartsOk self.old }
+        requires filed { PartsFiled (image_of program.now) self.old }
         requires fresh { entry_of self.old.order.kept.items kept.wave kept.instr ≡ None }
         requires waits { kept.answer ≡ None }
+        requires store { is_store_op (instr_at (image_of program.now) kept.instr).op ≡ true }
         ensures ok { PartsOk self.new }
+        ensures filed { PartsFiled (image_of program.now) self.new }
         ensures keeps { OnOk result (PartsKeep self.old (self.old.order.kept.items ++ kept ∷ []) self.new) }
         ensures unchanged { OnErr result (PartsKeep self.old self.old.order.kept.items self.new) }
         ensures waiting { OnOk result (self.new.order.waiting ≡ self.old.order.waiting + 1) }
@@ -73,7 +84,7 @@ impl<P: Port> Parts<P> {
             ≡ is_in self.old.bare w i) }
     {
         self.reserve_bare()?;
-        self.keep(kept)?;
+        self.keep(program, kept)?;
         self.add_bare(kept);
         Ok(())
     }
@@ -82,6 +93,7 @@ impl<P: Port> Parts<P> {
     fn reserve_bare(&mut self) -> Result<(), NoMemory>
         requires ok { PartsOk self.old }
         ensures ok { PartsOk self.new }
+        ensures filed { (image : Image) → PartsFiled image self.old → PartsFiled image self.new }
         ensures keeps { PartsKeep self.old self.old.order.kept.items self.new }
         ensures waiting { self.new.order.waiting ≡ self.old.order.waiting }
         ensures room { OnOk result (1 ≤ spare self.new.bare.set) }
@@ -96,6 +108,8 @@ impl<P: Port> Parts<P> {
         requires kept { (k : Kept) × (entry_of self.old.order.kept.items kept.wave kept.instr ≡ Some k) }
         requires room { 1 ≤ spare self.old.bare.set }
         ensures ok { PartsOk self.new }
+        ensures filed { (image : Image) → is_store_op (instr_at image kept.instr).op ≡ true
+            → PartsFiled image self.old → PartsFiled image self.new }
         ensures keeps { PartsKeep self.old self.old.order.kept.items self.new }
         ensures waiting { self.new.order.waiting ≡ self.old.order.waiting }
         ensures bare { (w i : ℕ) → is_in self.new.bare w i
@@ -109,6 +123,7 @@ impl<P: Port> Parts<P> {
         requires ok { PartsOk self.old }
         requires bare { is_in self.old.bare kept.wave kept.instr ≡ true }
         ensures ok { PartsOk self.new }
+        ensures filed { (image : Image) → PartsFiled image self.old → PartsFiled image self.new }
         ensures filled { Filled self.old kept self.new }
     {
         let Some(place) = self.kept_place(kept.wave, kept.instr) else {

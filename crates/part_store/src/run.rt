@@ -23,18 +23,19 @@ use match_table::{Results, Table, Took};
 use port_set::{Port, Slots};
 use std::alloc::Global;
 use std::marker::Brand;
-use store_buf::told_ports_begin;
+use store_buf::{Answers, told_ports_begin};
 use ws_isa::{Checked, Op};
 use ws_words::{NoMemory, Words};
 
 // A table, a buffer, and the tokens on the way: those of this round, and what came of those that were
-// taken of it.
+// taken of it. The buffer's answers have a place of their own until they are on the way too.
 #[derive(Drop)]
 struct Run<J: Job, P: Port> {
     table: Table<J>,
     buffer: PartBuffer<J, P>,
     way: TokenList<J>,
     next: TokenList<J>,
+    answers: Answers<J>,
 }
 
 /// Runs an image on one thread, until the whole walk has been run, so many instances have fired, the
@@ -120,6 +121,7 @@ fn run_from<J: Job, P: Port>(
         buffer,
         way: TokenList::empty(alloc),
         next: TokenList::empty(alloc),
+        answers: Answers::none(alloc),
     };
     let ending = match start(alloc, code) {
         Ok(pulse) => {
@@ -208,12 +210,24 @@ fn bring<J: Job, P: Port>(
     let Results { sent, request } = results;
     match took {
         Took::Waits => match address_of(code, token) {
-            Some(address) => tell(code, &mut run.buffer, &mut run.next, address),
+            Some(address) => tell(
+                code,
+                &mut run.buffer,
+                &mut run.answers,
+                &mut run.next,
+                address,
+            ),
             None => Ok(()),
         },
         Took::Fires => send_all(sent, &mut run.next),
         Took::Asks => match request {
-            Some(request) => ask(code, &mut run.buffer, &mut run.next, request),
+            Some(request) => ask(
+                code,
+                &mut run.buffer,
+                &mut run.answers,
+                &mut run.next,
+                request,
+            ),
             None => unreachable!(),
         },
         Took::Old => Ok(()),
@@ -225,6 +239,7 @@ fn bring<J: Job, P: Port>(
 fn tell<J: Job, P: Port>(
     code: &Code<'_, J>,
     buffer: &mut PartBuffer<J, P>,
+    answers: &mut Answers<J>,
     next: &mut TokenList<J>,
     token: Token<J>,
 ) -> Result<(), NoMemory>
@@ -234,14 +249,15 @@ fn tell<J: Job, P: Port>(
         → Paid J.image t buffer.old (next.old ++ others)
         → PaidWhile J.image t buffer.new (next.new ++ others)) }
 {
-    let answer = buffer.address(code, token);
-    offer(answer, next)
+    let answer = buffer.address_into(code, token, answers);
+    offer(answer, answers, next)
 }
 
 // Brings a request to the buffer.
 fn ask<J: Job, P: Port>(
     code: &Code<'_, J>,
     buffer: &mut PartBuffer<J, P>,
+    answers: &mut Answers<J>,
     next: &mut TokenList<J>,
     request: Request<J>,
 ) -> Result<(), NoMemory>
@@ -252,8 +268,8 @@ fn ask<J: Job, P: Port>(
         → IsWhole buffer.new request.wave request.instr) }
 {
     buffer.facts();
-    let answer = buffer.submit(code, request);
-    offer(answer, next)
+    let answer = buffer.submit_into(code, request, answers);
+    offer(answer, answers, next)
 }
 
 // The token, where it is the address of a store.

@@ -6,7 +6,7 @@ use Rattle.std.proofs.Math.Nat.{mul-le-mul_left}
 use Rattle.cfg_core.specs.Graph.{Term, Op, Assign, Store, Print, Read, Give, Take, Choose, Tick, TickBy, Exit, Goto, Branch, Call, Return, Send, Stop, Block, Graph, spots, spot_at, block_at, entry_of}
 use Rattle.cfg_core.specs.Rules.{ExitIn, IsGraph}
 use Rattle.cfg_core.specs.Weights as weights
-use Rattle.cfg_core.specs.Weights.{turns_at, acts_of, acts_at, jumps_of, block_nodes, handed_on, first_block, TwoBlocksATurn, TurnsPayWork}
+use Rattle.cfg_core.specs.Weights.{turns_at, acts_of, jumps_of, block_nodes, handed_on, first_block, TwoBlocksATurn, TurnsPayWork}
 use Rattle.live_vars.specs.Marks.{has}
 use Rattle.phi_conv.specs.Short.{Short, is_bare, all_light, short}
 use Rattle.phi_conv.specs.IsShort.{Way, direct, through}

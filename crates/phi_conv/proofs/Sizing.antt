@@ -91,6 +91,17 @@ keep_size : (c : Bool) (v : ℕ) (t : Term) → sum_by op_nodes (keep_test c v t
 keep_size true v t = omega arith
 keep_size false v t = omega arith
 
+-- what stands for a short branch: the variables that are chosen, the operations behind its test, and its turns
+module _ (live : List (List ℕ)) (v : ℕ) (s : Short) where
+  abbrev pub chosen : List ℕ
+  chosen = filter (has live s.join) (written_by s)
+
+  abbrev pub arms : List Op
+  arms = arm (first_base v) [] s.first ++ (arm (second_base v) [] s.second ++ choices live v s)
+
+  abbrev pub turns : Op
+  turns = TickBy (test_of v s) (turns_of s.first) (turns_of s.second)
+
 module _ (live : List (List ℕ)) (v : ℕ) (s : Short) (few : all_nodes s.first + all_nodes s.second ≤ most_nodes) where
   test_nodes : term_nodes (test_of v s) ≡ 1
   test_nodes = held_nodes (is_still (written_by s) s.test) v (written_by s) s.test refl
@@ -99,21 +110,12 @@ module _ (live : List (List ℕ)) (v : ℕ) (s : Short) (few : all_nodes s.first
   choices_size [] = refl
   choices_size (x ∷ xs) = let a = test_nodes in let r = choices_size xs in let c = sum_by-cons op_nodes (choice v s x) (map (choice v s) xs) in omega (arith, a, r, c)
 
-  abbrev chosen : List ℕ
-  chosen = filter (has live s.join) (written_by s)
-
-  chosen_count : length chosen ≤ most_nodes
+  pub chosen_count : length (chosen live v s) ≤ most_nodes
   chosen_count =
       let a = filter_count (has live s.join) (written_by s) in
       let b = written_count (written [] s.first) s.second in
       let c = written_count [] s.first in
       omega (arith, a, b, c, few)
-
-  abbrev arms : List Op
-  arms = arm (first_base v) [] s.first ++ (arm (second_base v) [] s.second ++ choices live v s)
-
-  abbrev turns : Op
-  turns = TickBy (test_of v s) (turns_of s.first) (turns_of s.second)
 
   -- how many operations stand for a short branch
   pub joining_count : length (joining live v s) ≤ most_more_ops
@@ -121,9 +123,9 @@ module _ (live : List (List ℕ)) (v : ℕ) (s : Short) (few : all_nodes s.first
       let a = arm_count (first_base v) [] s.first in
       let b = arm_count (second_base v) [] s.second in
       let c = chosen_count in
-      let d = map_count (choice v s) chosen in
+      let d = map_count (choice v s) (chosen live v s) in
       let e = keep_count (is_still (written_by s) s.test) v s.test in
-      let f = length-append (keep_test (is_still (written_by s) s.test) v s.test) (turns ∷ arms) in
+      let f = length-append (keep_test (is_still (written_by s) s.test) v s.test) (turns live v s ∷ arms live v s) in
       let i = length-append (arm (first_base v) [] s.first) (arm (second_base v) [] s.second ++ choices live v s) in
       let j = length-append (arm (second_base v) [] s.second) (choices live v s) in
       omega (arith, a, b, c, d, e, f, i, j, few)
@@ -134,13 +136,13 @@ module _ (live : List (List ℕ)) (v : ℕ) (s : Short) (few : all_nodes s.first
       let a = arm_size (first_base v) [] s.first in
       let b = arm_size (second_base v) [] s.second in
       let c = chosen_count in
-      let d = choices_size chosen in
+      let d = choices_size (chosen live v s) in
       let e = keep_size (is_still (written_by s) s.test) v s.test in
-      let f = sum_both op_nodes (keep_test (is_still (written_by s) s.test) v s.test) (turns ∷ arms) in
+      let f = sum_both op_nodes (keep_test (is_still (written_by s) s.test) v s.test) (turns live v s ∷ arms live v s) in
       let i = sum_both op_nodes (arm (first_base v) [] s.first) (arm (second_base v) [] s.second ++ choices live v s) in
       let j = sum_both op_nodes (arm (second_base v) [] s.second) (choices live v s) in
       let k = test_nodes in
-      let l = sum_by-cons op_nodes turns arms in
+      let l = sum_by-cons op_nodes (turns live v s) (arms live v s) in
       omega (arith, a, b, c, d, e, f, i, j, k, l, few)
 
 module _ (g : Graph) (live : List (List ℕ)) where

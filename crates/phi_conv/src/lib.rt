@@ -14,7 +14,6 @@
 #![tactic(auto)]
 
 mod arms;
-mod copy;
 mod find;
 mod join;
 mod laws;

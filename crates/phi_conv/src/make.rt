@@ -12,10 +12,12 @@ ghost use Rattle.phi_conv.specs.Joined as joined;
 ghost use Rattle.phi_conv.specs.Keeps.{ExitsKept, NoCopyLive, PassesNoMore, ShortJoined, SizesKept};
 ghost use Rattle.phi_conv.specs.Keeps.{TurnsPayMost};
 
-use crate::copy::{arrays, exit, numbers, operations};
 use crate::find::short;
 use crate::join::Join;
-use cfg_core::{Graph, GraphBlock, GraphProc, GraphProcs, GraphTable, Leave};
+use cfg_core::{
+    Graph, GraphBlock, GraphProc, GraphProcs, GraphTable, Leave, copy_arrays, copy_exit,
+    copy_numbers, copy_ops,
+};
 use live_vars::LiveSets;
 use std::alloc::Global;
 use ws_words::NoMemory;
@@ -33,8 +35,8 @@ fn joined_block(
     ensures { let g = view.graph table.now.graph.now in let block = view.block block.now in
         IfOk result (λ made. view.block made ≡ joined.joined_block g live.now vars block) }
 {
-    let named = numbers(alloc, &block.named)?;
-    let mut ops = operations(alloc, &block.ops)?;
+    let named = copy_numbers(alloc, &block.named)?;
+    let mut ops = copy_ops(alloc, &block.ops)?;
     match short(table, &block.exit) {
         Some(branch) => {
             let join = Join::of(alloc, branch, vars)?;
@@ -48,7 +50,7 @@ fn joined_block(
         None => Ok(GraphBlock {
             named,
             ops,
-            exit: exit(alloc, &block.exit)?,
+            exit: copy_exit(alloc, &block.exit)?,
         }),
     }
 }
@@ -106,7 +108,7 @@ fn joined_graph(alloc: Global, table: &GraphTable<'_>, live: &LiveSets) -> Resul
     ensures { let g = view.graph table.now.graph.now in
         IfOk result (λ made. view.graph made ≡ joined.joined g live.now) }
 {
-    let arrays = arrays(alloc, &table.graph.arrays)?;
+    let arrays = copy_arrays(alloc, &table.graph.arrays)?;
     let procs = joined_procs(alloc, table, live)?;
     Ok(Graph { arrays, procs })
 }

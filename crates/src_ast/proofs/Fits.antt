@@ -3,7 +3,7 @@ use Rattle.std.proofs.Common.{◌≡◌, ℕ, suc, ◌+◌, ◌*◌, ◌≤◌, 
 use Rattle.src_ast.specs.declared.lexeme.Name.{Name}
 use Rattle.src_ast.specs.declared.lexeme.Place.{Place}
 use Rattle.src_ast.specs.declared.lexeme.Lexeme.{Lexeme}
-use Rattle.src_ast.specs.declared.lexeme.Shape.TheVariants.{Word, Mark}
+use Rattle.src_ast.specs.declared.lexeme.Shape.TheVariants.{Word}
 use Rattle.src_ast.specs.declared.lexeme.Shape.TheVariants as shape
 use Rattle.src_ast.specs.declared.lexeme.Mark.TheVariants as mark
 use Rattle.src_ast.specs.declared.lexeme.Mark.TheVariants.{LParen, RParen, LBrace, RBrace, LSquare, RSquare, Comma, Semi}

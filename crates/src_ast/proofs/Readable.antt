@@ -3,7 +3,6 @@ use Rattle.std.proofs.Common.{◌≡◌, ℕ, ◌+◌, ◌^◌, ◌<◌, ◌≤�
 use Rattle.std.proofs.lemmas.Bool.{le-ltb}
 use Rattle.src_ast.specs.declared.lexeme.Name.{Name}
 use Rattle.src_ast.specs.declared.lexeme.Lexeme.{Lexeme}
-use Rattle.src_ast.specs.declared.lexeme.Shape.TheVariants.{Word, Mark}
 use Rattle.src_ast.specs.declared.lexeme.Shape.TheVariants as shape
 use Rattle.src_ast.specs.declared.lexeme.Mark.TheVariants.{LParen, RParen, LSquare, RSquare, Comma}
 use Rattle.src_ast.specs.Grammar.{level_of, mark_of, sign_mark, IsName, Spelled, number, variable, cell, round, signed, binary, Separated, one, more, Listed, none, some, SpelledName, name}

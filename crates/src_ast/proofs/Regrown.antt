@@ -19,7 +19,7 @@ use Rattle.src_ast.specs.Printed.{is_looser, is_no_tighter, is_binary}
 use Rattle.src_ast.specs.Written.{IsWrittenName, AreWrittenNames, IsWrittenExpression, AreWrittenExpressions}
 use Rattle.src_ast.proofs.Pieces.{Piece, gap, lexeme, placed}
 use Rattle.src_ast.proofs.Printing as print
-use Rattle.src_ast.proofs.Printing.{space, newline, wrapped, expression, finish}
+use Rattle.src_ast.proofs.Printing.{space, newline, wrapped, expression}
 
 -- the pieces begin with lexemes that spell something like this, in front of others
 pub record Reads {A : Type 0} (R : List Lexeme → A → Type 0) (IsSame : A → Type 0) (at : Place) (ps qs : List Piece) : Type 0 where

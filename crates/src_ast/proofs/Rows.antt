@@ -1,11 +1,12 @@
 -- Worked runs: what the sequential meaning gives for small programs, by computing.
 use Rattle.std.proofs.Common.{◌≡◌, ℕ, zero, suc, ◌<◌, List, [], ◌∷◌, codes, refl, Some, None, Option, if◌then◌else◌, arith}
 use Rattle.ws_words.specs.declared.alu.Alu.TheVariants.{Add, Sub, Mul, Div, Rem, Shl, Le}
-use Rattle.ws_words.specs.Outside.{World, Outside, Act, prints, loads, stores, reads}
+use Rattle.ws_words.specs.Outside.{with_input, Outside, Act, prints, loads, stores, reads}
 use Rattle.ws_words.specs.Past.{AreWithin}
 use Rattle.src_ast.specs.declared.lexeme.Place.{Place}
 use Rattle.src_ast.specs.declared.lexeme.Name.{Name}
 use Rattle.src_ast.specs.Lexemes.{start}
+use Rattle.src_ast.specs.Named.{named, value}
 use Rattle.src_ast.specs.Syntax.{Expression, Number, Variable, Cell, Binary, Assign, Store, Print, Read, Give, Call, If, While, Statements, Nothing, Then, Part, Array, Proc}
 use Rattle.src_ast.specs.declared.fault.RefusalKind.{RefusalKind}
 use Rattle.src_ast.specs.declared.fault.RefusalKind.TheVariants.{Unknown, Twice, Kind, Count, Main, Limit}
@@ -17,21 +18,12 @@ use Rattle.src_ast.specs.Turns.{CallEnd, Returned, Stopped}
 use Rattle.src_ast.specs.Meaning.{run, lengths_of}
 use Rattle.src_ast.specs.Runs.{Goes, Faults, acts_in}
 
-abbrev name : List ℕ → Name
-name t = record { text = t; place = start }
-
-abbrev var : List ℕ → Expression
-var t = Variable (name t)
-
 abbrev proc : List ℕ → List Name → List Name → Statements → Option Expression → Part
-proc f params vars body None = Proc (record { name = name f; params = params; vars = vars; body = body; ending = None })
-proc f params vars body (Some e) = Proc (record { name = name f; params = params; vars = vars; body = body; ending = Some (record { place = start; value = e }) })
+proc f params vars body None = Proc (record { name = named f; params = params; vars = vars; body = body; ending = None })
+proc f params vars body (Some e) = Proc (record { name = named f; params = params; vars = vars; body = body; ending = Some (record { place = start; value = e }) })
 
 abbrev main : List Name → Statements → Part
 main vars body = proc (codes "main") [] vars body None
-
-abbrev world : List ℕ → World
-world input = record { input = input; left = [] }
 
 abbrev acts_of : CallEnd → List Act
 acts_of (Returned v o k) = o.acts
@@ -44,71 +36,71 @@ turns_left (Stopped o) = None
 -- the sum of 1 to 10
 abbrev sums : List Part
 sums =
-    main (name (codes "i") ∷ name (codes "s") ∷ [])
-    (Then (Assign start (name (codes "i")) (Number 1))
-    (Then (While start (Binary Le (var (codes "i")) (Number 10))
-    (Then (Assign start (name (codes "s")) (Binary Add (var (codes "s")) (var (codes "i"))))
-    (Then (Assign start (name (codes "i")) (Binary Add (var (codes "i")) (Number 1))) Nothing)))
-    (Then (Print start (var (codes "s"))) Nothing)))
+    main (named (codes "i") ∷ named (codes "s") ∷ [])
+    (Then (Assign start (named (codes "i")) (Number 1))
+    (Then (While start (Binary Le (value (codes "i")) (Number 10))
+    (Then (Assign start (named (codes "s")) (Binary Add (value (codes "s")) (value (codes "i"))))
+    (Then (Assign start (named (codes "i")) (Binary Add (value (codes "i")) (Number 1))) Nothing)))
+    (Then (Print start (value (codes "s"))) Nothing)))
     ∷ []
 
-pub sum_prints_55 : acts_of (run sums (world []) 40) ≡ prints 55 ∷ []
+pub sum_prints_55 : acts_of (run sums (with_input []) 40) ≡ prints 55 ∷ []
 sum_prints_55 = refl
 
-pub sum_takes_33_turns : turns_left (run sums (world []) 40) ≡ Some 7
+pub sum_takes_33_turns : turns_left (run sums (with_input []) 40) ≡ Some 7
 sum_takes_33_turns = refl
 
-pub sum_wants_a_turn_more : turns_left (run sums (world []) 32) ≡ None
+pub sum_wants_a_turn_more : turns_left (run sums (with_input []) 32) ≡ None
 sum_wants_a_turn_more = refl
 
 abbrev prints_three : Expression → Expression → Expression → List Part
 prints_three a b c = main [] (Then (Print start a) (Then (Print start b) (Then (Print start c) Nothing))) ∷ []
 
-pub divides_and_shifts : acts_of (run (prints_three (Binary Div (Number 5) (Number 0)) (Binary Rem (Number 5) (Number 0)) (Binary Shl (Number 1) (Number 65))) (world []) 3)
+pub divides_and_shifts : acts_of (run (prints_three (Binary Div (Number 5) (Number 0)) (Binary Rem (Number 5) (Number 0)) (Binary Shl (Number 1) (Number 65))) (with_input []) 3)
     ≡ prints 18446744073709551615 ∷ prints 5 ∷ prints 2 ∷ []
 divides_and_shifts = refl
 
-pub wraps : acts_of (run (prints_three (Binary Add (Number 18446744073709551615) (Number 1)) (Binary Sub (Number 0) (Number 1)) (Number 7)) (world []) 3)
+pub wraps : acts_of (run (prints_three (Binary Add (Number 18446744073709551615) (Number 1)) (Binary Sub (Number 0) (Number 1)) (Number 7)) (with_input []) 3)
     ≡ prints 0 ∷ prints 18446744073709551615 ∷ prints 7 ∷ []
 wraps = refl
 
 -- a procedure that doubles, called twice
 abbrev doubles : List Part
 doubles =
-    proc (codes "dbl") (name (codes "x") ∷ []) [] Nothing (Some (Binary Mul (var (codes "x")) (Number 2)))
-    ∷ main (name (codes "a") ∷ name (codes "b") ∷ name (codes "k") ∷ [])
-    (Then (Assign start (name (codes "k")) (Number 5))
-    (Then (Call start (Some (name (codes "a"))) (name (codes "dbl")) (var (codes "k") ∷ []))
-    (Then (Call start (Some (name (codes "b"))) (name (codes "dbl")) (var (codes "a") ∷ []))
-    (Then (Print start (Binary Add (Binary Add (var (codes "a")) (var (codes "b"))) (var (codes "k")))) Nothing))))
+    proc (codes "dbl") (named (codes "x") ∷ []) [] Nothing (Some (Binary Mul (value (codes "x")) (Number 2)))
+    ∷ main (named (codes "a") ∷ named (codes "b") ∷ named (codes "k") ∷ [])
+    (Then (Assign start (named (codes "k")) (Number 5))
+    (Then (Call start (Some (named (codes "a"))) (named (codes "dbl")) (value (codes "k") ∷ []))
+    (Then (Call start (Some (named (codes "b"))) (named (codes "dbl")) (value (codes "a") ∷ []))
+    (Then (Print start (Binary Add (Binary Add (value (codes "a")) (value (codes "b"))) (value (codes "k")))) Nothing))))
     ∷ []
 
-pub doubled_is_35 : acts_of (run doubles (world []) 6) ≡ prints 35 ∷ []
+pub doubled_is_35 : acts_of (run doubles (with_input []) 6) ≡ prints 35 ∷ []
 doubled_is_35 = refl
 
-pub doubling_takes_6_turns : turns_left (run doubles (world []) 6) ≡ Some 0
+pub doubling_takes_6_turns : turns_left (run doubles (with_input []) 6) ≡ Some 0
 doubling_takes_6_turns = refl
 
 -- three reads of two words
 abbrev reads_three : List Part
 reads_three =
-    main (name (codes "x") ∷ [])
-    (Then (Read start (name (codes "x"))) (Then (Print start (var (codes "x")))
-    (Then (Read start (name (codes "x"))) (Then (Print start (var (codes "x")))
-    (Then (Read start (name (codes "x"))) (Then (Print start (var (codes "x"))) Nothing))))))
+    main (named (codes "x") ∷ [])
+    (Then (Read start (named (codes "x"))) (Then (Print start (value (codes "x")))
+    (Then (Read start (named (codes "x"))) (Then (Print start (value (codes "x")))
+    (Then (Read start (named (codes "x"))) (Then (Print start (value (codes "x"))) Nothing))))))
     ∷ []
 
-pub past_the_input_is_0 : acts_of (run reads_three (world (4 ∷ 9 ∷ [])) 6) ≡ reads ∷ prints 4 ∷ reads ∷ prints 9 ∷ reads ∷ prints 0 ∷ []
+pub past_the_input_is_0 : acts_of (run reads_three (with_input (4 ∷ 9 ∷ [])) 6) ≡ reads ∷ prints 4 ∷ reads ∷ prints 9 ∷ reads ∷ prints 0 ∷ []
 past_the_input_is_0 = refl
 
 -- a store and a load past the end of an array of two cells
 abbrev past_the_end : List Part
 past_the_end =
-    Array (name (codes "a")) 2 start
-    ∷ main [] (Then (Store start (name (codes "a")) (Number 2) (Number 9)) (Then (Print start (Cell (name (codes "a")) (Number 2))) Nothing))
+    Array (named (codes "a")) 2 start
+    ∷ main [] (Then (Store start (named (codes "a")) (Number 2) (Number 9)) (Then (Print start (Cell (named (codes "a")) (Number 2))) Nothing))
     ∷ []
 
-pub past_the_end_acts : run past_the_end (world []) 2 ≡ Returned 0 (record { cells = (0 ∷ 0 ∷ []) ∷ []; input = []; left = []; acts = stores 1 2 9 ∷ loads 1 2 ∷ prints 0 ∷ [] }) 0
+pub past_the_end_acts : run past_the_end (with_input []) 2 ≡ Returned 0 (record { cells = (0 ∷ 0 ∷ []) ∷ []; input = []; left = []; acts = stores 1 2 9 ∷ loads 1 2 ∷ prints 0 ∷ [] }) 0
 past_the_end_acts = refl
 
 -- the first rule that isn't kept
@@ -159,56 +151,56 @@ pub bound_of_sums : bound sums ≡ 166
 bound_of_sums = refl
 
 -- print (a + b) * c and an `if` with nothing in it
-pub printed_program : printed_form (main [] (Then (Print start (Binary Mul (Binary Add (var (codes "a")) (var (codes "b"))) (var (codes "c")))) (Then (If start (var (codes "a")) Nothing Nothing) Nothing)) ∷ [])
+pub printed_program : printed_form (main [] (Then (Print start (Binary Mul (Binary Add (value (codes "a")) (value (codes "b"))) (value (codes "c")))) (Then (If start (value (codes "a")) Nothing Nothing) Nothing)) ∷ [])
     ≡ codes "proc main() {\n  print (a + b) * c;\n  if (a) {\n  }\n}\n"
 printed_program = refl
 
 -- two cells, and a load past them in the second of three turns
 abbrev reads_past : List Part
 reads_past =
-    Array (name (codes "a")) 2 start
+    Array (named (codes "a")) 2 start
     ∷ main []
     (Then (Print start (Number 1))
-    (Then (Print start (Cell (name (codes "a")) (Number 2)))
+    (Then (Print start (Cell (named (codes "a")) (Number 2)))
     (Then (Print start (Number 3)) Nothing)))
     ∷ []
 
 abbrev before_the_load : Outside
 before_the_load = record { cells = (0 ∷ 0 ∷ []) ∷ []; input = []; left = []; acts = prints 1 ∷ [] }
 
-pub load_past_is_a_fault : Faults reads_past (world []) 2 1 before_the_load
+pub load_past_is_a_fault : Faults reads_past (with_input []) 2 1 before_the_load
 load_past_is_a_fault = record {
   first = record { within = (tt, tt); act = loads 1 2; past = (refl, omega arith); after = prints 0 ∷ []; split = refl };
   sooner = not_sooner;
   left = refl;
 }
   where
-    not_sooner : (m : ℕ) → m < 2 → AreWithin (lengths_of reads_past) (acts_in reads_past (world []) m)
+    not_sooner : (m : ℕ) → m < 2 → AreWithin (lengths_of reads_past) (acts_in reads_past (with_input []) m)
     not_sooner zero lt = tt
     not_sooner (suc zero) lt = (tt, tt)
     not_sooner (suc (suc m)) lt = absurd (omega arith)
 
 -- one turn is not enough for it
-pub one_turn_goes : Goes reads_past (world []) 1 before_the_load
+pub one_turn_goes : Goes reads_past (with_input []) 1 before_the_load
 one_turn_goes = record { flows = refl; within = (tt, tt) }
 
 -- the last cell, and a store past the end after its index and its value
 abbrev stores_past : List Part
 stores_past =
-    Array (name (codes "a")) 1 start
-    ∷ main [] (Then (Store start (name (codes "a")) (Number 1) (Cell (name (codes "a")) (Number 0))) Nothing)
+    Array (named (codes "a")) 1 start
+    ∷ main [] (Then (Store start (named (codes "a")) (Number 1) (Cell (named (codes "a")) (Number 0))) Nothing)
     ∷ []
 
 abbrev before_the_store : Outside
 before_the_store = record { cells = (0 ∷ []) ∷ []; input = []; left = []; acts = loads 1 0 ∷ [] }
 
-pub store_past_is_a_fault : Faults stores_past (world []) 1 1 before_the_store
+pub store_past_is_a_fault : Faults stores_past (with_input []) 1 1 before_the_store
 store_past_is_a_fault = record {
   first = record { within = (omega arith, tt); act = stores 1 1 0; past = (refl, omega arith); after = []; split = refl };
   sooner = not_sooner;
   left = refl;
 }
   where
-    not_sooner : (m : ℕ) → m < 1 → AreWithin (lengths_of stores_past) (acts_in stores_past (world []) m)
+    not_sooner : (m : ℕ) → m < 1 → AreWithin (lengths_of stores_past) (acts_in stores_past (with_input []) m)
     not_sooner zero lt = tt
     not_sooner (suc m) lt = absurd (omega arith)

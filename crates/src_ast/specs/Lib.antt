@@ -3,6 +3,7 @@ pub mod LanguageLimits
 pub mod View
 pub mod Once
 pub mod Lexemes
+pub mod Named
 pub mod LexFaults
 pub mod Grammar
 pub mod Faults

@@ -22,10 +22,7 @@ use Rattle.src_lex.proofs.Words.{word_read, word_long, number_read, number_wide,
 use Rattle.src_lex.proofs.Reached.{Reached, at_start, past_gap, past_lexeme, all_read, fault_here}
 use Rattle.src_lex.proofs.Lawful.{one_lexing_of, no_fault_of, one_fault_of}
 use Rattle.src_ast.specs.Once.{ExactlyOne}
-use Rattle.ws_words.specs.Letters.{is_letter, is_word_byte}
-
-abbrev not_feed : ℕ → Bool
-not_feed c = not (c == 10)
+use Rattle.ws_words.specs.Letters.{is_letter, is_word_byte, not_feed}
 
 -- a text taken apart: a front of this kind, and a rest before which no gap is left
 record Cut (is_front : List ℕ → Bool) (text : List ℕ) : Type 0 where

@@ -1,14 +1,12 @@
 -- Blanks and comments in front of a text.
-use Rattle.std.specs.Prelude.{◌≡◌, ℕ, suc, ◌+◌, ◌≤◌, ◌<◌, ◌==◌, not, length, cond, Bool, true, false, IsTrue, ◌&&◌, List, [], ◌∷◌, ◌++◌, refl}
+use Rattle.std.specs.Prelude.{◌≡◌, ℕ, suc, ◌+◌, ◌≤◌, ◌<◌, ◌==◌, not, length, cond, true, false, IsTrue, ◌&&◌, List, [], ◌∷◌, ◌++◌, refl}
 use Rattle.std.specs.List.{list_all, prefix_len}
 use Rattle.std.proofs.Common.{take, drop, arith}
 use Rattle.std.proofs.Math.Seq.{take-add}
 use Rattle.std.proofs.lemmas.Bool.{both_ways}
 use Rattle.std.proofs.lemmas.List.Sums.{prefix_len-le-length}
 use Rattle.src_ast.specs.Lexemes.{is_gap, is_comment, is_blank}
-
-abbrev not_feed : ℕ → Bool
-not_feed c = not (c == 10)
+use Rattle.ws_words.specs.Letters.{not_feed}
 
 mutual
   -- two gaps in a row are a gap

@@ -141,7 +141,7 @@ module _ (image : Image) (world : World) (began : List (Option Began)) {P : Type
   same_content : (old new : Store P) → StoreKeeps old old.order.kept.items new → content_of new ≡ content_of old
   same_content old new k = λ j. record { kept = k.kept_are j; chain = chain_of (k.chain j); fault = k.fault j; failed = k.failed j; starved = k.starved j; outside = k.outer j }
 
-  pub unchanged : (old new : Store P) → StoreKeeps old old.order.kept.items new → StoreOk new → Standing image world began old → Standing image world began new × (content_of new ≡ content_of old)
+  pub unchanged : (old new : Store P) → StoreKeeps old old.order.kept.items new → StoreOk image new → Standing image world began old → Standing image world began new × (content_of new ≡ content_of old)
   unchanged old new k ok s = (
     record {
       ok = ok;
@@ -188,7 +188,7 @@ module _ (image : Image) (world : World) (began : List (Option Began)) {P : Type
     }
 
     -- where the chain doesn't let it issue and no port has found no memory, nothing that waits is issuable
-    module _ (ok : StoreOk mid) (fed : old.starved ≡ false) (held : may_flag image (chain_of old.order.chain) k.wave k.instr k.first ≡ false) where
+    module _ (ok : StoreOk image mid) (fed : old.starved ≡ false) (held : may_flag image (chain_of old.order.chain) k.wave k.instr k.first ≡ false) where
       not_lets : (c : code.Chain) → c ≡ old.order.chain → (issued : ℕ → ℕ → Option ℕ) (stopped : Bool) → Issuable image issued (chain_of c) stopped k.wave k.instr (operands_of (ports image k.instr) k.first k.second) → ⊥
       not_lets c same issued stopped may =
           both_ways (may_flag image (chain_of old.order.chain) k.wave k.instr k.first) held
@@ -235,7 +235,7 @@ module _ (image : Image) (world : World) (began : List (Option Began)) {P : Type
             (((running, working), fresh, later_submitted, keeps.fault ∙ running, keeps.failed ∙ working, keeps.starved ∙ fed), later_idle),
           )
 
-    module _ (new : Store P) (ok : StoreOk new) (tokens : List Token) (lead : (m : Outside) → StandsFor image world began mid m → Turns image world began mid m new tokens) where
+    module _ (new : Store P) (ok : StoreOk image new) (tokens : List Token) (lead : (m : Outside) → StandsFor image world began mid m → Turns image world began mid m new tokens) where
       abbrev turns : (m : Outside) → IsBuffer image world began (content_of old) m → Turns image world began mid m new tokens
       turns m is = lead m (came m (stands_of old standing.early_issued standing.early_all m is))
 
@@ -277,7 +277,7 @@ module _ (image : Image) (world : World) (began : List (Option Began)) {P : Type
 
       pub said : (r : Result (Unit {0}) BufFault) → SettledSo image mid r new → Standing image world began new × RightTokens image world tokens × SubmitSo image world began (content_of old) (asked_of k) (with_tokens tokens r) (content_of new)
       said (Ok u) s =
-          let idle : Idle image (content_of new) = λ m. none_issuable image world began new.order (has new.fault) (holding new.outer) last.memory last.stands s.3 in (
+          let idle : Idle image (content_of new) = λ m. none_issuable image world began new.order (has new.fault) (holding new.outer) last.memory last.stands (s.3 world began last.memory formed sound last.stands) in (
             stands_now (λ f t. idle) (none_fails s.1),
             last.right,
             (((running, working), fresh, submitted, s.0, s.1 ∙ keeps.failed ∙ working, s.2), idle),

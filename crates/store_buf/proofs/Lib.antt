@@ -1,8 +1,11 @@
 pub mod Going
 pub mod Lists
+pub mod Tops
 pub mod Found
 pub mod Waves
 pub mod Ordered
+pub mod Retained
+pub mod Filing
 pub mod Issued
 pub mod Outside
 pub mod Alike
@@ -10,6 +13,7 @@ pub mod Stepping
 pub mod Within
 pub mod Counted
 pub mod Resting
+pub mod Foremost
 pub mod Turns
 pub mod Silence
 pub mod Failing

@@ -66,7 +66,7 @@ module _ (image : Image) (world : World) (began : List (Option Began))
   }
 
   module _ {P : Type 0} where
-    pub opening_stands : (ports : List (Option Told)) → AllBegan began world.left ports → (s : Store P) → StoreOk s → s.order.early.items ≡ [] → content_of s ≡ opening_content image world ports → Standing image world began s
+    pub opening_stands : (ports : List (Option Told)) → AllBegan began world.left ports → (s : Store P) → StoreOk image s → s.order.early.items ≡ [] → content_of s ≡ opening_content image world ports → Standing image world began s
     opening_stands ports all s ok early is = record {
       ok = ok;
       early_issued = λ i h. absurd (subst (λ xs. In i xs) early h);

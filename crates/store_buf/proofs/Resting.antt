@@ -42,7 +42,7 @@ module _ (image : Image) (world : World) (began : List (Option Began)) (o : Orde
       go None e v = (k, refl, e, (let f : Some (operands_of (ports image k.instr) k.first k.second) ≡ Some xs = sym (ap (λ (b : Option ℕ). waits_if b (Some (operands_of (ports image k.instr) k.first k.second)) None) e) ∙ v in cc))
 
   -- a kept request that is issuable may be issued
-  may_be : (k : Kept) → kept_in image o.kept.items k.wave k.instr ≡ Some (operands_of (ports image k.instr) k.first k.second) → k.answer ≡ None →
+  pub may_be : (k : Kept) → kept_in image o.kept.items k.wave k.instr ≡ Some (operands_of (ports image k.instr) k.first k.second) → k.answer ≡ None →
       Issuable image (issued_in o.kept.items) (chain_of o.chain) stopped k.wave k.instr (operands_of (ports image k.instr) k.first k.second) → ready_flag image o k ≡ true
   may_be k e a may =
       let r = hold.right k.wave k.instr (operands_of (ports image k.instr) k.first k.second) e in

@@ -10,6 +10,7 @@ use Rattle.store_buf.specs.declared.fault.Silent.{Silent}
 use Rattle.store_buf.specs.declared.fault.Silent.TheVariants.{Failed, NoMemory}
 use Rattle.store_buf.specs.declared.order.Order.{Order}
 use Rattle.store_buf.specs.declared.store.Store.{Store}
+use Rattle.store_buf.specs.declared.waits.Waits.{Waits}
 use Rattle.store_buf.specs.Outdoors.{FaultsGrow}
 use Rattle.store_buf.specs.Contents.{FaultIs, RightTokens}
 use Rattle.store_buf.specs.Holds.{Issued, Stopped, Issues, stays, goes, stops, part}
@@ -64,6 +65,16 @@ module _ {P : Type 0} where
           fault = λ f. subst (FaultIs image world) (sym fault) (r.fault f);
           stands = so world began r.memory r.stands;
         },
+  )
+
+  -- it doesn't matter where the requests that wait are found
+  pub sought : (image : Image) (a b : Store P) (near : Waits) (t0 t1 : List Token) → AllLead image a b t0 t1 → AllLead image a (record b { order = record b.order { near = near } }) t0 t1
+  sought image a b near t0 t1 all = (
+    all.0,
+    all.1,
+    λ world began m formed sound stands.
+        let r = all.2 world began m formed sound stands in
+        record { memory = r.memory; issues = r.issues; right = r.right; fault = r.fault; stands = record { going = r.stands.going; right = r.stands.right; outside = r.stands.outside } },
   )
 
   -- what is kept in mind of ports doesn't matter

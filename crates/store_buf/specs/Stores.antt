@@ -22,7 +22,7 @@ use Rattle.store_buf.specs.Outdoors.{RoseAt}
 use Rattle.store_buf.specs.Contents.{Content, FailedSo, FaultIs, IsBuffer, Idle, PortWaits, RightTokens}
 use Rattle.store_buf.specs.Contents.{SubmitSo, with_tokens}
 use Rattle.store_buf.specs.Holds.{Holds, Issued, Stopped, Issues, part}
-use Rattle.store_buf.specs.Ordering.{OrderOk, Room, NoneMay}
+use Rattle.store_buf.specs.Ordering.{OrderOk, AllFiled, Room, NoneMay}
 use Rattle.store_buf.specs.Outers.{holding}
 
 abbrev pub asked_of : Kept → Asked
@@ -47,8 +47,9 @@ module _ {P : Type 0} where
   }
 
   -- there is room for what all that waits leaves
-  pub record StoreOk (s : Store P) : Type 0 where
+  pub record StoreOk (image : Image) (s : Store P) : Type 0 where
     pub order : OrderOk s.order
+    pub filed : AllFiled image s.order
     pub early : Room s.order
     pub printed : vec_len s.outer.printed + s.order.waiting ≤ vec_capacity s.outer.printed
 
@@ -108,10 +109,15 @@ module _ {P : Type 0} where
   SilentSo image old new (NoMemory port) =
       PortWaits image new.order.kept.items (chain_of new.order.chain) port
 
+  -- of each buffer for which its parts stand no request may be issued
+  abbrev pub NoneMaySo : Image → Store P → Type 0
+  NoneMaySo image s = (world : World) (began : List (Option Began)) (m : Outside) → Formed image → Sound image
+      → StandsFor image world began s m → NoneMay image s.order
+
   -- how issues in turn have ended
   abbrev pub SettledSo : Image → Store P → Result (Unit {0}) BufFault → Store P → Type 0
   SettledSo image old (Ok _) new = (new.fault ≡ None) × (new.failed ≡ old.failed) × (new.starved ≡ false)
-      × NoneMay image new.order
+      × NoneMaySo image new
   SettledSo image old (Err (fault.Index array)) new = (new.fault ≡ Some array) × (new.failed ≡ old.failed)
       × (new.starved ≡ false)
   SettledSo image old (Err (fault.Port port)) new = (new.fault ≡ None) × (new.failed ≡ Some port)
@@ -126,7 +132,7 @@ module _ {P : Type 0} where
   -- what is true of a buffer's store whenever no call is at work
   pub record Standing (image : Image) (world : World) (began : List (Option Began))
       (s : Store P) : Type 0 where
-    pub ok : StoreOk s
+    pub ok : StoreOk image s
     pub early_issued : EarlyIssued (issued_in s.order.kept.items) (chain_of s.order.chain) s.order.early.items
     pub early_all : HasEarly image world (issued_in s.order.kept.items)
         (chain_of s.order.chain) s.order.early.items

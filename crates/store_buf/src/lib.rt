@@ -22,11 +22,14 @@ pub mod index;
 pub mod kept;
 mod later;
 mod laws;
+mod next;
 mod node;
 pub mod order;
 pub mod outer;
+mod places;
 mod store;
 pub mod told;
+mod waits;
 
 pub use answers::Answers;
 pub use buffer::Buffer;

@@ -14,6 +14,7 @@ use crate::fault::Silent;
 use port_set::{OpenSet, Port, PortError, Slots};
 use std::alloc::Global;
 use ws_isa::{ArrayDecl, Op};
+use ws_words::memory::place_of;
 use ws_words::{Cells, NoMemory, Words};
 
 /// What a run leaves: the words printed, the cells of all arrays, hidden ones too, and the ports.
@@ -127,11 +128,4 @@ fn silent(port: u8, why: PortError) -> Silent
         PortError::Failed => Silent::Failed { port },
         PortError::NoMemory => Silent::NoMemory { port },
     }
-}
-
-// The place of an array by its number from 1.
-fn place_of(array: u32) -> usize
-    ensures { result ≡ array - 1 }
-{
-    (array as usize).saturating_sub(1)
 }

@@ -10,10 +10,10 @@ ghost use Rattle.df_core.specs.Chains.{chain_of, may_flag};
 ghost use Rattle.df_core.specs.Places.{ProgramIs, image_of};
 ghost use Rattle.df_core.specs.Rights.{tokens_of};
 ghost use Rattle.store_buf.specs.Requests.{entry_of};
-ghost use Rattle.store_buf.specs.Ordering.{MayAt, NoneMay};
+ghost use Rattle.store_buf.specs.Ordering.{MayAt};
 ghost use Rattle.store_buf.specs.Outdoors.{FaultsGrow};
 ghost use Rattle.store_buf.specs.Stores.{StoreOk, IssueLeads, StaysSo, AllLead, SilentSo, SettledSo};
-ghost use Rattle.store_buf.specs.Stores.{SubmitLeads, content_of, left_over, StoreKeeps};
+ghost use Rattle.store_buf.specs.Stores.{SubmitLeads, content_of, left_over, StoreKeeps, NoneMaySo};
 
 use crate::fault::{BufFault, Silent};
 use crate::kept::Kept;
@@ -49,7 +49,7 @@ impl<P: Port> Store<P> {
     ) -> Result<(), BufFault>
         requires program { ProgramIs program.now }
         requires formed { Formed (image_of program.now) }
-        requires ok { StoreOk self.old }
+        requires ok { StoreOk (image_of program.now) self.old }
         requires waits { kept.answer ≡ None }
         requires told { told.old.items ≡ [] }
         ensures leads { SubmitLeads (image_of program.now) self.old kept
@@ -78,7 +78,7 @@ impl<P: Port> Store<P> {
     // StoreKeeps a request that the chain doesn't let issue, so that nothing may be issued then.
     fn put_by(&mut self, program: &Program<'_>, kept: Kept) -> Result<(), BufFault>
         requires program { ProgramIs program.now }
-        requires ok { StoreOk self.old }
+        requires ok { StoreOk (image_of program.now) self.old }
         requires fresh { entry_of self.old.order.kept.items kept.wave kept.instr ≡ None }
         requires waits { kept.answer ≡ None }
         requires running { self.old.fault ≡ None }
@@ -88,11 +88,8 @@ impl<P: Port> Store<P> {
             kept.wave kept.instr kept.first ≡ false }
         ensures leads { SubmitLeads (image_of program.now) self.old kept [] result self.new }
     {
-        match self.keep(kept) {
-            Ok(()) => {
-                self.order.file_last();
-                Ok(())
-            }
+        match self.keep(program, kept) {
+            Ok(()) => Ok(()),
             Err(_) => Err(BufFault::NoMemory),
         }
     }
@@ -107,7 +104,7 @@ impl<P: Port> Store<P> {
     ) -> Result<(), BufFault>
         requires program { ProgramIs program.now }
         requires formed { Formed (image_of program.now) }
-        requires ok { StoreOk self.old }
+        requires ok { StoreOk (image_of program.now) self.old }
         requires lets { lets ≡ may_flag (image_of program.now) (chain_of self.old.order.chain)
             kept.wave kept.instr kept.first }
         requires fresh { entry_of self.old.order.kept.items kept.wave kept.instr ≡ None }
@@ -122,8 +119,8 @@ impl<P: Port> Store<P> {
         if self.make_room(told).is_err() {
             return Err(BufFault::NoMemory);
         }
-        let place = self.order.near.len();
-        match self.keep(kept) {
+        let place = self.order.kept.len();
+        match self.keep(program, kept) {
             Ok(()) => {
                 let first = if lets { Some(place) } else { None };
                 self.settle(program, first, told)
@@ -147,24 +144,25 @@ impl<P: Port> Store<P> {
     }
 
     // StoreKeeps a request of an instance that had none, and makes room for the word that it may print.
-    fn keep(&mut self, kept: Kept) -> Result<(), NoMemory>
-        requires ok { StoreOk self.old }
+    fn keep(&mut self, program: &Program<'_>, kept: Kept) -> Result<(), NoMemory>
+        requires program { ProgramIs program.now }
+        requires ok { StoreOk (image_of program.now) self.old }
         requires fresh { entry_of self.old.order.kept.items kept.wave kept.instr ≡ None }
         requires waits { kept.answer ≡ None }
-        ensures ok { StoreOk self.new }
+        ensures ok { StoreOk (image_of program.now) self.new }
         ensures keeps { OnOk result (StoreKeeps self.old (self.old.order.kept.items ++ kept ∷ []) self.new) }
         ensures unchanged { OnErr result (StoreKeeps self.old self.old.order.kept.items self.new) }
         ensures waiting { OnOk result (self.new.order.waiting ≡ self.old.order.waiting + 1) }
         ensures may { OnOk result ((image : Image) → may_flag image (chain_of self.old.order.chain)
             kept.wave kept.instr kept.first ≡ true
-            → MayAt image self.new.order (length self.old.order.near.items)) }
+            → MayAt image self.new.order (length self.old.order.kept.items)) }
     {
         let waiting = self.order.waiting;
         if waiting >= MOST_WAITING {
             return Err(NoMemory);
         }
         self.outer.printed.reserve(waiting + 1)?;
-        self.order.add(kept)
+        self.order.add(program, kept)
     }
 
     // Issues what may be issued, first this one, and keeps in mind how that ends.
@@ -176,10 +174,10 @@ impl<P: Port> Store<P> {
     ) -> Result<(), BufFault>
         requires program { ProgramIs program.now }
         requires formed { Formed (image_of program.now) }
-        requires ok { StoreOk self.old }
+        requires ok { StoreOk (image_of program.now) self.old }
         requires first { IfSome first (MayAt (image_of program.now) self.old.order) }
         requires room { HasRoomFor told.old (8 * self.old.order.waiting) }
-        ensures ok { StoreOk self.new }
+        ensures ok { StoreOk (image_of program.now) self.new }
         ensures lead { AllLead (image_of program.now) self.old self.new
             (tokens_of told.old.items) (tokens_of told.new.items) }
         ensures settled { SettledSo (image_of program.now) self.old result self.new }
@@ -202,16 +200,21 @@ impl<P: Port> Store<P> {
         }
     }
 
-    /// Issues the request at a place of the list at hand, which may be issued; at one past the end
-    /// the chain stops. Where a port doesn't answer, the request still waits.
-    pub fn issue(&mut self, program: &Program<'_>, at: usize, told: &mut Told) -> Result<(), Silent>
+    /// Issues the request at a place, which may be issued; at one past the end the chain stops. Where
+    /// a port doesn't answer, the request still waits.
+    pub fn issue(
+        &mut self,
+        program: &Program<'_>,
+        place: usize,
+        told: &mut Told,
+    ) -> Result<(), Silent>
         requires program { ProgramIs program.now }
         requires formed { Formed (image_of program.now) }
-        requires ok { StoreOk self.old }
-        requires may { MayAt (image_of program.now) self.old.order at }
+        requires ok { StoreOk (image_of program.now) self.old }
+        requires may { MayAt (image_of program.now) self.old.order place }
         requires going { self.old.fault ≡ None }
         requires room { HasRoomFor told.old (8 * self.old.order.waiting) }
-        ensures ok { StoreOk self.new }
+        ensures ok { StoreOk (image_of program.now) self.new }
         ensures leads { OnOk result (IssueLeads (image_of program.now) self.old self.new
             (tokens_of told.old.items) (tokens_of told.new.items)) }
         ensures stays { OnErr result (StaysSo (image_of program.now) self.old self.new) }
@@ -226,14 +229,14 @@ impl<P: Port> Store<P> {
         ensures room { HasRoomFor told.new (8 * self.new.order.waiting) }
         ensures same_room { told.new.capacity ≡ told.old.capacity }
     {
-        let kept = self.order.request(at);
+        let kept = self.order.request(place);
         let op = program.op(kept.instr);
         if program.is_past(op, kept.first) {
             self.fault = Some(array_of(op));
             return Ok(());
         }
         let word = self.outer.run(op, kept.first, kept.second)?;
-        self.order.issue(program, at, word);
+        self.order.issue(program, place, word);
         tell(told, kept.wave, program.destinations(kept.instr, 0), word);
         Ok(())
     }
@@ -248,14 +251,14 @@ impl<P: Port> Store<P> {
     ) -> Result<(), Silent>
         requires program { ProgramIs program.now }
         requires formed { Formed (image_of program.now) }
-        requires ok { StoreOk self.old }
+        requires ok { StoreOk (image_of program.now) self.old }
         requires first { IfSome first (MayAt (image_of program.now) self.old.order) }
         requires room { HasRoomFor told.old (8 * self.old.order.waiting) }
-        ensures ok { StoreOk self.new }
+        ensures ok { StoreOk (image_of program.now) self.new }
         ensures lead { AllLead (image_of program.now) self.old self.new
             (tokens_of told.old.items) (tokens_of told.new.items) }
         ensures none { OnOk result ((has self.new.fault ≡ true)
-            ⊎ NoneMay (image_of program.now) self.new.order) }
+            ⊎ NoneMaySo (image_of program.now) self.new) }
         ensures silent { IfErr result (SilentSo (image_of program.now) self.old self.new) }
         ensures going { OnErr result (self.new.fault ≡ None) }
         ensures failed { self.new.failed ≡ self.old.failed }
@@ -266,7 +269,7 @@ impl<P: Port> Store<P> {
         while self.fault.is_none() {
             match self.order.this_or_issuable(program, next) {
                 None => return Ok(()),
-                Some(at) => self.issue(program, at, told)?,
+                Some(place) => self.issue(program, place, told)?,
             }
             next = None;
         }

@@ -8,7 +8,7 @@ use Rattle.cfg_core.specs.Walk.{value_of, Outcome, Done, Out, and_then, spend, r
 use Rattle.cfg_core.proofs.Cost.{walk_over, fewer}
 use Rattle.cfg_core.proofs.Paired.{walk_add}
 use Rattle.wave_build.specs.Compiled.{Begins}
-use Rattle.wave_gen.proofs.OutOfTurns.{append_three}
+use Rattle.wave_gen.proofs.OutOfTurns.{append_three, outside, exit_longer}
 
 -- acts go on
 abbrev Longer : Outside → Outside → Type 0
@@ -150,25 +150,6 @@ ops_longer (op ∷ ops) s k = go (run_op op s k) (op_longer op s k) (λ u j. ops
     go : (r : Outcome) → Longer s.out (out_of r) → ((u : State) (j : ℕ) → Longer u.out (out_of (run_ops ops u j))) → Longer s.out (out_of (and_then r (run_ops ops)))
     go (Done u j) l f = begins_trans s.out.acts u.out.acts _ l (f u j)
     go (Out o) l f = l
-
--- what is outside in a configuration
-abbrev outside : Config → Outside
-outside (At b s frames k) = s.out
-outside (Over o k) = o
-outside (Going o) = o
-
-exit_longer : (g : Graph) (exit : Exit) (s : State) (frames : List Frame) (k : ℕ) → Longer s.out (outside (leave g exit s frames k))
-exit_longer g (Goto b) s frames k = longer_same s.out
-exit_longer g (Branch t a b) s frames k = go ((value_of t s).0 == 0)
-  where
-    go : (v : Bool) → Longer s.out (outside (if v then At b (value_of t s).1 frames k else At a (value_of t s).1 frames k))
-    go true = (_, refl)
-    go false = (_, refl)
-exit_longer g (Call x f ts back) s frames k = (_, refl)
-exit_longer g (Return t) s [] k = (_, refl)
-exit_longer g (Return t) s (f ∷ frames) k = (_, refl)
-exit_longer g (Send t ts ls) s frames k = (_, append_assoc s.out.acts _ _)
-exit_longer g Stop s frames k = longer_same s.out
 
 module _ (g : Graph) where
   step_longer : (c : Config) → Longer (outside c) (outside (step g c))

@@ -1,16 +1,14 @@
 -- What operations weigh, by their nodes and acts, and what passes add.
 use Rattle.std.proofs.Common.{ℕ, zero, suc, ◌+◌, ◌*◌, ◌≡◌, ◌≤◌, Bool, true, false, if◌then◌else◌, List, [], ◌∷◌, ◌++◌, length, map, refl, ap, arith}
-use Rattle.std.specs.List.{AllByRecursion, filter, sum_by}
+use Rattle.std.specs.List.{AllByRecursion, sum_by}
 use Rattle.std.proofs.lemmas.List.Sums.{sum_by-cons, sum_by-append}
 use Rattle.cfg_core.specs.Graph.{Term, Number, Var, Cell, Flip, Not, Neg, Binary, Op, Assign, Store, Print, Read, Give, Take, Choose, Tick, TickBy}
 use Rattle.cfg_core.specs.Weights.{term_nodes, op_nodes, acts_of}
-use Rattle.live_vars.specs.Marks.{has}
 use Rattle.phi_conv.specs.Short.{Short, all_nodes, most_nodes}
-use Rattle.phi_conv.specs.Joined.{first_base, second_base, turns_of, added, renamed, arm, written, written_by, is_still, keep_test, test_if, test_of, choice, choices, joining}
+use Rattle.phi_conv.specs.Joined.{first_base, second_base, added, renamed, arm, written_by, is_still, keep_test, test_if, test_of, choice, choices, joining}
 use Rattle.call_gen.specs.Charged.{IsSave, IsLoad, IsClear}
 use Rattle.wave_gen.specs.Cost.{term_quarters, op_quarters}
-use Rattle.ws_words.proofs.Lists.{filter_few as filter_count}
-use Rattle.phi_conv.proofs.Sizing.{written_count}
+use Rattle.phi_conv.proofs.Sizing.{chosen, chosen_count, arms, turns}
 
 pub number_few : (n : ℕ) → term_quarters (Number n) ≤ 5
 number_few zero = omega arith
@@ -195,31 +193,15 @@ module _ (live : List (List ℕ)) (v : ℕ) (s : Short) (few : all_nodes s.first
       let r = choices_weight k h xs in let c = sum_by-cons op_quarters (choice v s x) (map (choice v s) xs) in
       let e : suc (length xs) * (k + 6) ≡ (k + 6) + length xs * (k + 6) = grind arith in omega (arith, h, r, c, e)
 
-  abbrev chosen : List ℕ
-  chosen = filter (has live s.join) (written_by s)
-
-  chosen_count : length chosen ≤ 8
-  chosen_count =
-      let a = filter_count (has live s.join) (written_by s) in
-      let b = written_count (written [] s.first) s.second in
-      let c = written_count [] s.first in
-      omega (arith, a, b, c, few)
-
-  abbrev arms : List Op
-  arms = arm (first_base v) [] s.first ++ (arm (second_base v) [] s.second ++ choices live v s)
-
-  abbrev turns : Op
-  turns = TickBy (test_of v s) (turns_of s.first) (turns_of s.second)
-
   abbrev still : Bool
   still = is_still (written_by s) s.test
 
   parts_weigh : sum_by op_quarters (joining live v s) ≡ sum_by op_quarters (keep_test still v s.test) + (sum_by op_quarters (arm (first_base v) [] s.first) + (sum_by op_quarters (arm (second_base v) [] s.second) + sum_by op_quarters (choices live v s)))
   parts_weigh =
-      let f = sum_by-append op_quarters (keep_test still v s.test) (turns ∷ arms) in
+      let f = sum_by-append op_quarters (keep_test still v s.test) (turns live v s ∷ arms live v s) in
       let i = sum_by-append op_quarters (arm (first_base v) [] s.first) (arm (second_base v) [] s.second ++ choices live v s) in
       let j = sum_by-append op_quarters (arm (second_base v) [] s.second) (choices live v s) in
-      let l = sum_by-cons op_quarters turns arms in
+      let l = sum_by-cons op_quarters (turns live v s) (arms live v s) in
       omega (arith, f, i, j, l)
 
   -- what stands for a short branch weighs at most so much beside its test
@@ -232,20 +214,20 @@ module _ (live : List (List ℕ)) (v : ℕ) (s : Short) (few : all_nodes s.first
           let b = arm_weight (second_base v) [] s.second in
           let t : term_quarters (test_of v s) ≤ (if still then 5 else 0) = held_weight still v (written_by s) s.test refl in
           let five : 0 + (if still then 5 else 0) ≡ 0 + 5 = ap (λ (x : Bool). 0 + (if x then 5 else 0)) e in
-          let d = choices_weight 5 (omega (arith, t, five)) chosen in
+          let d = choices_weight 5 (omega (arith, t, five)) (chosen live v s) in
           let k : sum_by op_quarters (keep_test still v s.test) ≤ (if still then 0 else term_quarters s.test + 5) = keep_weight still v s.test in
           let none : 0 + (if still then 0 else term_quarters s.test + 5) ≡ 0 + 0 = ap (λ (x : Bool). 0 + (if x then 0 else term_quarters s.test + 5)) e in
-          let n = chosen_count in
-          let m : length chosen * (5 + 6) ≤ 88 = omega (arith, n) in
+          let n : length (chosen live v s) ≤ 8 = chosen_count live v s few in
+          let m : length (chosen live v s) * (5 + 6) ≤ 88 = omega (arith, n) in
           omega (arith, parts_weigh, a, b, d, k, none, m, few)
       by_still false e =
           let a = arm_weight (first_base v) [] s.first in
           let b = arm_weight (second_base v) [] s.second in
           let t : term_quarters (test_of v s) ≤ (if still then 5 else 0) = held_weight still v (written_by s) s.test refl in
           let zero_held : 0 + (if still then 5 else 0) ≡ 0 + 0 = ap (λ (x : Bool). 0 + (if x then 5 else 0)) e in
-          let d = choices_weight 0 (omega (arith, t, zero_held)) chosen in
+          let d = choices_weight 0 (omega (arith, t, zero_held)) (chosen live v s) in
           let k : sum_by op_quarters (keep_test still v s.test) ≤ (if still then 0 else term_quarters s.test + 5) = keep_weight still v s.test in
           let all : 0 + (if still then 0 else term_quarters s.test + 5) ≡ 0 + (term_quarters s.test + 5) = ap (λ (x : Bool). 0 + (if x then 0 else term_quarters s.test + 5)) e in
-          let n = chosen_count in
-          let m : length chosen * (0 + 6) ≤ 48 = omega (arith, n) in
+          let n : length (chosen live v s) ≤ 8 = chosen_count live v s few in
+          let m : length (chosen live v s) * (0 + 6) ≤ 48 = omega (arith, n) in
           omega (arith, parts_weigh, a, b, d, k, all, m, few)

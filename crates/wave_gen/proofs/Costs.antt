@@ -5,7 +5,7 @@ use Rattle.std.specs.List.{sum_by}
 use Rattle.std.proofs.lemmas.List.Sums.{sum_by-cons}
 use Rattle.ws_words.specs.Outside.{Outside, State, World}
 use Rattle.ws_isa.specs.Image.{Image, Array, first_number, stops, target}
-use Rattle.ws_isa.specs.Walk.{opening_memory, has_ended, CostAtMost}
+use Rattle.ws_isa.specs.Walk.{opening_memory, CostAtMost}
 use Rattle.ws_isa.proofs.Ending.{over_is_whole}
 use Rattle.wave_link.specs.Passed.{blocks_left}
 use Rattle.cfg_core.specs.Graph as graph
@@ -15,7 +15,7 @@ use Rattle.cfg_core.specs.Walk.{Outcome, Done, Out, run_ops, Config, At, Over, G
 use Rattle.cfg_core.specs.Weights.{block_left, path}
 use Rattle.wave_cut.specs.Cut.{Cut, is_first}
 use Rattle.wave_gen.specs.Waits.{Code, count, names_at, chosen, RunPlace, pass, places}
-use Rattle.wave_gen.specs.Plans.{Leaves, Plan, pulse, tails_of, end_wants, steered, steers, plan_at, made_at, starts_at, begins, draft_of, code_of}
+use Rattle.wave_gen.specs.Plans.{Leaves, Plan, pulse, tails_of, end_wants, steered, plan_at, made_at, starts_at, begins, draft_of, code_of}
 use Rattle.wave_gen.specs.Gen.{gen_term, gen_ops}
 use Rattle.wave_gen.specs.Drawn.{gen_terms}
 use Rattle.wave_gen.specs.Listing.{gen_exit, entries_of, listing, index_of, place_of, width_of, plans_of, needed, nothing_zeroed, graph_draft}

@@ -3,7 +3,7 @@ use Rattle.std.specs.Prelude.{ℕ, suc, ◌-◌, ◌≡◌, ◌<◌, ◌≤◌, 
 use Rattle.ws_words.specs.Outside.{State}
 use Rattle.ws_isa.specs.declared.instr.Op.TheVariants.{Merge}
 use Rattle.cfg_core.specs.Graph as graph
-use Rattle.cfg_core.specs.Graph.{Term, Number, Var, Cell, Flip, Not, Neg, Binary, Graph, spots, spot_at, block_at, proc_at, entry_of}
+use Rattle.cfg_core.specs.Graph.{Graph, spots, spot_at, block_at, entry_of}
 use Rattle.std.specs.List.{AllByRecursion}
 use Rattle.cfg_core.specs.Walk.{Done, run_op, run_ops, Config, At, Frame, walk}
 use Rattle.wave_gen.specs.Wire.{Item, Same}

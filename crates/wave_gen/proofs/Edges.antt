@@ -5,7 +5,7 @@ use Rattle.ws_isa.specs.declared.instr.Op.{Op}
 use Rattle.ws_isa.specs.declared.instr.Op.TheVariants.{Steer, Send}
 use Rattle.ws_isa.specs.declared.instr.Dest.{Dest}
 use Rattle.ws_isa.specs.Image as image
-use Rattle.ws_isa.specs.Image.{Image, Instr, Pad, Array, instr_at, block_at, first_number, is_first, edge_of, edge_dests, pad_of, leave_to, landing_of, target, stops, IsIn, IsBlock}
+use Rattle.ws_isa.specs.Image.{Image, Instr, Array, instr_at, block_at, first_number, edge_of, edge_dests, pad_of, leave_to, landing_of, target, IsIn}
 use Rattle.ws_isa.specs.Sound.{HasDest, edge_all, opens_at}
 use Rattle.wave_gen.specs.Waits.{Distinct, Code, starts, Arrives, went_past, was_sent}
 use Rattle.wave_gen.specs.Wire.{Spot, Back, Front, dests_of, WiredInstr, Wants}
@@ -21,7 +21,7 @@ use Rattle.wave_gen.proofs.TailLines.{is_tail_op, TailInstr, tail_instr, tail_at
 use Rattle.wave_gen.proofs.Number.{block_at_is}
 use Rattle.ws_words.proofs.Numbers.{eqb_is}
 use Rattle.ws_words.proofs.Bools.{and_parts as and_both, or_comes as or_cases}
-use Rattle.ws_isa.proofs.Slots.{has_append_cases, has_append_left, has_append_right}
+use Rattle.ws_isa.proofs.Slots.{has_append_cases}
 use Rattle.ws_isa.proofs.Steps.{first_up as next_first}
 use Rattle.ws_words.specs.Items.{nth, In}
 use Rattle.ws_words.proofs.Places.{nth_short}

@@ -2,7 +2,7 @@
 use Rattle.std.proofs.Common.{ℕ, ◌≡◌, ◌≤◌, true, false, cond, eqb, List, length, refl, ap, ◌∙◌, arith}
 use Rattle.std.proofs.lemmas.Bool.{cond-true, cond-false}
 use Rattle.ws_isa.specs.Image as image
-use Rattle.ws_isa.specs.Image.{Image, Array, stops, target, block_at}
+use Rattle.ws_isa.specs.Image.{Image, Array, stops, target}
 use Rattle.wave_gen.specs.Waits.{Names, Code, RunPlace, names_at, pass, chosen, chosen_of}
 use Rattle.wave_gen.specs.Plans.{Leaves, Onto, Either, Lands, Halts, Plan, plan_at, starts_at, draft_of, code_of, exit_of, source_of, filled}
 use Rattle.wave_gen.proofs.Planned.{PlansAre}

@@ -2,7 +2,7 @@
 use Rattle.std.proofs.Common.{ℕ, zero, suc, ◌-◌, ◌≡◌, ◌<◌, ◌≤◌, ◌||◌, cond, ltb, true, false, Bool, List, [], ◌∷◌, length, drop, replicate, refl, sym, ap, ◌∙◌, arith}
 use Rattle.std.proofs.lemmas.Bool.{lt-ltb, le-ltb}
 use Rattle.cfg_core.specs.Graph as graph
-use Rattle.cfg_core.specs.Graph.{Block, Graph, Spot, no_spot, spots, spot_at, block_at}
+use Rattle.cfg_core.specs.Graph.{Graph, Spot, no_spot, spots, spot_at, block_at}
 use Rattle.wave_gen.specs.Plans.{is_among}
 use Rattle.wave_gen.specs.Listing.{in_some, most_vars}
 use Rattle.ws_words.proofs.Bools.{or_comm, or_false}

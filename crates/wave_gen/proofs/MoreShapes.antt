@@ -4,7 +4,7 @@ use Rattle.std.proofs.lemmas.Bool.{cases_Bool, cases_lt, both_ways}
 use Rattle.ws_isa.specs.declared.instr.Op.{Op}
 use Rattle.ws_isa.specs.declared.instr.Op.TheVariants.{Send, Halt, Advance}
 use Rattle.ws_isa.specs.Image as image
-use Rattle.ws_isa.specs.Image.{Image, Instr, Block, Pad, Array, instr_at, block_at, first_number, is_first, is_advance, is_giving, is_giving_op, is_memory, stops, target, now_dests, now_of, edge_dests, edge_of, IsIn, IsBlock}
+use Rattle.ws_isa.specs.Image.{Image, Instr, Block, Pad, Array, instr_at, block_at, first_number, is_first, is_advance, is_giving, is_giving_op, is_memory, stops, target, now_dests, edge_dests, IsIn, IsBlock}
 use Rattle.ws_isa.specs.Formed.{WavesInOrder, WavesFrom}
 use Rattle.ws_isa.specs.Sound.{HasDest, HasPad, IsAhead}
 use Rattle.wave_gen.specs.Waits.{Code}

@@ -19,10 +19,10 @@ use Rattle.wave_gen.proofs.ReadBlocks.{Kept, ops_reads, ExitGives, exit_reads}
 use Rattle.wave_gen.proofs.Chains.{listed_at, listed_once, listed_there}
 use Rattle.wave_gen.proofs.Turned.{waving}
 use Rattle.wave_gen.proofs.Entries.{among_in, in_among, live_in, live_has}
-use Rattle.ws_isa.proofs.Images.{nth_below}
 use Rattle.ws_words.specs.Items.{nth, or_else, In}
 use Rattle.live_vars.proofs.Needed.{first_exit}
 use Rattle.live_vars.proofs.Below.{reads_below, carries_stays}
+use Rattle.ws_words.proofs.Places.{nth_short}
 
 nth_map : (f : ℕ → Plan) (xs : List ℕ) (i b : ℕ) → nth xs i ≡ Some b → nth (map f xs) i ≡ Some (f b)
 nth_map f [] i b e = absurd (let h : None ≡ Some b = e in cc)
@@ -63,7 +63,7 @@ module _ (g : Graph) (live : ℕ → ℕ → Bool) (cut : Cut) (fit : Fits g liv
   at_place b l = plan_there (index_of (listing g cut) b) b (at b l)
 
   pub place_there : (b : ℕ) → b < length (spots g) → place_of g cut b ≤ length (plans_of g live cut)
-  place_there b l = let m : index_of (listing g cut) b < length (listing g cut) = nth_below (listing g cut) (index_of (listing g cut) b) b (at b l) in let e : length (plans_of g live cut) ≡ length (listing g cut) = as_many in omega (arith, m, e)
+  place_there b l = let m : index_of (listing g cut) b < length (listing g cut) = nth_short (listing g cut) (index_of (listing g cut) b) b (at b l) in let e : length (plans_of g live cut) ≡ length (listing g cut) = as_many in omega (arith, m, e)
 
   pub place_is : (i b : ℕ) → nth (listing g cut) i ≡ Some b → place_of g cut b ≡ suc i
   place_is i b e = ap suc (listed_once (length (spots g)) (turned g cut) (is_first cut) (length cut.heads) (waving g live cut fit) i b e)

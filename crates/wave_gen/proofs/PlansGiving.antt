@@ -15,9 +15,9 @@ use Rattle.wave_gen.proofs.ItemsGiving.{gives_append, ops_give_all, exit_gives_a
 use Rattle.wave_gen.proofs.Turned.{start_first}
 use Rattle.wave_gen.proofs.Entries.{among_in, to_rules}
 use Rattle.wave_gen.proofs.PlanFacts.{planned, plan_there, as_many, block_there}
-use Rattle.ws_isa.proofs.Images.{nth_within as nth_some}
 use Rattle.ws_words.specs.Items.{nth, or_else, In}
 use Rattle.cfg_core.specs.Weights.{first_block}
+use Rattle.ws_words.proofs.Places.{nth_there}
 
 -- a block in the list of whose exit this one is
 pub some_of : (f : graph.Exit → List ℕ) (ss : List Spot) (c : ℕ) → in_some f ss c ≡ true → (b : ℕ) × In c (f (or_else (nth ss b) no_spot).block.exit)
@@ -54,7 +54,7 @@ module _ (g : Graph) (live : ℕ → ℕ → Bool) (cut : Cut) (fit : Fits g liv
   found zero h = absurd (let l : 1 ≤ 0 = h.0 in omega (arith, l))
   found (suc i) h =
       let u : suc i ≤ length (plans_of g live cut) = h.1 in let e : length (plans_of g live cut) ≡ length (listing g cut) = as_many g live cut fit in
-      let r = nth_some (listing g cut) i (omega (arith, u, e)) in (r.0, block_there g live cut fit i r.0 r.1, plan_there g live cut fit i r.0 r.1)
+      let r = nth_there (listing g cut) i (omega (arith, u, e)) in (r.0, block_there g live cut fit i r.0 r.1, plan_there g live cut fit i r.0 r.1)
 
   pub plans_give : PlansGive (plans_of g live cut)
   plans_give = record {

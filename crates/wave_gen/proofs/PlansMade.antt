@@ -4,7 +4,7 @@ use Rattle.std.proofs.lemmas.Bool.{both_ways}
 use Rattle.std.specs.List.{AllByRecursion}
 use Rattle.ws_isa.specs.Image.{Array, cells_of}
 use Rattle.cfg_core.specs.Graph as graph
-use Rattle.cfg_core.specs.Graph.{Graph, Term, spots, spot_at, block_at, entry_of}
+use Rattle.cfg_core.specs.Graph.{Graph, Term, spots, spot_at, block_at}
 use Rattle.cfg_core.specs.Rules.{ExitIn, calls}
 use Rattle.cfg_core.specs.Walk as walks
 use Rattle.wave_cut.specs.Cut.{Cut, is_first}
@@ -28,9 +28,9 @@ use Rattle.wave_gen.proofs.Entries.{live_in, live_apart, live_none, most_is}
 use Rattle.wave_gen.proofs.Nexts.{ops_next, next_of_exit}
 use Rattle.wave_gen.proofs.PlanFacts.{planned, plan_there, as_many, at, at_place, place_there, place_is, block_there, to_entry, of_entry, live_of_entry, plan_reads, numbers}
 use Rattle.wave_gen.proofs.PlanEdges.{edges_are, values_apart, pads_are}
-use Rattle.ws_isa.proofs.Images.{nth_within as nth_some}
 use Rattle.ws_words.specs.Items.{nth, In}
 use Rattle.cfg_core.specs.Weights.{first_block}
+use Rattle.ws_words.proofs.Places.{nth_there}
 
 vars_below : (g : Graph) (b : ℕ) → b < length (spots g) → (spot_at g b).vars < width_of g
 unfolding spot_at
@@ -82,7 +82,7 @@ module _ (g : Graph) (live : ℕ → ℕ → Bool) (cut : Cut) (fit : Fits g liv
   each zero h = absurd (let l : 1 ≤ 0 = h.0 in omega (arith, l))
   each (suc i) h =
       let u : suc i ≤ length ps = h.1 in let e : length ps ≡ length (listing g cut) = as_many g live cut fit in
-      let r = nth_some (listing g cut) i (omega (arith, u, e)) in plan_is i r.0 r.1
+      let r = nth_there (listing g cut) i (omega (arith, u, e)) in plan_is i r.0 r.1
 
   start_place : index_of (listing g cut) (first_block g) ≡ 0
   start_place = listed_first (length (spots g)) (turned g cut) (is_first cut) (length cut.heads) (waving g live cut fit) (first_block g) (start_there g fit.graph) (start_wave g live cut fit) (start_first g live cut fit)
@@ -93,8 +93,8 @@ module _ (g : Graph) (live : ℕ → ℕ → Bool) (cut : Cut) (fit : Fits g liv
   step : (b : ℕ) → suc (suc b) ≤ length ps → (a : ℕ) × (c : ℕ) × (plan_at ps (suc b) ≡ P a) × (plan_at ps (suc (suc b)) ≡ P c) × Step (turned g cut) (is_first cut) (turned g cut a) c
   step b l =
       let e : length ps ≡ length (listing g cut) = as_many g live cut fit in
-      let r = nth_some (listing g cut) b (omega (arith, l, e)) in
-      let s = nth_some (listing g cut) (suc b) (omega (arith, l, e)) in (
+      let r = nth_there (listing g cut) b (omega (arith, l, e)) in
+      let s = nth_there (listing g cut) (suc b) (omega (arith, l, e)) in (
         r.0,
         s.0,
         plan_there g live cut fit b r.0 r.1,

@@ -20,9 +20,9 @@ use Rattle.cfg_core.specs.Edges.{Edge}
 use Rattle.wave_gen.proofs.PlansGiving.{some_of}
 use Rattle.wave_gen.proofs.PlanFacts.{planned, at, at_place, place_is, place_there, numbers}
 use Rattle.wave_gen.proofs.PlanFacts.{as_many, block_there}
-use Rattle.ws_isa.proofs.Images.{nth_within as nth_some}
 use Rattle.ws_words.specs.Items.{nth, or_else, In}
 use Rattle.ws_words.proofs.Options.{some_same}
+use Rattle.ws_words.proofs.Places.{nth_there}
 
 abbrev first_arm : Leaves → ℕ
 first_arm (Either op from c d) = c
@@ -93,7 +93,7 @@ module _ (g : Graph) (live : ℕ → ℕ → Bool) (cut : Cut) (fit : Fits g liv
   found zero h = absurd (let l : 1 ≤ 0 = h.0 in omega (arith, l))
   found (suc i) h =
       let u : suc i ≤ length ps = h.1 in let e : length ps ≡ length (listing g cut) = as_many g live cut fit in
-      let r = nth_some (listing g cut) i (omega (arith, u, e)) in (r.0, block_there g live cut fit i r.0 r.1, place_is g live cut fit i r.0 r.1)
+      let r = nth_there (listing g cut) i (omega (arith, u, e)) in (r.0, block_there g live cut fit i r.0 r.1, place_is g live cut fit i r.0 r.1)
 
   -- an edge to an arm's plan comes from the branch
   comes : (x b c i : ℕ) → x < length (spots g) → b < length (spots g) → c < length (spots g) → In c (arms_of (block_at g b).exit) → edge (place_of g cut x) i (place_of g cut c) → x ≡ b

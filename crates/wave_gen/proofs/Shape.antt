@@ -8,7 +8,7 @@ use Rattle.ws_isa.specs.Image.{Image, Instr, Array, instr_at, block_at, first_nu
 use Rattle.ws_isa.specs.Sound.{BringsResult}
 use Rattle.wave_gen.specs.Waits.{Owner, Step, Fires, Rests, Skips, Copies, count, Stands}
 use Rattle.wave_gen.specs.Wire.{WiredInstr, Wants, Made, with_rooms, make}
-use Rattle.wave_gen.specs.Plans.{Leaves, Onto, Either, Lands, Halts, Plan, Tail, TailAt, steers, sends, steered, hang, plan_at, made_at, starts_at, begins, owner_of, tails_of, end_wants, behind_source, exit_made, block_of, draft_of, code_of, exit_of, source_of, operands_needed, chooses, KeptOf, instr_of}
+use Rattle.wave_gen.specs.Plans.{Leaves, Onto, Either, Lands, Halts, Plan, Tail, steers, sends, steered, hang, plan_at, made_at, starts_at, begins, owner_of, tails_of, end_wants, behind_source, exit_made, draft_of, exit_of, source_of, operands_needed, chooses, KeptOf}
 use Rattle.wave_gen.proofs.Planned.{AllIn, PadsFit, PlansAre, EdgesAre, Inner, Outer}
 use Rattle.wave_gen.proofs.Turns.{stands_end}
 use Rattle.wave_gen.proofs.Keeping.{hang_count}
@@ -18,7 +18,7 @@ use Rattle.wave_gen.proofs.Carrying.{selector_port, Sel, Carried, carried, sel_r
 use Rattle.wave_gen.proofs.Drafts.{block_stands, source_at, source_in, advance_front, front_advance}
 use Rattle.wave_gen.proofs.Starts.{first_is}
 use Rattle.wave_gen.proofs.Edges.{exit_is, target_is}
-use Rattle.wave_gen.proofs.Waiting.{waits, target_there, chooses_by, lands_by, kept_inside, one_is}
+use Rattle.wave_gen.proofs.Waiting.{target_there, chooses_by, lands_by, kept_inside, one_is}
 use Rattle.wave_gen.proofs.Number.{number_is, block_at_is, is_block, block_is}
 use Rattle.wave_gen.proofs.WalkShape.{WalkShape}
 use Rattle.ws_words.specs.Items.{nth}

@@ -3,7 +3,7 @@ use Rattle.std.proofs.Common.{ℕ, zero, suc, ◌+◌, ◌≡◌, ◌<◌, ◌�
 use Rattle.std.proofs.lemmas.Bool.{cases_Bool}
 use Rattle.ws_isa.specs.declared.instr.Op.TheVariants.{Merge, Halt}
 use Rattle.ws_isa.specs.Image as image
-use Rattle.ws_isa.specs.Image.{Image, Instr, Pad, Array, instr_at, block_at, IsIn, IsBlock}
+use Rattle.ws_isa.specs.Image.{Instr, Pad, Array, instr_at}
 use Rattle.wave_gen.specs.Wire.{Spot, dests_of, WiredInstr, Wants, no_wants, emit}
 use Rattle.wave_gen.specs.Plans.{merges, Leaves, Onto, Either, Lands, Halts, Plan, pulse, steers, sends, steered, past, hang, more, chain, selected, tails_of, end_wants, behind_source, exit_made, body_made, renew, advances, fronts, plan_at, made_at, starts_at, begins, pads_of, draft_of}
 use Rattle.wave_gen.proofs.Planned.{Apart, AllBelow, ValuesApart, PlansAre, EdgesAre, SourceIs, Inner, Outer}

@@ -1,7 +1,7 @@
 -- The last instruction of a term makes its value.
 use Rattle.std.proofs.Common.{ℕ, zero, suc, ◌-◌, ◌≡◌, ◌<◌, ◌≤◌, List, [], ◌∷◌, ◌++◌, length, map, slice_index, refl, sym, ap, ◌∙◌, subst, arith}
 use Rattle.ws_words.specs.Outside as outside
-use Rattle.ws_words.specs.Outside.{Outside, State, row}
+use Rattle.ws_words.specs.Outside.{Outside}
 use Rattle.ws_words.specs.Operators.{applied}
 use Rattle.ws_words.specs.declared.alu.Alu.TheVariants.{Sub, Eq}
 use Rattle.ws_isa.specs.declared.instr.Op.TheVariants.{Const}

@@ -3,7 +3,7 @@ use Rattle.std.proofs.Common.{ℕ, zero, suc, ◌+◌, ◌-◌, ◌≡◌, ◌<�
 use Rattle.std.proofs.lemmas.Bool.{cases_Bool, cond-true}
 use Rattle.ws_isa.specs.declared.instr.Dest.{Dest}
 use Rattle.ws_isa.specs.Image as image
-use Rattle.ws_isa.specs.Image.{Image, Instr, Pad, Array, instr_at, block_at, first_number, is_advance, is_first, start_dests, pad_of, target, stops, IsIn, IsBlock}
+use Rattle.ws_isa.specs.Image.{Image, Array, block_at, first_number, is_advance, is_first, IsIn, IsBlock}
 use Rattle.ws_isa.specs.Sound.{HasDest}
 use Rattle.wave_gen.specs.Waits.{Code, own, starts}
 use Rattle.wave_gen.specs.Wire.{Spot, Back, Front, dests_of, Wants, Made}

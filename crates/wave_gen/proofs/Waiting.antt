@@ -3,7 +3,7 @@ use Rattle.std.proofs.Common.{ℕ, zero, suc, ◌≡◌, ◌<◌, ◌≤◌, ◌
 use Rattle.std.proofs.lemmas.Bool.{both_ways}
 use Rattle.ws_isa.specs.declared.instr.Dest.{Dest}
 use Rattle.ws_isa.specs.Image as image
-use Rattle.ws_isa.specs.Image.{Image, Pad, Array, block_at, first_number, is_first, is_stop, edge_dests, pad_of, start_dests, target, stops, IsIn, IsBlock}
+use Rattle.ws_isa.specs.Image.{Image, Array, block_at, first_number, is_stop, edge_dests, pad_of, start_dests, target, stops, IsIn, IsBlock}
 use Rattle.ws_isa.specs.Sound.{HasDest, edge_all, opens_at}
 use Rattle.wave_gen.specs.Waits.{Distinct, Code, starts, Stands, Arrives, Waits}
 use Rattle.wave_gen.specs.Wire.{Spot, dests_of, Wants}

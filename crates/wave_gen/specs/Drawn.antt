@@ -4,8 +4,7 @@ use Rattle.ws_words.specs.declared.alu.Alu.TheVariants.{Sub, Eq}
 use Rattle.ws_isa.specs.declared.instr.Op.{Op}
 use Rattle.ws_isa.specs.declared.instr.Op.TheVariants.{Const, Alu, Merge, Load}
 use Rattle.cfg_core.specs.Graph as graph
-use Rattle.cfg_core.specs.Graph.{Term, Number, Var, Cell, Flip, Not, Neg, Binary, Graph, spots, spot_at}
-use Rattle.cfg_core.specs.Graph.{block_at, proc_at, entry_of}
+use Rattle.cfg_core.specs.Graph.{Term, Number, Var, Cell, Flip, Not, Neg, Binary}
 use Rattle.wave_gen.specs.Wire.{Item, Make, Same}
 use Rattle.wave_gen.specs.Plans.{pulse}
 use Rattle.wave_gen.specs.Gen.{top_word, gen_term}

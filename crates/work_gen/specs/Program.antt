@@ -1,17 +1,10 @@
 -- The program of the generated jobs, as a tree: it multiplies two square matrices.
 use Rattle.std.specs.Prelude.{ℕ, ◌*◌, List, [], ◌∷◌, Some, None, codes}
 use Rattle.ws_words.specs.declared.alu.Alu.TheVariants.{Add, Mul, Lt}
-use Rattle.src_ast.specs.declared.lexeme.Name.{Name}
 use Rattle.src_ast.specs.Lexemes.{start}
-use Rattle.src_ast.specs.Syntax.{Expression, Number, Variable, Cell, Binary, Statement, Assign, Store, Print}
+use Rattle.src_ast.specs.Named.{named, value}
+use Rattle.src_ast.specs.Syntax.{Expression, Number, Cell, Binary, Statement, Assign, Store, Print}
 use Rattle.src_ast.specs.Syntax.{Read, Call, While, Statements, Nothing, Then, Procedure, Part, Array, Proc}
-
--- its names are told by their texts; where they stand doesn't matter
-abbrev pub named : List ℕ → Name
-named text = record { text = text; place = start }
-
-abbrev pub value : List ℕ → Expression
-value x = Variable (named x)
 
 abbrev pub block : List Statement → Statements
 block [] = Nothing

@@ -58,12 +58,12 @@ answer_by_effect Steer xs o = refl
 answer_by_effect Phi xs o = refl
 answer_by_effect (Send k) xs o = refl
 
-with_acts_of : Outside → List Act → Outside
+-- what is outside, with these acts
+abbrev pub with_acts_of : Outside → List Act → Outside
 with_acts_of o acts = record { cells = o.cells; input = o.input; left = o.left; acts = acts }
 
 -- a load has no effect
 pub load_has_no_effect : (op : Op) (xs : List ℕ) (o : Outside) → is_load_op op ≡ true → effect_of (after_op op xs o) ≡ effect_of o
-unfolding with_acts_of
 load_has_no_effect (Load a) xs o e = ap (with_acts_of o) (drop_load o.acts a _)
 load_has_no_effect (Store a) xs o e = absurd (cc)
 load_has_no_effect Input xs o e = absurd (cc)
@@ -82,7 +82,6 @@ load_has_no_effect (Send k) xs o e = absurd (cc)
 
 -- all others take the same effect whenever loads were answered
 pub others_take_effect : (op : Op) (xs : List ℕ) (o : Outside) → is_load_op op ≡ false → effect_of (after_op op xs o) ≡ after_op op xs (effect_of o)
-unfolding with_acts_of
 others_take_effect (Load a) xs o e = absurd (cc)
 others_take_effect (Store a) xs o e = ap (with_acts_of (after_op (Store a) xs o)) (keep_others o.acts (stores a _ _ ∷ []))
 others_take_effect Input xs o e = ap (with_acts_of (after_op Input xs o)) (keep_others o.acts (reads ∷ []))

@@ -1,5 +1,5 @@
 -- Lemmas on images and their lists.
-use Rattle.std.proofs.Common.{ℕ, zero, suc, ◌≡◌, List, [], ◌∷◌, ◌++◌, Some, ◌<◌, arith, true, false, refl, ◌≤◌, length, ap}
+use Rattle.std.proofs.Common.{ℕ, zero, suc, ◌≡◌, List, [], ◌∷◌, ◌++◌, Some, ◌<◌, arith, true, false, refl, ◌≤◌, ap}
 use Rattle.ws_isa.specs.Image.{Instr, ports_of, is_memory_op, is_writing_op, Token, tokens_to, is_writing, is_memory, Image, instr_at}
 use Rattle.ws_isa.specs.declared.instr.Op.{Op}
 use Rattle.ws_isa.specs.declared.instr.Op.TheVariants.{Alu, Steer, Phi, Send, Store, Input, Output, Give, Take, Halt}
@@ -36,16 +36,6 @@ three_ports Phi = omega arith
 three_ports (Send k) = omega arith
 three_ports (Store a) = omega arith
 three_ports op = omega arith
-
-pub nth_within : (xs : List ℕ) (q : ℕ) → q < length xs → (v : ℕ) × (nth xs q ≡ Some v)
-nth_within [] q h = absurd (omega arith)
-nth_within (x ∷ xs) zero h = (x, refl)
-nth_within (x ∷ xs) (suc q) h = nth_within xs q (omega arith)
-
-pub nth_below : (xs : List ℕ) (q v : ℕ) → nth xs q ≡ Some v → q < length xs
-nth_below [] q v e = cc
-nth_below (x ∷ xs) zero v e = omega arith
-nth_below (x ∷ xs) (suc q) v e = let h : q < length xs = nth_below xs q v e in omega arith
 
 pub tokens_append : (w v : ℕ) (xs ys : List Dest) → tokens_to w v (xs ++ ys) ≡ tokens_to w v xs ++ tokens_to w v ys
 tokens_append w v [] ys = refl

@@ -8,7 +8,7 @@ use Rattle.ws_words.specs.Outside.{World}
 use Rattle.ws_isa.specs.declared.image.Block.{Block}
 use Rattle.ws_isa.specs.declared.instr.Instr.{Instr}
 use Rattle.ws_isa.specs.Image as plain
-use Rattle.ws_isa.specs.Image.{Exit, Image, no_block, no_instr, instr_at, flat, first_number, block_at, pad_of, start_dests, stops, is_stop, leave_to, target, is_first, IsBlock}
+use Rattle.ws_isa.specs.Image.{Exit, no_block, no_instr, instr_at, flat, first_number, block_at, pad_of, start_dests, stops, is_stop, leave_to, target, is_first, IsBlock}
 use Rattle.ws_isa.specs.View as view
 use Rattle.ws_isa.specs.Walk.{choice_of}
 use Rattle.ws_isa.specs.Open.{Walkable}

@@ -15,6 +15,10 @@ abbrev pub is_word : List ℕ → Bool
 is_word [] = false
 is_word (b ∷ bytes) = is_letter b && list_all is_word_byte bytes
 
+-- a byte that ends no line
+abbrev pub not_feed : ℕ → Bool
+not_feed b = not (b == 10)
+
 -- the first byte, if there is one, is none of these
 abbrev pub starts_without : (ℕ → Bool) → List ℕ → Bool
 starts_without p [] = true

@@ -24,6 +24,10 @@ pub record World : Type 0 where
   pub input : List ℕ
   pub left : List (List ℕ)
 
+-- this input, and no ports
+abbrev pub with_input : List ℕ → World
+with_input input = record { input = input; left = [] }
+
 -- the values of the procedure's variables, in order of declaration, and what is outside
 pub record State : Type 0 where
   pub vars : List ℕ

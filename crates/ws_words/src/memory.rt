@@ -10,7 +10,7 @@ ghost use Rattle.ws_words.specs.Plain.{took_by_ports, world_of};
 use crate::cells::Cells;
 use crate::no_memory::NoMemory;
 use crate::plain::World;
-use crate::tape::Tape;
+use crate::tape::{Tape, next_of, tapes};
 use crate::words::Words;
 use std::alloc::Global;
 
@@ -104,44 +104,11 @@ impl<'a> Memory<'a> {
     }
 }
 
-// The place of an array by its number from 1.
-fn place_of(array: u32) -> usize
+/// The place of an array by its number from 1.
+pub fn place_of(array: u32) -> usize
     ensures { result ≡ array - 1 }
 {
     (array as usize).saturating_sub(1)
-}
-
-// The next word at a place, or 0 where none is left.
-fn next_of(tapes: &mut Vec<Tape<'_>>, place: usize) -> u64
-    ensures word { result ≡ head_or_zero (row tapes.old.items place) }
-    ensures rest { let before = tapes.old.items in
-        tapes.new.items ≡ with_row before place (rest_of (row before place)) }
-{
-    if place < tapes.len() {
-        tapes[place].next()
-    } else {
-        0
-    }
-}
-
-fn tapes<'a>(alloc: Global, left: &'a Cells) -> Result<Vec<Tape<'a>>, NoMemory>
-    ensures { IfOk result (λ tapes. tapes.items ≡ left.now) }
-{
-    let mut tapes = Vec::new(alloc);
-    for port in 0..left.len() {
-        tapes.push(tape_of(left, port))?;
-    }
-    Ok(tapes)
-}
-
-// The words of a port that stands at this place; past the last one none.
-fn tape_of<'a>(left: &'a Cells, place: usize) -> Tape<'a>
-    ensures { result ≡ row left.now place }
-{
-    match left.get(place) {
-        Some(words) => Tape::new(words.as_slice()),
-        None => Tape::new(&[]),
-    }
 }
 
 // No words for each of the ports.

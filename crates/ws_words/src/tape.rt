@@ -1,8 +1,11 @@
 //! Words that are taken one by one.
 
-ghost use Rattle.std.specs.Prelude.{◌≡◌, ℕ, List};
-ghost use Rattle.ws_words.specs.Outside.{head_or_zero, rest_of};
+ghost use Rattle.std.specs.Prelude.{◌≡◌, ℕ, List, IfOk};
+ghost use Rattle.ws_words.specs.Outside.{head_or_zero, rest_of, row, with_row};
 
+use crate::cells::Cells;
+use crate::no_memory::NoMemory;
+use std::alloc::Global;
 use std::marker::Model;
 
 /// Words that are taken from the front.
@@ -37,5 +40,39 @@ impl<'a> Tape<'a> {
             }
             None => 0,
         }
+    }
+}
+
+/// The next word of the tape at a place, or 0 where none is left.
+pub fn next_of(tapes: &mut Vec<Tape<'_>>, place: usize) -> u64
+    ensures word { result ≡ head_or_zero (row tapes.old.items place) }
+    ensures rest { let before = tapes.old.items in
+        tapes.new.items ≡ with_row before place (rest_of (row before place)) }
+{
+    if place < tapes.len() {
+        tapes[place].next()
+    } else {
+        0
+    }
+}
+
+/// The tapes of these lists of words, in order.
+pub fn tapes<'a>(alloc: Global, left: &'a Cells) -> Result<Vec<Tape<'a>>, NoMemory>
+    ensures { IfOk result (λ tapes. tapes.items ≡ left.now) }
+{
+    let mut tapes = Vec::new(alloc);
+    for port in 0..left.len() {
+        tapes.push(tape_of(left, port))?;
+    }
+    Ok(tapes)
+}
+
+// The words of a port that stands at this place; past the last one none.
+fn tape_of<'a>(left: &'a Cells, place: usize) -> Tape<'a>
+    ensures { result ≡ row left.now place }
+{
+    match left.get(place) {
+        Some(words) => Tape::new(words.as_slice()),
+        None => Tape::new(&[]),
     }
 }

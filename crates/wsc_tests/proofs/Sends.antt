@@ -1,5 +1,5 @@
 -- Graphs without Sends.
-use Rattle.cfg_core.specs.Graph.{Send, Graph, Spot, spots, spot_at, no_spot, block_at}
+use Rattle.cfg_core.specs.Graph.{Graph, Spot, spots, spot_at, no_spot, block_at}
 use Rattle.cfg_build.specs.Keeps.{IsFirstExit, IsFirstForm}
 use Rattle.call_gen.specs.Keeps.{HasNoSend}
 use Rattle.phi_conv.specs.Keeps.{ExitsKept}

@@ -22,7 +22,7 @@ use Rattle.wsc_top.specs.Tasks.{IsLine}
 use Rattle.wsc_top.specs.Job.{IsJob, IsTextAnswer, world_of}
 use Rattle.wsc_top.specs.Assembly.{IsAssembly}
 use Rattle.wsc_top.specs.Generated.{IsGeneratedJob}
-use Rattle.wsc_top.specs.Answers.{TellWords, Yields, ran, formatted, compiled, ended, faulted, going, EndsSo, Answered, refused, done, assembly_text, AssemblyYields, checked, listed, executed, traced, replayed, gridded, AssemblyEndsSo, AssemblyAnswered, Benched, BenchEndsSo, IsReader, limit_of, Answers, usage, generated, benched, unread, long, read, assembled, IsToldJob, IsToldAssembly}
+use Rattle.wsc_top.specs.Answers.{TellWords, Yields, formatted, compiled, ended, faulted, going, EndsSo, Answered, refused, done, assembly_text, AssemblyYields, checked, listed, executed, traced, replayed, gridded, AssemblyEndsSo, AssemblyAnswered, Benched, BenchEndsSo, IsReader, limit_of, Answers, usage, generated, benched, unread, long, read, assembled, IsToldJob, IsToldAssembly}
 use Rattle.wsc_top.specs.Answers as answers
 use Rattle.wsc_top.specs.declared.task.Task.{Task}
 use Rattle.wsc_top.proofs.Tasks.{OneLine, same_task_by}

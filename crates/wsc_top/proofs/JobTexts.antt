@@ -1,20 +1,18 @@
 -- The jobs of a text.
-use Rattle.std.specs.Prelude.{◌≡◌, ◌⊎◌, ℕ, zero, suc, ◌+◌, ◌-◌, ◌≤◌, ◌<◌, ◌&&◌, ◌==◌, Bool, true, false, if◌then◌else◌, List, [], ◌∷◌, ◌++◌, length, map, refl}
+use Rattle.std.specs.Prelude.{◌≡◌, ◌⊎◌, ℕ, zero, suc, ◌≤◌, ◌<◌, ◌&&◌, ◌==◌, Bool, true, false, if◌then◌else◌, List, [], ◌∷◌, ◌++◌, length, map, refl}
 use Rattle.std.specs.List.{AllByRecursion}
 use Rattle.std.proofs.Common.{sym, ap, ◌∙◌, subst, inl, inr, arith}
 use Rattle.src_ast.specs.declared.lexeme.Place.{Place}
 use Rattle.src_ast.specs.Lexemes.{start, after}
-use Rattle.src_ast.specs.Syntax.{Part}
 use Rattle.ws_isa.specs.Image.{Image}
 use Rattle.wsc_top.specs.declared.batch.JobsFault.{JobsFault}
 use Rattle.wsc_top.specs.declared.batch.JobsFault.TheVariants as fault
-use Rattle.wsc_top.specs.declared.batch.JobsRefusal.{JobsRefusal}
 use Rattle.wsc_top.specs.declared.batch.JobsRefusal.TheVariants as refusal
 use Rattle.wsc_top.specs.Sections.{is_line, after_line, rest_of}
 use Rattle.wsc_top.specs.Job.{IsJob, Refuses}
 use Rattle.wsc_top.specs.Answers.{IsCompiled}
 use Rattle.wsc_top.specs.Jobs.{separator, most_jobs, Piece, IsLast, first_job, behind, place_behind, JobsFrom, last, next, Jobs, ProgramAndInput, EachIsJob, IsCrowded, RefusesJobs, faulty, IsJobsFault}
-use Rattle.wsc_top.specs.Threads.{Thread, HasJob, AreThreads, pieces_of, images_of, inputs_of}
+use Rattle.wsc_top.specs.Threads.{Thread, HasJob, pieces_of, images_of, inputs_of}
 use Rattle.wsc_top.specs.Running.{IsRead, IsPieceFault, AreRead}
 use Rattle.ws_words.proofs.Lists.{map_push}
 

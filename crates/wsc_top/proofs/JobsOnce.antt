@@ -1,5 +1,5 @@
 -- Each text comes to one thing alone: some jobs, or one refusal.
-use Rattle.std.specs.Prelude.{◌≡◌, ◌⊎◌, ℕ, suc, ◌+◌, ◌≤◌, List, [], ◌∷◌, ◌++◌, length, Result, Ok, Err, refl}
+use Rattle.std.specs.Prelude.{◌≡◌, ◌⊎◌, ℕ, ◌≤◌, List, [], ◌∷◌, ◌++◌, length, Result, Ok, Err, refl}
 use Rattle.std.proofs.Common.{sym, ap, ◌∙◌, subst, inl, inr, arith, length-append}
 use Rattle.src_ast.specs.declared.fault.Refusal.{Refusal}
 use Rattle.src_ast.specs.Lexemes.{start, after}
@@ -7,8 +7,8 @@ use Rattle.src_ast.specs.Syntax.{Part}
 use Rattle.src_ast.specs.Once.{ExactlyOne}
 use Rattle.wsc_top.specs.declared.batch.JobsRefusal.{JobsRefusal}
 use Rattle.wsc_top.specs.declared.batch.JobsRefusal.TheVariants.{Threads, OfJob}
-use Rattle.wsc_top.specs.Job.{IsJob, Refuses, IsTextAnswer}
-use Rattle.wsc_top.specs.Jobs.{most_jobs, Piece, JobsFrom, Jobs, ProgramAndInput, EachIsJob, AreJobs, IsCrowded, RefusesJobs, crowded, faulty, IsJobsAnswer}
+use Rattle.wsc_top.specs.Job.{Refuses, IsTextAnswer}
+use Rattle.wsc_top.specs.Jobs.{most_jobs, Piece, Jobs, ProgramAndInput, EachIsJob, AreJobs, IsCrowded, RefusesJobs, crowded, faulty, IsJobsAnswer}
 use Rattle.wsc_top.proofs.JobTexts.{jobs_exist, jobs_once}
 use Rattle.wsc_top.proofs.RunsAlike.{one_refusal, refused_job, one_job}
 

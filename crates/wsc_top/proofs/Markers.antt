@@ -11,6 +11,7 @@ use Rattle.wave_gen.specs.Words.{IsWord}
 use Rattle.wsc_top.specs.Sections.{ends_line, is_line, after_line, front_of, rest_of, program_of, input_of, IsItem, IsWordText, stop, next, InputWords}
 use Rattle.wsc_top.specs.Texts.{word_line}
 use Rattle.ws_words.specs.Letters.{starts_without}
+use Rattle.asm_text.proofs.Shown.{not_percent}
 use Rattle.ws_words.proofs.Decimals.{decimal_digits}
 
 -- no byte of a text is `%`, and where it ends a line begins
@@ -18,21 +19,18 @@ abbrev pub is_plain : Bool → List ℕ → Bool
 is_plain at_line [] = at_line
 is_plain at_line (b ∷ bytes) = not (b == 37) && is_plain (b == 10) bytes
 
-abbrev pub is_other : ℕ → Bool
-is_other b = not (b == 37)
-
-pub plain_line : (at_line : Bool) (front : List ℕ) → list_all is_other (front ++ codes "\n") ≡ true → is_plain at_line (front ++ codes "\n") ≡ true
+pub plain_line : (at_line : Bool) (front : List ℕ) → list_all not_percent (front ++ codes "\n") ≡ true → is_plain at_line (front ++ codes "\n") ≡ true
 plain_line at_line [] h = refl
 plain_line at_line (b ∷ front) h =
-    let parts = and_parts (is_other b) (list_all is_other (front ++ codes "\n")) h in
-    and_from (is_other b) (is_plain (b == 10) (front ++ codes "\n")) parts.0 (plain_line (b == 10) front parts.1)
+    let parts = and_parts (not_percent b) (list_all not_percent (front ++ codes "\n")) h in
+    and_from (not_percent b) (is_plain (b == 10) (front ++ codes "\n")) parts.0 (plain_line (b == 10) front parts.1)
 
 plain_join : (at_line : Bool) (xs ys : List ℕ) → is_plain at_line xs ≡ true → is_plain true ys ≡ true → is_plain at_line (xs ++ ys) ≡ true
 plain_join true [] ys h k = k
 plain_join false [] ys h k = absurd (true≢false (sym h))
 plain_join at_line (b ∷ xs) ys h k =
-    let parts = and_parts (is_other b) (is_plain (b == 10) xs) h in
-    and_from (is_other b) (is_plain (b == 10) (xs ++ ys)) parts.0 (plain_join (b == 10) xs ys parts.1 k)
+    let parts = and_parts (not_percent b) (is_plain (b == 10) xs) h in
+    and_from (not_percent b) (is_plain (b == 10) (xs ++ ys)) parts.0 (plain_join (b == 10) xs ys parts.1 k)
 
 -- a plain text, and what begins with a marker or is nothing
 module _ (name : List ℕ) where
@@ -58,13 +56,13 @@ module _ (name : List ℕ) where
   pub front_plain : (rest : List ℕ) → front_of marker true rest ≡ [] → (at_line : Bool) (text : List ℕ) → is_plain at_line text ≡ true → front_of marker at_line (text ++ rest) ≡ text
   front_plain rest e at_line [] h = ap (λ t. front_of marker t rest) h ∙ e
   front_plain rest e at_line (b ∷ bytes) h =
-      let parts = and_parts (is_other b) (is_plain (b == 10) bytes) h in
+      let parts = and_parts (not_percent b) (is_plain (b == 10) bytes) h in
       front_step at_line b (bytes ++ rest) (not-true (b == 37) parts.0) ∙ ap (λ t. b ∷ t) (front_plain rest e (b == 10) bytes parts.1)
 
   pub rest_plain : (rest : List ℕ) → rest_of marker true rest ≡ rest → (at_line : Bool) (text : List ℕ) → is_plain at_line text ≡ true → rest_of marker at_line (text ++ rest) ≡ rest
   rest_plain rest e at_line [] h = ap (λ t. rest_of marker t rest) h ∙ e
   rest_plain rest e at_line (b ∷ bytes) h =
-      let parts = and_parts (is_other b) (is_plain (b == 10) bytes) h in
+      let parts = and_parts (not_percent b) (is_plain (b == 10) bytes) h in
       rest_step at_line b (bytes ++ rest) (not-true (b == 37) parts.0) ∙ rest_plain rest e (b == 10) bytes parts.1
 
 pub line_ends : (text : List ℕ) → ends_line (10 ∷ text) ≡ true
@@ -120,18 +118,18 @@ module _ (w : ℕ) (is : w < 2 ^ 64) (rest : List ℕ) (blank : IsTrue (starts_w
 
 -- words, a line each
 
-digit_other : (b : ℕ) → is_digit b ≡ true → is_other b ≡ true
+digit_other : (b : ℕ) → is_digit b ≡ true → not_percent b ≡ true
 digit_other b h = rw (other is_digit b 37 h refl) refl
 
-digits_line : (bytes : List ℕ) → is_number bytes ≡ true → list_all is_other (bytes ++ codes "\n") ≡ true
+digits_line : (bytes : List ℕ) → is_number bytes ≡ true → list_all not_percent (bytes ++ codes "\n") ≡ true
 digits_line [] h = refl
 digits_line (b ∷ bytes) h = go (b ∷ bytes) h
   where
-    go : (ds : List ℕ) → list_all is_digit ds ≡ true → list_all is_other (ds ++ codes "\n") ≡ true
+    go : (ds : List ℕ) → list_all is_digit ds ≡ true → list_all not_percent (ds ++ codes "\n") ≡ true
     go [] k = refl
     go (d ∷ ds) k =
         let parts = and_parts (is_digit d) (list_all is_digit ds) k in
-        and_from (is_other d) (list_all is_other (ds ++ codes "\n")) (digit_other d parts.0) (go ds parts.1)
+        and_from (not_percent d) (list_all not_percent (ds ++ codes "\n")) (digit_other d parts.0) (go ds parts.1)
 
 pub plain_words : (ws : List ℕ) → AllByRecursion IsWord ws → is_plain true (flat_map word_line ws) ≡ true
 plain_words [] h = refl

@@ -36,7 +36,8 @@ use Rattle.wsc_top.specs.Traced.{traced_text, trace_status, replayed_text, IsTra
 use Rattle.wsc_top.specs.Answers.{Yields, compiled, AssemblyYields, replayed, AssemblyAnswered, refused, done}
 use Rattle.wsc_top.proofs.AssembliesOnce.{BreachesBreak, one_assembly, never_both}
 use Rattle.wsc_top.proofs.Replays.{one_trace}
-use Rattle.wsc_top.proofs.Markers.{is_plain, is_other, plain_line, rest_plain, rest_end, line_ends, lone_program, no_input, program_is, input_is, plain_words, word_lines}
+use Rattle.asm_text.proofs.Shown.{not_percent}
+use Rattle.wsc_top.proofs.Markers.{is_plain, plain_line, rest_plain, rest_end, line_ends, lone_program, no_input, program_is, input_is, plain_words, word_lines}
 
 -- the sections of a text with an input and a trace section
 module _ (program : List ℕ) (plain : is_plain true program ≡ true) (input : List ℕ) (words : is_plain true input ≡ true) (events : List ℕ) where
@@ -88,7 +89,7 @@ module _ (again : (image : Image) → Formed image → read (printed image) ≡ 
   plain_image : (image : Image) → Formed image → is_plain true (printed image) ≡ true
   plain_image image formed =
       let end = ends image in
-      subst (λ t. is_plain true t ≡ true) (sym end.1) (plain_line true end.0 (subst (λ t. list_all is_other t ≡ true) end.1 (bytes image formed)))
+      subst (λ t. is_plain true t ≡ true) (sym end.1) (plain_line true end.0 (subst (λ t. list_all not_percent t ≡ true) end.1 (bytes image formed)))
 
   pub image_again : (image : Image) → Formed image → Sound image → IsAssembly (printed image) image []
   image_again image formed sound =

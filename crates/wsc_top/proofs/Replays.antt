@@ -16,7 +16,7 @@ use Rattle.wsc_top.specs.Job.{world_of}
 use Rattle.wsc_top.specs.Sections.{after_line, before_trace, trace_section, trace_of, trace_line, last_line}
 use Rattle.wsc_top.specs.Executions.{EndsRun}
 use Rattle.wsc_top.specs.Traced as traces
-use Rattle.wsc_top.specs.Traced.{IsMade, illegal, made, IsReplayed, missing, faulty, trace_status, HasTrace, CanReplay, EndsReplay}
+use Rattle.wsc_top.specs.Traced.{illegal, made, IsReplayed, missing, faulty, trace_status, HasTrace, CanReplay, EndsReplay}
 use Rattle.wsc_top.proofs.Inputs.{empty_is}
 use Rattle.df_core.proofs.Saying.{no_fault_at}
 

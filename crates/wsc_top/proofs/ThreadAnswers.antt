@@ -1,12 +1,12 @@
 -- What `multi` answers: the statuses of threads, and what comes of those that are due.
-use Rattle.std.specs.Prelude.{◌≡◌, ◌⊎◌, ℕ, zero, suc, ◌+◌, ◌-◌, ◌≤◌, ◌<◌, Result, IfOk, OnErr, List, [], ◌∷◌, ◌++◌, length, Option, Some, None, Ok, Err, refl, slice_index_or}
+use Rattle.std.specs.Prelude.{◌≡◌, ℕ, zero, suc, ◌+◌, ◌-◌, ◌≤◌, Result, IfOk, OnErr, List, [], ◌∷◌, ◌++◌, length, Option, Some, None, Ok, Err, refl, slice_index_or}
 use Rattle.std.specs.List.{AllByRecursion}
 use Rattle.std.proofs.Common.{sym, ap, ◌∙◌, subst, inl, inr, arith}
-use Rattle.ws_io.specs.Streams.{Rose, Takes, TakesAll}
+use Rattle.ws_io.specs.Streams.{Rose}
 use Rattle.src_ast.specs.Lexemes.{start}
 use Rattle.src_ast.specs.Syntax.{Part}
 use Rattle.src_ast.specs.Once.{ExactlyOne}
-use Rattle.ws_isa.specs.Image.{Image, instr_at}
+use Rattle.ws_isa.specs.Image.{Image}
 use Rattle.ws_isa.specs.Formed.{Formed}
 use Rattle.ws_words.specs.Outside.{Outside, World, row}
 use Rattle.ws_words.specs.Plain.{took_words}
@@ -14,25 +14,23 @@ use Rattle.ws_isa.specs.Walk.{mem}
 use Rattle.df_core.specs.Began.{Began}
 use Rattle.port_set.specs.Ports.{Told}
 use Rattle.port_set.specs.Slots.{port_at}
-use Rattle.store_buf.specs.Outdoors.{RoseAt, SlotIs, began_of, failures, world_with}
+use Rattle.store_buf.specs.Outdoors.{RoseAt, SlotIs, failures, world_with}
 use Rattle.store_buf.proofs.Within.{port_in}
 use Rattle.wsc_top.specs.declared.status.Status.{Status}
 use Rattle.wsc_top.specs.declared.status.Status.TheVariants.{Done, Usage, Refused, Budget, ReadFault, WriteFault, PortFault, NoMemory, Fault}
 use Rattle.wsc_top.specs.declared.task.Task.{Task}
 use Rattle.wsc_top.specs.declared.task.Task.TheVariants.{Job, Assembly, Generate, Bench, Multi}
-use Rattle.wsc_top.specs.declared.task.JobTask.{JobTask}
 use Rattle.wsc_top.specs.declared.task.JobTask.TheVariants.{Run}
 use Rattle.wsc_top.specs.declared.task.RunOptions.{RunOptions}
-use Rattle.wsc_top.specs.declared.batch.JobsRefusal.{JobsRefusal}
 use Rattle.wsc_top.specs.Tasks.{IsLine, IsNoLine}
 use Rattle.wsc_top.specs.Job.{job_limit, IsJob, IsTextAnswer}
-use Rattle.wsc_top.specs.Jobs.{most_jobs, Piece, JobsFrom, last, next, Jobs, ProgramAndInput, AreJobs, RefusesJobs, IsJobsAnswer, jobs_refusal_text}
+use Rattle.wsc_top.specs.Jobs.{most_jobs, Piece, last, next, Jobs, ProgramAndInput, AreJobs, jobs_refusal_text}
 use Rattle.wsc_top.specs.Executions.{Executes, rested, spent, stopped, failed, PortsAre, IsFailed, OrFailed}
-use Rattle.wsc_top.specs.Answers.{TellWords, IsCompiled, Yields, ran, EndsSo, IsFree, Answered, done, IsReader, limit_of, Answers, Starves, usage, generated, benched, unread, long, read, assembled}
+use Rattle.wsc_top.specs.Answers.{TellWords, Yields, ran, IsFree, done, limit_of, Answers, Starves, usage, generated, benched, unread, long, read, assembled}
 use Rattle.wsc_top.specs.Threads.{no_ports, thread_line, ThreadsDo, none, more, status_of, Thread, pieces_of, images_of, inputs_of, HaveBegun, Falls, HasJob, AreThreads, RunsAlone, ExecutesAlone, MultiAnswered, Replies, alone, together, AreDue, AreToldJobs, AreToldNoJobs, OthersEndSo, EachEndsSo, MultiEndsSo, ComeToTheirEnd, IsFreeAnswer}
 use Rattle.wsc_top.specs.Threads as threads
 use Rattle.wsc_top.proofs.Tasks.{OneLine, same_task_by}
-use Rattle.wsc_top.proofs.Calls.{IsOfText, yields_status, not_memory, not_write_fault, read_rose, port_rose, no_line_usage, too_much, told_text}
+use Rattle.wsc_top.proofs.Calls.{IsOfText, yields_status, not_memory, not_write_fault, read_rose, port_rose, too_much, told_text}
 use Rattle.wsc_top.proofs.AnswersOnce.{RunsOnce, Reply, same_reply}
 use Rattle.wsc_top.proofs.AssembliesOnce.{WalksOnce}
 use Rattle.wsc_top.proofs.RunsAlike.{runs_alike}

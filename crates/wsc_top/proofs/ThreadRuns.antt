@@ -1,5 +1,5 @@
 -- The run of several threads.
-use Rattle.std.specs.Prelude.{◌≡◌, ℕ, zero, suc, ◌+◌, ◌≤◌, ◌<◌, List, [], ◌∷◌, ◌++◌, length, take, slice_get, Option, Some, None, refl, All, replicate, IsSome, IfSome, IfOk, OnErr, Result, Ok, Err}
+use Rattle.std.specs.Prelude.{◌≡◌, ℕ, zero, suc, ◌≤◌, ◌<◌, List, [], ◌∷◌, length, take, slice_get, Option, Some, None, refl, All, replicate, IsSome, IfSome, IfOk, OnErr, Result, Ok, Err}
 use Rattle.std.proofs.Common.{sym, ap, ◌∙◌, subst, arith}
 use Rattle.std.proofs.lemmas.List.Elements.{All-cons, All-nil}
 use Rattle.ws_isa.specs.Image.{Image}
@@ -14,7 +14,7 @@ use Rattle.wsc_top.specs.declared.status.Status.TheVariants.{Done, Usage, Refuse
 use Rattle.wsc_top.specs.declared.task.RunOptions.{RunOptions}
 use Rattle.wsc_top.specs.Answers.{TellWords}
 use Rattle.wsc_top.specs.Jobs.{most_jobs}
-use Rattle.wsc_top.specs.Threads.{no_ports, thread_line, ThreadsDo, none, more, status_of, Thread, images_of, inputs_of, ExecutesAlone, HaveBegun}
+use Rattle.wsc_top.specs.Threads.{no_ports, ThreadsDo, none, more, status_of, Thread, images_of, inputs_of, ExecutesAlone, HaveBegun}
 use Rattle.wsc_top.specs.Running.{alone_with, alone_at, Reply, ThreadTold, BeforeSo, RunEnds, AllTold}
 use Rattle.wsc_top.proofs.Runs.{run_executes, run_begun}
 

@@ -3,7 +3,7 @@ use Rattle.std.specs.Prelude.{◌≡◌, ℕ, zero, suc, ◌-◌, ◌<◌, ◌�
 use Rattle.std.proofs.Common.{sym, ap, ◌∙◌, subst, arith}
 use Rattle.std.proofs.lemmas.Bool.{cond-true, cond-false, ltb-true, ltb-false}
 use Rattle.ws_words.specs.Outside.{Act, loads, stores, Outside, World}
-use Rattle.ws_words.specs.Past.{IsPast, IsWithin, AreWithin, FirstPast, after_acts}
+use Rattle.ws_words.specs.Past.{IsPast, AreWithin, FirstPast, after_acts}
 use Rattle.ws_words.specs.Past as past
 use Rattle.ws_isa.specs.declared.instr.Op.{Op}
 use Rattle.ws_isa.specs.declared.instr.Op.TheVariants.{Const, Alu, Merge, Advance, Steer, Phi, Send, Load, Store, Input, Output, Give, Take, Nop, Halt}

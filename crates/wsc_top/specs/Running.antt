@@ -1,5 +1,5 @@
 -- The run of several threads, at each stage.
-use Rattle.std.specs.Prelude.{◌≡◌, ℕ, ◌≤◌, List, [], ◌∷◌, ◌++◌, length, slice_get, Option, Some, None}
+use Rattle.std.specs.Prelude.{◌≡◌, ℕ, List, [], ◌∷◌, ◌++◌, slice_get, Option, Some, None}
 use Rattle.std.specs.List.{AllByRecursion}
 use Rattle.src_ast.specs.declared.lexeme.Place.{Place}
 use Rattle.src_ast.specs.Syntax.{Part}
@@ -19,7 +19,7 @@ use Rattle.wsc_top.specs.declared.batch.JobsFault.TheVariants.{Refused, NoMemory
 use Rattle.wsc_top.specs.Job.{IsJob, Refuses}
 use Rattle.wsc_top.specs.Finished.{ReportsSo}
 use Rattle.wsc_top.specs.Answers.{IsCompiled}
-use Rattle.wsc_top.specs.Threads.{no_ports, thread_line, status_of, Thread, AreThreads, images_of, inputs_of}
+use Rattle.wsc_top.specs.Threads.{thread_line, status_of, Thread, AreThreads, images_of, inputs_of}
 
 -- an image of the program of a job, and the words that it reads
 abbrev pub IsRead : List ℕ → Image → List ℕ → Type 0

@@ -1,5 +1,5 @@
 use Rattle.std.proofs.Common.{◌∙◌, sym, subst}
-use Rattle.port_set.specs.Slots.{AllOpen, contents}
+use Rattle.port_set.specs.Slots.{AllOpen}
 use Rattle.wsc_top.specs.Answers.{TellWords}
 use Rattle.wsc_top.proofs.CallEnds.{ends_alone}
 use Rattle.wsc.proofs.called.Goals as goal

@@ -1,4 +1,4 @@
-use Rattle.std.proofs.Common.{◌≡◌, ◌+◌, ◌∙◌, sym, ap, Bool, true, false, if◌then◌else◌, arith}
+use Rattle.std.proofs.Common.{◌≡◌, ◌+◌, ◌∙◌, sym, true, false, if◌then◌else◌, arith}
 use Rattle.cfg_core.specs.View as view
 use Rattle.call_gen.proofs.Planning.{own_is}
 use Rattle.call_gen.proofs.numbering.own.Goals as goal

@@ -1,7 +1,8 @@
 use Rattle.std.proofs.Common.{ℕ, ◌≡◌, ◌<◌, ◌≤◌, ◌+◌, ◌∙◌, sym, refl, false, subst, length, Vec, Global, vec_len, vec_capacity, inl, inr, arith}
 use Rattle.std.proofs.lemmas.Bool.{cases_lt, both_ways}
-use Rattle.df_core.proofs.Trays.{kept_rows, length_set, nth_set, nth_below, value_nth}
+use Rattle.df_core.proofs.Trays.{kept_rows, length_set, nth_set, value_nth}
 use Rattle.df_core.proofs.memory.reserve_rows.Goals as goal
+use Rattle.ws_words.proofs.Places.{nth_short}
 
 pub returns-in_err-reserve-clause-same : goal.returns-in_err-reserve-clause-same
 returns-in_err-reserve-clause-same c =
@@ -26,7 +27,7 @@ loop-place-preserved c = record {
 
 pub returns-clause-space : goal.returns-clause-space
 returns-clause-space c = λ p row e.
-    let l : p < length c.loop-place.rows.items = nth_below c.loop-place.rows.items p row e in
+    let l : p < length c.loop-place.rows.items = nth_short c.loop-place.rows.items p row e in
     c.loop-place.invariant.done p row (omega (arith, c.loop-place.invariant.size, c.loop-place-test.false)) e
 
 pub returns-in_err-reserve-clause-succeeds : goal.returns-in_err-reserve-clause-succeeds

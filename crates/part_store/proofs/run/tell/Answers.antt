@@ -1,4 +1,5 @@
 use Rattle.std.proofs.Common.{◌++◌}
+use Rattle.store_buf.specs.Contents.{with_tokens}
 use Rattle.part_store.specs.Calls.{address_of}
 use Rattle.part_store.proofs.Bringing.{addressed}
 use Rattle.part_store.proofs.Reaching.{offered_beside}
@@ -8,9 +9,9 @@ use Rattle.ws_words.proofs.Results.{on_ok}
 pub returns : goal.returns
 returns g c = record {
   paid = on_ok c.offer.result (λ offered t others.
-      addressed g.J.Job.image c.args.buffer.now c.address-answer.new.self
-      (address_of c.args.token) c.address-answer.result
-      (c.args.next.now ++ others) (c.offer.new.way ++ others) c.address-answer.ensures
-      (offered_beside c.address-answer.result c.args.next.now c.offer.new.way others offered) t)
+      addressed g.J.Job.image c.args.buffer.now c.address_into-answer.new.self
+      (address_of c.args.token) (with_tokens c.address_into-answer.new.answers c.address_into-answer.result)
+      (c.args.next.now ++ others) (c.offer.new.way ++ others) c.address_into-answer.ensures
+      (offered_beside (with_tokens c.address_into-answer.new.answers c.address_into-answer.result) c.args.next.now c.offer.new.way others offered) t)
       c.offer.ensures;
 }

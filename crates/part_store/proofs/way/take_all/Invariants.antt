@@ -5,7 +5,7 @@ use Rattle.part_store.proofs.way.take_all.Given as goal
 
 abbrev pub invariant-loop-token : goal.invariant-loop-token
 invariant-loop-token g l = Covers l.initial.way l.way ×
-    ((w i p v : ℕ) → IsSent l.fn.tokens w i p v → IsSent l.way w i p v ⊎ IsSent l.rest w i p v)
+    ((w i p v : ℕ) → IsSent l.initial.answers w i p v → IsSent l.way w i p v ⊎ IsSent l.answers w i p v)
 
 abbrev pub decreases-loop-token : goal.decreases-loop-token
-decreases-loop-token g l = length l.rest
+decreases-loop-token g l = length l.answers

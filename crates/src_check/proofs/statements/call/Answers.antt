@@ -1,6 +1,6 @@
 use Rattle.std.proofs.Common.{◌∙◌, [], ◌∷◌, length}
 use Rattle.std.proofs.lemmas.List.{length-map}
-use Rattle.src_ast.specs.Rules.{use_rules, expression_rules, argument_rules, statement_rule, port_rule, statement_rules}
+use Rattle.src_ast.specs.Rules.{use_rules, statement_rule}
 use Rattle.src_ast.specs.Rules as rules
 use Rattle.src_check.proofs.Broken.{before_broken, after_kept, leaves}
 use Rattle.src_check.proofs.statements.call.Goals as goal

@@ -1,4 +1,4 @@
-use Rattle.std.proofs.Common.{ap, ◌∙◌}
+use Rattle.std.proofs.Common.{ap}
 use Rattle.wsc_top.proofs.JobTexts.{few_jobs, is_crowded}
 use Rattle.wsc_top.proofs.batch.crowded.Goals as goal
 

@@ -9,7 +9,7 @@ use Rattle.wsc_top.specs.declared.assembly.AsmRefusal.TheVariants.{Text}
 use Rattle.wsc_top.specs.declared.status.Status.TheVariants.{Refused}
 use Rattle.wsc_top.specs.Texts.{asm_refusal_text}
 use Rattle.wsc_top.specs.Traced as traces
-use Rattle.wsc_top.specs.Traced.{IsMade, IsReplayed, HasTrace}
+use Rattle.wsc_top.specs.Traced.{IsReplayed}
 use Rattle.wsc_top.proofs.Replays.{ends_replay, nothing_there, something_there, section_events}
 use Rattle.wsc_top.proofs.traces.replayed.Goals as goal
 

@@ -1,10 +1,15 @@
-use Rattle.std.proofs.Common.{ℕ, ap, ◌∙◌}
-use Rattle.ws_isa.specs.Image.{instr_at}
-use Rattle.df_core.specs.Places.{image_of}
+use Rattle.std.proofs.Common.{ap, ◌∙◌, subst}
+use Rattle.match_table.specs.Matching.{Answered}
+use Rattle.match_table.specs.Pages.{PageStore}
+use Rattle.match_table.specs.Tables.{TableContent, instances}
 use Rattle.match_table.proofs.table.Table.accept_into.Goals as goal
 
-pub take-requires-clause-op : goal.take-requires-clause-op
-take-requires-clause-op g c = c.op-op.ensures ∙ ap (λ (k : ℕ). (instr_at (image_of c.program-program.result.now) k).op) c.instr-instr.ensures
+pub returns-in-Some-find-clause-answer : goal.returns-in-Some-find-clause-answer
+returns-in-Some-find-clause-answer g c = subst (λ (s : TableContent). Answered g.J.Job.image s c.args.token.now c.take-in-Some-find.new.self c.take-in-Some-find.new.results c.take-in-Some-find.result)
+    (ap (λ (s : PageStore). record { entries = s.entries; fired = instances s.entries c.self.inside.fired.items; spare = c.self.inside.room }) c.find.ensures.same ∙ c.self.view_is)
+    c.take-in-Some-find.ensures.answer
 
-pub take-requires-in-Some-clause-op : goal.take-requires-in-Some-clause-op
-take-requires-in-Some-clause-op g c = c.op-op.ensures ∙ ap (λ (k : ℕ). (instr_at (image_of c.program-program.result.now) k).op) c.instr-instr.ensures
+pub returns-in-None-clause-answer : goal.returns-in-None-clause-answer
+returns-in-None-clause-answer g c = subst (λ (s : TableContent). Answered g.J.Job.image s c.args.token.now c.take.new.self c.take.new.results c.take.result)
+    (ap (λ (s : PageStore). record { entries = s.entries; fired = instances s.entries c.self.inside.fired.items; spare = c.self.inside.room }) c.find.ensures.same ∙ c.self.view_is)
+    c.take.ensures.answer

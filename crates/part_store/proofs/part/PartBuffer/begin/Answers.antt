@@ -1,12 +1,10 @@
-use Rattle.std.proofs.Common.{ℕ, ◌≡◌, None, Some, true, false, [], List, map, length, ap, ◌∙◌, sym, subst}
+use Rattle.std.proofs.Common.{ℕ, ◌≡◌, None, true, false, [], List, map, length, ap, ◌∙◌, sym, subst}
 use Rattle.std.proofs.Common.{arith}
 use Rattle.std.proofs.lemmas.Bool.{both_ways}
 use Rattle.std.specs.List.{list_any}
 use Rattle.ws_isa.specs.Image.{Image, cells_of}
 use Rattle.ws_isa.specs.View as view
-use Rattle.store_buf.specs.declared.kept.Kept.{Kept}
 use Rattle.store_buf.specs.Finding.{pair_eq}
-use Rattle.store_buf.specs.Requests.{entry_of}
 use Rattle.store_buf.specs.Outdoors.{AllBegan}
 use Rattle.part_store.specs.declared.bare.Bare.{Bare}
 use Rattle.part_store.specs.declared.parts.Parts.{Parts}
@@ -17,10 +15,9 @@ use Rattle.store_buf.proofs.Idle.{none_wait}
 use Rattle.store_buf.proofs.Coming.{no_room}
 
 -- nothing is bare
-none_bare : (b : Bare) (ks : List Kept) → b.set.keys ≡ [] → (w i : ℕ) → is_in b w i ≡ true →
-    (k : Kept) × (entry_of ks w i ≡ Some k)
-none_bare b ks e w i h = absurd (both_ways (is_in b w i)
-    (ap (λ (ps : List (ℕ × ℕ)). list_any (pair_eq (w, i)) ps) e) h)
+none_bare : (b : Bare) → b.set.keys ≡ [] → (w i : ℕ) → is_in b w i ≡ true → ⊥
+none_bare b e w i h = both_ways (is_in b w i)
+    (ap (λ (ps : List (ℕ × ℕ)). list_any (pair_eq (w, i)) ps) e) h
 
 pub invariant_of-result : goal.invariant_of-result
 invariant_of-result g c =
@@ -60,7 +57,11 @@ invariant_of-result g c =
       queues = omega (arith, w, n, queues.entries.ok.0);
       lines = omega (arith, w);
       counted = c.new-5.ensures.ok;
-      bare = none_bare bare order.kept.items c.new-4.ensures;
+      bare = λ w i e. absurd (none_bare bare c.new-4.ensures w i e);
+    })
+    (record {
+      filed = c.new-3.ensures.filed image;
+      stores = λ w i e. absurd (none_bare bare c.new-4.ensures w i e);
     })
     c.new-3.ensures.early
     (λ j. record {

@@ -14,7 +14,7 @@ returns-clause-ok g c =
     ∙ or_any o.kept.items c.args.place c.index-kept.result.now no_request c.requires.within in
     record {
       order = A.answered o _ c.requires.ok.order c.args.place _ c.requires.within
-          (ap (λ (k : Kept). k.wave) q) (ap (λ (k : Kept). k.instr) q) refl refl refl refl refl refl a.0
+          (ap (λ (k : Kept). k.wave) q) (ap (λ (k : Kept). k.instr) q) refl refl refl refl a.0
           c.args.word a.1 refl;
       early = c.requires.ok.early;
       printed = c.requires.ok.printed;

@@ -7,6 +7,7 @@ use Rattle.part_store.proofs.parts.Parts.follow.Goals as goal
 pub loop-entry-init : goal.loop-entry-init
 loop-entry-init g c = record {
   ok = c.requires.ok;
+  filed = c.requires.filed;
   lead = F.none_yet (image_of c.args.program.now) c.args.row c.args.index c.args.self.now
       (tokens_of c.args.told.now.items);
   same = record {
@@ -33,6 +34,7 @@ loop-entry-preserved g c =
     let b = c.finish_front.ensures.same in
     record {
       ok = c.finish_front.ensures.ok;
+      filed = c.finish_front.ensures.filed;
       lead = F.one_more (image_of c.args.program.now) c.args.row c.args.index c.in-Some.entry c.args.self.now
           c.loop-entry.self c.finish_front.new.self (tokens_of c.args.told.now.items)
           (tokens_of c.loop-entry.told.items) (tokens_of c.finish_front.new.told.items)

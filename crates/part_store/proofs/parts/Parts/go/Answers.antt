@@ -1,5 +1,5 @@
 use Rattle.std.proofs.Common.{ℕ, ◌<◌, ◌≡◌, ◌∙◌, ◌⊎◌, Bool, List, Some, refl, true}
-use Rattle.std.proofs.Common.{false, [], ◌∷◌, length, slice_index_or, ap, sym, subst, inl, inr, arith}
+use Rattle.std.proofs.Common.{false, [], ◌∷◌, length, ap, sym, subst, inl, inr, arith}
 use Rattle.std.proofs.lemmas.List.{append-nil}
 use Rattle.std.proofs.lemmas.Result.{err_from_is_err_and}
 use Rattle.ws_isa.specs.declared.instr.Op.{Op}
@@ -13,7 +13,7 @@ use Rattle.store_buf.specs.declared.kept.Kept.{Kept}
 use Rattle.store_buf.specs.Outdoors.{PortIn, Performed, SilentAt, port_of}
 use Rattle.store_buf.specs.Contents.{PortWaits}
 use Rattle.store_buf.specs.Outers.{holding}
-use Rattle.store_buf.specs.Ordering.{OrderOk, kept_at, near_at, ready_flag}
+use Rattle.store_buf.specs.Ordering.{OrderOk, kept_at, ready_flag}
 use Rattle.store_buf.proofs.Within.{port_in}
 use Rattle.store_buf.proofs.Counted as C
 use Rattle.store_buf.proofs.Silence.{port_waits}
@@ -46,7 +46,7 @@ pub returns-then-is_past-clause-leads : goal.returns-then-is_past-clause-leads
 returns-then-is_past-clause-leads g c =
     let image = image_of c.args.program.now in
     let old = c.args.self.now in
-    let m = near_at old.order c.args.at in
+    let m = kept_at old.order c.args.place in
     let past : is_past_at image m ≡ true =
     past_so image c.op-op.result c.request-kept.result m true
     (sym c.is_past.ensures ∙ c.if-is_past.true) c.op-op.ensures c.request-kept.ensures in
@@ -58,7 +58,7 @@ returns-then-is_past-clause-leads g c =
       λ world began formed sound calm. subst
           (λ (n : ℕ). Moves image (content_of old) [] (record (content_of old) { fault = Some n }) ×
           Calm image world began (record old { fault = Some n })) a
-          (G.stops_now image world formed sound began old c.requires.ok calm c.requires.going c.args.at
+          (G.stops_now image world formed sound began old c.requires.ok calm c.requires.going c.args.place
           c.requires.goes past),
     )
 
@@ -77,7 +77,7 @@ pub returns-then-has-clause-leads : goal.returns-then-has-clause-leads
 returns-then-has-clause-leads g c =
     let image = image_of c.args.program.now in
     let old = c.args.self.now in
-    let m = near_at old.order c.args.at in
+    let m = kept_at old.order c.args.place in
     let within : is_past_at image m ≡ false =
     past_so image c.op-op.result c.request-kept.result m false
     (sym c.is_past.ensures ∙ c.if-is_past.false) c.op-op.ensures c.request-kept.ensures in
@@ -97,7 +97,7 @@ returns-then-has-clause-leads g c =
       [],
       sym (append-nil (tokens_of c.args.told.now.items)),
       λ world began formed sound calm. G.waits_on image world formed sound began old c.requires.ok calm
-          c.requires.going c.args.at c.requires.goes c.wait_on.new.self within c.wait_on.ensures.kept
+          c.requires.going c.args.place c.requires.goes c.wait_on.new.self within c.wait_on.ensures.kept
           c.wait_on.ensures.passed
           c.wait_on.ensures.bare c.wait_on.ensures.fault c.wait_on.ensures.outer c.wait_on.ensures.queued
           which,
@@ -109,7 +109,7 @@ run-requires-clause-port g c = subst PortIn (sym c.op-op.ensures)
 
 pub run-requires-clause-room : goal.run-requires-clause-room
 run-requires-clause-room g c = let s = C.some_wait
-    (image_of c.args.program.now) c.args.self.now.order c.requires.ok.order c.args.at c.requires.goes.may in
+    (image_of c.args.program.now) c.args.self.now.order c.requires.ok.order c.args.place c.requires.goes.may in
     omega (arith, s, c.requires.ok.printed)
 
 pub returns-in_err-word-clause-stays : goal.returns-in_err-word-clause-stays
@@ -156,13 +156,13 @@ returns-in_err-word-clause-silent g c = let o = c.args.self.now.order in
     let e = err_from_is_err_and c.from_residual.result c.from_residual.ensures.1 in
     rw (e.1, e.2) (silent_so (image_of c.args.program.now) c.args.self.now new c.op-op.result
     c.request-kept.result _ c.requires.ok.order
-    (slice_index_or o.near.items c.args.at (length o.kept.items)) c.requires.goes.may.place
+    c.args.place c.requires.goes.may.within
     c.requires.goes.may.ready c.request-kept.ensures c.op-op.ensures refl c.in_err-word.ensures.silent)
 
 pub tell-requires : goal.tell-requires
 tell-requires g c = let f = few_sent (image_of c.args.program.now) c.requires.formed c.destinations.result.now
     c.request-kept.result.instr c.destinations.ensures in
-    let s = C.some_wait (image_of c.args.program.now) c.args.self.now.order c.requires.ok.order c.args.at
+    let s = C.some_wait (image_of c.args.program.now) c.args.self.now.order c.requires.ok.order c.args.place
     c.requires.goes.may in
     let r = c.requires.room in omega (arith, f, s, r)
 
@@ -188,7 +188,7 @@ returns-clause-ok g c = let o = c.args.self.now.order in record {
   lines = omega (arith, c.issue.ensures.fewer, c.requires.ok.lines);
   counted = c.requires.ok.counted;
   bare = λ w i e. U.still_kept (image_of c.args.program.now) o c.requires.ok.order
-      (slice_index_or o.near.items c.args.at (length o.kept.items)) c.requires.goes.may.place
+      c.args.place c.requires.goes.may.within
       c.in_ok-word.word c.issue.new.self.kept.items c.issue.ensures.kept w i (c.requires.ok.bare w i e);
 }
 
@@ -196,7 +196,7 @@ pub returns-clause-leads : goal.returns-clause-leads
 returns-clause-leads g c =
     let image = image_of c.args.program.now in
     let old = c.args.self.now in
-    let m = near_at old.order c.args.at in
+    let m = kept_at old.order c.args.place in
     let k = c.request-kept.result in
     let word = c.in_ok-word.word in
     let n : Parts g.row.P.Denot = record {
@@ -224,10 +224,10 @@ returns-clause-leads g c =
           ap (tokens_to k.wave word) c.destinations.ensures
           ∙ ap (λ (x : Kept). tokens_to x.wave word (destinations image x.instr 0)) c.request-kept.ensures
           ∙ N.sent image m word (G.is_memory_now image world formed sound began old c.requires.ok calm
-          c.requires.going c.args.at c.requires.goes whole) in
+          c.requires.going c.args.place c.requires.goes whole) in
           subst (λ (ts : List Token). Moves image (content_of old) ts (content_of n) ×
           Calm image world began n) (sym told)
-          (G.issues_now image world formed sound began old c.requires.ok calm c.requires.going c.args.at
+          (G.issues_now image world formed sound began old c.requires.ok calm c.requires.going c.args.place
           c.requires.goes n word within c.issue.ensures.kept c.issue.ensures.passed refl refl refl whole
           held
           (λ b o h. subst (λ (x : Kept). Performed b (instr_at image x.instr).op

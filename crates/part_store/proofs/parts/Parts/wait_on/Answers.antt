@@ -1,9 +1,9 @@
-use Rattle.std.proofs.Common.{ℕ, ◌-◌, ◌≡◌, ◌∙◌, ap, length, slice_index_or, arith}
+use Rattle.std.proofs.Common.{ℕ, ◌-◌, ◌≡◌, ◌∙◌, ap, arith}
 use Rattle.ws_isa.specs.declared.instr.Op.{Op}
 use Rattle.ws_isa.specs.Image.{Image, instr_at, note_of, array_at, array_of_op}
 use Rattle.df_core.specs.Places.{image_of}
 use Rattle.store_buf.specs.declared.kept.Kept.{Kept}
-use Rattle.store_buf.specs.Ordering.{near_at}
+use Rattle.store_buf.specs.Ordering.{kept_at}
 use Rattle.store_buf.proofs.Counted as C
 use Rattle.part_store.specs.declared.entry.Entry.{Entry}
 use Rattle.part_store.specs.Queues.{joined}
@@ -12,12 +12,12 @@ use Rattle.part_store.proofs.parts.Parts.wait_on.Goals as goal
 
 pub join-requires-clause-room : goal.join-requires-clause-room
 join-requires-clause-room g c = let s = C.some_wait
-    (image_of c.args.program.now) c.args.self.now.order c.requires.ok.order c.args.at c.requires.may in
+    (image_of c.args.program.now) c.args.self.now.order c.requires.ok.order c.args.place c.requires.may in
     omega (arith, s, c.requires.ok.queues)
 
 pub join-requires-clause-lines : goal.join-requires-clause-lines
 join-requires-clause-lines g c = let s = C.some_wait
-    (image_of c.args.program.now) c.args.self.now.order c.requires.ok.order c.args.at c.requires.may in
+    (image_of c.args.program.now) c.args.self.now.order c.requires.ok.order c.args.place c.requires.may in
     omega (arith, s, c.requires.ok.lines)
 
 pub returns-clause-ok : goal.returns-clause-ok
@@ -35,7 +35,7 @@ returns-clause-ok g c = let o = c.args.self.now.order in record {
   lines = omega (arith, c.issue.ensures.fewer, c.requires.ok.lines, c.join.ensures.lines);
   counted = c.join.ensures.ok;
   bare = λ w i e. U.still_kept (image_of c.args.program.now) o c.requires.ok.order
-      (slice_index_or o.near.items c.args.at (length o.kept.items)) c.requires.may.place 0
+      c.args.place c.requires.may.within 0
       c.issue.new.self.kept.items c.issue.ensures.kept w i (c.requires.ok.bare w i e);
 }
 
@@ -48,11 +48,11 @@ row_so image op k m row e f q = e ∙ ap (λ (x : Op). array_of_op x - 1) f
 pub returns-clause-queued : goal.returns-clause-queued
 returns-clause-queued g c =
     let image = image_of c.args.program.now in
-    let q : c.request-kept.result ≡ near_at c.args.self.now.order c.args.at = c.request-kept.ensures in
-    let r : c.row_of.result ≡ array_at image (near_at c.args.self.now.order c.args.at).instr - 1 =
+    let q : c.request-kept.result ≡ kept_at c.args.self.now.order c.args.place = c.request-kept.ensures in
+    let r : c.row_of.result ≡ array_at image (kept_at c.args.self.now.order c.args.place).instr - 1 =
     row_so image c.op.result c.request-kept.result
-    (near_at c.args.self.now.order c.args.at) c.row_of.result c.row_of.ensures c.op.ensures q in
-    let n : c.note.result.seq ≡ (note_of image (near_at c.args.self.now.order c.args.at).instr).seq =
+    (kept_at c.args.self.now.order c.args.place) c.row_of.result c.row_of.ensures c.op.ensures q in
+    let n : c.note.result.seq ≡ (note_of image (kept_at c.args.self.now.order c.args.place).instr).seq =
     ap (λ (x : _). x.seq) c.note.ensures ∙ ap (λ (x : Kept). (note_of image x.instr).seq) q in
     c.join.ensures.entries ∙ ap (λ (e : Entry). joined e c.args.self.now.queues.entries.items)
     (λ j. record { wave = (q j).wave; instr = (q j).instr; seq = n j; row = r j; index = (q j).first })

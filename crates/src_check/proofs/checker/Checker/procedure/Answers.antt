@@ -4,7 +4,7 @@ use Rattle.src_ast.specs.View as view
 use Rattle.src_ast.specs.declared.fault.RefusalKind.TheVariants.{Main, Twice, Limit}
 use Rattle.src_ast.specs.declared.fault.Quantity.TheVariants.{Procs}
 use Rattle.src_ast.specs.Rules as rules
-use Rattle.src_ast.specs.Rules.{declared_by, variables, parameter_rules, variable_rules, body_rules, ending_rules, size_of_all, rule}
+use Rattle.src_ast.specs.Rules.{declared_by, variables, parameter_rules, variable_rules, body_rules, rule}
 use Rattle.src_check.specs.Names.{found, passes, or_else}
 use Rattle.src_check.specs.Rule.{first_broken}
 use Rattle.src_check.proofs.Broken.{before_broken, after_kept, leaves_in_memory, passes_on, stop_as, stop_before, stop_after, visible_where_found}

@@ -20,7 +20,7 @@ invariant_of-result g c =
     let cells : c.in-Ok.cells ≡ cells_of image.arrays = c.in-Ok.ensures ∙ ap (λ xs. cells_of (map view.array xs)) c.deref.ensures.value ∙ ap (λ (i : Image). cells_of i.arrays) c.program.ensures.image in
     O.opening_stands image world g.J.Job.began (λ state r. c.every_list_of_events.ensures.reach image world c.program.ensures.formed c.program.ensures.sound state r)
     c.new-2.result (subst (AllBegan g.J.Job.began world.left) (sym c.new-2.ensures) c.requires.ports) s
-    (record { order = c.new-3.ensures.ok; early = no_room c.new-3.result c.new-3.ensures.ok c.new-3.ensures.kept c.new-3.ensures.early; printed = omega (arith, w, c.new.ensures.len) })
+    (record { order = c.new-3.ensures.ok; filed = c.new-3.ensures.filed image; early = no_room c.new-3.result c.new-3.ensures.ok c.new-3.ensures.kept c.new-3.ensures.early; printed = omega (arith, w, c.new.ensures.len) })
     c.new-3.ensures.early
     (λ j. record {
       kept = c.new-3.ensures.kept j;

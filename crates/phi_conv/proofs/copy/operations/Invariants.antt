@@ -1,6 +1,0 @@
-use Rattle.std.proofs.Common.{◌≡◌, ◌++◌, map, drop}
-use Rattle.cfg_core.specs.View as view
-use Rattle.phi_conv.proofs.copy.operations.Given as goal
-
-abbrev pub invariant-loop-op : goal.invariant-loop-op
-invariant-loop-op l = map view.op l.list.items ++ map view.op (drop l.op-index l.ops) ≡ map view.op l.ops
