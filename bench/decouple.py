@@ -7,7 +7,7 @@ For each program the table has its firings, the millions of them that `decouple`
 and its time as a ratio of that of `exec`. Each time is the best of three runs, less a run that fires nothing.
 In the last programs a store's data comes late, from a chain of so many operations, while others wait behind it in
 the program's order: loads of other cells, loads of its own cell, or all of these and stores; their firings rise with
-that number, and the speed is to stay.
+that number, and the speed is to stay. In the very last 48,000 loads of one wave do.
 """
 
 import pathlib
@@ -20,9 +20,9 @@ PROGRAM = sys.argv[1] if len(sys.argv) > 1 else ROOT / "crates" / "wsc" / "out" 
 MOST = "4000000"
 
 
-def late(count, behind):
+def late(count, behind, links=None):
     """A store into cell 0 whose data takes long, before so many of what is behind it, over and over."""
-    chain = "".join(f"    d = d * 3 + {k};\n" for k in range(count))
+    chain = "".join(f"    d = d * 3 + {k};\n" for k in range(links or count))
     others = "".join(behind(k) for k in range(count))
     return (
         "array a[64];\nproc main() {\n  var i, d, s;\n  while (i < 100000) {\n"
@@ -45,6 +45,11 @@ def mixed(k):
     return f"{own(k)}    a[{1 + k % 15}] = {k};\n    s = s + a[{1 + k % 15}];\n"
 
 
+def many(k):
+    """Thirty loads of other cells."""
+    return "    s = s" + "".join(f" + a[{1 + (k * 30 + n) % 60}]" for n in range(30)) + ";\n"
+
+
 JOBS = {
     "loop": "proc main() {\n  var i, s;\n  while (i < 1000000) {\n    s = s + i;\n    i = i + 1;\n  }\n}\n",
     "stores and loads": "array a[64];\nproc main() {\n  var i, s;\n  while (i < 1000000) {\n"
@@ -54,6 +59,7 @@ JOBS = {
     "1,000 loads behind a late store": late(1000, other),
     "1,000 loads of a late store's cell": late(1000, own),
     "300 stores and 600 loads behind a late store": late(300, mixed),
+    "48,000 loads behind a late store": late(1600, many, 300),
 }
 
 

@@ -34,6 +34,9 @@ pub record WalkFacts (image : Image) (world : World) : Type 0 where
   pub only_first : (t u : ℕ) (y : Inst) → fires image world u ≡ Some y → is_memory image y.instr ≡ true → y.wave ≡ (chain_at image world t).wave → IsNext (chain_at image world t) (note_of image y.instr) → NoOp image world t u
   pub wave_up : (t u : ℕ) (y : Inst) → t ≤ u → fires image world u ≡ Some y → is_memory image y.instr ≡ true → (chain_at image world t).wave ≤ y.wave
   pub rippled : (t u : ℕ) (y : Inst) → t ≤ u → fires image world u ≡ Some y → is_load image y.instr ≡ true → y.wave ≡ (chain_at image world t).wave → (note_of image y.instr).ripple ≤ position_after (chain_at image world t).last → NoWrite image world t u
+  pub seq_up : (t u : ℕ) (x y : Inst) → t < u → fires image world t ≡ Some x → is_memory image x.instr ≡ true → fires image world u ≡ Some y → is_memory image y.instr ≡ true → x.wave ≡ y.wave → (note_of image x.instr).seq < (note_of image y.instr).seq
+  pub ahead : (t u : ℕ) (y : Inst) → t ≤ u → fires image world u ≡ Some y → is_memory image y.instr ≡ true → y.wave ≡ (chain_at image world t).wave → position_after (chain_at image world t).last < (note_of image y.instr).seq
+  pub behind : (t u : ℕ) (y : Inst) → u < t → fires image world u ≡ Some y → is_memory image y.instr ≡ true → y.wave ≡ (chain_at image world t).wave → (note_of image y.instr).seq ≤ position_after (chain_at image world t).last
   pub one_maker : (t u : ℕ) (x y : Inst) → fires image world t ≡ Some x → fires image world u ≡ Some y → (w i p a b : ℕ) →
       IsSent (sends image x.wave x.instr x.operands x.result) w i p a → IsSent (sends image y.wave y.instr y.operands y.result) w i p b → t ≡ u
   pub no_maker : (u : ℕ) (y : Inst) → fires image world u ≡ Some y → (w i p a b : ℕ) → IsSent (start_tokens image) w i p a → IsSent (sends image y.wave y.instr y.operands y.result) w i p b → ⊥

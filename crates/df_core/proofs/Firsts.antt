@@ -5,27 +5,13 @@ use Rattle.ws_words.specs.Outside.{World, Outside}
 use Rattle.ws_isa.specs.Image.{Image, note_of, is_memory}
 use Rattle.ws_isa.specs.Walk.{Inst, fires}
 use Rattle.ws_isa.specs.Formed.{Formed}
-use Rattle.ws_isa.specs.Sound.{seq, Sound, ShapeRules, LinkRules}
-use Rattle.df_core.specs.Core.{Chain, IsNext, position_after}
+use Rattle.ws_isa.specs.Sound.{seq, Sound}
+use Rattle.df_core.specs.Core.{Chain, IsNext}
 use Rattle.df_core.specs.Fit.{RightRequest, Legal, chain_at}
 use Rattle.df_core.proofs.Facts.{WalkFacts}
 use Rattle.df_core.proofs.FromSound.{facts_of}
 use Rattle.df_core.proofs.PortsThere.{ports_there}
-use Rattle.df_core.proofs.Ops as O
-use Rattle.df_core.proofs.Ops.{rise_at}
-
--- sequence numbers rise along the walk, inside a wave
-module _ (image : Image) (world : World) (shape : ShapeRules image) (links : LinkRules image) where
-  pub seq_up : (t u : ℕ) (x y : Inst) → t < u → fires image world t ≡ Some x →
-      is_memory image x.instr ≡ true → fires image world u ≡ Some y → is_memory image y.instr ≡ true →
-      x.wave ≡ y.wave → (note_of image x.instr).seq < (note_of image y.instr).seq
-  seq_up t u x y l fx mx fy my same =
-      let e : (chain_at image world u).wave ≡ x.wave =
-      sym (same ∙ O.turn_wave image world shape links u y fy my) in
-      let a : seq image x.instr ≤ position_after (chain_at image world u).last =
-      O.reach image world shape links t u x fx mx l e in
-      let b : position_after (chain_at image world u).last < seq image y.instr = rise_at image world shape links u y fy my in
-      omega arith
+use Rattle.df_core.proofs.Ops.{seq_up}
 
 module _ (image : Image) (world : World) (formed : Formed image) (sound : Sound image) where
   facts : WalkFacts image world

@@ -17,7 +17,7 @@ use Rattle.ws_isa.proofs.Steps.{StepCase, stands, turns, ends, leaves, step_case
 use Rattle.df_core.proofs.SentTokens.{start_right, sent_right, plain_result}
 use Rattle.df_core.proofs.Made.{operands_length, made}
 use Rattle.df_core.proofs.OneMaker.{one_maker, no_maker, sends_apart, start_apart}
-use Rattle.df_core.proofs.Ops.{turn_wave, turn_next, only_later, only_first, rippled}
+use Rattle.df_core.proofs.Ops.{turn_wave, turn_next, only_later, only_first, rippled, seq_up, pos_up, rise_at, reach}
 
 some_port : (o : Op) → 0 < ports_of o
 some_port (Alu o) = omega arith
@@ -79,6 +79,12 @@ module _ (image : Image) (world : World) (formed : PortsThere image) (sound : So
     wave_up = λ t u y l fy m. (let e : y.wave ≡ (chain_at image world u).wave = turn_wave image world sound.shape sound.links u y fy m in
         let g : (chain_at image world t).wave ≤ (chain_at image world u).wave = chain_up image world t u l in omega arith);
     rippled = rippled image world sound.shape sound.links sound.ripples;
+    seq_up = seq_up image world sound.shape sound.links;
+    ahead = λ t u y l fy m same. (let e : y.wave ≡ (chain_at image world u).wave = turn_wave image world sound.shape sound.links u y fy m in
+        let p = pos_up image world sound.shape sound.links t u l (sym e ∙ same) in
+        let r = rise_at image world sound.shape sound.links u y fy m in
+        omega (arith, p, r));
+    behind = λ t u y l fy m same. reach image world sound.shape sound.links u t y fy m l (sym same);
     one_maker = one_maker image world formed sound.shape sound.slots;
     no_maker = no_maker image world formed sound.shape sound.slots;
     sends_apart = sends_apart image world formed sound.shape sound.slots;

@@ -111,17 +111,6 @@ split_at [] k d l = absurd (omega arith)
 split_at (x ∷ xs) zero d l = refl
 split_at (x ∷ xs) (suc k) d l = ap (λ ys. x ∷ ys) (split_at xs k d (omega arith))
 
-pub in_end : (i j : ℕ) (early : List ℕ) → In j (i ∷ early) → In j (early ++ i ∷ [])
-in_end i j [] h = h
-in_end i j (x ∷ early) (inl h) = inr (in_end i j early (inl h))
-in_end i j (x ∷ early) (inr (inl h)) = inl h
-in_end i j (x ∷ early) (inr (inr h)) = inr (in_end i j early (inr h))
-
-pub end_in : (i j : ℕ) (early : List ℕ) → In j (early ++ i ∷ []) → In j (i ∷ early)
-end_in i j [] h = h
-end_in i j (x ∷ early) (inl h) = inr (inl h)
-end_in i j (x ∷ early) (inr h) = elim (end_in i j early h) [ inl g ↦ inl g | inr g ↦ inr (inr g) ]
-
 stands_early : (image : Image) (world : World) (f : Ports) (way : List plain.Token) (asked : List Request) (xs ys : List ℕ) (s : State) → ((j : ℕ) → In j xs → In j ys) → ((j : ℕ) → In j ys → In j xs) → Stands image world f way asked xs s → Stands image world f way asked ys s
 stands_early image world f way asked xs ys s to from st = record {
   fit = st.fit;
@@ -334,5 +323,6 @@ module _ (image : Image) (world : World) (formed : Formed image) (sound : Sound 
           let c : s.chain ≡ chain_of new.chain = h.chain_is ∙ sym p.1 in
           finish (a.instr ∷ old.early.items)
           (subst (λ (d : law.Chain). StateMoves image world s (Issue a.wave a.instr) partial ((beside ++ way_of old.way) ++ sends image a.wave a.instr xs (answer image a.instr xs s.memory)) rest (a.instr ∷ old.early.items) d s.stopped (effect_after image a.instr xs s.memory) (length s.fired)) c m)
-          (λ j g. subst (In j) (sym p.2) (in_end a.instr j old.early.items g)) (λ j g. end_in a.instr j old.early.items (subst (In j) p.2 g)))
+          (λ j g. elim g [ inl e ↦ subst (λ (i : ℕ). In i new.early.items) (sym e) p.2.1 | inr r ↦ p.2.2 j r ])
+          (λ j g. elim (p.2.0 j g) [ inl e ↦ inl (sym e) | inr r ↦ inr r ]))
     ]

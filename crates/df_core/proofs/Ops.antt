@@ -225,6 +225,14 @@ module _ (image : Image) (world : World) where
         let h : position_after (chain_at image world (suc k)).last ≤ position_after (chain_at image world u).last = pos_up (suc k) u l (omega arith) in
         omega arith
 
+    -- sequence numbers rise along the walk, inside a wave
+    pub seq_up : (t u : ℕ) (x y : Inst) → t < u → fires image world t ≡ Some x → is_memory image x.instr ≡ true → fires image world u ≡ Some y → is_memory image y.instr ≡ true → x.wave ≡ y.wave → seq image x.instr < seq image y.instr
+    seq_up t u x y l fx mx fy my same =
+        let e : (chain_at image world u).wave ≡ x.wave = sym (same ∙ turn_wave u y fy my) in
+        let a : seq image x.instr ≤ position_after (chain_at image world u).last = reach t u x fx mx l e in
+        let b : position_after (chain_at image world u).last < seq image y.instr = rise_at u y fy my in
+        omega arith
+
     -- an operation that names a successor is followed by one
     goes_on : (d b k j n : ℕ) (done : List ℕ) → InWave image b k done → IsBlock image b → k ≤ first_number image (suc b) → last_op image done ≡ Some j → (note_of image j).succ ≡ Is n →
         first_number image (suc (length image.blocks)) + length image.blocks < d + (k + b) → (m : ℕ) × ComesNext image (Some j) m

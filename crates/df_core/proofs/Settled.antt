@@ -1,5 +1,5 @@
 -- One more operation that the chain passes.
-use Rattle.std.proofs.Common.{ℕ, zero, suc, ◌≡◌, ◌<◌, ◌⊎◌, Bool, List, [], ◌∷◌, length, slice_index, slice_index_or, true, false, refl, sym, ap, ◌∙◌, subst, inl, inr, arith}
+use Rattle.std.proofs.Common.{ℕ, zero, suc, ◌≡◌, ◌<◌, ◌⊎◌, Bool, List, [], ◌∷◌, ◌++◌, length, slice_index, slice_index_or, true, false, refl, sym, ap, ◌∙◌, subst, inl, inr, arith}
 use Rattle.std.specs.List.{remove}
 use Rattle.std.proofs.lemmas.Bool.{both_ways}
 use Rattle.ws_isa.specs.declared.instr.Link.{Link}
@@ -8,7 +8,7 @@ use Rattle.ws_isa.specs.declared.instr.Note.{Note}
 use Rattle.ws_isa.specs.Image.{Image, note_of}
 use Rattle.df_core.specs.Core.{Chain, IsNext, pass, pass_by}
 use Rattle.df_core.specs.Stands.{left_by, left_after, Settles, done, goes}
-use Rattle.df_core.specs.Chains.{is_nothing, next_flag, PassedOn}
+use Rattle.df_core.specs.Chains.{is_nothing, next_flag, PassedOn, HasOneMore}
 use Rattle.df_core.proofs.Nexts.{next_is, next_not}
 use Rattle.ws_words.specs.Items.{In}
 use Rattle.ws_words.proofs.Places.{in_place}
@@ -55,10 +55,16 @@ seen_at image c xs at k n b same note flag held =
     let e : n ≡ note_of image (slice_index xs k) = note ∙ ap (λ (j : ℕ). note_of image (slice_index xs j)) same in
     next_not c (note_of image (slice_index xs k)) (ap (λ (m : Note). next_flag c m) (sym e) ∙ sym flag ∙ held)
 
-none_by : (l : Link) (xs : List ℕ) → is_nothing l ≡ true → left_by l xs ≡ []
+-- behind the last operation of a wave none is left, and behind another all are
+pub none_by : (l : Link) (xs : List ℕ) → is_nothing l ≡ true → left_by l xs ≡ []
 none_by Nothing xs e = refl
 none_by (Is n) xs e = absurd (both_ways false refl e)
 none_by Unknown xs e = absurd (both_ways false refl e)
+
+pub all_by : (l : Link) (xs : List ℕ) → is_nothing l ≡ false → left_by l xs ≡ xs
+all_by Nothing xs e = absurd (both_ways true e refl)
+all_by (Is n) xs e = refl
+all_by Unknown xs e = refl
 
 -- behind the last operation of a wave nothing is left to pass
 pub all_passed : (image : Image) (c : Chain) (n : Note) (early left : List ℕ) → is_nothing n.succ ≡ true → left ≡ left_after n early → Settles image c left c left
@@ -73,14 +79,28 @@ pub same_wave : (c : Chain) (n : Note) → is_nothing n.succ ≡ false → (pass
 same_wave c n e = same_by c n n.succ e
 
 -- an operation that ends its wave is passed, and none is left behind it
-left_none : (l : Link) (early : List ℕ) → is_nothing l ≡ true → left_by l early ≡ []
-left_none Nothing early e = refl
-left_none Unknown early e = absurd (both_ways false refl e)
-left_none (Is k) early e = absurd (both_ways false refl e)
-
 pub wave_ended : (image : Image) (c d : Chain) (i : ℕ) (n : Note) (early left : List ℕ) → n ≡ note_of image i → next_flag c n ≡ true → is_nothing n.succ ≡ true → d ≡ pass c n → left ≡ [] → PassedOn image c i early d left
 wave_ended image c d i n early left note next ends behind none =
     let nx : IsNext c (note_of image i) = subst (IsNext c) note (next_is c n next) in
-    let e : left_after (note_of image i) early ≡ [] = left_none (note_of image i).succ early (subst (λ (m : Note). is_nothing m.succ ≡ true) note ends) in
+    let e : left_after (note_of image i) early ≡ [] = none_by (note_of image i).succ early (subst (λ (m : Note). is_nothing m.succ ≡ true) note ends) in
     let p : d ≡ pass c (note_of image i) = behind ∙ ap (pass c) note in
     inl (nx, rw (p, none, e) (done (λ j h. absurd h)))
+
+pub in_end : (i j : ℕ) (early : List ℕ) → In j (i ∷ early) → In j (early ++ i ∷ [])
+in_end i j [] h = h
+in_end i j (x ∷ early) (inl h) = inr (in_end i j early (inl h))
+in_end i j (x ∷ early) (inr (inl h)) = inl h
+in_end i j (x ∷ early) (inr (inr h)) = inr (in_end i j early (inr h))
+
+pub end_in : (i j : ℕ) (early : List ℕ) → In j (early ++ i ∷ []) → In j (i ∷ early)
+end_in i j [] h = h
+end_in i j (x ∷ early) (inl h) = inr (inl h)
+end_in i j (x ∷ early) (inr h) = elim (end_in i j early h) [ inl g ↦ inl g | inr g ↦ inr (inr g) ]
+
+-- one that isn't next is kept behind the others
+pub kept_behind : (i : ℕ) (early left : List ℕ) → left ≡ early ++ i ∷ [] → HasOneMore i early left
+kept_behind i early left e = (
+  λ j h. elim (end_in i j early (subst (In j) e h)) [ inl k ↦ inl (sym k) | inr k ↦ inr k ],
+  subst (In i) (sym e) (in_end i i early (inl refl)),
+  λ j h. subst (In j) (sym e) (in_end i j early (inr h)),
+)

@@ -1,15 +1,15 @@
 -- The chain passes issued loads that are next, by a list of those that it hasn't passed.
-use Rattle.std.proofs.Common.{ℕ, zero, suc, ◌≡◌, ◌≤◌, true, List, Option, Some, refl, sym, ap, ◌∙◌, subst, inl, inr, arith}
-use Rattle.std.proofs.lemmas.Bool.{cases_lt}
+use Rattle.std.proofs.Common.{ℕ, zero, suc, ◌≡◌, ◌<◌, ◌≤◌, true, List, Option, Some, refl, sym, ap, ◌∙◌, subst, inl, inr, arith}
+use Rattle.std.proofs.lemmas.Bool.{cases_lt, cases_eq}
 use Rattle.ws_words.specs.Outside.{Outside, World}
 use Rattle.ws_isa.specs.declared.instr.Link.{Link}
 use Rattle.ws_isa.specs.declared.instr.Link.TheVariants.{Unknown, Nothing, Is}
 use Rattle.ws_isa.specs.declared.instr.Note.{Note}
 use Rattle.ws_isa.specs.Image.{Image, is_memory, note_of}
-use Rattle.ws_isa.specs.Walk.{Inst}
-use Rattle.df_core.specs.Core.{Chain, IsNext, Passes, stays, passes, pass, pass_by}
+use Rattle.ws_isa.specs.Walk.{Inst, fires}
+use Rattle.df_core.specs.Core.{Chain, IsNext, Passes, stays, passes, pass, pass_by, position_after}
 use Rattle.df_core.specs.Fit.{FiresAt, chain_at, NoOp, IssuedOp, Ordered}
-use Rattle.df_core.specs.Stands.{left_by, left_after, HasEarly, Settles, done, goes, EarlyIssued}
+use Rattle.df_core.specs.Stands.{left_by, left_after, HasEarly, Settles, done, rests, drops, goes, EarlyIssued}
 use Rattle.df_core.proofs.Facts.{WalkFacts}
 use Rattle.df_core.proofs.Pauses.{chain_same}
 use Rattle.df_core.proofs.Passing.{ordered_next}
@@ -81,6 +81,39 @@ module _ (image : Image) (world : World) (facts : WalkFacts image world) where
     pub issued_are : EarlyIssued issued d left
     pub early : EarlyAt image world issued cut left
 
+  -- where the first of them is ahead and isn't next, no issued operation is
+  rested : (issued : ℕ → ℕ → Option ℕ) (c : Chain) (m : Outside) (cut : ℕ) (early : List ℕ) (i : ℕ) → In i early → (IsNext c (note_of image i) → ⊥) → position_after c.last < (note_of image i).seq →
+      ((j : ℕ) → In j early → (note_of image i).seq ≤ (note_of image j).seq) → Ordered image world cut issued c m → EarlyIssued issued c early → EarlyAt image world issued cut early → (j a : ℕ) → issued c.wave j ≡ Some a →
+      IsNext c (note_of image j) → ⊥
+  rested issued c m cut early i h not_next ahead least o is at j a e nx =
+      let op : IssuedOp image world cut c.wave j a = o.others c.wave j a e in
+      let mop : is_memory image op.inst.instr ≡ true = ap (is_memory image) op.at.instr ∙ op.memory in
+      let wop : op.inst.wave ≡ (chain_at image world cut).wave = op.at.wave ∙ ap (λ (d : Chain). d.wave) o.chain in
+      let nop : IsNext (chain_at image world cut) (note_of image op.inst.instr) = rw (op.at.instr, ← o.chain) nx in
+      let from : cut ≤ op.time = facts.only_later cut op.time op.inst op.at.fires mop wop nop in
+      let listed : In j early = at c.wave j a op.time e op.inst op.at op.memory from in
+      let seen = is i h in
+      let first : IssuedOp image world cut c.wave i seen.0 = o.others c.wave i seen.0 seen.1 in
+      let mfirst : is_memory image first.inst.instr ≡ true = ap (is_memory image) first.at.instr ∙ first.memory in
+      let wfirst : first.inst.wave ≡ (chain_at image world cut).wave = first.at.wave ∙ ap (λ (d : Chain). d.wave) o.chain in
+      let sj : (note_of image op.inst.instr).seq ≡ (note_of image j).seq = ap (λ (k : ℕ). (note_of image k).seq) op.at.instr in
+      let si : (note_of image first.inst.instr).seq ≡ (note_of image i).seq = ap (λ (k : ℕ). (note_of image k).seq) first.at.instr in
+      let place : position_after (chain_at image world cut).last ≡ position_after c.last = ap (λ (d : Chain). position_after d.last) (sym o.chain) in
+      let low : (note_of image i).seq ≤ (note_of image j).seq = least j listed in
+      elim (cases_lt first.time cut) [
+        | inl l ↦ (let r = facts.behind cut first.time first.inst l first.at.fires mfirst wfirst in absurd (omega (arith, r, si, place, ahead)))
+        | inr l ↦ elim (cases_lt first.time op.time) [
+          | inl k ↦ facts.only_first cut op.time op.inst op.at.fires mop wop nop first.time first.inst l k first.at.fires mfirst
+          | inr k ↦ elim (cases_eq first.time op.time) [
+            | inl q ↦ (let one : Some first.inst ≡ Some op.inst = sym first.at.fires ∙ ap (fires image world) q ∙ op.at.fires in
+                let inst : first.inst ≡ op.inst = cc in
+                let same : j ≡ i = sym op.at.instr ∙ ap (λ (z : Inst). z.instr) (sym inst) ∙ first.at.instr in
+                not_next (subst (λ (k : ℕ). IsNext c (note_of image k)) same nx))
+            | inr q ↦ (let up = facts.seq_up op.time first.time op.inst first.inst (omega (arith, k, q)) op.at.fires mop first.at.fires mfirst (wop ∙ sym wfirst) in absurd (omega (arith, up, si, sj, low)))
+          ]
+        ]
+      ]
+
   pub settle : (issued : ℕ → ℕ → Option ℕ) (c d : Chain) (m : Outside) (cut : ℕ) (early left : List ℕ) → Settles image c early d left → Ordered image world cut issued c m → EarlyIssued issued c early → EarlyAt image world issued cut early → Settled issued c d m left
   settle issued c d m cut early left (done none) o is at = record {
     passed = stays (λ i a e nx.
@@ -94,6 +127,29 @@ module _ (image : Image) (world : World) (facts : WalkFacts image world) where
     issued_are = is;
     early = at;
   }
+  settle issued c d m cut early left (rests i h not_next ahead least) o is at = record {
+    passed = stays (rested issued c m cut early i h not_next ahead least o is at);
+    cut = cut;
+    ordered = o;
+    issued_are = is;
+    early = at;
+  }
+  settle issued c d m cut early left (drops mid back forth rest) o is at =
+      settle issued c d m cut mid left rest o (λ j k. is j (back j k)) (λ w j a t g x ax mj l.
+      elim (forth j (at w j a t g x ax mj l)) [
+        | inl low ↦ absurd (
+            let op : IssuedOp image world cut w j a = o.others w j a g in
+            let same : op.time ≡ t = one_time w j op.time t op.inst x op.at ax in
+            let wv : x.wave ≡ (chain_at image world cut).wave = elim op.place [
+              | inl k ↦ absurd (omega arith)
+              | inr k ↦ ax.wave ∙ sym op.at.wave ∙ k.1.wave
+            ] in
+            let r = facts.ahead cut t x l ax.fires (ap (is_memory image) ax.instr ∙ mj) wv in
+            let sj : (note_of image x.instr).seq ≡ (note_of image j).seq = ap (λ (k : ℕ). (note_of image k).seq) ax.instr in
+            let place : position_after (chain_at image world cut).last ≡ position_after c.last = ap (λ (d : Chain). position_after d.last) (sym o.chain) in
+            omega (arith, r, sj, place, low))
+        | inr k ↦ k
+      ])
   settle issued c d m cut early left (goes i mid h nx back forth rest) o is at =
       let e = is i h in
       let r = ordered_next image world facts issued c m cut i e.0 o e.1 nx in

@@ -1,6 +1,6 @@
 -- The parts that a core keeps, and the state for which they stand. Of an instance that has fired it
 -- keeps nothing.
-use Rattle.std.specs.Prelude.{ℕ, ◌≡◌, ◌≤◌, ◌⊎◌, true, cond, List, [], ◌∷◌, Option, Some, None}
+use Rattle.std.specs.Prelude.{ℕ, ◌≡◌, ◌<◌, ◌≤◌, ◌⊎◌, true, cond, List, [], ◌∷◌, Option, Some, None}
 use Rattle.ws_words.specs.Outside.{World}
 use Rattle.ws_isa.specs.declared.instr.Link.{Link}
 use Rattle.ws_isa.specs.declared.instr.Link.TheVariants.{Nothing}
@@ -8,6 +8,7 @@ use Rattle.ws_isa.specs.declared.instr.Note.{Note}
 use Rattle.ws_isa.specs.Image.{Image, Token, is_memory, note_of}
 use Rattle.ws_isa.specs.Walk.{Ports, Inst}
 use Rattle.df_core.specs.Core.{State, Apart, Chain, HasFired, IsSent, Once, same_key, IsNext, pass}
+use Rattle.df_core.specs.Core.{position_after}
 use Rattle.df_core.specs.Fit.{FiresAt, chain_at, Fit, Grounded}
 use Rattle.ws_words.specs.Items.{In}
 
@@ -65,10 +66,17 @@ left_by _ early = early
 abbrev pub left_after : Note → List ℕ → List ℕ
 left_after n early = left_by n.succ early
 
--- the chain passes those among these operations that are next, until none is
+-- The chain passes those among these operations that are next, until none is. Where the one with the smallest
+-- number is ahead of the chain and isn't next, it rests. Those behind it are let go.
 pub data Settles (image : Image) : Chain → List ℕ → Chain → List ℕ → Type 0 where
   done : {c : Chain} {early : List ℕ} → ((i : ℕ) → In i early → IsNext c (note_of image i) → ⊥) →
       Settles image c early c early
+  rests : {c : Chain} {early : List ℕ} (i : ℕ) → In i early → (IsNext c (note_of image i) → ⊥) →
+      position_after c.last < (note_of image i).seq →
+      ((j : ℕ) → In j early → (note_of image i).seq ≤ (note_of image j).seq) → Settles image c early c early
+  drops : {c d : Chain} {early left : List ℕ} (mid : List ℕ) → ((j : ℕ) → In j mid → In j early) →
+      ((j : ℕ) → In j early → ((note_of image j).seq ≤ position_after c.last) ⊎ In j mid) →
+      Settles image c mid d left → Settles image c early d left
   goes : {c d : Chain} {early left : List ℕ} (i : ℕ) (mid : List ℕ) → In i early →
       IsNext c (note_of image i) → ((j : ℕ) → In j mid → In j early) →
       ((j : ℕ) → In j early → (i ≡ j) ⊎ In j mid) →

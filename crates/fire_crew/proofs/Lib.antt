@@ -1,12 +1,7 @@
-pub mod Few
-pub mod Coming
-pub mod Listed
-pub mod Union
 pub mod Rights
 pub mod Paid
 pub mod Endings
 pub mod Fronts
-pub mod Shares
 pub mod Phases
 pub mod Stops
 pub mod Telling

@@ -11,6 +11,7 @@ use Rattle.ws_isa.specs.Walk.{Ports}
 use Rattle.df_core.specs.Core.{Key, HasFired, has, operands_in}
 use Rattle.ws_isa.specs.Walk.{start_tokens}
 use Rattle.df_core.specs.Shown.{Buffer, owed, plain_tokens, op_tokens}
+use Rattle.df_core.proofs.Ports.{has_some}
 use Rattle.df_core.proofs.SlotLists.{is_sent_append_cases}
 use Rattle.df_core.specs.Rights.{operands_of}
 use Rattle.match_table.specs.declared.table.Fired.{Fired}
@@ -21,17 +22,13 @@ use Rattle.store_buf.specs.Requests.{entry_of, issued_keys, key_if, operands_if,
 use Rattle.store_buf.specs.Contents as buf
 use Rattle.store_buf.specs.Contents.{buffer_in}
 use Rattle.store_buf.specs.Ordering.{no_request}
-use Rattle.fire_crew.specs.Together.{all_fired, behind, together}
+use Rattle.match_table.specs.Together.{all_fired, behind, together}
 use Rattle.match_table.specs.Growth.{content_at, no_content}
 use Rattle.fire_crew.specs.Owing.{HaveCome, IsMissing, IsKnown, AllKnown, HasTold, HasToldAt, ToldIn, HasAnswered}
-use Rattle.fire_crew.proofs.Listed.{none_fired, fired_place, asked_there}
-use Rattle.fire_crew.proofs.Union.{listed_at}
+use Rattle.match_table.proofs.FiredPlaces.{none_fired, fired_place, asked_there}
+use Rattle.match_table.proofs.Union.{listed_at}
 use Rattle.match_table.proofs.Held.{has_none}
 use Rattle.ws_words.specs.Items.{or_else}
-
-pub has_some : (o : Option ℕ) → has o ≡ true → (u : ℕ) × (o ≡ Some u)
-has_some (Some u) e = (u, refl)
-has_some None e = cc
 
 pub not_empty : (ts : List Token) (t : Token) → ts ++ t ∷ [] ≡ [] → ⊥
 not_empty [] t e = cc

@@ -4,9 +4,9 @@ use Rattle.std.proofs.lemmas.Bool.{cases_lt}
 use Rattle.df_core.specs.Core.{has}
 use Rattle.match_table.specs.Growth.{AllGrow}
 use Rattle.match_table.proofs.Growth.{all_grow_same, all_grow_on}
-use Rattle.fire_crew.specs.Together.{ServeFrom, all_fired, together}
-use Rattle.fire_crew.specs.Coming.{Came}
-use Rattle.fire_crew.proofs.Coming.{came_keep, came_more, came_none, grow_keep}
+use Rattle.match_table.specs.Together.{ServeFrom, all_fired, together}
+use Rattle.match_table.specs.Coming.{Came}
+use Rattle.match_table.proofs.Coming.{came_keep, came_more, came_none, grow_keep}
 use Rattle.fire_crew.specs.Verdicts.{MovedOn}
 use Rattle.match_table.specs.Tables.{TableContent}
 

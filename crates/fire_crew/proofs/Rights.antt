@@ -28,7 +28,7 @@ use Rattle.store_buf.specs.Requests.{entry_of, operands_if, answer_if}
 use Rattle.store_buf.specs.Contents as buf
 use Rattle.store_buf.specs.Contents.{buffer_in}
 use Rattle.store_buf.specs.Ordering.{no_request}
-use Rattle.fire_crew.proofs.Listed.{none_fired, fired_there, asked_fired}
+use Rattle.match_table.proofs.FiredPlaces.{none_fired, fired_there, asked_fired}
 use Rattle.match_table.proofs.Answered.{memory_two, request_operands as two_operands}
 
 -- whether the instruction that the code has looked up is one of memory

@@ -1,5 +1,3 @@
-pub mod Together
-pub mod Coming
 pub mod Owing
 pub mod Ends
 pub mod Verdicts

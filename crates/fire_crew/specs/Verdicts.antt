@@ -7,7 +7,7 @@ use Rattle.df_core.specs.Core.{Key}
 use Rattle.df_core.specs.Shown.{Tables as Part}
 use Rattle.df_core.specs.Began.{Began}
 use Rattle.store_buf.specs.Contents.{Content}
-use Rattle.fire_crew.specs.Coming.{Came}
+use Rattle.match_table.specs.Coming.{Came}
 use Rattle.fire_crew.specs.Ends.{AllRun, SomeRun, IsGoing}
 use Rattle.fire_crew.specs.Owing.{IsMissing}
 use Rattle.fire_crew.specs.declared.judge.Ending.{Ending}

@@ -5,16 +5,16 @@ ghost use Rattle.ws_words.specs.Outside.{Outside};
 ghost use Rattle.ws_isa.specs.Walk.{CostAtMost, Ports};
 ghost use Rattle.df_core.specs.Shown.{owed};
 ghost use Rattle.store_buf.specs.Contents.{buffer_in};
-ghost use Rattle.fire_crew.specs.Together.{AllServe, part_of};
-ghost use Rattle.fire_crew.specs.Coming.{Came};
+ghost use Rattle.match_table.specs.Together.{AllServe, part_of};
+ghost use Rattle.match_table.specs.Coming.{Came};
 ghost use Rattle.fire_crew.specs.Owing.{AllKnown, HaveCome, IsMissing};
 ghost use Rattle.fire_crew.specs.Ends.{AllRun, FaultRun, FrontRun, IsGoing, PortRun, SomeRun};
 
-use crate::tables::facts;
 use df_core::{
     Code, Job, Token, counts, every_list_of_events, owing_nothing_is_rest, shown_is_fit,
 };
 use match_table::row::Tables;
+use match_table::together::facts;
 use port_set::Port;
 use store_buf::Buffer;
 

@@ -2,15 +2,15 @@
 
 ghost use Rattle.std.specs.Prelude.{◌≡◌, ◌≤◌, ◌-◌, length};
 ghost use Rattle.port_set.specs.Slots.{AllOpen, contents};
-ghost use Rattle.fire_crew.specs.Together.{AllServe, part_of};
+ghost use Rattle.match_table.specs.Together.{AllServe, part_of};
 ghost use Rattle.fire_crew.specs.Finishes.{FinishSo};
 ghost use Rattle.fire_crew.specs.Verdicts.{EndingSo};
 
 use crate::ends::{fault_run, front_run, port_run};
 use crate::judge::Ending;
-use crate::limits::fired;
 use df_core::{Code, Job};
 use match_table::Tables;
+use match_table::together::fired;
 use port_set::{Port, Slots};
 use store_buf::{BufFault, Buffer};
 use ws_words::{Cells, Words};

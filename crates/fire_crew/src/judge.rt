@@ -4,17 +4,17 @@ ghost use Rattle.std.specs.Prelude.{◌≡◌, ℕ, [], All, IfErr, IfSome, OnOk
 ghost use Rattle.ws_words.specs.Outside.{Outside};
 ghost use Rattle.df_core.specs.Shown.{owed as owed_in};
 ghost use Rattle.store_buf.specs.Contents.{buffer_in};
-ghost use Rattle.fire_crew.specs.Together.{AllServe, part_of};
+ghost use Rattle.match_table.specs.Together.{AllServe, part_of};
 ghost use Rattle.fire_crew.specs.Owing.{AllKnown, HaveCome, IsMissing};
 ghost use Rattle.fire_crew.specs.Ends.{IsGoing};
 ghost use Rattle.fire_crew.specs.Verdicts.{CourseSo, EndingSo, GoesWith};
 
 use crate::ends::{all_run, some_run};
 use crate::missing::missing;
-use crate::own::is_there;
 use crate::unknown::unknown;
 use df_core::{Code, Job, Request, Token, TokenList};
 use match_table::Tables;
+use match_table::together::is_there;
 use port_set::Port;
 use std::alloc::Global;
 use store_buf::Buffer;

@@ -5,7 +5,6 @@
 //! on behind what was there (`AllGrow`). What is right of tokens, requests, tables and the buffer is a fact
 //! of their types. No clause says that any token was brought, or that the gate was called: tests show it.
 //!
-//! Sixteen tables that serve apart are together a part of the core's state of which the law speaks (`facts`).
 //! `unknown` gives requests of the job; where it gives none, the buffer knows those of all memory instances
 //! that have fired. `missing` gives tokens of the job that no table has had; where one or more are wanted and
 //! it gives none, each token that tables and buffer owe has come. `all_run`: where both give none and nothing
@@ -17,9 +16,7 @@
 //! walk's first index fault, with what the walk leaves before it. `port_run`: where a port has failed, its
 //! count of faults rose since the run began, and the walk's next operation is on it, with what the walk
 //! leaves before that. `limits` shares all firings that are given out to the tables, each table fits its
-//! share, and the table that the caller names gets one at least. `bring` brings a token to the table that
-//! serves it, with the answer of that table's `accept_into` (`BroughtSo`); the others stay as they are, and
-//! but for want of memory the token's port has had a token then. `few_tokens`: where the walk has at most n
+//! share, and the table that the caller names gets one at least. `few_tokens`: where the walk has at most n
 //! instances, at most 3 n tokens have come.
 //!
 //! `run_image` runs an image with 1 to 8 workers, over ports of any type that tell what they have left, and
@@ -40,7 +37,6 @@
 //! has at most n instances there are at most 3 n + 1 phases.
 #![tactic(auto)]
 
-pub mod bring;
 pub mod crew;
 pub mod ends;
 pub mod finish;
@@ -56,7 +52,6 @@ pub mod own;
 pub mod phase;
 mod pouring;
 pub mod run;
-pub mod tables;
 mod told;
 pub mod turn;
 pub mod unknown;

@@ -2,27 +2,15 @@
 
 ghost use Rattle.std.specs.Prelude.{◌≡◌, ◌+◌, ◌-◌, ◌/◌, ◌<◌, ◌≤◌, ◌^◌, ℕ, IfOk, length, slice_index, sum};
 ghost use Rattle.match_table.specs.Rows.{Fits};
-ghost use Rattle.fire_crew.specs.Together.{AllServe, part_of};
+ghost use Rattle.match_table.specs.Together.{AllServe, part_of};
 ghost use Rattle.match_table.specs.Growth.{content_at};
 ghost use Rattle.match_table.specs.Rows.{contents};
 
-use crate::tables::table_at;
 use df_core::Job;
 use match_table::row::Tables;
+use match_table::together::table_at;
 use std::alloc::Global;
 use ws_words::NoMemory;
-
-/// How many instances have fired in all tables.
-pub fn fired<J: Job>(tables: &Tables<J>) -> u64
-    requires { length (part_of tables.now).fired < 2 ^ 64 }
-    ensures { result ≡ length (part_of tables.now).fired }
-{
-    let mut count = 0;
-    for number in 0..16 {
-        count += table_at(tables, number).fired_count() as u64;
-    }
-    count
-}
 
 /// So many firings, all of them shared out evenly: for each table the length that its list may have. The
 /// table `first` gets one of them at least.

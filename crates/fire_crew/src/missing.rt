@@ -7,12 +7,12 @@ ghost use Rattle.match_table.specs.Growth.{content_at};
 ghost use Rattle.match_table.specs.Rows.{contents};
 ghost use Rattle.store_buf.specs.Contents.{buffer_in};
 ghost use Rattle.fire_crew.specs.Owing.{HasAnswered, HaveCome, IsMissing, ToldIn};
-ghost use Rattle.fire_crew.specs.Together.{AllServe, behind, part_behind, part_of};
+ghost use Rattle.match_table.specs.Together.{AllServe, behind, part_behind, part_of};
 
 use crate::owed::{keep, look_up, see_at};
-use crate::tables::{all_of, courses_of, facts, table_at};
 use df_core::{Code, Job, TokenList, start};
 use match_table::row::Tables;
+use match_table::together::{all_of, courses_of, facts, table_at};
 use match_table::{Course, Table};
 use port_set::Port;
 use std::alloc::Global;

@@ -8,12 +8,12 @@ ghost use Rattle.df_core.specs.Fit.{RightToken};
 ghost use Rattle.df_core.specs.Rights.{operands_of};
 ghost use Rattle.match_table.specs.Ports.{listed};
 ghost use Rattle.match_table.specs.Tables.{key_of};
-ghost use Rattle.fire_crew.specs.Together.{part_behind};
+ghost use Rattle.match_table.specs.Together.{part_behind};
 ghost use Rattle.fire_crew.specs.Owing.{HasAnswered, HasTold, HasToldAt, HaveCome, IsMissing};
 
-use crate::tables::holds;
 use crate::told::has_told;
 use df_core::{Code, Job, Token, TokenList};
+use match_table::together::holds;
 use match_table::{Course, Fired, Operands, Table};
 use store_buf::Kept;
 use ws_isa::{Dest, Op};

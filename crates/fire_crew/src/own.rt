@@ -4,14 +4,13 @@ ghost use Rattle.std.specs.Prelude.{◌≡◌, ◌<◌, ◌≤◌, OnOk, length,
 ghost use Rattle.df_core.specs.Core.{has};
 ghost use Rattle.match_table.specs.Growth.{AllGrow};
 ghost use Rattle.match_table.specs.Rows.{contents};
-ghost use Rattle.fire_crew.specs.Together.{AllServe, part_of};
+ghost use Rattle.match_table.specs.Together.{AllServe, part_of};
 
-use crate::bring::bring;
-use crate::limits::fired;
 use crate::pour;
-use crate::tables::{all_of, holds};
 use df_core::{Code, Job, Request, Token, TokenList};
-use match_table::{Course, Results, Tables, Took};
+use match_table::bring::bring;
+use match_table::together::{fired, is_there};
+use match_table::{Results, Tables, Took};
 use port_set::Port;
 use std::alloc::Global;
 use store_buf::{BufFault, Buffer};
@@ -45,20 +44,6 @@ pub fn see_brought<J: Job, P: Port>(
         return Err(NoMemory);
     }
     follow(alloc, code, buffer, results, tokens)
-}
-
-/// Whether a table has had a token.
-pub fn is_there<J: Job>(tables: &Tables<J>, token: &Token<J>) -> bool
-    ensures { result ≡ has ((part_of tables.now).held token.now.wave token.now.instr token.now.port) }
-{
-    let mut courses = [Course::none(); 16];
-    holds(
-        &all_of(tables),
-        &mut courses,
-        token.wave(),
-        token.instr(),
-        token.port(),
-    )
 }
 
 // What an instance hands on: result tokens, or a request.

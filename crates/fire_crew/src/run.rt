@@ -3,7 +3,7 @@
 ghost use Rattle.std.specs.Prelude.{◌≡◌, ◌≤◌, length};
 ghost use Rattle.port_set.specs.Slots.{AllOpen, contents};
 ghost use Rattle.store_buf.specs.Outdoors.{AllTell, began_of, world_with};
-ghost use Rattle.fire_crew.specs.Together.{AllServe, part_of};
+ghost use Rattle.match_table.specs.Together.{AllServe, part_of};
 ghost use Rattle.fire_crew.specs.Answer.{CrewTells};
 ghost use Rattle.fire_crew.specs.Finishes.{EndsSo};
 

@@ -4,12 +4,12 @@ ghost use Rattle.std.specs.Prelude.{◌≡◌, ◌<◌, ℕ, length, slice_index
 ghost use Rattle.ws_isa.specs.Image.{selector_of, tokens_to};
 ghost use Rattle.df_core.specs.Core.{Key, operands_in};
 ghost use Rattle.match_table.specs.Tables.{held};
-ghost use Rattle.fire_crew.specs.Together.{part_behind};
+ghost use Rattle.match_table.specs.Together.{part_behind};
 ghost use Rattle.fire_crew.specs.Owing.{HasToldAt, HaveCome};
 
 use crate::owed::{choice_of, number_of};
-use crate::tables::holds;
 use df_core::{Code, Job};
+use match_table::together::holds;
 use match_table::{Course, Table};
 use ws_isa::{Dest, Op};
 

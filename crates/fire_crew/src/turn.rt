@@ -2,15 +2,16 @@
 
 ghost use Rattle.std.specs.Prelude.{◌≡◌, ◌<◌, ◌≤◌, length, true, false};
 ghost use Rattle.df_core.specs.Core.{has};
-ghost use Rattle.fire_crew.specs.Together.{AllServe, part_of};
+ghost use Rattle.match_table.specs.Together.{AllServe, part_of};
 ghost use Rattle.match_table.specs.Growth.{AllGrow};
 ghost use Rattle.match_table.specs.Rows.{contents};
 
-use crate::limits::{fired, fitting, limits};
+use crate::limits::{fitting, limits};
 use crate::own::see_brought;
 use crate::phase::{PhaseEnd, phase};
 use crate::{Bare, Gate, Wrap};
 use df_core::{Code, Job, Token, TokenList};
+use match_table::together::fired;
 use match_table::{Tables, table_of};
 use port_set::Port;
 use ready_pool::{SeatList, seats};

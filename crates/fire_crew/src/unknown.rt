@@ -4,12 +4,12 @@ ghost use Rattle.std.specs.Prelude.{◌≡◌, [], All, OnOk, IfOk};
 ghost use Rattle.df_core.specs.Fit.{RightRequest};
 ghost use Rattle.match_table.specs.Ports.{listed};
 ghost use Rattle.match_table.specs.Tables.{key_of, of_memory};
-ghost use Rattle.fire_crew.specs.Together.{part_of};
+ghost use Rattle.match_table.specs.Together.{part_of};
 ghost use Rattle.fire_crew.specs.Owing.{AllKnown, IsKnown};
 
-use crate::tables::table_at;
 use df_core::{Code, Job, Request};
 use match_table::row::Tables;
+use match_table::together::table_at;
 use match_table::{Fired, Table};
 use port_set::Port;
 use std::alloc::Global;

@@ -11,3 +11,8 @@ pub mod Answered
 pub mod Events
 pub mod Growth
 pub mod Served
+pub mod FiredPlaces
+pub mod Union
+pub mod Coming
+pub mod Shares
+pub mod Few

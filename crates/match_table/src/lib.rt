@@ -22,9 +22,16 @@
 //! the tables back, each serving its own within its quota, and grown from what it was. `Tables::new` gives 16
 //! to which no token has come. `key_at` names an instance that `fired_at` gives, without its operands, and
 //! `holds_on` answers as `holds` does, whatever the course says (`Course`) along which it looks.
+//!
+//! Sixteen tables that serve apart are together a part of the core's state of which the law speaks (`facts`
+//! of `together`): an instance fires once in all of them, and each has all operands of those that it lists.
+//! `bring` brings a token to the table that serves it, with the answer of that table's `accept_into`
+//! (`BroughtSo`); the others stay as they are, and but for want of memory the token's port has had a token
+//! then. `is_there` says whether a table has had a token, and `fired` how many instances all of them list.
 #![tactic(auto)]
 
 mod accepting;
+pub mod bring;
 mod chain;
 pub mod course;
 pub mod entry;
@@ -38,6 +45,7 @@ mod places;
 pub mod rank;
 pub mod row;
 pub mod table;
+pub mod together;
 
 pub use course::Course;
 pub use entry::Arrived;

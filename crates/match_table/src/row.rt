@@ -1,6 +1,6 @@
 //! Sixteen tables, each behind a lock of its own.
 
-ghost use Rattle.std.specs.Prelude.{◌≡◌, ◌+◌, ◌%◌, ℕ, List, length};
+ghost use Rattle.std.specs.Prelude.{◌≡◌, ◌+◌, ◌<◌, ◌%◌, ℕ, List, length};
 ghost use Rattle.match_table.specs.Growth.{GrowFrom};
 ghost use Rattle.match_table.specs.Rows.{Fits, contents};
 
@@ -92,8 +92,10 @@ fn unlocked<J: Job, Q: Quotas, const K: u64>(locked: Locked<J, Q, K>) -> Limited
 }
 
 /// The number of the table that serves an instance.
+#[inline(always)]
 pub fn table_of(wave: u64, instr: u32) -> u64
-    ensures { result ≡ (wave + instr) % 16 }
+    ensures number { result ≡ (wave + instr) % 16 }
+    ensures below { result < 16 }
 {
     (wave % 16 + u64::from(instr) % 16) % 16
 }

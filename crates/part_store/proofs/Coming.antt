@@ -13,6 +13,7 @@ use Rattle.df_core.specs.Began.{Began}
 use Rattle.df_core.specs.declared.chain.Chain as code
 use Rattle.df_core.specs.Chains.{chain_of, may_flag}
 use Rattle.df_core.specs.Stands.{HasEarly, EarlyIssued}
+use Rattle.store_buf.specs.Earlies.{early_ops}
 use Rattle.store_buf.specs.declared.fault.BufFault.{BufFault}
 use Rattle.store_buf.specs.declared.fault.BufFault.TheVariants as fault
 use Rattle.store_buf.specs.declared.kept.Kept.{Kept}
@@ -112,9 +113,9 @@ module _ {P : Type 0} where
     pub unchanged : Calm image world began old → Calm image world began new
     unchanged calm =
         let e : EarlyIssued (issued_in new.order.kept.items)
-        (chain_of new.order.chain) new.order.early.items ×
+        (chain_of new.order.chain) (early_ops new.order.early) ×
         HasEarly image world (issued_in new.order.kept.items)
-        (chain_of new.order.chain) new.order.early.items =
+        (chain_of new.order.chain) (early_ops new.order.early) =
         subst (λ (x : List Kept × code.Chain × List ℕ). EarlyIssued (issued_in x.0) (chain_of x.1) x.2 ×
         HasEarly image world (issued_in x.0) (chain_of x.1) x.2)
         (λ j. (sym keeps.kept_are j, sym keeps.chain j, sym keeps.early j))

@@ -13,6 +13,7 @@ use Rattle.df_core.specs.Stands.{HasEarly, EarlyIssued}
 use Rattle.df_core.proofs.Ports.{SameKey}
 use Rattle.df_core.specs.Began.{Began}
 use Rattle.df_core.specs.Rights.{IsAsked}
+use Rattle.store_buf.specs.Earlies.{early_ops}
 use Rattle.store_buf.specs.declared.fault.BufFault.{BufFault}
 use Rattle.store_buf.specs.declared.fault.BufFault.TheVariants as fault
 use Rattle.store_buf.specs.declared.kept.Kept.{Kept}
@@ -136,12 +137,12 @@ module _ {P : Type 0} (image : Image) (world : World) (began : List (Option Bega
     parting = parting;
     early_issued = λ j h. let r = subst (λ (x : code.Chain × List ℕ).
         EarlyIssued (issued_in old.order.kept.items) (chain_of x.0) x.1)
-        (λ n. (sym filled.same_chain n, sym (ap (λ (v : _). v.items) filled.early) n)) calm.0.early_issued j h
+        (λ n. (sym filled.same_chain n, sym (ap early_ops filled.early) n)) calm.0.early_issued j h
         in (r.0, issued mid.order.chain.wave j ∙ r.1);
     early_all = λ cut w i a t e is x at me l.
         subst (λ (y : code.Chain × List ℕ).
         HasEarly image world (issued_in old.order.kept.items) (chain_of y.0) y.1)
-        (λ n. (sym filled.same_chain n, sym (ap (λ (v : _). v.items) filled.early) n)) calm.0.early_all cut w
+        (λ n. (sym filled.same_chain n, sym (ap early_ops filled.early) n)) calm.0.early_all cut w
         i a t e (sym (issued w i) ∙ is) x at me l;
   }
 

@@ -13,6 +13,7 @@ use Rattle.df_core.specs.Chains.{chain_of}
 use Rattle.df_core.specs.Places.{destinations}
 use Rattle.df_core.specs.Stands.{HasEarly, EarlyIssued}
 use Rattle.df_core.specs.Began.{Began}
+use Rattle.store_buf.specs.Earlies.{early_ops}
 use Rattle.store_buf.specs.declared.kept.Kept.{Kept}
 use Rattle.store_buf.specs.Requests.{entry_of, issued_in, answer_if}
 use Rattle.store_buf.specs.Ordering.{OrderOk, kept_at}
@@ -185,7 +186,7 @@ module _ {P : Type 0} (image : Image) (world : World) (formed : Formed image) (s
           (word_of image (content_of s) e)) moves st.parting).0;
       early_issued = λ j h. let r = subst
           (λ (x : code.Chain × List ℕ). EarlyIssued (issued_in s.order.kept.items) (chain_of x.0) x.1)
-          (λ i. (sym same.chain i, sym (ap (λ (v : _). v.items) same.early) i)) st.early_issued j h in
+          (λ i. (sym same.chain i, sym (ap early_ops same.early) i)) st.early_issued j h in
           O.some_more (issued_in n.order.kept.items n.order.chain.wave j)
           (issued_in s.order.kept.items n.order.chain.wave j) r.0 (has_same n.order.chain.wave j) r.1;
       early_all = λ cut w i a t x is y at2 me m. let r =
@@ -193,7 +194,7 @@ module _ {P : Type 0} (image : Image) (world : World) (formed : Formed image) (s
           (sym (has_same w i)) is in
           subst (λ (z : code.Chain × List ℕ).
           HasEarly image world (issued_in s.order.kept.items) (chain_of z.0) z.1)
-          (λ j. (sym same.chain j, sym (ap (λ (v : _). v.items) same.early) j)) st.early_all cut w i r.0 t
+          (λ j. (sym same.chain j, sym (ap early_ops same.early) j)) st.early_all cut w i r.0 t
           x r.1 y at2 me m;
     },
   )

@@ -14,6 +14,7 @@ use Rattle.df_core.specs.Fit.{Legal, RightRequest}
 use Rattle.df_core.proofs.Ports.{with_key_cases}
 use Rattle.df_core.specs.Chains.{chain_of, PassedOn}
 use Rattle.df_core.specs.Began.{Began}
+use Rattle.store_buf.specs.Earlies.{early_ops}
 use Rattle.store_buf.specs.declared.kept.Kept.{Kept}
 use Rattle.store_buf.specs.Requests.{entry_of, issued_in, answer_if}
 use Rattle.store_buf.specs.Ordering.{kept_at}
@@ -177,8 +178,8 @@ module _ {P : Type 0} (image : Image) (world : World) (formed : Formed image) (s
         second = (kept_at s.order p).second;
         answer = Some word;
       }))
-      (passed : PassedOn image (chain_of s.order.chain) (kept_at s.order p).instr s.order.early.items
-      (chain_of n.order.chain) n.order.early.items)
+      (passed : PassedOn image (chain_of s.order.chain) (kept_at s.order p).instr (early_ops s.order.early)
+      (chain_of n.order.chain) (early_ops n.order.early))
       (bare : n.bare ≡ s.bare) (fault : n.fault ≡ s.fault) where
     entries : (w i : ℕ) → entry_of n.order.kept.items w i ≡ with_key k.wave k.instr
         (Some (record {
@@ -233,8 +234,8 @@ module _ {P : Type 0} (image : Image) (world : World) (formed : Formed image) (s
         second = (kept_at s.order p).second;
         answer = Some 0;
       }))
-      (passed : PassedOn image (chain_of s.order.chain) (kept_at s.order p).instr s.order.early.items
-      (chain_of n.order.chain) n.order.early.items)
+      (passed : PassedOn image (chain_of s.order.chain) (kept_at s.order p).instr (early_ops s.order.early)
+      (chain_of n.order.chain) (early_ops n.order.early))
       (bare : n.bare ≡ s.bare) (fault : n.fault ≡ s.fault) (outer : n.outer ≡ s.outer)
       (queued : n.queues.entries.items ≡ joined (entry_at image k) s.queues.entries.items) where
     outside_moved : (word : ℕ) (q : List Entry) →
@@ -306,8 +307,8 @@ module _ {P : Type 0} (image : Image) (world : World) (formed : Formed image) (s
         second = (kept_at s.order p).second;
         answer = Some word;
       }))
-      (passed : PassedOn image (chain_of s.order.chain) (kept_at s.order p).instr s.order.early.items
-      (chain_of n.order.chain) n.order.early.items)
+      (passed : PassedOn image (chain_of s.order.chain) (kept_at s.order p).instr (early_ops s.order.early)
+      (chain_of n.order.chain) (early_ops n.order.early))
       (bare : n.bare ≡ s.bare) (fault : n.fault ≡ s.fault)
       (queued : n.queues.entries.items ≡ s.queues.entries.items)
       (whole : is_in s.bare k.wave k.instr ≡ false)

@@ -7,6 +7,7 @@ use Rattle.df_core.specs.Core.{State, Reach, Once}
 use Rattle.df_core.specs.Fit.{Fit, Grounded}
 use Rattle.port_set.specs.Ports.{Told}
 use Rattle.df_core.specs.Began.{Began}
+use Rattle.store_buf.specs.Earlies.{early_ops}
 use Rattle.store_buf.specs.Requests.{issued_in}
 use Rattle.store_buf.specs.Outdoors.{AllBegan}
 use Rattle.store_buf.proofs.Opening as O
@@ -60,7 +61,7 @@ module _ (image : Image) (world : World) (began : List (Option Began))
   }
 
   module _ {P : Type 0} where
-    pub opening_stands : (s : Parts P) → PartsOk s → PartsFiled image s → s.order.early.items ≡ [] →
+    pub opening_stands : (s : Parts P) → PartsOk s → PartsFiled image s → (early_ops s.order.early) ≡ [] →
         content_of s ≡ opening_content image world ports → PartsStanding image world began s
     opening_stands s ok filed early is = record {
       ok = ok;

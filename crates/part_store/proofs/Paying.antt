@@ -53,7 +53,7 @@ module _ (image : Image) where
 
   -- a token that has come is let go
   pub pay_held : (t : Tables) (c : PartContent) (way : List Token) (x : Token) →
-      (v : ℕ) × (t.held x.wave x.instr x.port ≡ Some v) → Paid image t c (way ++ x ∷ []) → Paid image t c way
+      (v : ℕ) × (t.held x.wave x.instr x.port ≡ Some v) → Paid image t c (x ∷ way) → Paid image t c way
   pay_held t c way x come paid = record {
     start = up _ paid.start;
     told = λ w i h m. up _ (paid.told w i h m);
@@ -61,8 +61,8 @@ module _ (image : Image) where
     answered = λ w i a k e s q. up _ (paid.answered w i a k e s q);
   }
     where
-      up : (ts : List Token) → AllReach t.held (way ++ x ∷ []) ts → AllReach t.held way ts
-      up ts = R.reach_by t.held t.held (way ++ x ∷ []) way ts (R.reach_held t.held way x come)
+      up : (ts : List Token) → AllReach t.held (x ∷ way) ts → AllReach t.held way ts
+      up ts = R.reach_by t.held t.held (x ∷ way) way ts (R.reach_held t.held way x come)
 
   -- a token comes, and its instance hasn't fired
   module _ (old : table.TableContent) (x : Token) (new : table.TableContent) (a : Arrives old x new)
@@ -79,7 +79,7 @@ module _ (image : Image) where
         operands_in image (held old) w i ≡ operands_in image (held new) w i
     same_operands w i h = gather_same (held old) (held new) w i w i 0 (ports image i) (λ p. same_at w i p h)
 
-    pub pay_arrived : (c : PartContent) (way : List Token) → Paid image (part old) c (way ++ x ∷ []) →
+    pub pay_arrived : (c : PartContent) (way : List Token) → Paid image (part old) c (x ∷ way) →
         Paid image (record { held = held new; fired = old.fired }) c way
     pay_arrived c way paid = record {
       start = up _ paid.start;
@@ -90,8 +90,8 @@ module _ (image : Image) where
       answered = λ w i n k e s q. up _ (paid.answered w i n k e s q);
     }
       where
-        up : (ts : List Token) → AllReach (held old) (way ++ x ∷ []) ts → AllReach (held new) way ts
-        up ts = R.reach_by (held old) (held new) (way ++ x ∷ []) way ts (R.reach_arrived old x new a way)
+        up : (ts : List Token) → AllReach (held old) (x ∷ way) ts → AllReach (held new) way ts
+        up ts = R.reach_by (held old) (held new) (x ∷ way) way ts (R.reach_arrived old x new a way)
 
   -- one more has fired
   module _ (f : Ports) (fired : List Key) (w i : ℕ) (c : PartContent) (way : List Token)
@@ -134,7 +134,7 @@ module _ (image : Image) where
   -- what a table answers to a token
   module _ (old : table.TableContent) (x : Token) (new : table.TableContent) (a : Arrives old x new)
       (fresh : HasFired old.fired x.wave x.instr → ⊥) (c : PartContent) (way : List Token)
-      (paid : Paid image (part old) c (way ++ x ∷ [])) where
+      (paid : Paid image (part old) c (x ∷ way)) where
     pub taken_waits : new.fired ≡ old.fired → Paid image (part new) c way
     taken_waits same = subst (λ (ks : List Key). Paid image (record { held = held new; fired = ks }) c way)
         (sym same) (pay_arrived old x new a fresh c way paid)
@@ -163,10 +163,10 @@ module _ (image : Image) where
         (pay_asks (held new) old.fired x.wave x.instr d more up memory whole)
 
 -- a run begins
-pub pay_start : (image : Image) (f : Ports) (ks : List Key) (c : PartContent) → ks ≡ [] → c.kept ≡ [] →
-    Paid image (record { held = f; fired = ks }) c (start_tokens image)
-pay_start image f ks c none empty = record {
-  start = R.reach_all f (start_tokens image) (start_tokens image) (R.covers_self (start_tokens image));
+pub pay_start : (image : Image) (f : Ports) (ks : List Key) (c : PartContent) (way : List Token) → ks ≡ [] →
+    c.kept ≡ [] → Covers (start_tokens image) way → Paid image (record { held = f; fired = ks }) c way
+pay_start image f ks c way none empty pulse = record {
+  start = R.reach_all f (start_tokens image) way pulse;
   told = λ w i h m. absurd (subst (λ (ls : List Key). HasFired ls w i) none h);
   asked = λ w i h m. absurd (subst (λ (ls : List Key). HasFired ls w i) none h);
   answered = λ w i a k e s q. absurd (nothing k

@@ -1,5 +1,5 @@
 -- Tokens that have come or are on the way.
-use Rattle.std.proofs.Common.{ℕ, ◌≡◌, ◌⊎◌, List, [], ◌∷◌, ◌++◌, Some, None, Result, Ok, Err, refl, sym, ap}
+use Rattle.std.proofs.Common.{ℕ, ◌≡◌, ◌⊎◌, List, [], ◌∷◌, ◌++◌, Some, None, refl, sym}
 use Rattle.std.proofs.Common.{◌∙◌, subst, inl, inr}
 use Rattle.ws_isa.specs.Image.{Token}
 use Rattle.ws_isa.specs.Walk.{Ports}
@@ -9,9 +9,7 @@ use Rattle.df_core.proofs.SlotLists.{is_sent_append_left, is_sent_append_right, 
 use Rattle.match_table.specs.Tables as table
 use Rattle.match_table.specs.Tables.{held}
 use Rattle.match_table.specs.Matching.{Arrives}
-use Rattle.store_buf.specs.declared.fault.BufFault.{BufFault}
-use Rattle.store_buf.specs.declared.fault.BufFault.TheVariants as fault
-use Rattle.part_store.specs.Runs.{AllReach, Covers, IsOffered, IsOnItsWay}
+use Rattle.part_store.specs.Runs.{AllReach, Covers, IsOnItsWay}
 
 pub covers_self : (ts : List Token) → Covers ts ts
 covers_self ts w i p v h = h
@@ -21,26 +19,6 @@ covers_left some rest all c w i p v h = c w i p v (is_sent_append_left some rest
 
 pub covers_right : (some rest all : List Token) → Covers (some ++ rest) all → Covers rest all
 covers_right some rest all c w i p v h = c w i p v (is_sent_append_right some rest w i p v h)
-
--- beside the same others
-pub covers_beside : (some all others : List Token) → Covers some all → Covers (some ++ others) (all ++ others)
-covers_beside some all others c w i p v h = elim (is_sent_append_cases some others w i p v h) [
-  | inl g ↦ is_sent_append_left all others w i p v (c w i p v g)
-  | inr g ↦ is_sent_append_right all others w i p v g
-]
-
-pub covers_wider : (some all others : List Token) → Covers some all → Covers some (all ++ others)
-covers_wider some all others c w i p v h = is_sent_append_left all others w i p v (c w i p v h)
-
-pub offered_beside : (answer : Result (List Token) BufFault) (old new others : List Token) →
-    IsOffered answer old new → IsOffered answer (old ++ others) (new ++ others)
-offered_beside (Ok ts) old new others o = (covers_beside old new others o.0, covers_wider ts new others o.1)
-offered_beside (Err (fault.Index a)) old new others o = ap (λ (ts : List Token). ts ++ others) o
-offered_beside (Err (fault.Port p)) old new others o = ap (λ (ts : List Token). ts ++ others) o
-offered_beside (Err fault.NoMemory) old new others o = absurd o
-offered_beside (Err fault.Old) old new others o = ap (λ (ts : List Token). ts ++ others) o
-offered_beside (Err (fault.Stopped p)) old new others o = ap (λ (ts : List Token). ts ++ others) o
-offered_beside (Err (fault.Ended a)) old new others o = ap (λ (ts : List Token). ts ++ others) o
 
 -- what reaches its port there reaches it here
 pub reach_by : (f g : Ports) (way more ts : List Token) →
@@ -56,23 +34,16 @@ pub reach_all : (f : Ports) (ts way : List Token) → Covers ts way → AllReach
 reach_all f ts way c w i p v h = inr (v, c w i p v h)
 
 -- a token that has come is no longer on the way
-last_only : (way : List Token) (x : Token) (w i p v : ℕ) → IsSent (way ++ x ∷ []) w i p v →
-    IsSent way w i p v ⊎ ((x.wave ≡ w) × (x.instr ≡ i) × (x.port ≡ p) × (x.value ≡ v))
-last_only way x w i p v h = elim (is_sent_append_cases way (x ∷ []) w i p v h) [
-  | inl g ↦ inl g
-  | inr g ↦ elim g [ inl e ↦ inr e | inr e ↦ absurd e ]
-]
-
 pub reach_held : (f : Ports) (way : List Token) (x : Token) → (v : ℕ) × (f x.wave x.instr x.port ≡ Some v) →
-    (w i p : ℕ) → IsOnItsWay f (way ++ x ∷ []) w i p → IsOnItsWay f way w i p
+    (w i p : ℕ) → IsOnItsWay f (x ∷ way) w i p → IsOnItsWay f way w i p
 reach_held f way x come w i p (inl h) = inl h
-reach_held f way x come w i p (inr h) = elim (last_only way x w i p h.0 h.1) [
-  | inl g ↦ inr (h.0, g)
-  | inr e ↦ inl (
+reach_held f way x come w i p (inr h) = elim h.1 [
+  | inl e ↦ inl (
     come.0,
     subst (λ (k : ℕ × ℕ × ℕ). f k.0 k.1 k.2 ≡ Some come.0)
         (λ j. (e.0 j, e.1 j, e.2 j)) come.1,
   )
+  | inr g ↦ inr (h.0, g)
 ]
 
 module _ (old : table.TableContent) (x : Token) (new : table.TableContent) (a : Arrives old x new) where
@@ -96,45 +67,68 @@ module _ (old : table.TableContent) (x : Token) (new : table.TableContent) (a : 
   pub held_same : (w i p v : ℕ) → held old w i p ≡ Some v → held new w i p ≡ held old w i p
   held_same w i p v e = held_old w i p v e ∙ sym e
 
-  pub reach_arrived : (way : List Token) (w i p : ℕ) → IsOnItsWay (held old) (way ++ x ∷ []) w i p →
+  pub reach_arrived : (way : List Token) (w i p : ℕ) → IsOnItsWay (held old) (x ∷ way) w i p →
       IsOnItsWay (held new) way w i p
   reach_arrived way w i p (inl h) = inl (h.0, held_old w i p h.0 h.1)
   reach_arrived way w i p (inr h) = reach_held (held new) way x (x.value, held_new) w i p (inr h)
 
--- a token is taken from one list to another
-pub covers_push : (old way more : List Token) (t : Token) → Covers old way → more ≡ way ++ t ∷ [] →
+-- a token is put on the way, behind this round or behind what waits for the next
+pub covers_round : (old round next more : List Token) (t : Token) → old ≡ round ++ next →
+    more ≡ round ++ t ∷ [] → Covers (t ∷ old) (more ++ next)
+covers_round old round next more t e f w i p v h =
+    subst (λ (ts : List Token). IsSent (ts ++ next) w i p v) (sym f) (elim h [
+      | inl g ↦ is_sent_append_left (round ++ t ∷ []) next w i p v
+          (is_sent_append_right round (t ∷ []) w i p v (inl g))
+      | inr g ↦ elim (is_sent_append_cases round next w i p v
+          (subst (λ (ts : List Token). IsSent ts w i p v) e g)) [
+            | inl k ↦ is_sent_append_left (round ++ t ∷ []) next w i p v
+                (is_sent_append_left round (t ∷ []) w i p v k)
+            | inr k ↦ is_sent_append_right (round ++ t ∷ []) next w i p v k
+          ]
+    ])
+
+pub covers_next : (old round next more : List Token) (t : Token) → old ≡ round ++ next →
+    more ≡ next ++ t ∷ [] → Covers (t ∷ old) (round ++ more)
+covers_next old round next more t e f w i p v h =
+    subst (λ (ts : List Token). IsSent (round ++ ts) w i p v) (sym f) (elim h [
+      | inl g ↦ is_sent_append_right round (next ++ t ∷ []) w i p v
+          (is_sent_append_right next (t ∷ []) w i p v (inl g))
+      | inr g ↦ elim (is_sent_append_cases round next w i p v
+          (subst (λ (ts : List Token). IsSent ts w i p v) e g)) [
+            | inl k ↦ is_sent_append_left round (next ++ t ∷ []) w i p v k
+            | inr k ↦ is_sent_append_right round (next ++ t ∷ []) w i p v
+                (is_sent_append_left next (t ∷ []) w i p v k)
+          ]
+    ])
+
+-- a token is taken from a list and put on the way
+pub covers_put : (old way more : List Token) (t : Token) → Covers old way → Covers (t ∷ way) more →
     Covers old more
-covers_push old way more t c e = subst (λ (ts : List Token). Covers old ts) (sym e)
-    (λ w i p v h. is_sent_append_left way (t ∷ []) w i p v (c w i p v h))
+covers_put old way more t c put w i p v h = put w i p v (inr (c w i p v h))
 
 pub taken_on : (all before after way more : List Token) (t : Token) →
     ((w i p v : ℕ) → IsSent all w i p v → IsSent way w i p v ⊎ IsSent before w i p v) →
-    before ≡ after ++ t ∷ [] → more ≡ way ++ t ∷ [] →
+    before ≡ after ++ t ∷ [] → Covers (t ∷ way) more →
     (w i p v : ℕ) → IsSent all w i p v → IsSent more w i p v ⊎ IsSent after w i p v
-taken_on all before after way more t c e f w i p v h = elim (c w i p v h) [
-  | inl g ↦ inl (subst (λ (ts : List Token). IsSent ts w i p v) (sym f)
-      (is_sent_append_left way (t ∷ []) w i p v g))
+taken_on all before after way more t c e put w i p v h = elim (c w i p v h) [
+  | inl g ↦ inl (put w i p v (inr g))
   | inr g ↦ elim (is_sent_append_cases after (t ∷ []) w i p v
       (subst (λ (ts : List Token). IsSent ts w i p v) e g)) [
         | inl k ↦ inr k
-        | inr k ↦ inl (subst (λ (ts : List Token). IsSent ts w i p v) (sym f)
-            (is_sent_append_right way (t ∷ []) w i p v k))
+        | inr k ↦ elim k [ inl x ↦ inl (put w i p v (inl x)) | inr x ↦ absurd x ]
       ]
 ]
 
 pub taken_first : (all before after way more : List Token) (t : Token) →
     ((w i p v : ℕ) → IsSent all w i p v → IsSent way w i p v ⊎ IsSent before w i p v) →
-    before ≡ t ∷ after → more ≡ way ++ t ∷ [] →
+    before ≡ t ∷ after → Covers (t ∷ way) more →
     (w i p v : ℕ) → IsSent all w i p v → IsSent more w i p v ⊎ IsSent after w i p v
-taken_first all before after way more t c e f w i p v h = elim (c w i p v h) [
-  | inl g ↦ inl (subst (λ (ts : List Token). IsSent ts w i p v) (sym f)
-      (is_sent_append_left way (t ∷ []) w i p v g))
-  | inr g ↦ elim (is_sent_append_cases (t ∷ []) after w i p v
-      (subst (λ (ts : List Token). IsSent ts w i p v) e g)) [
-        | inl k ↦ inl (subst (λ (ts : List Token). IsSent ts w i p v) (sym f)
-            (is_sent_append_right way (t ∷ []) w i p v k))
-        | inr k ↦ inr k
-      ]
+taken_first all before after way more t c e put w i p v h = elim (c w i p v h) [
+  | inl g ↦ inl (put w i p v (inr g))
+  | inr g ↦ elim (subst (λ (ts : List Token). IsSent ts w i p v) e g) [
+    | inl k ↦ inl (put w i p v (inl k))
+    | inr k ↦ inr k
+  ]
 ]
 
 pub all_taken : (all rest way : List Token) →

@@ -23,7 +23,7 @@ use Rattle.part_store.specs.Queues.{all_later, front, is_later, joined, without,
 use Rattle.part_store.specs.Contents.{is_on_row}
 use Rattle.part_store.specs.Parted.{OnCell, Earlier, IsNumbered, RisingEntries}
 use Rattle.part_store.proofs.Keys.{IsOn, key_cases, cell_cases, same_key_is}
-use Rattle.df_core.proofs.Firsts.{seq_up}
+use Rattle.df_core.proofs.Ops.{seq_up}
 use Rattle.part_store.proofs.Fronts as F
 use Rattle.ws_words.specs.Items.{In}
 

@@ -16,7 +16,7 @@ use Rattle.df_core.proofs.Ports.{with_key_cases}
 use Rattle.df_core.specs.Chains.{chain_of, may_flag, next_flag, PassedOn}
 use Rattle.df_core.specs.Stands.{HasEarly, EarlyIssued}
 use Rattle.df_core.proofs.Nexts.{next_is}
-use Rattle.df_core.proofs.Issuing.{in_end, end_in}
+use Rattle.store_buf.specs.Earlies.{early_ops}
 use Rattle.store_buf.specs.declared.kept.Kept.{Kept}
 use Rattle.store_buf.specs.declared.order.Order.{Order}
 use Rattle.store_buf.specs.Requests.{entry_of, issued_in}
@@ -107,20 +107,20 @@ module _ (image : Image) (world : World) (formed : Formed image) (sound : Sound 
     (counts : ℕ → ℕ → Option ℕ) (memory : Outside) (waiting after : ℕ → ℕ → Option (List ℕ))
     (legal : Legal image world counts waiting false (chain_of o.chain) memory)
     (same : (w i : ℕ) → has (counts w i) ≡ has (issued_in o.kept.items w i))
-    (early_issued : EarlyIssued (issued_in o.kept.items) (chain_of o.chain) o.early.items)
-    (early_all : HasEarly image world (issued_in o.kept.items) (chain_of o.chain) o.early.items)
+    (early_issued : EarlyIssued (issued_in o.kept.items) (chain_of o.chain) (early_ops o.early))
+    (early_all : HasEarly image world (issued_in o.kept.items) (chain_of o.chain) (early_ops o.early))
     (w i : ℕ) (xs : List ℕ) (req : RightRequest image world w i xs)
     (may : Issuable image counts (chain_of o.chain) false w i xs) (inside : is_past image i xs ≡ false)
     (new_same : (v j : ℕ) → has (issued_with image counts memory w i xs v j) ≡ has
-    (issued_in n.kept.items v j)) (passed : PassedOn image (chain_of o.chain) i o.early.items
-    (chain_of n.chain) n.early.items) where
+    (issued_in n.kept.items v j)) (passed : PassedOn image (chain_of o.chain) i (early_ops o.early)
+    (chain_of n.chain) (early_ops n.early)) where
   abbrev facts : WalkFacts image world
   facts = T.facts image world formed sound
 
   abbrev Counts : ℕ → ℕ → Option ℕ
   Counts = issued_with image counts memory w i xs
 
-  going : OrderGoes image world counts waiting false (chain_of o.chain) memory o.early.items
+  going : OrderGoes image world counts waiting false (chain_of o.chain) memory (early_ops o.early)
   going = record {
     legal = legal;
     early_issued = λ j h. let r = early_issued j h in
@@ -134,25 +134,25 @@ module _ (image : Image) (world : World) (formed : Formed image) (sound : Sound 
   After : Type 0
   After = Passes image (issued_with image counts memory w i xs) (chain_of o.chain) (chain_of n.chain)
       × OrderGoes image world (issued_with image counts memory w i xs) after false (chain_of n.chain)
-      (effect_after image i xs memory) n.early.items
+      (effect_after image i xs memory) (early_ops n.early)
 
   goes : After
   unfolding After
   goes = elim passed [
     | inl q ↦ G.goes_next image world facts counts waiting false
-        (chain_of o.chain) memory o.early.items going w i xs req may inside after q.0
-        (chain_of n.chain) n.early.items q.1
+        (chain_of o.chain) memory (early_ops o.early) going w i xs req may inside after q.0
+        (chain_of n.chain) (early_ops n.early) q.1
     | inr q ↦ (let load : is_load image i ≡ true = elim may.turn [ inl e ↦ absurd (q.0 e) | inr e ↦ e.0 ] in
         let r = G.goes_early image world facts counts waiting false
-        (chain_of o.chain) memory o.early.items going w i xs req may inside after q.0 load in (
+        (chain_of o.chain) memory (early_ops o.early) going w i xs req may inside after q.0 load in (
           subst (λ (d : law.Chain). Passes image (issued_with image counts memory w i xs)
               (chain_of o.chain) d) (sym q.1) r.0,
           subst (λ (d : law.Chain). OrderGoes image world (issued_with image counts memory w i xs) after false d
-              (effect_after image i xs memory) n.early.items) (sym q.1)
+              (effect_after image i xs memory) (early_ops n.early)) (sym q.1)
               (early_alike image world (issued_with image counts memory w i xs) after false (chain_of o.chain)
-              (effect_after image i xs memory) (i ∷ o.early.items) n.early.items
-              (λ j e. subst (In j) (sym q.2) (in_end i j o.early.items e))
-              (λ j e. end_in i j o.early.items (subst (In j) q.2 e)) r.1),
+              (effect_after image i xs memory) (i ∷ (early_ops o.early)) (early_ops n.early)
+              (λ j e. elim e [ inl h ↦ subst (λ (k : ℕ). In k (early_ops n.early)) (sym h) q.2.1 | inr h ↦ q.2.2 j h ])
+              (λ j e. elim (q.2.0 j e) [ inl h ↦ inl (sym h) | inr h ↦ inr h ]) r.1),
         ))
   ]
 
@@ -161,13 +161,13 @@ module _ (image : Image) (world : World) (formed : Formed image) (sound : Sound 
   passes_on = O.passes_alike image (issued_with image counts memory w i xs) (issued_in n.kept.items)
       (λ v j. sym (new_same v j)) (chain_of o.chain) (chain_of n.chain) goes.0
 
-  pub early_now : EarlyIssued (issued_in n.kept.items) (chain_of n.chain) n.early.items
+  pub early_now : EarlyIssued (issued_in n.kept.items) (chain_of n.chain) (early_ops n.early)
   unfolding After
   early_now j h = let r = goes.1.early_issued j h in
       O.some_more (issued_in n.kept.items n.chain.wave j)
       (issued_with image counts memory w i xs n.chain.wave j) r.0 (sym (new_same n.chain.wave j)) r.1
 
-  pub all_now : HasEarly image world (issued_in n.kept.items) (chain_of n.chain) n.early.items
+  pub all_now : HasEarly image world (issued_in n.kept.items) (chain_of n.chain) (early_ops n.early)
   unfolding After
   all_now cut v j a t e is x at me l = let r =
       O.some_more (issued_with image counts memory w i xs v j) (issued_in n.kept.items v j) a

@@ -11,6 +11,7 @@ use Rattle.ws_isa.specs.Sound.{Sound}
 use Rattle.df_core.specs.Core.{has}
 use Rattle.df_core.specs.Began.{Began}
 use Rattle.df_core.specs.Rights.{IsAsked}
+use Rattle.store_buf.specs.Earlies.{early_ops}
 use Rattle.store_buf.specs.Stores.{asked_of}
 use Rattle.df_core.specs.Chains.{chain_of}
 use Rattle.df_core.specs.Stands.{HasEarly, EarlyIssued}
@@ -73,9 +74,10 @@ module _ {P : Type 0} where
   pub record PartsStand (image : Image) (world : World) (began : List (Option Began))
       (s : Parts P) : Type 0 where
     pub parting : Parting image world began (content_of s)
-    pub early_issued : EarlyIssued (issued_in s.order.kept.items) (chain_of s.order.chain) s.order.early.items
+    pub early_issued : EarlyIssued (issued_in s.order.kept.items) (chain_of s.order.chain)
+        (early_ops s.order.early)
     pub early_all : HasEarly image world (issued_in s.order.kept.items) (chain_of s.order.chain)
-        s.order.early.items
+        (early_ops s.order.early)
 
   -- and each queue's first entry is a store without data
   abbrev pub Calm : Image → World → List (Option Began) → Parts P → Type 0
@@ -145,7 +147,7 @@ module _ {P : Type 0} where
   pub record PartsKeep (old : Parts P) (kept : List Kept) (new : Parts P) : Type 0 where
     pub kept_are : new.order.kept.items ≡ kept
     pub chain : new.order.chain ≡ old.order.chain
-    pub early : new.order.early.items ≡ old.order.early.items
+    pub early : (early_ops new.order.early) ≡ (early_ops old.order.early)
     pub outer : holding new.outer ≡ holding old.outer
     pub queued : new.queues.entries.items ≡ old.queues.entries.items
     pub fault : new.fault ≡ old.fault

@@ -67,14 +67,16 @@ impl<P: Port> Parts<P> {
         ensures room { HasRoomFor told.new (8 * self.new.order.waiting) }
         ensures same_room { told.new.capacity ≡ told.old.capacity }
     {
-        while let Some(entry) = self.ready_front(row, index) {
+        while let Some(entry) = self.ready_front(program, row, index) {
             self.finish_front(program, entry, told);
         }
     }
 
     // The first entry on a cell, where it isn't a store without data.
-    fn ready_front(&self, row: usize, index: u64) -> Option<Entry>
-        requires { PartsOk self.now }
+    fn ready_front(&self, program: &Program<'_>, row: usize, index: u64) -> Option<Entry>
+        requires program { ProgramIs program.now }
+        requires ok { PartsOk self.now }
+        requires filed { PartsFiled (image_of program.now) self.now }
         ensures some { IfSome result (λ e. (front self.now.queues.entries.items row index ≡ Some e)
             × (is_in self.now.bare e.wave e.instr ≡ false)) }
         ensures none { IfNone result ((e : Entry) →
@@ -83,7 +85,7 @@ impl<P: Port> Parts<P> {
     {
         match self.queues.front(row, index) {
             Some(entry) => {
-                if self.bare.has(entry.wave, entry.instr) {
+                if self.is_alone(program.op(entry.instr), entry.wave, entry.instr) {
                     None
                 } else {
                     Some(entry)

@@ -23,7 +23,8 @@
 //! within the budget, and its printed words, arrays and ports; `Budget` where as many instances have fired as
 //! may and the walk has more; `Fault` at the walk's first load or store past the end, with its array and what
 //! the walk leaves before it; `Port` where the walk's next operation is on a port that failed in the run.
-//! Tokens are brought in rounds, and a store's address to the buffer before its data: no clause says so.
+//! Tokens are brought in rounds by wave, and a store's address to the buffer before its data: no clause
+//! says so.
 #![tactic(auto)]
 
 pub mod bare;
@@ -40,6 +41,7 @@ pub mod quiet;
 mod room;
 mod rows;
 mod run;
+mod search;
 mod way;
 
 pub use finish::{PartEnd, PartFinish};

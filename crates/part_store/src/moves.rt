@@ -8,9 +8,12 @@ ghost use Rattle.df_core.specs.Core.{has};
 ghost use Rattle.df_core.specs.Chains.{PassedOn, chain_of};
 ghost use Rattle.df_core.specs.Places.{ProgramIs, image_of};
 ghost use Rattle.df_core.specs.Rights.{tokens_of};
+ghost use Rattle.store_buf.specs.Earlies.{early_ops};
 ghost use Rattle.store_buf.specs.Ordering.{MayAt, kept_at};
 ghost use Rattle.store_buf.specs.Outdoors.{FaultsGrow};
+ghost use Rattle.part_store.specs.Bares.{is_in};
 ghost use Rattle.part_store.specs.Queues.{joined};
+ghost use Rattle.part_store.specs.Parted.{is_store_op};
 ghost use Rattle.part_store.specs.Contents.{holds_op};
 ghost use Rattle.part_store.specs.Rules.{entry_at};
 ghost use Rattle.part_store.specs.Parts.{GoesAt, MovesOn, NoneGoSo, NoneSought, PartsOk, PartsFiled};
@@ -135,6 +138,7 @@ impl<P: Port> Parts<P> {
     fn may_go(&self, program: &Program<'_>, place: usize) -> bool
         requires program { ProgramIs program.now }
         requires ok { PartsOk self.now }
+        requires filed { PartsFiled (image_of program.now) self.now }
         ensures yes { result ≡ true → place < length self.now.order.kept.items }
         ensures goes { place < length self.now.order.kept.items
             → result ≡ go_flag (image_of program.now) self.now (kept_at self.now.order place) }
@@ -152,14 +156,26 @@ impl<P: Port> Parts<P> {
     fn may_by_rules(&self, program: &Program<'_>, kept: Kept) -> bool
         requires program { ProgramIs program.now }
         requires ok { PartsOk self.now }
+        requires filed { PartsFiled (image_of program.now) self.now }
         ensures { result ≡ rule_flag (image_of program.now) self.now kept }
     {
         let op = program.op(kept.instr);
-        if self.bare.has(kept.wave, kept.instr) {
+        if self.is_alone(op, kept.wave, kept.instr) {
             !program.is_past(op, kept.first)
                 && (self.queues.held < QUEUES || self.holds(op, kept.first))
         } else {
             self.queues.entries.is_empty() || !program.is_past(op, kept.first)
+        }
+    }
+
+    // Whether of an instance with this operation the address alone has come; only a store's does.
+    pub(crate) fn is_alone(&self, op: Op, wave: u64, instr: u32) -> bool
+        requires { is_in self.now.bare wave instr ≡ true → is_store_op op ≡ true }
+        ensures { result ≡ is_in self.now.bare wave instr }
+    {
+        match op {
+            Op::Store(_) => self.bare.has(wave, instr),
+            _ => false,
         }
     }
 
@@ -206,7 +222,7 @@ impl<P: Port> Parts<P> {
             self.fault = Some(array_of(op));
             return Ok(());
         }
-        if self.bare.has(kept.wave, kept.instr) || self.holds(op, kept.first) {
+        if self.is_alone(op, kept.wave, kept.instr) || self.holds(op, kept.first) {
             self.wait_on(program, place);
             return Ok(());
         }
@@ -227,8 +243,8 @@ impl<P: Port> Parts<P> {
         ensures kept { self.new.order.kept.items ≡ slice_set self.old.order.kept.items place
             (record (kept_at self.old.order place) { answer = Some 0 }) }
         ensures passed { PassedOn (image_of program.now) (chain_of self.old.order.chain)
-            (kept_at self.old.order place).instr self.old.order.early.items
-            (chain_of self.new.order.chain) self.new.order.early.items }
+            (kept_at self.old.order place).instr (early_ops self.old.order.early)
+            (chain_of self.new.order.chain) (early_ops self.new.order.early) }
         ensures queued { self.new.queues.entries.items ≡ joined
             (entry_at (image_of program.now) (kept_at self.old.order place))
             self.old.queues.entries.items }

@@ -146,7 +146,8 @@ impl<J: Job, P: Port> PartBuffer<J, P> {
         request: Request<J>,
         answers: &mut Answers<J>,
     ) -> Result<(), BufFault>
-        ensures { SubmittedSo J.image self.old (request_of request) (with_tokens answers.new result) self.new }
+        ensures { SubmittedSo J.image self.old (request_of request) (with_tokens answers.new result)
+            self.new }
     {
         let kept = kept_request(&request);
         answers.told.clear();

@@ -1,10 +1,12 @@
 //! A run of an image on one thread, over one table and one buffer with partial store queues. Tokens are
-//! brought in rounds: what comes of the tokens of a round is brought after the last of them, so all that
-//! is on the way comes in turn.
+//! brought in rounds by wave, first in first out: what comes of a token is brought after all of its round
+//! if it is of that token's wave or an earlier one, and in the next round else. So a wave is brought as far
+//! as it goes before a later one begins, and all that is on the way comes in turn.
 
-ghost use Rattle.std.specs.Prelude.{◌≡◌, ◌+◌, ◌≤◌, ◌++◌, ◌∷◌, List, [], Option, true, length, MatchOption};
+ghost use Rattle.std.specs.Prelude.{◌≡◌, ◌+◌, ◌≤◌, ◌∷◌, List, [], Option, true, length, MatchOption};
 ghost use Rattle.std.specs.Prelude.{OnOk};
-ghost use Rattle.ws_isa.specs.Image.{Token as Plain, instr_at};
+ghost use Rattle.ws_isa.specs.Image.{instr_at};
+ghost use Rattle.ws_isa.specs.Walk.{start_tokens};
 ghost use Rattle.df_core.specs.Shown.{Tables};
 ghost use Rattle.match_table.specs.Tables.{part};
 ghost use Rattle.port_set.specs.Ports.{Told};
@@ -13,12 +15,12 @@ ghost use Rattle.store_buf.specs.Outdoors.{AllBegan, AllTell, began_of, world_wi
 ghost use Rattle.part_store.specs.declared.finish.PartFinish.TheVariants as finish;
 ghost use Rattle.part_store.specs.Parted.{is_store_op};
 ghost use Rattle.part_store.specs.Answer.{PartTells};
-ghost use Rattle.part_store.specs.Runs.{IsWhole, Paid, PaidWhile, PartEndingSo, GoesOn};
+ghost use Rattle.part_store.specs.Runs.{Covers, IsWhole, Paid, PaidWhile, PartEndingSo, GoesOn};
 
 use crate::finish::{Ending, PartEnd, PartFinish, finish};
 use crate::part::PartBuffer;
-use crate::way::{offer, send_all, take};
-use df_core::{Code, Job, Request, Token, TokenList, start};
+use crate::way::Way;
+use df_core::{Code, Job, Request, Token, start};
 use match_table::{Results, Table, Took};
 use port_set::{Port, Slots};
 use std::alloc::Global;
@@ -27,14 +29,13 @@ use store_buf::{Answers, told_ports_begin};
 use ws_isa::{Checked, Op};
 use ws_words::{NoMemory, Words};
 
-// A table, a buffer, and the tokens on the way: those of this round, and what came of those that were
-// taken of it. The buffer's answers have a place of their own until they are on the way too.
+// A table, a buffer, and the tokens on the way. The buffer's answers have a place of their own until they
+// are on the way too.
 #[derive(Drop)]
 struct Run<J: Job, P: Port> {
     table: Table<J>,
     buffer: PartBuffer<J, P>,
-    way: TokenList<J>,
-    next: TokenList<J>,
+    way: Way<J>,
     answers: Answers<J>,
 }
 
@@ -119,18 +120,21 @@ fn run_from<J: Job, P: Port>(
     let mut run = Run {
         table: Table::new(alloc),
         buffer,
-        way: TokenList::empty(alloc),
-        next: TokenList::empty(alloc),
+        way: Way::none(alloc),
         answers: Answers::none(alloc),
     };
-    let ending = match start(alloc, code) {
-        Ok(pulse) => {
-            run.way = pulse;
-            run_on(code, &mut run, budget)
-        }
+    let ending = match begin(alloc, code, &mut run.way) {
+        Ok(()) => run_on(code, &mut run, budget),
         Err(_) => Ending::Stopped,
     };
     finish(code, run.table, run.buffer, ending, budget)
+}
+
+// Puts the start pulse on the way.
+fn begin<J: Job>(alloc: Global, code: &Code<'_, J>, way: &mut Way<J>) -> Result<(), NoMemory>
+    ensures { OnOk result (Covers (start_tokens J.image) way.new) }
+{
+    way.pour(start(alloc, code)?)
 }
 
 // For want of memory nothing was run.
@@ -147,8 +151,7 @@ fn stays<P: Port>(ports: Slots<P>) -> PartEnd<P>
 // Brings tokens to the table until none is on the way, the budget is spent, or the buffer is stopped.
 fn run_on<J: Job, P: Port>(code: &Code<'_, J>, run: &mut Run<J, P>, budget: u64) -> Ending
     requires within { length run.old.table.fired ≤ budget }
-    requires paid { PaidWhile J.image (part run.old.table) run.old.buffer
-        (run.old.next ++ run.old.way) }
+    requires paid { PaidWhile J.image (part run.old.table) run.old.buffer run.old.way }
     ensures within { length run.new.table.fired ≤ budget }
     ensures ended { PartEndingSo J.image J.world budget run.new.table run.new.buffer result }
 {
@@ -163,18 +166,16 @@ fn run_on<J: Job, P: Port>(code: &Code<'_, J>, run: &mut Run<J, P>, budget: u64)
 // Brings a token of the round to the table, if the run goes on.
 fn step<J: Job, P: Port>(code: &Code<'_, J>, run: &mut Run<J, P>, budget: u64) -> Option<Ending>
     requires within { length run.old.table.fired ≤ budget }
-    requires paid { PaidWhile J.image (part run.old.table) run.old.buffer
-        (run.old.next ++ run.old.way) }
+    requires paid { PaidWhile J.image (part run.old.table) run.old.buffer run.old.way }
     ensures within { length run.new.table.fired ≤ budget }
     ensures paid { MatchOption result
-        (PaidWhile J.image (part run.new.table) run.new.buffer
-        (run.new.next ++ run.new.way))
+        (PaidWhile J.image (part run.new.table) run.new.buffer run.new.way)
         (λ ending. PartEndingSo J.image J.world budget run.new.table run.new.buffer ending) }
 {
     if run.buffer.stop().is_some() {
         return Some(Ending::Stopped);
     }
-    let Some(token) = take(&mut run.way, &mut run.next) else {
+    let Some(token) = run.way.take() else {
         return Some(Ending::Whole);
     };
     if run.table.fired_count() as u64 >= budget {
@@ -195,12 +196,10 @@ fn bring<J: Job, P: Port>(
     run: &mut Run<J, P>,
     token: Token<J>,
 ) -> Result<(), NoMemory>
-    requires paid { Paid J.image (part run.old.table) run.old.buffer
-        (run.old.next ++ run.old.way ++ token ∷ []) }
+    requires paid { Paid J.image (part run.old.table) run.old.buffer (token ∷ run.old.way) }
     ensures fired { length run.new.table.fired ≤ length run.old.table.fired + 1 }
     ensures paid { OnOk result
-        (PaidWhile J.image (part run.new.table) run.new.buffer
-        (run.new.next ++ run.new.way)) }
+        (PaidWhile J.image (part run.new.table) run.new.buffer run.new.way) }
 {
     let _ = code.program();
     let _ = token.wave();
@@ -214,18 +213,18 @@ fn bring<J: Job, P: Port>(
                 code,
                 &mut run.buffer,
                 &mut run.answers,
-                &mut run.next,
+                &mut run.way,
                 address,
             ),
             None => Ok(()),
         },
-        Took::Fires => send_all(sent, &mut run.next),
+        Took::Fires => run.way.send_all(sent),
         Took::Asks => match request {
             Some(request) => ask(
                 code,
                 &mut run.buffer,
                 &mut run.answers,
-                &mut run.next,
+                &mut run.way,
                 request,
             ),
             None => unreachable!(),
@@ -240,17 +239,16 @@ fn tell<J: Job, P: Port>(
     code: &Code<'_, J>,
     buffer: &mut PartBuffer<J, P>,
     answers: &mut Answers<J>,
-    next: &mut TokenList<J>,
+    way: &mut Way<J>,
     token: Token<J>,
 ) -> Result<(), NoMemory>
     requires store { is_store_op (instr_at J.image token.instr).op ≡ true }
     requires port { token.port ≡ 0 }
-    ensures paid { OnOk result ((t : Tables) (others : List Plain)
-        → Paid J.image t buffer.old (next.old ++ others)
-        → PaidWhile J.image t buffer.new (next.new ++ others)) }
+    ensures paid { OnOk result ((t : Tables) → Paid J.image t buffer.old way.old
+        → PaidWhile J.image t buffer.new way.new) }
 {
     let answer = buffer.address_into(code, token, answers);
-    offer(answer, answers, next)
+    way.offer(answer, answers)
 }
 
 // Brings a request to the buffer.
@@ -258,18 +256,17 @@ fn ask<J: Job, P: Port>(
     code: &Code<'_, J>,
     buffer: &mut PartBuffer<J, P>,
     answers: &mut Answers<J>,
-    next: &mut TokenList<J>,
+    way: &mut Way<J>,
     request: Request<J>,
 ) -> Result<(), NoMemory>
-    ensures paid { OnOk result ((t : Tables) (others : List Plain)
-        → Paid J.image t buffer.old (next.old ++ others)
-        → PaidWhile J.image t buffer.new (next.new ++ others)) }
+    ensures paid { OnOk result ((t : Tables) → Paid J.image t buffer.old way.old
+        → PaidWhile J.image t buffer.new way.new) }
     ensures asked { OnOk result (GoesOn buffer.new
         → IsWhole buffer.new request.wave request.instr) }
 {
     buffer.facts();
     let answer = buffer.submit_into(code, request, answers);
-    offer(answer, answers, next)
+    way.offer(answer, answers)
 }
 
 // The token, where it is the address of a store.

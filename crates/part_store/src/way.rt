@@ -1,62 +1,124 @@
-//! Tokens on the way, in rounds.
+//! Tokens on the way, in rounds by wave, first in first out.
 
-ghost use Rattle.std.specs.Prelude.{◌≡◌, ◌++◌, ◌∷◌, [], MatchOption, OnOk};
+ghost use Rattle.std.specs.Prelude.{◌≡◌, ◌∷◌, [], MatchOption, OnOk};
 ghost use Rattle.store_buf.specs.Contents.{with_tokens};
 ghost use Rattle.part_store.specs.Runs.{Covers, IsOffered};
 
 use df_core::{Job, Sent, Token, TokenList};
+use std::alloc::Global;
+use std::collections::VecDeque;
+use std::marker::Model;
 use std::mem::swap;
 use store_buf::{Answers, BufFault};
 use ws_words::NoMemory;
 
-/// Takes a token of a round. Where none is left of it, the next round begins.
-pub fn take<J: Job>(round: &mut TokenList<J>, next: &mut TokenList<J>) -> Option<Token<J>>
-    ensures { MatchOption result (next.old ++ round.old ≡ [])
-        (λ token. next.old ++ round.old ≡ next.new ++ round.new ++ token ∷ []) }
-{
-    match round.pop() {
-        Some(token) => Some(token),
-        None => {
-            swap(round, next);
-            round.pop()
+/// Tokens on the way: those of this round, and those that wait for the next one. What comes of a token is
+/// put behind this round where it is of the same wave or an earlier one, and waits else. So a wave goes as
+/// far as it can before a later one begins: few waves are at work at a time, and what belongs together in
+/// a table lies near.
+#[derive(Drop)]
+pub struct Way<J: Job> {
+    round: VecDeque<Token<J>>,
+    next: VecDeque<Token<J>>,
+    // The wave number of the token that was taken last.
+    wave: u64,
+}
+
+impl<J: Job> Model for Way<J> {
+    ghost use Rattle.std.specs.Prelude.{◌++◌, List};
+    ghost use Rattle.ws_isa.specs.Image.{Token as Plain};
+
+    ghost Value = { List Plain };
+
+    ghost view = { λ w. w.round.items ++ w.next.items };
+}
+
+impl<J: Job> Way<J> {
+    /// Nothing is on the way.
+    pub fn none(alloc: Global) -> Way<J>
+        ensures { result ≡ [] }
+    {
+        Way {
+            round: VecDeque::new(alloc),
+            next: VecDeque::new(alloc),
+            wave: 0,
         }
     }
-}
 
-/// Puts what a buffer answered on the way. Where the buffer is stopped it tells so itself.
-pub fn offer<J: Job>(
-    answer: Result<(), BufFault>,
-    answers: &mut Answers<J>,
-    way: &mut TokenList<J>,
-) -> Result<(), NoMemory>
-    ensures { OnOk result (IsOffered (with_tokens answers.old answer) way.old way.new) }
-{
-    match answer {
-        Ok(()) => take_all(answers, way),
-        Err(BufFault::NoMemory) => Err(NoMemory),
-        Err(_) => Ok(()),
+    /// Takes the first token. Where none is left of a round, the next one begins.
+    pub fn take(&mut self) -> Option<Token<J>>
+        ensures { MatchOption result (self.old ≡ []) (λ token. self.old ≡ token ∷ self.new) }
+    {
+        if self.round.is_empty() {
+            swap(&mut self.round, &mut self.next);
+        }
+        let token = self.round.pop_front()?;
+        self.wave = token.wave();
+        Some(token)
     }
-}
 
-/// Puts what an instance sent on the way.
-pub fn send_all<J: Job>(sent: Sent<'_, J>, way: &mut TokenList<J>) -> Result<(), NoMemory>
-    ensures old { OnOk result (Covers way.old way.new) }
-    ensures taken { OnOk result (Covers sent.entry way.new) }
-{
-    let mut rest = sent;
-    while let Some(token) = rest.next() {
-        way.push(token)?;
+    // Puts a token on the way.
+    #[inline(always)]
+    fn put(&mut self, token: Token<J>) -> Result<(), NoMemory>
+        ensures { OnOk result (Covers (token ∷ self.old) self.new) }
+    {
+        if token.wave() <= self.wave {
+            self.round.push_back(token)?;
+        } else {
+            self.next.push_back(token)?;
+        }
+        Ok(())
     }
-    Ok(())
-}
 
-/// Puts all answers of a buffer on the way.
-pub fn take_all<J: Job>(answers: &mut Answers<J>, way: &mut TokenList<J>) -> Result<(), NoMemory>
-    ensures old { OnOk result (Covers way.old way.new) }
-    ensures taken { OnOk result (Covers answers.old way.new) }
-{
-    while let Some(token) = answers.pop() {
-        way.push(token)?;
+    /// Puts what a buffer answered on the way. Where the buffer is stopped it tells so itself.
+    #[inline(always)]
+    pub fn offer(
+        &mut self,
+        answer: Result<(), BufFault>,
+        answers: &mut Answers<J>,
+    ) -> Result<(), NoMemory>
+        ensures { OnOk result (IsOffered (with_tokens answers.old answer) self.old self.new) }
+    {
+        match answer {
+            Ok(()) => self.take_all(answers),
+            Err(BufFault::NoMemory) => Err(NoMemory),
+            Err(_) => Ok(()),
+        }
     }
-    Ok(())
+
+    /// Puts what an instance sent on the way.
+    #[inline(always)]
+    pub fn send_all(&mut self, sent: Sent<'_, J>) -> Result<(), NoMemory>
+        ensures old { OnOk result (Covers self.old self.new) }
+        ensures taken { OnOk result (Covers sent.entry self.new) }
+    {
+        let mut rest = sent;
+        while let Some(token) = rest.next() {
+            self.put(token)?;
+        }
+        Ok(())
+    }
+
+    /// Puts all answers of a buffer on the way.
+    #[inline(always)]
+    pub fn take_all(&mut self, answers: &mut Answers<J>) -> Result<(), NoMemory>
+        ensures old { OnOk result (Covers self.old self.new) }
+        ensures taken { OnOk result (Covers answers.old self.new) }
+    {
+        while let Some(token) = answers.pop() {
+            self.put(token)?;
+        }
+        Ok(())
+    }
+
+    /// Puts all tokens of a list on the way.
+    pub fn pour(&mut self, tokens: TokenList<J>) -> Result<(), NoMemory>
+        ensures { OnOk result (Covers tokens self.new) }
+    {
+        let mut rest = tokens;
+        while let Some(token) = rest.pop() {
+            self.put(token)?;
+        }
+        Ok(())
+    }
 }

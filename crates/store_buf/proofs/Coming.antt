@@ -14,6 +14,8 @@ use Rattle.df_core.specs.Rights.{Asked, IsAsked, operands_of}
 use Rattle.df_core.specs.declared.chain.Chain as code
 use Rattle.df_core.specs.Chains.{chain_of, may_flag}
 use Rattle.df_core.specs.Stands.{HasEarly, EarlyIssued}
+use Rattle.store_buf.specs.Earlies.{early_ops}
+use Rattle.store_buf.proofs.Earlies.{none_there}
 use Rattle.store_buf.specs.declared.fault.BufFault.{BufFault}
 use Rattle.store_buf.specs.declared.fault.BufFault.TheVariants as fault
 use Rattle.store_buf.specs.declared.kept.Kept.{Kept}
@@ -121,7 +123,7 @@ listed_to (k ∷ ks) once w i h = go (λ f. listed_to ks (λ p q a b c d. let z 
 
 module _ (image : Image) (world : World) (began : List (Option Began)) {P : Type 0} where
   -- the parts stand for what contracts see, and the other way round
-  pub stands_of : (s : Store P) → EarlyIssued (issued_in s.order.kept.items) (chain_of s.order.chain) s.order.early.items → HasEarly image world (issued_in s.order.kept.items) (chain_of s.order.chain) s.order.early.items →
+  pub stands_of : (s : Store P) → EarlyIssued (issued_in s.order.kept.items) (chain_of s.order.chain) (early_ops s.order.early) → HasEarly image world (issued_in s.order.kept.items) (chain_of s.order.chain) (early_ops s.order.early) →
       (m : Outside) → IsBuffer image world began (content_of s) m → StandsFor image world began s m
   stands_of s issued all m is = record { going = record { legal = is.ok.legal; early_issued = issued; early_all = all }; right = is.ok.right; outside = is.outside }
 
@@ -160,8 +162,8 @@ module _ (image : Image) (world : World) (began : List (Option Began)) {P : Type
     came : (m : Outside) → StandsFor image world began old m → StandsFor image world began mid m
     came m h = record {
       going = subst (λ (x : List Kept × code.Chain × List ℕ × Option ℕ). OrderGoes image world (issued_in x.0) (waiting_in image x.0) (has x.3) (chain_of x.1) m x.2) (λ j. (sym keeps.kept_are j, sym keeps.chain j, sym keeps.early j, sym (keeps.fault ∙ running) j))
-          (going_any image world (issued_in old.order.kept.items) (issued_in (old.order.kept.items ++ k ∷ [])) (issued_push image old.order.kept.items k fresh waits) (waiting_in image old.order.kept.items) (waiting_in image (old.order.kept.items ++ k ∷ [])) (chain_of old.order.chain) m old.order.early.items
-          (subst (λ (f : Option ℕ). OrderGoes image world (issued_in old.order.kept.items) (waiting_in image old.order.kept.items) (has f) (chain_of old.order.chain) m old.order.early.items) running h.going));
+          (going_any image world (issued_in old.order.kept.items) (issued_in (old.order.kept.items ++ k ∷ [])) (issued_push image old.order.kept.items k fresh waits) (waiting_in image old.order.kept.items) (waiting_in image (old.order.kept.items ++ k ∷ [])) (chain_of old.order.chain) m (early_ops old.order.early)
+          (subst (λ (f : Option ℕ). OrderGoes image world (issued_in old.order.kept.items) (waiting_in image old.order.kept.items) (has f) (chain_of old.order.chain) m (early_ops old.order.early)) running h.going));
       right = right_now;
       outside = subst (OutIs began m) (sym keeps.outer) h.outside;
     }
@@ -306,5 +308,5 @@ with_job im image world began same formed sound old new k r tokens result asked 
     subst (λ (q : Asked). Standing image world began new × RightTokens image world tokens × SubmitSo image world began (content_of old) q (with_tokens tokens result) (content_of new)) asked
     (subst (λ (i : Image). SubmitLeads i old k tokens result new) same leads world began formed sound (subst (IsAsked image world) (sym asked) right) standing)
 
-pub no_room : (o : Order) → OrderOk o → o.kept.items ≡ [] → o.early.items ≡ [] → Room o
-no_room o ok e f = let w = none_wait o ok e in let l = ap length f in omega (arith, w, l, o.early.ok.0)
+pub no_room : (o : Order) → OrderOk o → o.kept.items ≡ [] → (early_ops o.early) ≡ [] → Room o
+no_room o ok e f = let w = none_wait o ok e in let l = none_there o.early f in omega (arith, w, l)

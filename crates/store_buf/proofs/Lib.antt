@@ -1,6 +1,7 @@
 pub mod Going
 pub mod Lists
 pub mod Tops
+pub mod Earlies
 pub mod Found
 pub mod Waves
 pub mod Ordered

@@ -9,6 +9,7 @@ use Rattle.df_core.specs.Fit.{Fit, Grounded, Legal}
 use Rattle.port_set.specs.Ports.{Told}
 use Rattle.port_set.specs.Slots.{port_at}
 use Rattle.df_core.specs.Began.{Began}
+use Rattle.store_buf.specs.Earlies.{early_ops}
 use Rattle.store_buf.specs.declared.store.Store.{Store}
 use Rattle.store_buf.specs.Outdoors.{more, SlotIs, BeganSo, AllBegan}
 use Rattle.store_buf.specs.Contents.{IsBuffer, FailedSo, Idle, Content, opening_content}
@@ -66,7 +67,7 @@ module _ (image : Image) (world : World) (began : List (Option Began))
   }
 
   module _ {P : Type 0} where
-    pub opening_stands : (ports : List (Option Told)) → AllBegan began world.left ports → (s : Store P) → StoreOk image s → s.order.early.items ≡ [] → content_of s ≡ opening_content image world ports → Standing image world began s
+    pub opening_stands : (ports : List (Option Told)) → AllBegan began world.left ports → (s : Store P) → StoreOk image s → (early_ops s.order.early) ≡ [] → content_of s ≡ opening_content image world ports → Standing image world began s
     opening_stands ports all s ok early is = record {
       ok = ok;
       early_issued = λ i h. absurd (subst (λ xs. In i xs) early h);

@@ -3,7 +3,7 @@ use Rattle.std.proofs.Common.{ℕ, zero, suc, ◌≡◌, ◌<◌, ◌⊎◌, Lis
 use Rattle.std.specs.Prelude.{IfSome, IfNone}
 use Rattle.std.specs.List.{Contains}
 use Rattle.std.specs.List.Sorted.{IsPermutation}
-use Rattle.std.proofs.lemmas.List.Sorted.{Contains-permutation}
+use Rattle.std.proofs.lemmas.List.Sorted.{Contains-permutation, IsPermutation-sym}
 use Rattle.std.specs.declared.cmp.Reverse.{Reverse}
 use Rattle.store_buf.specs.Ranks.{under}
 use Rattle.store_buf.proofs.Lists.{or_any}
@@ -13,6 +13,14 @@ came_here xs ys x same = Contains-permutation (x ∷ xs) ys x same (0, omega ari
 
 pub came_beside : {A : Type 0} (xs ys : List A) (x y : A) → IsPermutation (y ∷ xs) ys → Contains xs x → Contains ys x
 came_beside xs ys x y same h = Contains-permutation (y ∷ xs) ys x same (suc h.0, omega (arith, h.1), h.2)
+
+-- what is there was there, or has come
+pub before : {A : Type 0} (xs ys : List A) (x y : A) → IsPermutation (x ∷ xs) ys → Contains ys y → (x ≡ y) ⊎ Contains xs y
+before {A} xs ys x y same h = go (Contains-permutation ys (x ∷ xs) y (IsPermutation-sym (x ∷ xs) ys same) h)
+  where
+    go : Contains (x ∷ xs) y → (x ≡ y) ⊎ Contains xs y
+    go (zero, l, e) = inl e
+    go (suc k, l, e) = inr (k, omega (arith, l), e)
 
 -- what isn't the top stays
 pub left_there : (xs ys : List (Reverse (ℕ × ℕ))) (x : Reverse (ℕ × ℕ)) (a b n p : ℕ) → IsPermutation xs (x ∷ ys) → x ≡ slice_index_or xs 0 x → 0 < length xs →

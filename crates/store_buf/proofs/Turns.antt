@@ -10,7 +10,7 @@ use Rattle.store_buf.specs.declared.fault.Silent.{Silent}
 use Rattle.store_buf.specs.declared.fault.Silent.TheVariants.{Failed, NoMemory}
 use Rattle.store_buf.specs.declared.order.Order.{Order}
 use Rattle.store_buf.specs.declared.store.Store.{Store}
-use Rattle.store_buf.specs.declared.waits.Waits.{Waits}
+use Rattle.store_buf.specs.declared.wave_places.WavePlaces.{WavePlaces}
 use Rattle.store_buf.specs.Outdoors.{FaultsGrow}
 use Rattle.store_buf.specs.Contents.{FaultIs, RightTokens}
 use Rattle.store_buf.specs.Holds.{Issued, Stopped, Issues, stays, goes, stops, part}
@@ -68,7 +68,7 @@ module _ {P : Type 0} where
   )
 
   -- it doesn't matter where the requests that wait are found
-  pub sought : (image : Image) (a b : Store P) (near : Waits) (t0 t1 : List Token) → AllLead image a b t0 t1 → AllLead image a (record b { order = record b.order { near = near } }) t0 t1
+  pub sought : (image : Image) (a b : Store P) (near : WavePlaces) (t0 t1 : List Token) → AllLead image a b t0 t1 → AllLead image a (record b { order = record b.order { near = near } }) t0 t1
   sought image a b near t0 t1 all = (
     all.0,
     all.1,

@@ -8,6 +8,7 @@ use Rattle.df_core.specs.Fit.{RightRequest}
 use Rattle.df_core.specs.Shown.{Buffer, asking, waits_if}
 use Rattle.df_core.specs.Began.{Began}
 use Rattle.df_core.specs.Chains.{chain_of}
+use Rattle.store_buf.specs.Earlies.{early_ops}
 use Rattle.store_buf.specs.declared.kept.Kept.{Kept}
 use Rattle.store_buf.specs.declared.order.Order.{Order}
 use Rattle.store_buf.specs.Requests.{kept_in, issued_in, issued_keys}
@@ -34,7 +35,7 @@ waiting_in image ks w i = waits_if (issued_in ks w i) (kept_in image ks w i) Non
 pub record Holds (image : Image) (world : World) (began : List (Option Began)) (order : Order)
     (stopped : Bool) (h : Holding) (m : Outside) : Type 0 where
   pub going : OrderGoes image world (issued_in order.kept.items) (waiting_in image order.kept.items) stopped
-      (chain_of order.chain) m order.early.items
+      (chain_of order.chain) m (early_ops order.early)
   pub right : (w i : ℕ) (xs : List ℕ) → kept_in image order.kept.items w i ≡ Some xs
       → RightRequest image world w i xs
   pub outside : OutIs began m h

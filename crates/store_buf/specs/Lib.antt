@@ -5,6 +5,7 @@ pub mod Trees
 pub mod Hooks
 pub mod Ranks
 pub mod Laters
+pub mod Earlies
 pub mod Ordering
 pub mod Outdoors
 pub mod Ended

@@ -4,7 +4,7 @@ use Rattle.std.specs.List.{Contains}
 use Rattle.std.specs.BinaryHeap.{heap_items, heap_len}
 use Rattle.std.specs.declared.cmp.Reverse.{Reverse}
 use Rattle.store_buf.specs.declared.places.Places.{Places}
-use Rattle.store_buf.specs.declared.waits.Waits.{Waits}
+use Rattle.store_buf.specs.declared.wave_places.WavePlaces.{WavePlaces}
 
 abbrev pub under : ℕ → ℕ → Reverse (ℕ × ℕ)
 under n p = record { 0 = (n, p) }
@@ -20,6 +20,6 @@ pub record IsTop (places : Places) (n p : ℕ) : Type 0 where
   pub least : (a b : ℕ) → HasPlace places a b → n ≤ a
 
 -- the place is there under its sequence number, and under its ripple if it has one
-pub record IsFiled (waits : Waits) (number : ℕ) (ripple : Option ℕ) (p : ℕ) : Type 0 where
-  pub turn : HasPlace waits.turns number p
-  pub load : (r : ℕ) → ripple ≡ Some r → HasPlace waits.loads r p
+pub record IsFiled (places : WavePlaces) (number : ℕ) (ripple : Option ℕ) (p : ℕ) : Type 0 where
+  pub turn : HasPlace places.turns number p
+  pub load : (r : ℕ) → ripple ≡ Some r → HasPlace places.loads r p

@@ -11,6 +11,7 @@ use Rattle.df_core.specs.Began.{Began}
 use Rattle.df_core.specs.Rights.{Asked, IsAsked}
 use Rattle.df_core.specs.Chains.{chain_of}
 use Rattle.df_core.specs.Stands.{HasEarly, EarlyIssued}
+use Rattle.store_buf.specs.Earlies.{early_ops}
 use Rattle.store_buf.specs.declared.fault.BufFault.{BufFault}
 use Rattle.store_buf.specs.declared.fault.BufFault.TheVariants as fault
 use Rattle.store_buf.specs.declared.fault.Silent.{Silent}
@@ -57,7 +58,7 @@ module _ {P : Type 0} where
   pub record StoreKeeps (old : Store P) (kept : List Kept) (new : Store P) : Type 0 where
     pub kept_are : new.order.kept.items ≡ kept
     pub chain : new.order.chain ≡ old.order.chain
-    pub early : new.order.early.items ≡ old.order.early.items
+    pub early : early_ops new.order.early ≡ early_ops old.order.early
     pub outer : holding new.outer ≡ holding old.outer
     pub fault : new.fault ≡ old.fault
     pub failed : new.failed ≡ old.failed
@@ -133,9 +134,10 @@ module _ {P : Type 0} where
   pub record Standing (image : Image) (world : World) (began : List (Option Began))
       (s : Store P) : Type 0 where
     pub ok : StoreOk image s
-    pub early_issued : EarlyIssued (issued_in s.order.kept.items) (chain_of s.order.chain) s.order.early.items
+    pub early_issued : EarlyIssued (issued_in s.order.kept.items) (chain_of s.order.chain)
+        (early_ops s.order.early)
     pub early_all : HasEarly image world (issued_in s.order.kept.items)
-        (chain_of s.order.chain) s.order.early.items
+        (chain_of s.order.chain) (early_ops s.order.early)
     pub memory : Outside
     pub is : IsBuffer image world began (content_of s) memory
     pub idle : s.failed ≡ None → s.starved ≡ false → Idle image (content_of s)

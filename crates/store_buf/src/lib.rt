@@ -17,6 +17,7 @@
 
 mod answers;
 mod buffer;
+mod early;
 pub mod fault;
 pub mod index;
 pub mod kept;
@@ -26,10 +27,11 @@ mod next;
 mod node;
 pub mod order;
 pub mod outer;
+mod pass;
 mod places;
 mod store;
 pub mod told;
-mod waits;
+mod wave_places;
 
 pub use answers::Answers;
 pub use buffer::Buffer;

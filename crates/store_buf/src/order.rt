@@ -1,7 +1,8 @@
 //! The order of a buffer: its requests, and which of them may be issued.
 
 ghost use Rattle.std.specs.Prelude.{◌≡◌, ◌∷◌, ◌++◌, [], ℕ, ◌+◌, ◌<◌, ◌≤◌, Option, None, Some, length};
-ghost use Rattle.std.specs.Prelude.{slice_set, vec_capacity, OnOk, OnErr};
+ghost use Rattle.std.specs.Prelude.{slice_set, OnOk, OnErr};
+ghost use Rattle.std.specs.BinaryHeap.{heap_capacity};
 ghost use Rattle.ws_isa.specs.Image.{Image};
 ghost use Rattle.df_core.specs.Places.{ProgramIs, image_of};
 ghost use Rattle.df_core.specs.Chains.{chain_of, PassedOn};
@@ -9,15 +10,17 @@ ghost use Rattle.store_buf.specs.Requests.{entry_of};
 ghost use Rattle.store_buf.specs.Finding.{place_in};
 ghost use Rattle.store_buf.specs.Ranks.{IsFiled};
 ghost use Rattle.store_buf.specs.Laters.{IsFiledIn};
+ghost use Rattle.store_buf.specs.Earlies.{early_ops};
 ghost use Rattle.store_buf.specs.Ordering.{OrderOk, AllFiled, Room, MayAt, kept_at, number_of, ripple_of};
 
+use crate::early::Early;
 use crate::index::Index;
 use crate::kept::Kept;
 use crate::later::Later;
 use crate::next::ripple_of;
-use crate::waits::Waits;
+use crate::pass::pass_on;
+use crate::wave_places::WavePlaces;
 use df_core::chain::Chain;
-use df_core::order::pass_on;
 use df_core::program::Program;
 use std::alloc::Global;
 use ws_words::NoMemory;
@@ -30,9 +33,9 @@ pub struct Order {
     pub kept: Vec<Kept>,
     pub waiting: usize,
     pub index: Index,
-    pub near: Waits,
+    pub near: WavePlaces,
     pub later: Later,
-    pub early: Vec<u32>,
+    pub early: Early,
     pub chain: Chain,
 }
 
@@ -42,7 +45,7 @@ impl Order {
         ensures ok { OrderOk result }
         ensures filed { (image : Image) → AllFiled image result }
         ensures kept { result.kept.items ≡ [] }
-        ensures early { result.early.items ≡ [] }
+        ensures early { early_ops result.early ≡ [] }
         ensures wave { result.chain.wave ≡ 1 }
         ensures last { result.chain.last ≡ None }
     {
@@ -50,9 +53,9 @@ impl Order {
             kept: Vec::new(alloc),
             waiting: 0,
             index: Index::new(alloc),
-            near: Waits::new(alloc),
+            near: WavePlaces::new(alloc),
             later: Later::new(alloc),
-            early: Vec::new(alloc),
+            early: Early::new(alloc),
             chain: Chain {
                 wave: 1,
                 last: None,
@@ -102,11 +105,11 @@ impl Order {
         ensures kept { OnOk result (self.new.kept.items ≡ self.old.kept.items ++ kept ∷ []) }
         ensures room { OnOk result (Room self.new) }
         ensures unchanged { OnErr result (self.new.kept.items ≡ self.old.kept.items) }
-        ensures early { self.new.early.items ≡ self.old.early.items }
+        ensures early { early_ops self.new.early ≡ early_ops self.old.early }
         ensures chain { self.new.chain ≡ self.old.chain }
         ensures waiting { OnOk result (self.new.waiting ≡ self.old.waiting + 1) }
         ensures still { OnErr result (self.new.waiting ≡ self.old.waiting) }
-        ensures grown { vec_capacity self.old.early ≤ vec_capacity self.new.early }
+        ensures grown { heap_capacity self.old.early.heap ≤ heap_capacity self.new.early.heap }
     {
         if self.waiting >= usize::MAX - 1 {
             return Err(NoMemory);
@@ -168,8 +171,8 @@ impl Order {
         ensures kept { self.new.kept.items ≡ slice_set self.old.kept.items place
             (record (kept_at self.old place) { answer = Some word }) }
         ensures passed { PassedOn (image_of program.now) (chain_of self.old.chain)
-            (kept_at self.old place).instr self.old.early.items
-            (chain_of self.new.chain) self.new.early.items }
+            (kept_at self.old place).instr (early_ops self.old.early)
+            (chain_of self.new.chain) (early_ops self.new.early) }
         ensures fewer { self.new.waiting < self.old.waiting }
     {
         let kept = self.kept[place];

@@ -1,5 +1,5 @@
 use Rattle.std.proofs.Common.{arith}
-use Rattle.fire_crew.specs.Together.{part_of}
+use Rattle.match_table.specs.Together.{part_of}
 use Rattle.fire_crew.proofs.crew.run_on.Goals as goal
 
 pub returns-clause-few : goal.returns-clause-few

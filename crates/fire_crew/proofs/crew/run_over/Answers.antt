@@ -1,6 +1,6 @@
 use Rattle.std.proofs.Common.{◌∙◌, ap, subst, sym}
 use Rattle.port_set.specs.Slots.{AllOpen, contents}
-use Rattle.fire_crew.specs.Together.{AllServe}
+use Rattle.match_table.specs.Together.{AllServe}
 use Rattle.fire_crew.proofs.crew.run_over.Goals as goal
 
 pub returns-in-Ok-clause-serve : goal.returns-in-Ok-clause-serve

@@ -1,6 +1,6 @@
 use Rattle.df_core.specs.Shown.{shown}
 use Rattle.store_buf.specs.Contents.{buffer_in}
-use Rattle.fire_crew.specs.Together.{part_of}
+use Rattle.match_table.specs.Together.{part_of}
 use Rattle.fire_crew.proofs.Endings as E
 use Rattle.fire_crew.proofs.ends.all_run.Goals as goal
 

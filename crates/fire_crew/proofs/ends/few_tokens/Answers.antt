@@ -1,5 +1,5 @@
-use Rattle.fire_crew.specs.Together.{part_of}
-use Rattle.fire_crew.proofs.Few.{few_come}
+use Rattle.match_table.specs.Together.{part_of}
+use Rattle.match_table.proofs.Few.{few_come}
 use Rattle.fire_crew.proofs.ends.few_tokens.Goals as goal
 
 pub returns : goal.returns

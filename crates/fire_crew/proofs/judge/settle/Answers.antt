@@ -1,6 +1,6 @@
 use Rattle.std.proofs.Common.{Some}
 use Rattle.std.proofs.lemmas.List.Elements.{All-pop}
-use Rattle.fire_crew.specs.Together.{part_of}
+use Rattle.match_table.specs.Together.{part_of}
 use Rattle.fire_crew.specs.Owing.{IsMissing}
 use Rattle.fire_crew.proofs.judge.settle.Goals as goal
 

@@ -1,6 +1,6 @@
 use Rattle.std.proofs.Common.{sym}
 use Rattle.match_table.specs.Rows.{contents}
-use Rattle.fire_crew.proofs.Shares.{all_within, fit_serve, fit_within}
+use Rattle.match_table.proofs.Shares.{all_within, fit_serve, fit_within}
 use Rattle.fire_crew.proofs.limits.fitting.Goals as goal
 
 pub returns-clause-serve : goal.returns-clause-serve

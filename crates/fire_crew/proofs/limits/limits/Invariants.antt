@@ -1,5 +1,5 @@
 use Rattle.match_table.specs.Rows.{contents}
-use Rattle.fire_crew.proofs.Shares.{Given}
+use Rattle.match_table.proofs.Shares.{Given}
 use Rattle.fire_crew.proofs.limits.limits.Given as goal
 
 abbrev pub invariant-loop-number : goal.invariant-loop-number

@@ -1,5 +1,5 @@
 use Rattle.std.proofs.Common.{arith}
-use Rattle.fire_crew.specs.Together.{behind, part_behind}
+use Rattle.match_table.specs.Together.{behind, part_behind}
 use Rattle.match_table.specs.Growth.{content_at}
 use Rattle.fire_crew.proofs.Paid.{told_join}
 use Rattle.fire_crew.proofs.missing.look_along.Goals as goal

@@ -1,5 +1,5 @@
 use Rattle.std.proofs.Common.{◌≡◌, ◌<◌, ◌-◌, ℕ, [], All}
-use Rattle.fire_crew.specs.Together.{behind, part_behind}
+use Rattle.match_table.specs.Together.{behind, part_behind}
 use Rattle.match_table.specs.Growth.{content_at}
 use Rattle.fire_crew.specs.Owing.{IsMissing, ToldIn}
 use Rattle.fire_crew.proofs.missing.look_along.Given as goal

@@ -1,6 +1,6 @@
 use Rattle.std.proofs.Common.{length, ap, arith}
 use Rattle.store_buf.specs.Ordering.{no_request}
-use Rattle.fire_crew.specs.Together.{part_behind}
+use Rattle.match_table.specs.Together.{part_behind}
 use Rattle.fire_crew.specs.Owing.{HasAnswered}
 use Rattle.fire_crew.proofs.Paid.{one_more, all_done}
 use Rattle.fire_crew.proofs.Rights.{memory_at, answers_at}

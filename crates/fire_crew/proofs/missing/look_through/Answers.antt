@@ -1,5 +1,5 @@
 use Rattle.std.proofs.Common.{arith}
-use Rattle.fire_crew.specs.Together.{part_behind}
+use Rattle.match_table.specs.Together.{part_behind}
 use Rattle.fire_crew.proofs.Paid.{told_more}
 use Rattle.fire_crew.proofs.missing.look_through.Goals as goal
 

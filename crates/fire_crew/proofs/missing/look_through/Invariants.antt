@@ -1,5 +1,5 @@
 use Rattle.std.proofs.Common.{◌≡◌, [], All}
-use Rattle.fire_crew.specs.Together.{part_behind}
+use Rattle.match_table.specs.Together.{part_behind}
 use Rattle.fire_crew.specs.Owing.{IsMissing, ToldIn}
 use Rattle.fire_crew.proofs.missing.look_through.Given as goal
 

@@ -1,6 +1,6 @@
 use Rattle.std.proofs.Common.{◌≤◌, All, List, length, refl, ap, subst, arith}
 use Rattle.ws_isa.specs.Walk.{start_tokens}
-use Rattle.fire_crew.specs.Together.{behind, part_behind, part_of, together}
+use Rattle.match_table.specs.Together.{behind, part_behind, part_of, together}
 use Rattle.match_table.specs.Growth.{content_at}
 use Rattle.match_table.specs.Rows.{contents}
 use Rattle.fire_crew.specs.Owing.{HasAnswered, HaveCome, IsMissing, ToldIn}

@@ -1,7 +1,7 @@
 use Rattle.std.proofs.Common.{◌≡◌, ◌<◌, ◌≤◌, ℕ, [], All}
 use Rattle.ws_isa.specs.Walk.{start_tokens}
 use Rattle.match_table.specs.Growth.{content_at}
-use Rattle.fire_crew.specs.Together.{behind, part_behind}
+use Rattle.match_table.specs.Together.{behind, part_behind}
 use Rattle.fire_crew.specs.Owing.{HaveCome, IsMissing, ToldIn}
 use Rattle.fire_crew.proofs.missing.missing.Given as goal
 

@@ -1,6 +1,6 @@
 use Rattle.std.proofs.Common.{◌≡◌, ℕ, [], ◌∷◌, ◌++◌, true, false, ap, sym, ◌∙◌}
 use Rattle.df_core.specs.Core.{has}
-use Rattle.fire_crew.specs.Together.{part_behind}
+use Rattle.match_table.specs.Together.{part_behind}
 use Rattle.fire_crew.proofs.Paid.{found_missing, keep_come, keep_found}
 use Rattle.fire_crew.proofs.owed.keep.Goals as goal
 

@@ -1,6 +1,6 @@
 use Rattle.std.proofs.Common.{◌≡◌, ◌++◌, List, [], All, length}
 use Rattle.ws_isa.specs.Image.{Token}
-use Rattle.fire_crew.specs.Together.{part_behind}
+use Rattle.match_table.specs.Together.{part_behind}
 use Rattle.fire_crew.specs.Owing.{HaveCome, IsMissing}
 use Rattle.fire_crew.proofs.owed.keep.Given as goal
 

@@ -2,7 +2,7 @@ use Rattle.std.proofs.Common.{◌≡◌, ◌++◌, ◌∷◌, [], List, All, sli
 use Rattle.ws_isa.specs.declared.instr.Dest.{Dest}
 use Rattle.ws_isa.specs.Image.{Token}
 use Rattle.df_core.proofs.Sends.{sent_at}
-use Rattle.fire_crew.specs.Together.{part_behind}
+use Rattle.match_table.specs.Together.{part_behind}
 use Rattle.fire_crew.specs.Owing.{IsMissing}
 use Rattle.fire_crew.proofs.Paid.{come_sent, found_missing, not_empty}
 use Rattle.fire_crew.proofs.owed.keep_sent.Goals.{then-not-holds+in_ok-push, else-not-holds}

@@ -1,6 +1,6 @@
 use Rattle.std.proofs.Common.{◌≡◌, [], All, take}
 use Rattle.ws_isa.specs.Image.{tokens_to}
-use Rattle.fire_crew.specs.Together.{part_behind}
+use Rattle.match_table.specs.Together.{part_behind}
 use Rattle.fire_crew.specs.Owing.{HaveCome, IsMissing}
 use Rattle.fire_crew.proofs.owed.keep_sent.Given as goal
 

@@ -3,7 +3,7 @@ use Rattle.ws_isa.specs.Image.{Token}
 use Rattle.df_core.specs.Core.{IsSent}
 use Rattle.df_core.specs.Places.{image_of}
 use Rattle.match_table.specs.Ports.{listed}
-use Rattle.fire_crew.specs.Together.{part_behind}
+use Rattle.match_table.specs.Together.{part_behind}
 use Rattle.fire_crew.specs.Owing.{HaveCome}
 use Rattle.fire_crew.proofs.Rights.{code_memory, code_op, code_sent, sent_is}
 use Rattle.fire_crew.proofs.owed.look_at.Goals as goal

@@ -3,7 +3,7 @@ use Rattle.ws_isa.specs.Image.{Token, ports, sends}
 use Rattle.df_core.specs.Core.{IsSent}
 use Rattle.df_core.specs.Places.{image_of}
 use Rattle.df_core.specs.Rights.{operands_of}
-use Rattle.fire_crew.specs.Together.{part_behind}
+use Rattle.match_table.specs.Together.{part_behind}
 use Rattle.fire_crew.specs.Owing.{HaveCome}
 use Rattle.fire_crew.proofs.Rights.{answer_is, code_op, code_sent}
 use Rattle.fire_crew.proofs.owed.look_up.Goals as goal

@@ -1,7 +1,7 @@
 use Rattle.std.proofs.Common.{List, Option, subst}
 use Rattle.port_set.specs.Slots.{contents}
 use Rattle.df_core.specs.Began.{Began}
-use Rattle.fire_crew.specs.Together.{part_of}
+use Rattle.match_table.specs.Together.{part_of}
 use Rattle.fire_crew.specs.Finishes.{EndsSo}
 use Rattle.fire_crew.proofs.run.run_as.Goals as goal
 

@@ -3,7 +3,7 @@ use Rattle.ws_isa.specs.Image.{Token, result_of_op, selector_of}
 use Rattle.df_core.specs.Core.{Key, operands_in}
 use Rattle.df_core.specs.Places.{image_of}
 use Rattle.match_table.specs.Tables.{held}
-use Rattle.fire_crew.specs.Together.{part_behind}
+use Rattle.match_table.specs.Together.{part_behind}
 use Rattle.fire_crew.specs.Owing.{HaveCome}
 use Rattle.fire_crew.proofs.Paid.{told_key}
 use Rattle.fire_crew.proofs.Rights.{code_memory, code_op, code_sent, sent_is}

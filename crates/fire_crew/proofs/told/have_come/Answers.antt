@@ -1,5 +1,5 @@
 use Rattle.std.proofs.Common.{sym, ◌∙◌}
-use Rattle.fire_crew.specs.Together.{part_behind}
+use Rattle.match_table.specs.Together.{part_behind}
 use Rattle.fire_crew.proofs.Paid.{come_sent}
 use Rattle.fire_crew.proofs.told.have_come.Goals as goal
 

@@ -1,6 +1,6 @@
 use Rattle.std.proofs.Common.{ℕ, take}
 use Rattle.ws_isa.specs.Image.{tokens_to}
-use Rattle.fire_crew.specs.Together.{part_behind}
+use Rattle.match_table.specs.Together.{part_behind}
 use Rattle.fire_crew.specs.Owing.{HaveCome}
 use Rattle.fire_crew.proofs.told.have_come.Given as goal
 

@@ -2,7 +2,7 @@ use Rattle.std.proofs.Common.{ℕ, List, subst, sym}
 use Rattle.match_table.specs.Growth.{AllGrow}
 use Rattle.match_table.specs.Rows.{Fits, contents}
 use Rattle.match_table.proofs.Growth.{all_grow_same}
-use Rattle.fire_crew.specs.Together.{AllServe}
+use Rattle.match_table.specs.Together.{AllServe}
 use Rattle.fire_crew.proofs.turn.work.Goals as goal
 
 pub returns-in_default-clause-serve : goal.returns-in_default-clause-serve

@@ -2,7 +2,7 @@ use Rattle.std.proofs.Common.{arith, sym, subst}
 use Rattle.std.proofs.lemmas.List.Elements.{All-more}
 use Rattle.match_table.specs.Tables.{of_memory}
 use Rattle.fire_crew.specs.Owing.{IsKnown}
-use Rattle.fire_crew.proofs.Listed.{none_fired}
+use Rattle.match_table.proofs.FiredPlaces.{none_fired}
 use Rattle.fire_crew.proofs.Paid.{all_done}
 use Rattle.fire_crew.proofs.Rights.{asks_at}
 use Rattle.fire_crew.proofs.unknown.ask_all.Goals as goal

@@ -1,4 +1,4 @@
-use Rattle.std.proofs.Common.{ℕ, ◌≡◌, ◌++◌, ◌∙◌, Some, subst, sym}
+use Rattle.std.proofs.Common.{ℕ, ◌≡◌, ◌∙◌, Some, subst, sym}
 use Rattle.match_table.specs.declared.table.Accept.TheVariants.{Waits, Fires, Asks}
 use Rattle.match_table.specs.declared.table.AcceptFault.TheVariants.{Old}
 use Rattle.match_table.specs.Matching.{Accepted, Refused}
@@ -6,7 +6,6 @@ use Rattle.match_table.specs.Tables.{held, part}
 use Rattle.part_store.specs.Runs.{IsWhole, Paid}
 use Rattle.part_store.proofs.Bringing.{both_ok}
 use Rattle.part_store.proofs.Paying.{not_fired, pay_held, taken_waits, taken_fires, taken_asks}
-use Rattle.part_store.proofs.Reaching.{covers_beside, covers_wider}
 use Rattle.part_store.proofs.run.bring.Goals as goal
 use Rattle.df_core.proofs.Ports.{has_some}
 use Rattle.ws_words.proofs.Results.{on_ok}
@@ -21,9 +20,9 @@ returns-in-Some-clause-paid g c =
     c.in-Waits.ensures.answer.0 in
     let fresh = not_fired image world c.program.ensures.formed c.program.ensures.sound
     (part old) c.facts.ensures.part x c.wave.ensures.right answer.0.free in
-    on_ok c.tell.result (λ tell. tell (part c.accept_into-took.new.self) c.args.run.now.way
+    on_ok c.tell.result (λ tell. tell (part c.accept_into-took.new.self)
     (taken_waits image old x c.accept_into-took.new.self answer.0 fresh c.args.run.now.buffer
-    (c.args.run.now.next ++ c.args.run.now.way) c.requires.paid answer.2)) c.tell.ensures.paid
+    c.args.run.now.way c.requires.paid answer.2)) c.tell.ensures.paid
 
 pub returns-in-None-clause-paid : goal.returns-in-None-clause-paid
 returns-in-None-clause-paid g c = λ going.
@@ -36,7 +35,7 @@ returns-in-None-clause-paid g c = λ going.
     let fresh = not_fired image world c.program.ensures.formed c.program.ensures.sound
     (part old) c.facts.ensures.part x c.wave.ensures.right answer.0.free in
     taken_waits image old x c.accept_into-took.new.self answer.0 fresh c.args.run.now.buffer
-    (c.args.run.now.next ++ c.args.run.now.way) c.requires.paid answer.2
+    c.args.run.now.way c.requires.paid answer.2
 
 pub returns-in-Fires-clause-paid : goal.returns-in-Fires-clause-paid
 returns-in-Fires-clause-paid g c =
@@ -51,11 +50,8 @@ returns-in-Fires-clause-paid g c =
     let full = answer.1 in
     both_ok c.send_all.result (λ keep sent going.
     taken_fires image old x c.accept_into-took.new.self answer.0 fresh c.args.run.now.buffer
-    (c.args.run.now.next ++ c.args.run.now.way) c.requires.paid
-    (c.send_all.new.way ++ c.args.run.now.way) c.accept_into-took.new.results.sent full.0 full.1 full.2.0
-    full.2.1
-    (covers_beside c.args.run.now.next c.send_all.new.way c.args.run.now.way keep)
-    (covers_wider c.accept_into-took.new.results.sent c.send_all.new.way c.args.run.now.way sent))
+    c.args.run.now.way c.requires.paid
+    c.send_all.new.self c.accept_into-took.new.results.sent full.0 full.1 full.2.0 full.2.1 keep sent)
     c.send_all.ensures.old
     c.send_all.ensures.taken
 
@@ -76,9 +72,8 @@ returns-in-Some-request-clause-paid g c =
     let full = answer.1 in
     both_ok c.ask.result (λ tell whole going.
     taken_asks image old x c.accept_into-took.new.self answer.0 fresh c.args.run.now.buffer
-    (c.args.run.now.next ++ c.args.run.now.way) c.requires.paid
-    c.ask.new.buffer (c.ask.new.next ++ c.args.run.now.way) full.0 full.1 full.2.0
-    (λ t paid. tell t c.args.run.now.way paid going)
+    c.args.run.now.way c.requires.paid
+    c.ask.new.buffer c.ask.new.way full.0 full.1 full.2.0 (λ t paid. tell t paid going)
     (subst (λ (k : ℕ × ℕ). IsWhole c.ask.new.buffer k.0 k.1) (λ j. (full.2.1 j, full.2.2 j)) (whole going)))
     c.ask.ensures.paid c.ask.ensures.asked
 
@@ -87,7 +82,7 @@ returns-in-Old-clause-paid g c = λ going.
     let image = g.J.Job.image in
     let old = c.args.run.now.table in
     let x = c.args.token in
-    let way = c.args.run.now.next ++ c.args.run.now.way in
+    let way = c.args.run.now.way in
     let refused : Refused {J = g.row.J.Denot} old x c.accept_into-took.new.self (Old x) =
     c.in-Old.ensures.answer.0 in
     subst (λ t. Paid image (part t) c.args.run.now.buffer way) (sym refused.1)

@@ -1,4 +1,4 @@
-use Rattle.std.proofs.Common.{◌≡◌, ℕ, ◌++◌, ◌∙◌, List, ap, sym, subst, true}
+use Rattle.std.proofs.Common.{◌≡◌, ℕ, ◌∙◌, List, ap, sym, subst, true}
 use Rattle.ws_isa.specs.Image.{Token}
 use Rattle.df_core.specs.Core.{has}
 use Rattle.match_table.specs.Tables.{held, part}
@@ -17,6 +17,6 @@ returns-then-holds-clause-paid g c = λ going.
     sym (ap (λ (k : ℕ × ℕ × ℕ). has (held table k.0 k.1 k.2))
     (λ j. (c.wave.ensures.wave j, c.instr.ensures j, c.port.ensures j)))
     ∙ sym c.holds.ensures ∙ c.if-holds.true in
-    pay_held image (part table) buffer (c.take.new.next ++ c.take.new.round) t
+    pay_held image (part table) buffer c.take.new.self t
     (has_some (held table t.wave t.instr t.port) h)
     (subst (λ (ts : List Token). Paid image (part table) buffer ts) c.in-Some.ensures (c.requires.paid going))

@@ -36,3 +36,9 @@ returns-clause-leads g c = λ world began formed sound right calm idle.
           (D.said image world began formed sound old mid d new k t0 t1 t2 filled drains same lead empty
           c.requires.running c.requires.working right calm c.settle.result c.settle.ensures.settled),
     )
+
+pub drain-requires-clause-filed : goal.drain-requires-clause-filed
+drain-requires-clause-filed g c = let f = c.put_data.ensures.filed (image_of c.args.program.now) c.requires.filed in record {
+  filed = f.filed;
+  stores = f.stores;
+}

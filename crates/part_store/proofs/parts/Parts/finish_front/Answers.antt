@@ -109,3 +109,9 @@ returns-clause-leads g c = (
       c.in-Some.ensures.within c.in-Some.ensures.is word c.answer_at.ensures.kept word_is cells input read
       printed ports queued beside),
 )
+
+pub returns-clause-filed : goal.returns-clause-filed
+returns-clause-filed g c = c.answer_at.ensures.filed (image_of c.args.program.now) (record {
+  filed = c.requires.filed.filed;
+  stores = c.requires.filed.stores;
+})

@@ -26,7 +26,8 @@ use Rattle.part_store.proofs.Goes as G
 use Rattle.part_store.proofs.Sending as N
 use Rattle.part_store.proofs.Turning as U
 use Rattle.part_store.proofs.parts.Parts.go.Goals as goal
-use Rattle.part_store.proofs.parts.Parts.go.Goals.{then-has-via-then-has, then-has-via-else-has+then-holds}
+use Rattle.part_store.proofs.parts.Parts.go.Goals.{then-is_alone-via-then-is_alone}
+use Rattle.part_store.proofs.parts.Parts.go.Goals.{then-is_alone-via-else-is_alone+then-holds}
 use Rattle.df_core.proofs.Few.{few_sent}
 use Rattle.ws_words.proofs.Results.{on_err}
 
@@ -73,8 +74,8 @@ held_so image s op k m b r e f at q = subst
     (λ (x : Kept). holds_op s.queues.entries.items (instr_at image x.instr).op x.first ≡ b) q
     (subst (λ (o : Op). holds_op s.queues.entries.items o k.first ≡ b) at (sym e ∙ f))
 
-pub returns-then-has-clause-leads : goal.returns-then-has-clause-leads
-returns-then-has-clause-leads g c =
+pub returns-then-is_alone-clause-leads : goal.returns-then-is_alone-clause-leads
+returns-then-is_alone-clause-leads g c =
     let image = image_of c.args.program.now in
     let old = c.args.self.now in
     let m = kept_at old.order c.args.place in
@@ -84,11 +85,11 @@ returns-then-has-clause-leads g c =
     let which : (is_in old.bare m.wave m.instr ≡ true) ⊎
     ((is_in old.bare m.wave m.instr ≡ false) ×
     (holds_op old.queues.entries.items (instr_at image m.instr).op m.first ≡ true)) =
-    elim c.then-has.branch [
-      | then-has-via-then-has w ↦ inl (bare_so old c.request-kept.result m true c.has.result c.has.ensures
-          w.if-has.true c.request-kept.ensures)
-      | then-has-via-else-has+then-holds w ↦ inr (
-        bare_so old c.request-kept.result m false c.has.result c.has.ensures w.if-has.false
+    elim c.then-is_alone.branch [
+      | then-is_alone-via-then-is_alone w ↦ inl (bare_so old c.request-kept.result m true c.is_alone.result
+          c.is_alone.ensures w.if-is_alone.true c.request-kept.ensures)
+      | then-is_alone-via-else-is_alone+then-holds w ↦ inr (
+        bare_so old c.request-kept.result m false c.is_alone.result c.is_alone.ensures w.if-is_alone.false
             c.request-kept.ensures,
         held_so image old c.op-op.result c.request-kept.result m true w.holds.result w.holds.ensures
             w.if-holds.true c.op-op.ensures c.request-kept.ensures,
@@ -212,7 +213,7 @@ returns-clause-leads g c =
     past_so image c.op-op.result k m false
     (sym c.is_past.ensures ∙ c.if-is_past.false) c.op-op.ensures c.request-kept.ensures in
     let whole : is_in old.bare m.wave m.instr ≡ false =
-    bare_so old k m false c.has.result c.has.ensures c.if-has.false c.request-kept.ensures in
+    bare_so old k m false c.is_alone.result c.is_alone.ensures c.if-is_alone.false c.request-kept.ensures in
     let held : holds_op old.queues.entries.items (instr_at image m.instr).op m.first ≡ false =
     held_so image old c.op-op.result k m false c.holds.result c.holds.ensures c.if-holds.false
     c.op-op.ensures c.request-kept.ensures in (

@@ -1,4 +1,5 @@
-use Rattle.std.proofs.Common.{◌+◌, ◌≡◌, ◌≤◌, ◌++◌, ◌∷◌, [], List, length, Some, ap, sym, subst, arith}
+use Rattle.std.proofs.Common.{◌+◌, ◌≡◌, ◌≤◌, ◌++◌, ◌∷◌, [], List, Some, sym, subst, arith}
+use Rattle.store_buf.proofs.Earlies.{as_long}
 use Rattle.store_buf.specs.declared.kept.Kept.{Kept}
 use Rattle.store_buf.specs.Requests.{entry_of}
 use Rattle.part_store.proofs.Coming as C
@@ -15,8 +16,8 @@ returns-clause-ok g c =
       order = c.add.ensures.ok;
       early = C.both c.add.result c.add.ensures.room
           (C.map_err c.add.result (λ (w : n.waiting ≡ o.waiting).
-          let e : length n.early.items ≡ length o.early.items = ap length c.add.ensures.early in
-          omega (arith, w, e, n.early.ok.0, o.early.ok.0, c.add.ensures.grown, c.requires.ok.early))
+          let e = as_long n.early o.early c.add.ensures.early in
+          omega (arith, w, e, c.add.ensures.grown, c.requires.ok.early))
           c.add.ensures.still);
       printed = omega (arith, m, c.in_ok-reserve.ensures.ok);
       queues = omega (arith, m, c.in_ok-reserve-2.ensures.room);

@@ -1,4 +1,5 @@
 use Rattle.std.proofs.Common.{◌≡◌, Some, None, List, sym, subst}
+use Rattle.df_core.specs.Places.{image_of}
 use Rattle.store_buf.specs.declared.kept.Kept.{Kept}
 use Rattle.store_buf.specs.Requests.{entry_of}
 use Rattle.part_store.proofs.Coming as C
@@ -12,3 +13,9 @@ add_bare-requires-clause-kept g c =
     (sym c.in_ok-reserve_bare.ensures.keeps.kept_are) c.requires.fresh in
     subst (λ (xs : List Kept). (x : Kept) × (entry_of xs c.args.kept.wave c.args.kept.instr ≡ Some x))
     (sym c.in_ok-keep.ensures.keeps.kept_are) (C.kept_now ks c.args.kept fresh)
+
+pub returns-in_err-reserve_bare-clause-filed : goal.returns-in_err-reserve_bare-clause-filed
+returns-in_err-reserve_bare-clause-filed g c = c.in_err-reserve_bare.ensures.filed (image_of c.args.program.now) c.requires.filed
+
+pub keep-requires-clause-filed : goal.keep-requires-clause-filed
+keep-requires-clause-filed g c = c.in_ok-reserve_bare.ensures.filed (image_of c.args.program.now) c.requires.filed

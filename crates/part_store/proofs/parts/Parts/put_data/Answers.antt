@@ -108,7 +108,7 @@ returns-clause-filed g c = λ image f.
         first = k.first;
         second = k.second;
         answer = c.index-old.result.now.answer;
-      }) l refl
+      }) l refl f.filed.early
           (λ e. (
             ap (λ (x : Kept). x.answer) (sym q) ∙ e,
             ap (λ (x : Kept). x.wave) q,

@@ -6,7 +6,7 @@ use Rattle.store_buf.proofs.order.Order.early.Goals as goal
 
 pub loop-ripple-preserved : goal.loop-ripple-preserved
 loop-ripple-preserved c = record {
-  filed = F.load_gone (image_of c.args.program.now) c.loop-ripple.self _ c.in-Some.ripple c.in-Some.place c.loop-ripple.invariant.filed refl refl refl refl
+  filed = F.load_gone (image_of c.args.program.now) c.loop-ripple.self _ c.in-Some.ripple c.in-Some.place c.loop-ripple.invariant.filed c.loop-ripple.invariant.filed.early refl refl refl refl
       (λ n p h. c.drop_top.ensures.others _ _ n p c.in-Some.ensures.top h) (λ h e. c.has_ripple.ensures.no c.if-has_ripple.false h e);
   same = ap (λ (o : Order). record o { near = record o.near { loads = c.drop_top.new.self } }) c.loop-ripple.invariant.same;
 }

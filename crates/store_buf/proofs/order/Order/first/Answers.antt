@@ -12,7 +12,7 @@ returns-then-has_number-clause-first c = let y = c.has_number.ensures.yes c.if-h
 
 pub loop-number-preserved : goal.loop-number-preserved
 loop-number-preserved c = record {
-  filed = F.turn_gone (image_of c.args.program.now) c.loop-number.self _ c.in-Some.number c.in-Some.place c.loop-number.invariant.filed refl refl refl refl
+  filed = F.turn_gone (image_of c.args.program.now) c.loop-number.self _ c.in-Some.number c.in-Some.place c.loop-number.invariant.filed c.loop-number.invariant.filed.early refl refl refl refl
       (λ n p h. c.drop_top.ensures.others _ _ n p c.in-Some.ensures.top h) (λ h e. c.has_number.ensures.no c.if-has_number.false h e);
   same = ap (λ (o : Order). record o { near = record o.near { turns = c.drop_top.new.self } }) c.loop-number.invariant.same;
 }
@@ -24,4 +24,5 @@ pub returns-clause-filed : goal.returns-clause-filed
 returns-clause-filed c = record {
   near = λ p h. absurd (c.in_default.ensures.top _ p ((c.loop-number.invariant.filed.near p (record { within = h.within; current = h.current; waits = h.waits })).turn));
   far = c.loop-number.invariant.filed.far;
+  early = c.loop-number.invariant.filed.early;
 }

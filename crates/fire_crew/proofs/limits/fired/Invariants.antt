@@ -1,7 +1,0 @@
-use Rattle.std.proofs.Common.{◌≡◌, take}
-use Rattle.match_table.specs.Rows.{contents}
-use Rattle.fire_crew.proofs.Shares.{total}
-use Rattle.fire_crew.proofs.limits.fired.Given as goal
-
-abbrev pub invariant-loop-number : goal.invariant-loop-number
-invariant-loop-number g l = l.count ≡ total (take l.number (contents l.tables))

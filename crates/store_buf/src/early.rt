@@ -1,0 +1,92 @@
+//! Issued loads that the chain hasn't passed.
+
+ghost use Rattle.std.specs.Prelude.{◌≡◌, ◌<◌, ◌+◌, ◌⊎◌, ℕ, [], MatchOption, OnOk, OnErr};
+ghost use Rattle.std.specs.BinaryHeap.{IsHeap, heap_items, heap_len, heap_capacity};
+ghost use Rattle.std.specs.Ordering.{nat_cmp, ordering_then};
+ghost use Rattle.std.proofs.Props.{props};
+ghost use Rattle.ws_isa.specs.Image.{Image, note_of};
+ghost use Rattle.df_core.specs.Chains.{HasOneMore};
+
+use std::alloc::Global;
+use std::cmp::Reverse;
+use std::collections::BinaryHeap;
+use ws_words::NoMemory;
+
+/// Instructions of issued operations of a wave, each under its sequence number. The top is one of the
+/// smallest number.
+#[derive(Drop)]
+pub struct Early {
+    pub heap: BinaryHeap<Reverse<(u32, u32)>>,
+    ghost ordered: { IsHeap (λ x y. ordering_then (nat_cmp y.0.0 x.0.0) (nat_cmp y.0.1 x.0.1))
+        (heap_items heap) } by { Prim.hlevel props },
+}
+
+impl Early {
+    ghost use Rattle.std.specs.Prelude.{◌≤◌};
+    ghost use Rattle.store_buf.specs.Earlies.{IsFirst, Numbered, StandsUnder, early_ops};
+
+    /// No operations.
+    pub fn new(alloc: Global) -> Early
+        ensures { early_ops result ≡ [] }
+    {
+        Early {
+            heap: BinaryHeap::new(alloc),
+        }
+    }
+
+    /// Makes room for so many more.
+    pub fn reserve(&mut self, more: usize) -> Result<(), NoMemory>
+        ensures items { heap_items self.new.heap ≡ heap_items self.old.heap }
+        ensures room { OnOk result (heap_len self.new.heap + more ≤ heap_capacity self.new.heap) }
+        ensures len { heap_len self.new.heap ≡ heap_len self.old.heap }
+        ensures grown { heap_capacity self.old.heap ≤ heap_capacity self.new.heap }
+    {
+        self.heap.reserve(more)?;
+        Ok(())
+    }
+
+    /// Puts an operation under its number, for which there is room.
+    #[inline(always)]
+    pub fn push(&mut self, number: u32, instr: u32)
+        requires room { heap_len self.old.heap < heap_capacity self.old.heap }
+        ensures more { HasOneMore instr (early_ops self.old) (early_ops self.new) }
+        ensures numbered { (image : Image) → number ≡ (note_of image instr).seq
+            → Numbered image self.old → Numbered image self.new }
+        ensures len { heap_len self.new.heap ≡ heap_len self.old.heap + 1 }
+        ensures grown { heap_capacity self.old.heap ≤ heap_capacity self.new.heap }
+    {
+        let _ = self.heap.push(Reverse((number, instr)));
+    }
+
+    /// The top: its number, which none of the others is below, and its instruction.
+    #[inline(always)]
+    pub fn top(&self) -> Option<(u32, u32)>
+        ensures { MatchOption result (early_ops self.now ≡ []) (λ t. IsFirst self.now t.0 t.1) }
+    {
+        match self.heap.peek() {
+            Some(Reverse(top)) => Some(*top),
+            None => None,
+        }
+    }
+
+    /// Takes the top away.
+    #[inline(always)]
+    pub fn drop_top(&mut self)
+        ensures others { (a b n i : ℕ) → IsFirst self.old a b → StandsUnder self.old n i
+            → ((a ≡ n) × (b ≡ i)) ⊎ StandsUnder self.new n i }
+        ensures back { (n i : ℕ) → StandsUnder self.new n i → StandsUnder self.old n i }
+        ensures fewer { (a b : ℕ) → IsFirst self.old a b → heap_len self.new.heap < heap_len self.old.heap }
+        ensures room { heap_capacity self.new.heap ≡ heap_capacity self.old.heap }
+    {
+        let _ = self.heap.pop();
+    }
+
+    /// Takes all away.
+    pub fn clear(&mut self)
+        ensures none { early_ops self.new ≡ [] }
+        ensures len { heap_len self.new.heap ≡ 0 }
+        ensures room { heap_capacity self.new.heap ≡ heap_capacity self.old.heap }
+    {
+        self.heap.clear();
+    }
+}
