@@ -24,7 +24,7 @@ use Rattle.store_buf.specs.Contents.{buffer_in}
 use Rattle.store_buf.specs.Ordering.{no_request}
 use Rattle.match_table.specs.Together.{all_fired, behind, together}
 use Rattle.match_table.specs.Growth.{content_at, no_content}
-use Rattle.fire_crew.specs.Owing.{HaveCome, IsMissing, IsKnown, AllKnown, HasTold, HasToldAt, ToldIn, HasAnswered}
+use Rattle.fire_crew.specs.Owing.{HaveCome, IsMissing, IsKnown, AllKnown, ResultsCame, ResultsCameAt, ToldIn, HasAnswered}
 use Rattle.match_table.proofs.FiredPlaces.{none_fired, fired_place, asked_there}
 use Rattle.match_table.proofs.Union.{listed_at}
 use Rattle.match_table.proofs.Held.{has_none}
@@ -92,18 +92,18 @@ pub all_done : {X : Type 0} (P : X → Type 0) (all : List X) (k : ℕ) → leng
 all_done {X} P all k le a = subst (λ (l : List X). All P l) (take_all k all le) a
 
 -- the one that a table lists at a place has told, by its key or as the code finds it
-pub told_key : (image : Image) (all : Ports) (place : ℕ) (c : TableContent) (k : Key) → ((d : Key) → slice_index_or c.fired place d ≡ k) → HasTold image all (operands_in image (held c) k.wave k.instr) k → HasToldAt image all place c
-told_key image all place c k at now d = subst (λ (y : Key). HasTold image all (operands_in image (held c) y.wave y.instr) y) (sym (at d)) now
+pub told_key : (image : Image) (all : Ports) (place : ℕ) (c : TableContent) (k : Key) → ((d : Key) → slice_index_or c.fired place d ≡ k) → ResultsCame image all (operands_in image (held c) k.wave k.instr) k → ResultsCameAt image all place c
+told_key image all place c k at now d = subst (λ (y : Key). ResultsCame image all (operands_in image (held c) y.wave y.instr) y) (sym (at d)) now
 
-pub told_at : (image : Image) (all : Ports) (place : ℕ) (c : TableContent) (f : Fired) → ((d : Key) → slice_index_or c.fired place d ≡ key_of f) → listed f.operands ≡ operands_in image (held c) f.wave f.instr → HasTold image all (listed f.operands) (key_of f) → HasToldAt image all place c
-told_at image all place c f at operands now = told_key image all place c (key_of f) at (subst (λ (xs : List ℕ). HasTold image all xs (key_of f)) operands now)
+pub told_at : (image : Image) (all : Ports) (place : ℕ) (c : TableContent) (f : Fired) → ((d : Key) → slice_index_or c.fired place d ≡ key_of f) → listed f.operands ≡ operands_in image (held c) f.wave f.instr → ResultsCame image all (listed f.operands) (key_of f) → ResultsCameAt image all place c
+told_at image all place c f at operands now = told_key image all place c (key_of f) at (subst (λ (xs : List ℕ). ResultsCame image all xs (key_of f)) operands now)
 
 -- one more of a stretch is done
-pub told_more : (image : Image) (all : Ports) (from place : ℕ) (c : TableContent) → ToldIn image all from place c → HasToldAt image all place c → ToldIn image all from (place + 1) c
+pub told_more : (image : Image) (all : Ports) (from place : ℕ) (c : TableContent) → ToldIn image all from place c → ResultsCameAt image all place c → ToldIn image all from (place + 1) c
 told_more image all from place c before now k d low high within = elim (cases_lt k place) [
   | inl x ↦ before k d low x within
   | inr x ↦ (let same : place ≡ k = omega (arith, high, x) in
-      subst (λ (j : ℕ). HasTold image all (operands_in image (held c) (slice_index_or c.fired j d).wave (slice_index_or c.fired j d).instr) (slice_index_or c.fired j d)) same (now d))
+      subst (λ (j : ℕ). ResultsCame image all (operands_in image (held c) (slice_index_or c.fired j d).wave (slice_index_or c.fired j d).instr) (slice_index_or c.fired j d)) same (now d))
 ]
 
 -- one stretch after another
@@ -115,7 +115,7 @@ told_join image all from mid to c a b k d low high within = elim (cases_lt k mid
 
 -- each that the table lists has told so
 abbrev pub AllTold : Image → Ports → TableContent → Type 0
-AllTold image all c = All (λ (k : Key). HasTold image all (operands_in image (held c) k.wave k.instr) k) c.fired
+AllTold image all c = All (λ (k : Key). ResultsCame image all (operands_in image (held c) k.wave k.instr) k) c.fired
 
 -- all of a list are done
 pub told_all : (image : Image) (all : Ports) (to : ℕ) (c : TableContent) → length c.fired ≤ to → ToldIn image all 0 to c → AllTold image all c
@@ -172,7 +172,7 @@ module _ (image : Image) (cs : List TableContent) (count : length cs ≡ 16) (sa
       let b = r.1 in
       let f : Key = slice_index_or (content_at cs r.0).fired p.place none_fired in
       let lt : r.0 < 16 = omega (arith, b, count) in
-      let k : HasTold image hold (operands_in image (held (content_at cs r.0)) f.wave f.instr) f = All-get_or (λ (x : Key). HasTold image hold (operands_in image (held (content_at cs r.0)) x.wave x.instr) x) (content_at cs r.0).fired p.place none_fired p.below (each r.0 lt) in
+      let k : ResultsCame image hold (operands_in image (held (content_at cs r.0)) f.wave f.instr) f = All-get_or (λ (x : Key). ResultsCame image hold (operands_in image (held (content_at cs r.0)) x.wave x.instr) x) (content_at cs r.0).fired p.place none_fired p.below (each r.0 lt) in
       let t : operands_in image (held (content_at cs r.0)) f.wave f.instr ≡ operands_in image hold f.wave f.instr = All-get_or (λ (x : Key). operands_in image (held (content_at cs r.0)) x.wave x.instr ≡ operands_in image hold x.wave x.instr) (content_at cs r.0).fired p.place none_fired p.below (same r.0 lt) in
       let t' : operands_in image (held (content_at cs r.0)) f.wave f.instr ≡ operands_in image hold w i = t ∙ ap (λ (x : ℕ × ℕ). operands_in image hold x.0 x.1) (λ j. (p.wave j, p.instr j)) in
       subst (λ (x : ℕ × ℕ × List ℕ). HaveCome hold (sends image x.0 x.1 x.2 (result_of image x.1 x.2))) (λ j. (p.wave j, p.instr j, t' j)) (k (ap (is_memory image) p.instr ∙ m))

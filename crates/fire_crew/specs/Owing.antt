@@ -23,20 +23,20 @@ abbrev pub IsKnown : List Kept → Key → Type 0
 IsKnown kept k = is_some (entry_of kept k.wave k.instr) ≡ true
 
 -- if it isn't one of memory, the result tokens of these operands have come to their tables
-abbrev pub HasTold : Image → Ports → List ℕ → Key → Type 0
-HasTold image all operands k = is_memory image k.instr ≡ false →
+abbrev pub ResultsCame : Image → Ports → List ℕ → Key → Type 0
+ResultsCame image all operands k = is_memory image k.instr ≡ false →
     HaveCome all (sends image k.wave k.instr operands (result_of image k.instr operands))
 
 -- the one that a table lists at this place has told so
-abbrev pub HasToldAt : Image → Ports → ℕ → TableContent → Type 0
-HasToldAt image all place c = (d : Key) → HasTold image all
+abbrev pub ResultsCameAt : Image → Ports → ℕ → TableContent → Type 0
+ResultsCameAt image all place c = (d : Key) → ResultsCame image all
     (operands_in image (held c) (slice_index_or c.fired place d).wave (slice_index_or c.fired place d).instr)
     (slice_index_or c.fired place d)
 
 -- each that a table lists, from this place to before that one, has told so
 abbrev pub ToldIn : Image → Ports → ℕ → ℕ → TableContent → Type 0
 ToldIn image all from to c = (k : ℕ) (d : Key) → from ≤ k → k < to → k < length c.fired →
-    HasTold image all
+    ResultsCame image all
     (operands_in image (held c) (slice_index_or c.fired k d).wave (slice_index_or c.fired k d).instr)
     (slice_index_or c.fired k d)
 

@@ -12,8 +12,8 @@ use Rattle.fire_crew.specs.Ends.{AllRun, SomeRun, IsGoing}
 use Rattle.fire_crew.specs.Owing.{IsMissing}
 use Rattle.fire_crew.specs.declared.judge.Ending.{Ending}
 use Rattle.fire_crew.specs.declared.judge.Ending.TheVariants as ending
-use Rattle.fire_crew.specs.declared.judge.Course.{Course}
-use Rattle.fire_crew.specs.declared.judge.Course.TheVariants.{Go, Ends}
+use Rattle.fire_crew.specs.declared.judge.Verdict.{Verdict}
+use Rattle.fire_crew.specs.declared.judge.Verdict.TheVariants.{Go, Ends}
 
 -- in so many phases each but the last has brought a token that was held nowhere
 abbrev pub MovedOn : Ports → Ports → ℕ → Type 0
@@ -29,11 +29,11 @@ EndingSo image world began listed left c ending.Starved = Unit {0}
 
 module _ {J : Type 0} where
   -- a run goes on, and this is the token that it names
-  abbrev pub GoesWith : Token → Course J → Type 0
+  abbrev pub GoesWith : Token → Verdict J → Type 0
   GoesWith t (Go token tokens) = token ≡ t
   GoesWith t (Ends e) = ⊥
 
   -- a run goes on where some may fire and no table has had the token that it names, or it has ended
-  abbrev pub CourseSo : Image → World → List (Option Began) → Part → ℕ → Content → Course J → Type 0
+  abbrev pub CourseSo : Image → World → List (Option Began) → Part → ℕ → Content → Verdict J → Type 0
   CourseSo image world began part left c (Go token tokens) = (0 < left) × IsMissing part.held token
   CourseSo image world began part left c (Ends e) = EndingSo image world began part.fired left c e

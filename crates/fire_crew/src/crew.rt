@@ -14,7 +14,7 @@ ghost use Rattle.fire_crew.specs.Verdicts.{EndingSo, MovedOn};
 use crate::Gate;
 use crate::ends::few_tokens;
 use crate::finish::{CrewEnd, CrewFinish, finish};
-use crate::judge::{Course, Ending, find_course};
+use crate::judge::{Ending, Verdict, find_course};
 use crate::limits::fitting;
 use crate::turn::turn;
 use df_core::{Code, Job, TokenList};
@@ -92,7 +92,7 @@ fn run_phases<J: Job + Send + Sync, P: Port + Send, G: Gate, R: Threads + Wait +
     for phases in 0..u64::MAX {
         let left = budget - fired(&tables);
         match find_course(alloc, code, &tables, &mut buffer, tokens, left) {
-            Course::Ends(ending) => {
+            Verdict::Ends(ending) => {
                 return Ended {
                     tables,
                     buffer,
@@ -100,7 +100,7 @@ fn run_phases<J: Job + Send + Sync, P: Port + Send, G: Gate, R: Threads + Wait +
                     phases,
                 };
             }
-            Course::Go { token, tokens: all } => {
+            Verdict::Go { token, tokens: all } => {
                 let after = turn(
                     rt, alloc, tables, buffer, &token, all, workers, budget, code, gate,
                 );

@@ -31,7 +31,7 @@ pub enum Ending {
 
 /// Whether a run goes on, with these tokens, of which one is named that no table has had; or has ended.
 #[derive(Drop)]
-pub enum Course<J: Job> {
+pub enum Verdict<J: Job> {
     Go {
         token: Token<J>,
         tokens: TokenList<J>,
@@ -47,12 +47,12 @@ pub fn find_course<J: Job, P: Port>(
     buffer: &mut Buffer<J, P>,
     tokens: TokenList<J>,
     left: u64,
-) -> Course<J>
+) -> Verdict<J>
     requires serve { AllServe tables.now }
     ensures { CourseSo J.image J.world J.began (part_of tables.now) left buffer.new result }
 {
     if let Some(_) = buffer.stop() {
-        return Course::Ends(Ending::Stopped);
+        return Verdict::Ends(Ending::Stopped);
     }
     let mut tokens = tokens;
     if left > 0
@@ -61,12 +61,12 @@ pub fn find_course<J: Job, P: Port>(
         return go(token, tokens);
     }
     if let Err(ending) = ask(alloc, code, tables, buffer) {
-        return Course::Ends(ending);
+        return Verdict::Ends(ending);
     }
     let most = if left == 0 { 1 } else { usize::MAX };
     match missing(alloc, code, tables, buffer, most) {
         Ok(owed) => settle(code, tables, buffer, owed, left),
-        Err(_) => Course::Ends(Ending::Starved),
+        Err(_) => Verdict::Ends(Ending::Starved),
     }
 }
 
@@ -83,12 +83,12 @@ fn wanted<J: Job>(tables: &Tables<J>, tokens: &mut TokenList<J>) -> Option<Token
 }
 
 // Goes on with this token, which stands behind the others too.
-fn go<J: Job>(token: Token<J>, tokens: TokenList<J>) -> Course<J>
+fn go<J: Job>(token: Token<J>, tokens: TokenList<J>) -> Verdict<J>
     ensures { GoesWith token result }
 {
     let mut tokens = tokens;
     let _ = tokens.push(token.again());
-    Course::Go { token, tokens }
+    Verdict::Go { token, tokens }
 }
 
 // Submits the requests of instances that have fired and that the buffer doesn't know, so that it knows
@@ -128,7 +128,7 @@ fn settle<J: Job, P: Port>(
     buffer: &Buffer<J, P>,
     owed: TokenList<J>,
     left: u64,
-) -> Course<J>
+) -> Verdict<J>
     requires serve { AllServe tables.now }
     requires going { IsGoing buffer.now }
     requires known { AllKnown J.image (part_of tables.now) buffer.now.kept }
@@ -141,14 +141,14 @@ fn settle<J: Job, P: Port>(
     match owed.pop() {
         None => {
             all_run(code, tables, buffer);
-            Course::Ends(Ending::Whole)
+            Verdict::Ends(Ending::Whole)
         }
         Some(token) => {
             if left > 0 {
                 return go(token, owed);
             }
             some_run(code, tables, buffer, &token);
-            Course::Ends(Ending::Spent)
+            Verdict::Ends(Ending::Spent)
         }
     }
 }

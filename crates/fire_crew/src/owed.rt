@@ -9,7 +9,7 @@ ghost use Rattle.df_core.specs.Rights.{operands_of};
 ghost use Rattle.match_table.specs.Ports.{listed};
 ghost use Rattle.match_table.specs.Tables.{key_of};
 ghost use Rattle.match_table.specs.Together.{part_behind};
-ghost use Rattle.fire_crew.specs.Owing.{HasAnswered, HasTold, HasToldAt, HaveCome, IsMissing};
+ghost use Rattle.fire_crew.specs.Owing.{HasAnswered, ResultsCame, ResultsCameAt, HaveCome, IsMissing};
 
 use crate::told::has_told;
 use df_core::{Code, Job, Token, TokenList};
@@ -33,7 +33,7 @@ pub(crate) fn see_at<J: Job>(
     requires place { place < length table.now.fired }
     ensures missing { OnOk result (All (IsMissing (part_behind tables.now).held) found.new) }
     ensures none { OnOk result (found.new ≡ [] → (found.old ≡ [])
-        × HasToldAt J.image (part_behind tables.now).held place table.now) }
+        × ResultsCameAt J.image (part_behind tables.now).held place table.now) }
 {
     if has_told(code, tables, courses, table, place) {
         return Ok(());
@@ -59,7 +59,7 @@ fn look_at<J: Job>(
         → RightToken J.image J.world w i p v }
     ensures missing { OnOk result (All (IsMissing (part_behind tables.now).held) found.new) }
     ensures none { OnOk result (found.new ≡ [] → (found.old ≡ [])
-        × HasTold J.image (part_behind tables.now).held (listed fired.operands) (key_of fired)) }
+        × ResultsCame J.image (part_behind tables.now).held (listed fired.operands) (key_of fired)) }
 {
     let op = code.program().op(fired.instr);
     if op.is_memory() {

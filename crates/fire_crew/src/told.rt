@@ -5,7 +5,7 @@ ghost use Rattle.ws_isa.specs.Image.{selector_of, tokens_to};
 ghost use Rattle.df_core.specs.Core.{Key, operands_in};
 ghost use Rattle.match_table.specs.Tables.{held};
 ghost use Rattle.match_table.specs.Together.{part_behind};
-ghost use Rattle.fire_crew.specs.Owing.{HasToldAt, HaveCome};
+ghost use Rattle.fire_crew.specs.Owing.{ResultsCameAt, HaveCome};
 
 use crate::owed::{choice_of, number_of};
 use df_core::{Code, Job};
@@ -24,7 +24,7 @@ pub(crate) fn has_told<J: Job>(
     place: usize,
 ) -> bool
     requires { place < length table.now.fired }
-    ensures { result ≡ true → HasToldAt J.image (part_behind tables.now).held place table.now }
+    ensures { result ≡ true → ResultsCameAt J.image (part_behind tables.now).held place table.now }
 {
     let (wave, instr) = table.key_at(place);
     let op = code.program().op(instr);

@@ -1,6 +1,6 @@
 //! How the parts of a run end.
 
-ghost use Rattle.multi_wave.specs.Parts.{Ready, alone};
+ghost use Rattle.multi_wave.specs.Parts.{PortsReady, alone};
 
 use multi_wave::{Each, Part, ThreadEnd, ThreadFinish, ThreadGate, multi_run};
 use port_set::{Port, PortError, Slots};
@@ -74,7 +74,7 @@ fn end_of<P: Port>(end: Option<ThreadEnd<P>>) -> End {
 
 // The part with this image, if there is one. Each call of its port 1 fails.
 fn part<'i>(alloc: Global, image: Option<&'i Checked>, budget: u64) -> Option<Part<'i, Broken>>
-    ensures { Ready (alone ⟦<Broken as Port>⟧.tells result) }
+    ensures { PortsReady (alone ⟦<Broken as Port>⟧.tells result) }
 {
     let Some(image) = image else {
         return None;

@@ -13,7 +13,7 @@ use Rattle.store_buf.specs.Requests.{entry_of, issued_in}
 use Rattle.store_buf.specs.Outdoors.{Holding, OutIs}
 use Rattle.store_buf.specs.Contents.{FaultIs}
 use Rattle.store_buf.proofs.Coming.{entry_push, issued_push}
-use Rattle.part_store.specs.declared.entry.Entry.{Entry}
+use Rattle.part_store.specs.declared.entry.Queued.{Queued}
 use Rattle.part_store.specs.Queues.{front, holds, is_queued, open_queues}
 use Rattle.part_store.specs.Contents.{is_bare, asking, cell, PartContent}
 use Rattle.part_store.specs.Parted.{IsKept, Parting, Fronts, RisingEntries}
@@ -77,10 +77,10 @@ module _ (image : Image) (world : World) (began : List (Option Began)) (c d : Pa
   ]
 
   queued_same : (w i : ℕ) → is_queued d.queued w i ≡ is_queued c.queued w i
-  queued_same w i = ap (λ (es : List Entry). is_queued es w i) come.queued
+  queued_same w i = ap (λ (es : List Queued). is_queued es w i) come.queued
 
-  front_back : (e : Entry) (r j : ℕ) → front d.queued r j ≡ Some e → front c.queued r j ≡ Some e
-  front_back e r j h = subst (λ (es : List Entry). front es r j ≡ Some e) come.queued h
+  front_back : (e : Queued) (r j : ℕ) → front d.queued r j ≡ Some e → front c.queued r j ≡ Some e
+  front_back e r j h = subst (λ (es : List Queued). front es r j ≡ Some e) come.queued h
 
   pub arrives : Parting image world began d
   arrives = record {
@@ -100,14 +100,14 @@ module _ (image : Image) (world : World) (began : List (Option Began)) (c d : Pa
       same = λ w i. s.partly.same w i ∙ sym (ap has (issued w i));
       told = λ w i a n e. s.partly.told w i a (sym (queued_same w i) ∙ n) (sym (issued w i) ∙ e);
       opened = λ w i a n e. queued_same w i ∙ s.partly.opened w i a n (sym (bare_old w i a n) ∙ e);
-      sits = λ e h. s.partly.sits e (subst (λ (es : List Entry). In e es) come.queued h);
-      numbered = λ e h. s.partly.numbered e (subst (λ (es : List Entry). In e es) come.queued h);
+      sits = λ e h. s.partly.sits e (subst (λ (es : List Queued). In e es) come.queued h);
+      numbered = λ e h. s.partly.numbered e (subst (λ (es : List Queued). In e es) come.queued h);
       rising = subst (RisingEntries image world) (sym come.queued) s.partly.rising;
       every = λ e r j t h on w i a u n there l. queued_same w i
           ∙ s.partly.every e r j t (front_back e r j h) on w i a u n there l;
-      few = subst (λ (es : List Entry). open_queues es ≤ 16) (sym come.queued) s.partly.few;
+      few = subst (λ (es : List Queued). open_queues es ≤ 16) (sym come.queued) s.partly.few;
       free = λ r j n. ap (λ (h : Holding). cell h.cells r j) come.outside
-          ∙ s.partly.free r j (subst (λ (es : List Entry). holds es r j ≡ false) come.queued n);
+          ∙ s.partly.free r j (subst (λ (es : List Queued). holds es r j ≡ false) come.queued n);
       before = λ e r j t h on. ap (λ (x : Holding). cell x.cells r j) come.outside
           ∙ s.partly.before e r j t (front_back e r j h) on;
       rows = ap (λ (x : Holding). length x.cells) come.outside ∙ s.partly.rows;

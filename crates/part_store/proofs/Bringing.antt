@@ -15,7 +15,7 @@ use Rattle.store_buf.specs.declared.fault.BufFault.TheVariants as fault
 use Rattle.store_buf.specs.declared.kept.Kept.{Kept}
 use Rattle.store_buf.specs.Requests.{entry_of, issued_in, answer_if}
 use Rattle.store_buf.proofs.Coming.{entry_push}
-use Rattle.part_store.specs.declared.entry.Entry.{Entry}
+use Rattle.part_store.specs.declared.entry.Queued.{Queued}
 use Rattle.part_store.specs.Queues.{is_queued, joined, without}
 use Rattle.part_store.specs.Contents.{is_bare, PartContent}
 use Rattle.part_store.specs.Parted.{Parting}
@@ -35,7 +35,7 @@ both_ok (Ok a) f x y = f x y
 both_ok (Err e) f x y = tt
 
 -- not queued later, not queued before
-old_joined : (image : Image) (e : Entry) (es : List Entry) (w i : ℕ) → is_queued (joined e es) w i ≡ false →
+old_joined : (image : Image) (e : Queued) (es : List Queued) (w i : ℕ) → is_queued (joined e es) w i ≡ false →
     is_queued es w i ≡ false
 old_joined image e es w i n = elim (cases_Bool (is_queued es w i)) [
   | inl q ↦ (let f = F.queued_in es w i q in absurd (both_ways (is_queued (joined e es) w i) n
@@ -43,12 +43,12 @@ old_joined image e es w i n = elim (cases_Bool (is_queued es w i)) [
   | inr q ↦ q
 ]
 
-new_joined : (image : Image) (e : Entry) (es : List Entry) (w i : ℕ) → is_queued (joined e es) w i ≡ false →
+new_joined : (image : Image) (e : Queued) (es : List Queued) (w i : ℕ) → is_queued (joined e es) w i ≡ false →
     SameKey e.wave e.instr w i → ⊥
 new_joined image e es w i n key = both_ways (is_queued (joined e es) w i) n
     (F.in_queued (joined e es) w i e (F.joined_new e es) key)
 
-old_without : (es : List Entry) (a b w i : ℕ) → is_queued (without es a b) w i ≡ false →
+old_without : (es : List Queued) (a b w i : ℕ) → is_queued (without es a b) w i ≡ false →
     (SameKey a b w i → ⊥) → is_queued es w i ≡ false
 old_without es a b w i n other = elim (cases_Bool (is_queued es w i)) [
   | inl q ↦ (let f = F.queued_in es w i q in absurd (both_ways (is_queued (without es a b) w i) n
@@ -75,7 +75,7 @@ with_kept w i k f a b x e = elim (with_key_cases w i (Some k) f a b)
     [ inl h ↦ (k, h.1) | inr h ↦ (x, h.1 ∙ e) ]
 
 module _ (image : Image) where
-  counted_lasts : (c d : PartContent) (k : Kept) (word : ℕ) (q : List Entry) (o : _) →
+  counted_lasts : (c d : PartContent) (k : Kept) (word : ℕ) (q : List Queued) (o : _) →
       Counted image c k word q o d → Lasts c d
   counted_lasts c d k word q o n = record {
     kept = λ w i x e. (let y = with_kept k.wave k.instr (answered k (Some word)) (entry_of c.kept) w i x e in
@@ -107,7 +107,7 @@ module _ (image : Image) where
         Counted image c k 0 (joined (entry_at image k) c.queued) o d → Done c → Done d
     join_done c d k o n done w i a x e s q =
         let q' : is_queued (joined (entry_at image k) c.queued) w i ≡ false =
-        subst (λ (es : List Entry). is_queued es w i ≡ false) n.queued_are q in
+        subst (λ (es : List Queued). is_queued es w i ≡ false) n.queued_are q in
         elim (with_key_cases k.wave k.instr (Some (answered k (Some 0))) (entry_of c.kept) w i) [
           | inl h ↦ absurd (new_joined image (entry_at image k) c.queued w i q' h.0)
           | inr h ↦ done w i a x (sym h.1 ∙ sym (n.kept w i) ∙ e) s
@@ -126,14 +126,14 @@ module _ (image : Image) where
               AllReach f way (sends image l.0 l.1 (operands_of (ports image l.1) l.2 l.3) l.4))
               (λ j. (h.0.wave j, h.0.instr j, (y j).first, (y j).second, u j)) (R.reach_all f _ way sent))
           | inr h ↦ done w i a x (sym h.1 ∙ sym (n.kept w i) ∙ e) s
-              (subst (λ (es : List Entry). is_queued es w i ≡ false) n.queued_are q)
+              (subst (λ (es : List Queued). is_queued es w i ≡ false) n.queued_are q)
         ]
 
-    follow_done : (c d : PartContent) (e : Entry) (some : List Token) → Followed image c e some d →
+    follow_done : (c d : PartContent) (e : Queued) (some : List Token) → Followed image c e some d →
         Covers some way → Done c → Done d
     follow_done c d e some n sent done w i a x is s q =
         let q' : is_queued (without c.queued e.wave e.instr) w i ≡ false =
-        subst (λ (es : List Entry). is_queued es w i ≡ false) n.queued q in
+        subst (λ (es : List Queued). is_queued es w i ≡ false) n.queued q in
         let new : Kept = record {
           wave = e.wave;
           instr = e.instr;
@@ -178,7 +178,7 @@ module _ (image : Image) where
     alike_done : (c d : PartContent) → Alike c d → Done c → Done d
     alike_done c d a done w i n x e s q =
         done w i n x (subst (λ (ks : List Kept). entry_of ks w i ≡ Some x) a.kept e) s
-        (subst (λ (es : List Entry). is_queued es w i ≡ false) a.queued q)
+        (subst (λ (es : List Queued). is_queued es w i ≡ false) a.queued q)
 
     to_done : (c d : PartContent) (ts : List Token) → MovesTo image c ts d → Covers ts way → Done c → Done d
     to_done c d ts m sent done = alike_done m.mid d m.alike (moves_done c m.mid ts m.moves sent done)
@@ -193,14 +193,14 @@ module _ (image : Image) where
               let y : answered k None ≡ x = cc in
               absurd (nothing a (ap (λ (l : Kept). l.answer) y ∙ s)))
           | inr h ↦ done w i a x (sym h.1 ∙ e') s
-              (subst (λ (es : List Entry). is_queued es w i ≡ false) m.queued q)
+              (subst (λ (es : List Queued). is_queued es w i ≡ false) m.queued q)
         ]
 
     fill_done : (world : World) (began : List (Option Began)) (c d : PartContent) (k : Kept) →
         Parting image world began c → Fills c k d → Done c → Done d
     fill_done world began c d k parting m done w i a x e s q =
         let q' : is_queued c.queued w i ≡ false =
-        subst (λ (es : List Entry). is_queued es w i ≡ false) m.queued q in
+        subst (λ (es : List Queued). is_queued es w i ≡ false) m.queued q in
         elim (with_key_cases k.wave k.instr (Some (answered k m.old.answer)) (entry_of c.kept) w i) [
           | inl h ↦ (let z : Some (answered k m.old.answer) ≡ Some x = sym h.1 ∙ sym (m.kept w i) ∙ e in
               let y : answered k m.old.answer ≡ x = cc in

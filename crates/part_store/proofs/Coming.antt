@@ -25,7 +25,7 @@ use Rattle.part_store.specs.declared.parts.Parts.{Parts}
 use Rattle.part_store.specs.Bares.{is_in}
 use Rattle.part_store.specs.Parted.{IsKept, Parting, Fronts}
 use Rattle.part_store.specs.Rules.{MovesTo, NoRule, stays, ComesIn}
-use Rattle.part_store.specs.Calls.{AddressSo, Arrives, CameSo, SameAs, PartIdle, PartSubmitSo}
+use Rattle.part_store.specs.Calls.{AddressSo, ComesWhole, CameSo, SameAs, PartIdle, PartSubmitSo}
 use Rattle.part_store.specs.Calls.{comes as arrived}
 use Rattle.part_store.specs.Parts.{Calm, PartsOk, content_of, PartsSettledSo, PartsKeep}
 use Rattle.part_store.proofs.Keys.{key_cases}
@@ -245,12 +245,12 @@ module _ {P : Type 0} where
           PartSubmitSo image (content_of old) k tokens r (content_of new)
       took t r s = by_result r s
         where
-          arrives : Arrives (content_of old) k (content_of (record mid { starved = false }))
+          arrives : ComesWhole (content_of old) k (content_of (record mid { starved = false }))
           arrives = comes_in t comes
             where
               comes_in : b ≡ false → ComesIn (content_of old) k b
                   (content_of (record mid { starved = false })) →
-                  Arrives (content_of old) k (content_of (record mid { starved = false }))
+                  ComesWhole (content_of old) k (content_of (record mid { starved = false }))
               comes_in e x = arrived (subst
                   (λ (y : Bool). ComesIn (content_of old) k y (content_of (record mid { starved = false }))) e
                   x)

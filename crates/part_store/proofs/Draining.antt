@@ -19,7 +19,7 @@ use Rattle.store_buf.specs.declared.fault.BufFault.TheVariants as fault
 use Rattle.store_buf.specs.declared.kept.Kept.{Kept}
 use Rattle.store_buf.specs.Requests.{issued_in}
 use Rattle.store_buf.specs.Stores.{asked_of}
-use Rattle.part_store.specs.declared.entry.Entry.{Entry}
+use Rattle.part_store.specs.declared.entry.Queued.{Queued}
 use Rattle.part_store.specs.declared.parts.Parts.{Parts}
 use Rattle.part_store.specs.Bares.{is_in}
 use Rattle.part_store.specs.Queues.{front}
@@ -48,7 +48,7 @@ row_is image op i row e f = e ∙ ap (λ (x : Op). array_of_op x - 1) f
 
 -- a queued operation of a request's instance waits on the request's cell
 own_cell : (image : Image) (world : World) (formed : Formed image) (sound : Sound image) (k : Kept) →
-    IsAsked image world (asked_of k) → (f : Entry) (t : ℕ) →
+    IsAsked image world (asked_of k) → (f : Queued) (t : ℕ) →
     OnCell image world f.wave f.instr f.row f.index t → SameKey k.wave k.instr f.wave f.instr →
     (f.row ≡ array_at image k.instr - 1) × (f.index ≡ k.first)
 own_cell image world formed sound k right f t on key =
@@ -75,7 +75,7 @@ own_cell image world formed sound k right f t on key =
 module _ {P : Type 0} where
   pub drained_so : (image : Image) (k : Kept) (r : ℕ) → r ≡ array_at image k.instr - 1 →
       (s n : Parts P) (t0 t1 : List Token) → FollowsOn image r k.first s n t0 t1 →
-      ((f : Entry) → front n.queues.entries.items r k.first ≡ Some f → is_in n.bare f.wave f.instr ≡ true) →
+      ((f : Queued) → front n.queues.entries.items r k.first ≡ Some f → is_in n.bare f.wave f.instr ≡ true) →
       DrainLeads image k s n t0 t1
   drained_so image k r is s n t0 t1 on none = (
     on.0,
@@ -150,7 +150,7 @@ module _ {P : Type 0} (image : Image) (world : World) (began : List (Option Bega
   by e r j h n = L.bare_there image world began (content_of old)
       (content_of (record mid { starved = false })) k fills calm.0.parting running right e.wave e.instr
       (λ key. n (sym key.wave) (sym key.instr))
-      ∙ calm.1 e r j (subst (λ (es : List Entry). front es r j ≡ Some e) filled.fills.queued h)
+      ∙ calm.1 e r j (subst (λ (es : List Queued). front es r j ≡ Some e) filled.fills.queued h)
 
   drained : Moves image (content_of (record mid { starved = false })) drains.0 (content_of d) ×
       Calm image world began d

@@ -14,7 +14,7 @@ use Rattle.store_buf.specs.Requests.{entry_of, issued_in}
 use Rattle.store_buf.specs.Outdoors.{Holding, OutIs}
 use Rattle.store_buf.specs.Contents.{FaultIs}
 use Rattle.store_buf.specs.Stores.{asked_of}
-use Rattle.part_store.specs.declared.entry.Entry.{Entry}
+use Rattle.part_store.specs.declared.entry.Queued.{Queued}
 use Rattle.part_store.specs.Queues.{front, holds, is_queued, open_queues}
 use Rattle.part_store.specs.Contents.{is_bare, asking, cell, PartContent}
 use Rattle.part_store.specs.Parted.{IsKept, Parting, RisingEntries}
@@ -56,10 +56,10 @@ module _ (image : Image) (world : World) (began : List (Option Began)) (c d : Pa
   whole v e = subst (λ (y : Bool). IsKept image world y k') (sym e) right
 
   queued_same : (w i : ℕ) → is_queued d.queued w i ≡ is_queued c.queued w i
-  queued_same w i = ap (λ (es : List Entry). is_queued es w i) f.queued
+  queued_same w i = ap (λ (es : List Queued). is_queued es w i) f.queued
 
-  front_back : (e : Entry) (r j : ℕ) → front d.queued r j ≡ Some e → front c.queued r j ≡ Some e
-  front_back e r j h = subst (λ (es : List Entry). front es r j ≡ Some e) f.queued h
+  front_back : (e : Queued) (r j : ℕ) → front d.queued r j ≡ Some e → front c.queued r j ≡ Some e
+  front_back e r j h = subst (λ (es : List Queued). front es r j ≡ Some e) f.queued h
 
   pub fills : Parting image world began d
   fills = record {
@@ -88,14 +88,14 @@ module _ (image : Image) (world : World) (began : List (Option Began)) (c d : Pa
         | inl y ↦ absurd (both_ways (is_bare d w i) (bare_here w i y.0) e)
         | inr y ↦ queued_same w i ∙ s.partly.opened w i a n (sym (bare_there w i y.0) ∙ e)
       ];
-      sits = λ e h. s.partly.sits e (subst (λ (es : List Entry). In e es) f.queued h);
-      numbered = λ e h. s.partly.numbered e (subst (λ (es : List Entry). In e es) f.queued h);
+      sits = λ e h. s.partly.sits e (subst (λ (es : List Queued). In e es) f.queued h);
+      numbered = λ e h. s.partly.numbered e (subst (λ (es : List Queued). In e es) f.queued h);
       rising = subst (RisingEntries image world) (sym f.queued) s.partly.rising;
       every = λ e r j t h on w i a u n there l. queued_same w i
           ∙ s.partly.every e r j t (front_back e r j h) on w i a u n there l;
-      few = subst (λ (es : List Entry). open_queues es ≤ 16) (sym f.queued) s.partly.few;
+      few = subst (λ (es : List Queued). open_queues es ≤ 16) (sym f.queued) s.partly.few;
       free = λ r j n. ap (λ (h : Holding). cell h.cells r j) f.outside
-          ∙ s.partly.free r j (subst (λ (es : List Entry). holds es r j ≡ false) f.queued n);
+          ∙ s.partly.free r j (subst (λ (es : List Queued). holds es r j ≡ false) f.queued n);
       before = λ e r j t h on. ap (λ (x : Holding). cell x.cells r j) f.outside
           ∙ s.partly.before e r j t (front_back e r j h) on;
       rows = ap (λ (x : Holding). length x.cells) f.outside ∙ s.partly.rows;

@@ -17,7 +17,7 @@ use Rattle.store_buf.specs.Earlies.{early_ops}
 use Rattle.store_buf.specs.declared.kept.Kept.{Kept}
 use Rattle.store_buf.specs.Requests.{entry_of, issued_in, answer_if}
 use Rattle.store_buf.specs.Ordering.{OrderOk, kept_at}
-use Rattle.part_store.specs.declared.entry.Entry.{Entry}
+use Rattle.part_store.specs.declared.entry.Queued.{Queued}
 use Rattle.part_store.specs.declared.parts.Parts.{Parts}
 use Rattle.part_store.specs.Bares.{is_in}
 use Rattle.part_store.specs.Queues.{without}
@@ -35,7 +35,7 @@ use Rattle.part_store.proofs.Turning as U
 use Rattle.ws_words.specs.Items.{In}
 
 -- what waits in a queue counts as issued
-pub record Counts (c : PartContent) (e : Entry) : Type 0 where
+pub record Counts (c : PartContent) (e : Queued) : Type 0 where
   pub request : Kept
   pub is_kept : entry_of c.kept e.wave e.instr ≡ Some request
   pub answer : ℕ
@@ -47,7 +47,7 @@ entry_with None a e = absurd (let g : None ≡ Some a = e in cc)
 entry_with (Some x) a e = (x, refl, e)
 
 pub counts : (image : Image) (world : World) (began : List (Option Began)) (c : PartContent) →
-    Parting image world began c → (e : Entry) → In e c.queued → Counts c e
+    Parting image world began c → (e : Queued) → In e c.queued → Counts c e
 counts image world began c s e h =
     let q = (s.partly.sits e h).1 in
     let r = O.some_more (issued_in c.kept e.wave e.instr) (s.counts e.wave e.instr) q.0
@@ -56,7 +56,7 @@ counts image world began c s e h =
     record { request = x.0; is_kept = x.1; answer = r.0; answered = x.2 }
 
 module _ {P : Type 0} (image : Image) (world : World) (formed : Formed image) (sound : Sound image)
-    (began : List (Option Began)) (s n : Parts P) (e : Entry) (p : ℕ) (ok : OrderOk s.order)
+    (began : List (Option Began)) (s n : Parts P) (e : Queued) (p : ℕ) (ok : OrderOk s.order)
     (st : PartsStand image world began s) (going : s.fault ≡ None) (fol : FrontGoes (content_of s) e)
     (l : p < length s.order.kept.items) (flag : issued_flag s.order p e.wave e.instr ≡ true) (word : ℕ)
     (kept : n.order.kept.items ≡ slice_set s.order.kept.items p

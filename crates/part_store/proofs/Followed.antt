@@ -2,7 +2,7 @@
 use Rattle.std.proofs.Common.{ℕ, ◌≡◌, false, List, [], ◌++◌, Some, sym, ap, ◌∙◌, subst}
 use Rattle.std.proofs.lemmas.List.{append_assoc, append-nil}
 use Rattle.ws_isa.specs.Image.{Image, Token}
-use Rattle.part_store.specs.declared.entry.Entry.{Entry}
+use Rattle.part_store.specs.declared.entry.Queued.{Queued}
 use Rattle.part_store.specs.declared.parts.Parts.{Parts}
 use Rattle.part_store.specs.Bares.{is_in}
 use Rattle.part_store.specs.Queues.{front, without_first}
@@ -13,7 +13,7 @@ use Rattle.part_store.proofs.Leading as L
 use Rattle.part_store.proofs.Lines as N
 
 -- a cell's first operation stands on it
-pub on_its_cell : (es : List Entry) (r j : ℕ) (e : Entry) → front es r j ≡ Some e →
+pub on_its_cell : (es : List Queued) (r j : ℕ) (e : Queued) → front es r j ≡ Some e →
     front es e.row e.index ≡ Some e
 on_its_cell es r j e h = let on = (F.front_in es r j e h).1 in
     subst (λ (n : ℕ). front es e.row n ≡ Some e) (sym on.index)
@@ -28,7 +28,7 @@ module _ {P : Type 0} where
         (stays, st, but),
   )
 
-  pub one_more : (image : Image) (r j : ℕ) (e : Entry) (a b c : Parts P) (t0 t1 t2 : List Token) →
+  pub one_more : (image : Image) (r j : ℕ) (e : Queued) (a b c : Parts P) (t0 t1 t2 : List Token) →
       FollowsOn image r j a b t0 t1 → FinishLeads image e b c t1 t2 →
       front b.queues.entries.items r j ≡ Some e → is_in b.bare e.wave e.instr ≡ false →
       b.fault ≡ a.fault → c.queues.entries.items ≡ without_first b.queues.entries.items e.row e.index →
@@ -47,6 +47,6 @@ module _ {P : Type 0} where
           λ f q l g n. ap (λ (m : _). is_in m f.wave f.instr) bare
               ∙ x.2 f q l (sym (N.first_other b.queues.entries.items e.row e.index q l
               (λ y z. n (y ∙ on.row) (z ∙ on.index)))
-              ∙ subst (λ (es : List Entry). front es q l ≡ Some f) queued g) n,
+              ∙ subst (λ (es : List Queued). front es q l ≡ Some f) queued g) n,
         ),
   )

@@ -22,7 +22,7 @@ use Rattle.port_set.specs.Slots.{port_at}
 use Rattle.ws_words.specs.Plain.{took_words}
 use Rattle.store_buf.specs.Outdoors.{SlotIs}
 use Rattle.store_buf.specs.Contents.{RightTokens}
-use Rattle.part_store.specs.declared.entry.Entry.{Entry}
+use Rattle.part_store.specs.declared.entry.Queued.{Queued}
 use Rattle.part_store.specs.Queues.{front, holds, is_queued, open_queues, without}
 use Rattle.part_store.specs.Contents.{is_bare, cell, is_on_row, PartContent}
 use Rattle.part_store.specs.Parted.{OnCell, IsKept, Partly, is_store_op, RisingEntries}
@@ -41,7 +41,7 @@ module _ (image : Image) (world : World) (formed : Formed image) (sound : Sound 
     (c : PartContent) (stopped : Bool) (waiting : ℕ → ℕ → Option (List ℕ)) (counts : ℕ → ℕ → Option ℕ)
     (memory : Outside) (legal : Legal image world counts waiting stopped c.chain memory)
     (p : Partly image world began counts memory c)
-    (e : Entry) (fol : FrontGoes c e) (some : List Token) (d : PartContent) (go : Followed image c e some d) where
+    (e : Queued) (fol : FrontGoes c e) (some : List Token) (d : PartContent) (go : Followed image c e some d) where
   abbrev facts : WalkFacts image world
   facts = T.facts image world formed sound
 
@@ -186,7 +186,7 @@ module _ (image : Image) (world : World) (formed : Formed image) (sound : Sound 
   ]
 
   -- all entries of its instance are on its cell
-  same_cell_as : (x : Entry) → In x c.queued → SameKey x.wave x.instr e.wave e.instr → IsOn x e.row e.index
+  same_cell_as : (x : Queued) → In x c.queued → SameKey x.wave x.instr e.wave e.instr → IsOn x e.row e.index
   same_cell_as x h key =
       let s = (p.sits x h).0 in
       let x_on : OnCell image world e.wave e.instr x.row x.index s.0 =
@@ -207,14 +207,14 @@ module _ (image : Image) (world : World) (formed : Formed image) (sound : Sound 
   still_queued : (w i : ℕ) → is_queued c.queued w i ≡ true → (SameKey e.wave e.instr w i → ⊥) →
       is_queued d.queued w i ≡ true
   still_queued w i q n = let g = F.queued_in c.queued w i q in
-      subst (λ (es : List Entry). is_queued es w i ≡ true) (sym go.queued)
+      subst (λ (es : List Queued). is_queued es w i ≡ true) (sym go.queued)
       (F.in_queued (without c.queued e.wave e.instr) w i g.0
       (F.in_without e.wave e.instr c.queued g.0 g.1
       (λ s. n (record { wave = sym s.wave ∙ g.2.wave; instr = sym s.instr ∙ g.2.instr }))) g.2)
 
   -- what counts on its cell from a later step on is queued still
   later_queued : (w i b u : ℕ) → counts w i ≡ Some b → OnCell image world w i e.row e.index u → t < u →
-      (g : Entry) × In g (without c.queued e.wave e.instr) × SameKey g.wave g.instr w i
+      (g : Queued) × In g (without c.queued e.wave e.instr) × SameKey g.wave g.instr w i
   later_queued w i b u n there l =
       let q = F.queued_in c.queued w i (p.every e e.row e.index t fol.first on w i b u n there
       (omega (arith, l))) in (
@@ -233,12 +233,12 @@ module _ (image : Image) (world : World) (formed : Formed image) (sound : Sound 
 
   -- a later store on its cell that is passed is queued still
   store_queued : (m : ℕ) → t < m → m < legal.cut → (s : C.StoreAt image world facts e.row e.index m) →
-      (g : Entry) × In g (without c.queued e.wave e.instr) × SameKey g.wave g.instr s.inst.wave s.inst.instr
+      (g : Queued) × In g (without c.queued e.wave e.instr) × SameKey g.wave g.instr s.inst.wave s.inst.instr
   store_queued m l h s = later_queued s.inst.wave s.inst.instr s.inst.result m
       (S.passed_counts image world formed sound stopped waiting counts c.chain memory legal e.row e.index m s
       h) (S.store_on image world formed sound stopped waiting counts c.chain memory legal e.row e.index m s) l
 
-  on_at : (g : Entry) (w i u : ℕ) → SameKey g.wave g.instr w i → OnCell image world w i e.row e.index u →
+  on_at : (g : Queued) (w i u : ℕ) → SameKey g.wave g.instr w i → OnCell image world w i e.row e.index u →
       In g c.queued → IsOn g e.row e.index × OnCell image world g.wave g.instr g.row g.index u
   on_at g w i u key there h =
       let s = (p.sits g h).0 in
@@ -252,7 +252,7 @@ module _ (image : Image) (world : World) (formed : Formed image) (sound : Sound 
       )
 
   -- where another is the cell's first entry then, no store on the cell is between
-  next_value : (f : Entry) (u : ℕ) → front (without c.queued e.wave e.instr) e.row e.index ≡ Some f →
+  next_value : (f : Queued) (u : ℕ) → front (without c.queued e.wave e.instr) e.row e.index ≡ Some f →
       OnCell image world f.wave f.instr e.row e.index u → t < u →
       cell (effect_at image world u).cells e.row e.index ≡ cell
       (effect_at image world (suc t)).cells e.row e.index
@@ -269,7 +269,7 @@ module _ (image : Image) (world : World) (formed : Formed image) (sound : Sound 
             elim (T.front_first image world formed sound (without c.queued e.wave e.instr) e.row e.index f q.0
             (T.rising_without image world formed sound e.wave e.instr c.queued p.rising) h q.1 o.0) [
               | inl z ↦ (let w : m ≡ u = T.at_once image world formed sound f m u
-                  (subst (λ (g : Entry). OnCell image world g.wave g.instr g.row g.index m) z o.1) f_at in
+                  (subst (λ (g : Queued). OnCell image world g.wave g.instr g.row g.index m) z o.1) f_at in
                   omega (arith, w, y))
               | inr z ↦ (let w : u < m = T.earlier_times image world formed sound f q.0 u m z f_at o.1 in
                   omega (arith, w, y))
@@ -382,15 +382,15 @@ module _ (image : Image) (world : World) (formed : Formed image) (sound : Sound 
     | inr z ↦ still_queued w i (p.opened w i b n (sym (go.bare w i) ∙ h)) z.0
   ]
 
-  in_left : (x : Entry) → In x d.queued → In x c.queued
-  in_left x h = F.without_in e.wave e.instr c.queued x (subst (λ (es : List Entry). In x es) go.queued h)
+  in_left : (x : Queued) → In x d.queued → In x c.queued
+  in_left x h = F.without_in e.wave e.instr c.queued x (subst (λ (es : List Queued). In x es) go.queued h)
 
-  front_left : (r j : ℕ) (f : Entry) → front d.queued r j ≡ Some f →
+  front_left : (r j : ℕ) (f : Queued) → front d.queued r j ≡ Some f →
       front (without c.queued e.wave e.instr) r j ≡ Some f
-  front_left r j f h = subst (λ (es : List Entry). front es r j ≡ Some f) go.queued h
+  front_left r j f h = subst (λ (es : List Queued). front es r j ≡ Some f) go.queued h
 
   -- a first entry on its cell comes later
-  then_later : (r j u : ℕ) (f : Entry) → IsOn e r j → front d.queued r j ≡ Some f →
+  then_later : (r j u : ℕ) (f : Queued) → IsOn e r j → front d.queued r j ≡ Some f →
       OnCell image world f.wave f.instr r j u → t < u
   then_later r j u f o h f_on =
       let g : front (without c.queued e.wave e.instr) r j ≡ Some f = front_left r j f h in
@@ -404,12 +404,12 @@ module _ (image : Image) (world : World) (formed : Formed image) (sound : Sound 
       elim (T.front_first image world formed sound c.queued r j e f p.rising h0
       (F.without_in e.wave e.instr c.queued f i.0) i.1) [
         | inl q ↦ absurd (T.gone image world formed sound e.wave e.instr c.queued p.rising f i.0
-            (subst (λ (x : Entry). SameKey x.wave x.instr e.wave e.instr) (sym q)
+            (subst (λ (x : Queued). SameKey x.wave x.instr e.wave e.instr) (sym q)
             (record { wave = refl; instr = refl })))
         | inr q ↦ T.earlier_times image world formed sound e f t u q on f_at
       ]
 
-  off_front : (r j : ℕ) (f : Entry) → (IsOn e r j → ⊥) → front d.queued r j ≡ Some f →
+  off_front : (r j : ℕ) (f : Queued) → (IsOn e r j → ⊥) → front d.queued r j ≡ Some f →
       front c.queued r j ≡ Some f
   off_front r j f n h = sym (other_front r j n) ∙ front_left r j f h
 
@@ -449,7 +449,7 @@ module _ (image : Image) (world : World) (formed : Formed image) (sound : Sound 
     every = λ f r j u h f_on w i b v n there l. elim (cell_cases e r j) [
       | inl z ↦ (let m : t < u = then_later r j u f z.1 h f_on in
           let q = later_queued w i b v n (at_e r j v w i z.1 there) (omega (arith, m, l)) in
-          subst (λ (es : List Entry). is_queued es w i ≡ true) (sym go.queued)
+          subst (λ (es : List Queued). is_queued es w i ≡ true) (sym go.queued)
           (F.in_queued (without c.queued e.wave e.instr) w i q.0 q.1 q.2))
       | inr z ↦ still_queued w i (p.every f r j u (off_front r j f z.1 h) f_on w i b v n there l)
           (other_instance w i r j v z.1 there)
@@ -457,7 +457,7 @@ module _ (image : Image) (world : World) (formed : Formed image) (sound : Sound 
     few = (let a1 : open_queues (without c.queued e.wave e.instr) ≤ open_queues c.queued =
         N.fewer_open e.wave e.instr e.row e.index c.queued queued_e same_cell_as in
         let b1 : open_queues c.queued ≤ 16 = p.few in
-        subst (λ (es : List Entry). open_queues es ≤ 16) (sym go.queued) (omega (arith, a1, b1)));
+        subst (λ (es : List Queued). open_queues es ≤ 16) (sym go.queued) (omega (arith, a1, b1)));
     free = λ r j n. elim (cell_cases e r j) [
       | inl z ↦ value_at r j z.1 ∙ subst (λ (m : ℕ).
           cell (effect_at image world (suc t)).cells r m ≡ cell memory.cells r m) z.1.index
@@ -467,10 +467,10 @@ module _ (image : Image) (world : World) (formed : Formed image) (sound : Sound 
           (front [] e.row e.index)
           (subst (λ (m : ℕ). holds (without c.queued e.wave e.instr) e.row m ≡ false) (sym z.1.index)
           (subst (λ (m : ℕ). holds (without c.queued e.wave e.instr) m j ≡ false) (sym z.1.row)
-          (subst (λ (es : List Entry). holds es r j ≡ false) go.queued n))) refl)))
+          (subst (λ (es : List Queued). holds es r j ≡ false) go.queued n))) refl)))
       | inr z ↦ new_cells r j ∙ off_cell r j z.1
           ∙ p.free r j (ap has (sym (other_front r j z.1))
-          ∙ subst (λ (es : List Entry). holds es r j ≡ false) go.queued n)
+          ∙ subst (λ (es : List Queued). holds es r j ≡ false) go.queued n)
     ];
     before = λ f r j u h f_on. elim (cell_cases e r j) [
       | inl z ↦ (let m : t < u = then_later r j u f z.1 h f_on in

@@ -3,40 +3,40 @@ use Rattle.std.proofs.Common.{ℕ, ◌≡◌, ◌⊎◌, Bool, true, false, cond
 use Rattle.std.proofs.Common.{◌∙◌, subst, inl, inr}
 use Rattle.std.proofs.lemmas.Bool.{both_ways, cases_Bool}
 use Rattle.df_core.proofs.Ports.{SameKey}
-use Rattle.part_store.specs.declared.entry.Entry.{Entry}
+use Rattle.part_store.specs.declared.entry.Queued.{Queued}
 use Rattle.part_store.specs.Queues.{front, is_queued, all_later, joined, without}
 use Rattle.part_store.proofs.Keys.{IsOn, key_cases, cell_cases, same_cell_is}
 use Rattle.ws_words.specs.Items.{In}
 
-pub front_here : (e : Entry) (es : List Entry) (r j : ℕ) → IsOn e r j → front (e ∷ es) r j ≡ Some e
+pub front_here : (e : Queued) (es : List Queued) (r j : ℕ) → IsOn e r j → front (e ∷ es) r j ≡ Some e
 front_here e es r j o = rw (same_cell_is e r j o) refl
 
-pub front_there : (e : Entry) (es : List Entry) (r j : ℕ) → (IsOn e r j → ⊥) →
+pub front_there : (e : Queued) (es : List Queued) (r j : ℕ) → (IsOn e r j → ⊥) →
     front (e ∷ es) r j ≡ front es r j
 front_there e es r j n = elim (cell_cases e r j) [ inl h ↦ absurd (n h.1) | inr h ↦ rw h.0 refl ]
 
-pub front_in : (es : List Entry) (r j : ℕ) (f : Entry) → front es r j ≡ Some f → In f es × IsOn f r j
+pub front_in : (es : List Queued) (r j : ℕ) (f : Queued) → front es r j ≡ Some f → In f es × IsOn f r j
 front_in [] r j f h = absurd (let g : None ≡ Some f = h in cc)
 front_in (e ∷ es) r j f h = elim (cell_cases e r j) [
   | inl c ↦ (let g : Some e ≡ Some f = sym (front_here e es r j c.1) ∙ h in let q : e ≡ f = cc in
-      (inl (sym q), subst (λ (x : Entry). IsOn x r j) q c.1))
+      (inl (sym q), subst (λ (x : Queued). IsOn x r j) q c.1))
   | inr c ↦ (let g = front_in es r j f (sym (front_there e es r j c.1) ∙ h) in (inr g.0, g.1))
 ]
 
 -- a cell on which an entry stands is held
-pub held_in : (es : List Entry) (r j : ℕ) (f : Entry) → In f es → IsOn f r j →
-    (e : Entry) × (front es r j ≡ Some e)
+pub held_in : (es : List Queued) (r j : ℕ) (f : Queued) → In f es → IsOn f r j →
+    (e : Queued) × (front es r j ≡ Some e)
 held_in [] r j f h o = absurd h
 held_in (e ∷ es) r j f h o = elim (cell_cases e r j) [
   | inl c ↦ (e, front_here e es r j c.1)
   | inr c ↦ elim h [
-    | inl q ↦ absurd (c.1 (subst (λ (x : Entry). IsOn x r j) q o))
+    | inl q ↦ absurd (c.1 (subst (λ (x : Queued). IsOn x r j) q o))
     | inr g ↦ (let s = held_in es r j f g o in (s.0, front_there e es r j c.1 ∙ s.1))
   ]
 ]
 
-pub queued_in : (es : List Entry) (w i : ℕ) → is_queued es w i ≡ true →
-    (e : Entry) × In e es × SameKey e.wave e.instr w i
+pub queued_in : (es : List Queued) (w i : ℕ) → is_queued es w i ≡ true →
+    (e : Queued) × In e es × SameKey e.wave e.instr w i
 queued_in [] w i h = absurd (both_ways false refl h)
 queued_in (e ∷ es) w i h = elim (key_cases e.wave e.instr w i) [
   | inl k ↦ (e, inl refl, k.1)
@@ -44,20 +44,20 @@ queued_in (e ∷ es) w i h = elim (key_cases e.wave e.instr w i) [
       (g.0, inr g.1, g.2))
 ]
 
-pub in_queued : (es : List Entry) (w i : ℕ) (f : Entry) → In f es → SameKey f.wave f.instr w i →
+pub in_queued : (es : List Queued) (w i : ℕ) (f : Queued) → In f es → SameKey f.wave f.instr w i →
     is_queued es w i ≡ true
 in_queued [] w i f h k = absurd h
 in_queued (e ∷ es) w i f (inl q) k = elim (key_cases e.wave e.instr w i) [
   | inl c ↦ rw c.0 refl
-  | inr c ↦ absurd (c.1 (subst (λ (x : Entry). SameKey x.wave x.instr w i) q k))
+  | inr c ↦ absurd (c.1 (subst (λ (x : Queued). SameKey x.wave x.instr w i) q k))
 ]
 in_queued (e ∷ es) w i f (inr g) k = elim (key_cases e.wave e.instr w i) [
   | inl c ↦ rw c.0 refl
   | inr c ↦ rw c.0 (in_queued es w i f g k)
 ]
 
-module _ (f : Entry) where
-  pub joined_in : (es : List Entry) (e : Entry) → In e (joined f es) → (e ≡ f) ⊎ In e es
+module _ (f : Queued) where
+  pub joined_in : (es : List Queued) (e : Queued) → In e (joined f es) → (e ≡ f) ⊎ In e es
   joined_in [] e (inl q) = inl q
   joined_in [] e (inr h) = absurd h
   joined_in (x ∷ es) e h = elim (cases_Bool (all_later (x ∷ es) f)) [
@@ -69,14 +69,14 @@ module _ (f : Entry) where
     ]
   ]
 
-  pub joined_new : (es : List Entry) → In f (joined f es)
+  pub joined_new : (es : List Queued) → In f (joined f es)
   joined_new [] = inl refl
   joined_new (x ∷ es) = elim (cases_Bool (all_later (x ∷ es) f)) [
     | inl l ↦ subst (λ (b : Bool). In f (cond b (f ∷ x ∷ es) (x ∷ joined f es))) (sym l) (inl refl)
     | inr l ↦ subst (λ (b : Bool). In f (cond b (f ∷ x ∷ es) (x ∷ joined f es))) (sym l) (inr (joined_new es))
   ]
 
-  pub joined_old : (es : List Entry) (e : Entry) → In e es → In e (joined f es)
+  pub joined_old : (es : List Queued) (e : Queued) → In e es → In e (joined f es)
   joined_old [] e h = absurd h
   joined_old (x ∷ es) e h = elim (cases_Bool (all_later (x ∷ es) f)) [
     | inl l ↦ subst (λ (b : Bool). In e (cond b (f ∷ x ∷ es) (x ∷ joined f es))) (sym l) (inr h)
@@ -85,7 +85,7 @@ module _ (f : Entry) where
   ]
 
   -- on other cells nothing changes
-  pub joined_other : (es : List Entry) (r j : ℕ) → (IsOn f r j → ⊥) → front (joined f es) r j ≡ front es r j
+  pub joined_other : (es : List Queued) (r j : ℕ) → (IsOn f r j → ⊥) → front (joined f es) r j ≡ front es r j
   joined_other [] r j n = front_there f [] r j n
   joined_other (x ∷ es) r j n = elim (cases_Bool (all_later (x ∷ es) f)) [
     | inl l ↦ ap (λ (b : Bool). front (cond b (f ∷ x ∷ es) (x ∷ joined f es)) r j) l
@@ -99,7 +99,7 @@ module _ (f : Entry) where
   ]
 
   -- on a cell that no queue held it is the first one
-  pub joined_first : (es : List Entry) (r j : ℕ) → IsOn f r j → front es r j ≡ None →
+  pub joined_first : (es : List Queued) (r j : ℕ) → IsOn f r j → front es r j ≡ None →
       front (joined f es) r j ≡ Some f
   joined_first [] r j o h = front_here f [] r j o
   joined_first (x ∷ es) r j o h = elim (cases_Bool (all_later (x ∷ es) f)) [
@@ -114,7 +114,7 @@ module _ (f : Entry) where
   ]
 
 module _ (w i : ℕ) where
-  pub without_in : (es : List Entry) (e : Entry) → In e (without es w i) → In e es
+  pub without_in : (es : List Queued) (e : Queued) → In e (without es w i) → In e es
   without_in [] e h = absurd h
   without_in (x ∷ es) e h = elim (key_cases x.wave x.instr w i) [
     | inl k ↦ inr (subst (λ (b : Bool). In e (cond b es (x ∷ without es w i))) k.0 h)
@@ -122,12 +122,12 @@ module _ (w i : ℕ) where
         [ inl q ↦ inl q | inr g ↦ inr (without_in es e g) ]
   ]
 
-  pub in_without : (es : List Entry) (e : Entry) → In e es → (SameKey e.wave e.instr w i → ⊥) →
+  pub in_without : (es : List Queued) (e : Queued) → In e es → (SameKey e.wave e.instr w i → ⊥) →
       In e (without es w i)
   in_without [] e h n = absurd h
   in_without (x ∷ es) e h n = elim (key_cases x.wave x.instr w i) [
     | inl k ↦ subst (λ (b : Bool). In e (cond b es (x ∷ without es w i))) (sym k.0) (elim h [
-      | inl q ↦ absurd (n (subst (λ (y : Entry). SameKey y.wave y.instr w i) (sym q) k.1))
+      | inl q ↦ absurd (n (subst (λ (y : Queued). SameKey y.wave y.instr w i) (sym q) k.1))
       | inr g ↦ g
     ])
     | inr k ↦ subst (λ (b : Bool). In e (cond b es (x ∷ without es w i))) (sym k.0)
@@ -135,8 +135,8 @@ module _ (w i : ℕ) where
   ]
 
   -- on cells on which it doesn't stand nothing changes
-  pub without_other : (es : List Entry) (r j : ℕ) →
-      ((e : Entry) → In e es → SameKey e.wave e.instr w i → IsOn e r j → ⊥) →
+  pub without_other : (es : List Queued) (r j : ℕ) →
+      ((e : Queued) → In e es → SameKey e.wave e.instr w i → IsOn e r j → ⊥) →
       front (without es w i) r j ≡ front es r j
   without_other [] r j n = refl
   without_other (x ∷ es) r j n = elim (key_cases x.wave x.instr w i) [

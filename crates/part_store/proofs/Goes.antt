@@ -20,7 +20,7 @@ use Rattle.store_buf.specs.Requests.{entry_of, issued_in, answer_if}
 use Rattle.store_buf.specs.Ordering.{kept_at}
 use Rattle.store_buf.specs.Outdoors.{Holding, OutIs, Performed}
 use Rattle.store_buf.specs.Outers.{holding}
-use Rattle.part_store.specs.declared.entry.Entry.{Entry}
+use Rattle.part_store.specs.declared.entry.Queued.{Queued}
 use Rattle.part_store.specs.declared.parts.Parts.{Parts}
 use Rattle.part_store.specs.Bares.{is_in}
 use Rattle.part_store.specs.Queues.{joined, open_queues}
@@ -38,7 +38,7 @@ use Rattle.part_store.proofs.Keeping as K
 use Rattle.part_store.proofs.Turning as U
 use Rattle.ws_words.proofs.Bools.{or_comes as either}
 
-none_listed : (es : List Entry) → nat_eq (length es) 0 ≡ true → es ≡ []
+none_listed : (es : List Queued) → nat_eq (length es) 0 ≡ true → es ≡ []
 none_listed [] e = refl
 none_listed (x ∷ es) e = absurd (let z : length (x ∷ es) ≡ 0 = eqb-true (length (x ∷ es)) 0 e in
     omega (arith, z))
@@ -199,7 +199,7 @@ module _ {P : Type 0} (image : Image) (world : World) (formed : Formed image) (s
     abbrev inside : is_past image k.instr a.xs ≡ false
     inside = O.past_is image k a.xs a.first ∙ within
 
-    counted : (queued : List Entry) → n.queues.entries.items ≡ queued →
+    counted : (queued : List Queued) → n.queues.entries.items ≡ queued →
         Counted image (content_of s) k word queued (holding n.outer) (content_of n)
     counted queued q = record {
       kept = entries;
@@ -238,7 +238,7 @@ module _ {P : Type 0} (image : Image) (world : World) (formed : Formed image) (s
       (chain_of n.order.chain) (early_ops n.order.early))
       (bare : n.bare ≡ s.bare) (fault : n.fault ≡ s.fault) (outer : n.outer ≡ s.outer)
       (queued : n.queues.entries.items ≡ joined (entry_at image k) s.queues.entries.items) where
-    outside_moved : (word : ℕ) (q : List Entry) →
+    outside_moved : (word : ℕ) (q : List Queued) →
         Counted image (content_of s) k word q (holding n.outer) (content_of n) →
         Counted image (content_of s) k word q (holding s.outer) (content_of n)
     outside_moved word q g = subst (λ (h : Holding). Counted image (content_of s) k word q h (content_of n))
@@ -334,7 +334,7 @@ module _ {P : Type 0} (image : Image) (world : World) (formed : Formed image) (s
                   (sends image k.wave k.instr (operands_at image k) word) m,
               λ e r j h.
                   ap (λ (b : _). is_in b e.wave e.instr) bare
-                  ∙ calm.1 e r j (subst (λ (es : List Entry). Q.front es r j ≡ Some e) queued h),
+                  ∙ calm.1 e r j (subst (λ (es : List Queued). Q.front es r j ≡ Some e) queued h),
             ),
           )
 

@@ -17,7 +17,7 @@ use Rattle.store_buf.specs.declared.kept.Kept.{Kept}
 use Rattle.store_buf.specs.Requests.{entry_of, issued_in, answer_if}
 use Rattle.store_buf.specs.Outdoors.{Holding, OutIs, Performed}
 use Rattle.store_buf.specs.Contents.{RightTokens}
-use Rattle.part_store.specs.declared.entry.Entry.{Entry}
+use Rattle.part_store.specs.declared.entry.Queued.{Queued}
 use Rattle.part_store.specs.Queues.{front, holds, is_queued, open_queues}
 use Rattle.part_store.specs.Contents.{is_bare, cell, is_on_row, holds_op, PartContent}
 use Rattle.part_store.specs.Parted.{OnCell, IsKept, Partly, is_store_op, RisingEntries}
@@ -113,10 +113,10 @@ module _ (image : Image) (world : World) (formed : Formed image) (sound : Sound 
       [ inl h ↦ inl (h.0, go.kept w i ∙ h.1) | inr h ↦ inr (h.0, go.kept w i ∙ h.1) ]
 
   queued_same : (w i : ℕ) → is_queued d.queued w i ≡ is_queued c.queued w i
-  queued_same w i = ap (λ (es : List Entry). is_queued es w i) go.queued_are
+  queued_same w i = ap (λ (es : List Queued). is_queued es w i) go.queued_are
 
   front_same : (r j : ℕ) → front d.queued r j ≡ front c.queued r j
-  front_same r j = ap (λ (es : List Entry). front es r j) go.queued_are
+  front_same r j = ap (λ (es : List Queued). front es r j) go.queued_are
 
   new_right : (w i : ℕ) (x : Kept) → entry_of d.kept w i ≡ Some x → IsKept image world (is_bare d w i) x
   new_right w i x e = elim (entry_cases w i) [
@@ -192,7 +192,7 @@ module _ (image : Image) (world : World) (formed : Formed image) (sound : Sound 
       ]
 
   -- a held cell stays as it was
-  left_held : (r j : ℕ) (e : Entry) → front c.queued r j ≡ Some e →
+  left_held : (r j : ℕ) (e : Queued) → front c.queued r j ≡ Some e →
       cell left.cells r j ≡ cell c.outside.cells r j
   left_held r j e h = elim (cases_Bool (is_store_op (instr_at image k.instr).op)) [
     | inl s ↦ (let q = C.store_row image k.instr s in
@@ -225,7 +225,7 @@ module _ (image : Image) (world : World) (formed : Formed image) (sound : Sound 
       (subst (λ (o : Outside). OutIs began o left) (sym (O.operands_alike image k om).1) answers.after)
 
   -- the operation isn't on a held cell
-  not_held : (r j u : ℕ) (e : Entry) (w i : ℕ) → SameKey k.wave k.instr w i → front c.queued r j ≡ Some e →
+  not_held : (r j u : ℕ) (e : Queued) (w i : ℕ) → SameKey k.wave k.instr w i → front c.queued r j ≡ Some e →
       OnCell image world w i r j u → ⊥
   not_held r j u e w i key h there =
       let there' : OnCell image world k.wave k.instr r j u =
@@ -251,7 +251,7 @@ module _ (image : Image) (world : World) (formed : Formed image) (sound : Sound 
       | inl key ↦ absurd (both_ways (is_bare c w i) (whole w i key) (sym (go.bare w i) ∙ b))
       | inr old ↦ queued_same w i ∙ p.opened w i a old.1 (sym (go.bare w i) ∙ b)
     ];
-    sits = λ e h. let s = p.sits e (subst (λ (es : List Entry). In e es) go.queued_are h) in (
+    sits = λ e h. let s = p.sits e (subst (λ (es : List Queued). In e es) go.queued_are h) in (
       s.0,
       elim (with_key_cases k.wave k.instr
           (Some (answer image k.instr (operands_at image k) memory)) counts e.wave e.instr) [
@@ -260,13 +260,13 @@ module _ (image : Image) (world : World) (formed : Formed image) (sound : Sound 
                 (s.1.0, z.1 ∙ s.1.1)
           ],
     );
-    numbered = λ e h. p.numbered e (subst (λ (es : List Entry). In e es) go.queued_are h);
+    numbered = λ e h. p.numbered e (subst (λ (es : List Queued). In e es) go.queued_are h);
     rising = subst (RisingEntries image world) (sym go.queued_are) p.rising;
     every = λ e r j t h on w i a u n there l. elim (count_cases w i a n) [
       | inl key ↦ absurd (not_held r j u e w i key (sym (front_same r j) ∙ h) there)
       | inr old ↦ queued_same w i ∙ p.every e r j t (sym (front_same r j) ∙ h) on w i a u old.1 there l
     ];
-    few = subst (λ (es : List Entry). open_queues es ≤ 16) (sym go.queued_are) p.few;
+    few = subst (λ (es : List Queued). open_queues es ≤ 16) (sym go.queued_are) p.few;
     free = λ r j n. ap (λ (h : Holding). cell h.cells r j) go.outside_is
         ∙ left_free r j (ap has (sym (front_same r j)) ∙ n);
     before = λ e r j t h on. ap (λ (x : Holding). cell x.cells r j) go.outside_is

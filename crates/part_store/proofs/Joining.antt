@@ -15,7 +15,7 @@ use Rattle.df_core.specs.Began.{Began}
 use Rattle.store_buf.specs.declared.kept.Kept.{Kept}
 use Rattle.store_buf.specs.Requests.{entry_of, issued_in, answer_if}
 use Rattle.store_buf.specs.Outdoors.{Holding, OutIs}
-use Rattle.part_store.specs.declared.entry.Entry.{Entry}
+use Rattle.part_store.specs.declared.entry.Queued.{Queued}
 use Rattle.part_store.specs.Queues.{front, holds, is_queued, joined, open_queues}
 use Rattle.part_store.specs.Contents.{is_bare, cell, is_on_row, PartContent}
 use Rattle.part_store.specs.Parted.{OnCell, Earlier, IsKept, IsNumbered, Partly, is_store_op, RisingEntries}
@@ -44,7 +44,7 @@ module _ (image : Image) (world : World) (formed : Formed image) (sound : Sound 
     abbrev facts : WalkFacts image world
     facts = T.facts image world formed sound
 
-    abbrev f : Entry
+    abbrev f : Queued
     f = record {
       wave = k.wave;
       instr = k.instr;
@@ -93,11 +93,11 @@ module _ (image : Image) (world : World) (formed : Formed image) (sound : Sound 
 
     queued_old : (w i : ℕ) → is_queued c.queued w i ≡ true → is_queued d.queued w i ≡ true
     queued_old w i e = let q = F.queued_in c.queued w i e in
-        subst (λ (es : List Entry). is_queued es w i ≡ true) (sym go.queued_are)
+        subst (λ (es : List Queued). is_queued es w i ≡ true) (sym go.queued_are)
         (F.in_queued (joined f c.queued) w i q.0 (F.joined_old f c.queued q.0 q.1) q.2)
 
     queued_new : (w i : ℕ) → SameKey k.wave k.instr w i → is_queued d.queued w i ≡ true
-    queued_new w i key = subst (λ (es : List Entry). is_queued es w i ≡ true) (sym go.queued_are)
+    queued_new w i key = subst (λ (es : List Queued). is_queued es w i ≡ true) (sym go.queued_are)
         (F.in_queued (joined f c.queued) w i f (F.joined_new f c.queued) key)
 
     new_right : (w i : ℕ) (x : Kept) → entry_of d.kept w i ≡ Some x → IsKept image world (is_bare d w i) x
@@ -135,11 +135,11 @@ module _ (image : Image) (world : World) (formed : Formed image) (sound : Sound 
       | inr h ↦ queued_old w i (p.opened w i a h.1 (sym (go.bare w i) ∙ b))
     ]
 
-    sits_one : (e : Entry) → In e (joined f c.queued) →
+    sits_one : (e : Queued) → In e (joined f c.queued) →
         ((t : ℕ) × OnCell image world e.wave e.instr e.row e.index t) ×
         ((a : ℕ) × (counts' e.wave e.instr ≡ Some a))
     sits_one e h = elim (F.joined_in f c.queued e h) [
-      | inl q ↦ subst (λ (y : Entry). ((t : ℕ) × OnCell image world y.wave y.instr y.row y.index t) ×
+      | inl q ↦ subst (λ (y : Queued). ((t : ℕ) × OnCell image world y.wave y.instr y.row y.index t) ×
           ((a : ℕ) × (counts' y.wave y.instr ≡ Some a))) (sym q) (
             (req.time, here),
             (
@@ -156,9 +156,9 @@ module _ (image : Image) (world : World) (formed : Formed image) (sound : Sound 
       ))
     ]
 
-    numbered_one : (e : Entry) → In e (joined f c.queued) → IsNumbered image e
+    numbered_one : (e : Queued) → In e (joined f c.queued) → IsNumbered image e
     numbered_one e h = elim (F.joined_in f c.queued e h)
-        [ inl q ↦ subst (λ (y : Entry). IsNumbered image y) (sym q) refl | inr g ↦ p.numbered e g ]
+        [ inl q ↦ subst (λ (y : Queued). IsNumbered image y) (sym q) refl | inr g ↦ p.numbered e g ]
 
     -- an operation that counted is of another instance
     other_key : (w i a : ℕ) → counts w i ≡ Some a → SameKey k.wave k.instr w i → ⊥
@@ -167,7 +167,7 @@ module _ (image : Image) (world : World) (formed : Formed image) (sound : Sound 
         (subst (λ (n : ℕ). counts n k.instr ≡ None) key.wave may.fresh) in
         let h : Some a ≡ None = sym e ∙ g in cc
 
-    order_of : (g : Entry) → In g c.queued → Earlier image world g f ⊎ Earlier image world f g
+    order_of : (g : Queued) → In g c.queued → Earlier image world g f ⊎ Earlier image world f g
     order_of g h =
         let s = p.sits g h in
         elim (cases_lt s.0.0 req.time) [
@@ -202,17 +202,17 @@ module _ (image : Image) (world : World) (formed : Formed image) (sound : Sound 
 
     -- the fields that depend on the cell's queue, old or new
     module _ (few : open_queues (joined f c.queued) ≤ 16)
-        (first_now : (r j : ℕ) (e : Entry) → IsOn f r j → front (joined f c.queued) r j ≡ Some e →
+        (first_now : (r j : ℕ) (e : Queued) → IsOn f r j → front (joined f c.queued) r j ≡ Some e →
         front c.queued r j ≡ Some e ⊎ ((e ≡ f) × (front c.queued r j ≡ None)))
         (alone : (r j w i a u : ℕ) → IsOn f r j → front c.queued r j ≡ None → counts w i ≡ Some a →
         OnCell image world w i r j u → req.time ≤ u → ⊥)
         (value : (r j : ℕ) → IsOn f r j → front c.queued r j ≡ None →
         cell memory.cells r j ≡ cell (effect_at image world req.time).cells r j) where
       -- a first entry is an old one, or the new one of a cell that no queue held
-      firsts : (r j : ℕ) (e : Entry) → front d.queued r j ≡ Some e →
+      firsts : (r j : ℕ) (e : Queued) → front d.queued r j ≡ Some e →
           (front c.queued r j ≡ Some e) ⊎ (IsOn f r j × (e ≡ f) × (front c.queued r j ≡ None))
       firsts r j e h0 = let h : front (joined f c.queued) r j ≡ Some e =
-          subst (λ (es : List Entry). front es r j ≡ Some e) go.queued_are h0 in
+          subst (λ (es : List Queued). front es r j ≡ Some e) go.queued_are h0 in
           elim (is_it r j) [
             | inl o ↦ elim (first_now r j e o h) [ inl q ↦ inl q | inr q ↦ inr (o, q.0, q.1) ]
             | inr n ↦ inl (sym (F.joined_other f c.queued r j n) ∙ h)
@@ -221,11 +221,11 @@ module _ (image : Image) (world : World) (formed : Formed image) (sound : Sound 
           is_it : (r j : ℕ) → IsOn f r j ⊎ (IsOn f r j → ⊥)
           is_it r j = elim (K.cell_cases f r j) [ inl z ↦ inl z.1 | inr z ↦ inr z.1 ]
 
-      here_at : (r j t : ℕ) (e : Entry) → IsOn f r j → e ≡ f → OnCell image world e.wave e.instr r j t →
+      here_at : (r j t : ℕ) (e : Queued) → IsOn f r j → e ≡ f → OnCell image world e.wave e.instr r j t →
           req.time ≡ t
       here_at r j t e o q on =
           (T.one_there image world formed sound k.wave k.instr f.row f.index req.time r j t here
-          (subst (λ (y : Entry). OnCell image world y.wave y.instr r j t) q on)).time
+          (subst (λ (y : Queued). OnCell image world y.wave y.instr r j t) q on)).time
 
       pub joins : Partly image world began counts' memory' d
       joins = record {
@@ -233,8 +233,8 @@ module _ (image : Image) (world : World) (formed : Formed image) (sound : Sound 
         same = new_same;
         told = new_told;
         opened = new_opened;
-        sits = λ e h. sits_one e (subst (λ (es : List Entry). In e es) go.queued_are h);
-        numbered = λ e h. numbered_one e (subst (λ (es : List Entry). In e es) go.queued_are h);
+        sits = λ e h. sits_one e (subst (λ (es : List Queued). In e es) go.queued_are h);
+        numbered = λ e h. numbered_one e (subst (λ (es : List Queued). In e es) go.queued_are h);
         rising = subst (RisingEntries image world) (sym go.queued_are)
             (T.rising_joined image world formed sound f c.queued p.rising order_of);
         every = λ e r j t h on w i a u n there l. elim (count_cases w i a n) [
@@ -245,14 +245,14 @@ module _ (image : Image) (world : World) (formed : Formed image) (sound : Sound 
                 alone r j w i a u q.0 q.2 old.1 there (omega (arith, m, l)))
           ]
         ];
-        few = subst (λ (es : List Entry). open_queues es ≤ 16) (sym go.queued_are) few;
+        few = subst (λ (es : List Queued). open_queues es ≤ 16) (sym go.queued_are) few;
         free = λ r j n. elim (K.cell_cases f r j) [
           | inl z ↦ absurd (let g = F.held_in (joined f c.queued) r j f (F.joined_new f c.queued) z.1 in
               both_ways (holds d.queued r j) n
-              (ap has (subst (λ (es : List Entry). front es r j ≡ Some g.0) (sym go.queued_are) g.1)))
+              (ap has (subst (λ (es : List Queued). front es r j ≡ Some g.0) (sym go.queued_are) g.1)))
           | inr z ↦ ap (λ (h : Holding). cell h.cells r j) go.outside_is
               ∙ p.free r j (ap has (sym (F.joined_other f c.queued r j z.1))
-              ∙ subst (λ (es : List Entry). holds es r j ≡ false) go.queued_are n) ∙ sym (off_cell r j z.1)
+              ∙ subst (λ (es : List Queued). holds es r j ≡ false) go.queued_are n) ∙ sym (off_cell r j z.1)
         ];
         before = λ e r j t h on. ap (λ (x : Holding). cell x.cells r j) go.outside_is
             ∙ elim (firsts r j e h) [

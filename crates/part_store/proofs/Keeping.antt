@@ -18,7 +18,7 @@ use Rattle.store_buf.specs.declared.kept.Kept.{Kept}
 use Rattle.store_buf.specs.Requests.{entry_of, issued_in, answer_if, operands_if, kept_in}
 use Rattle.store_buf.specs.Outdoors.{Holding, OutIs, Performed}
 use Rattle.store_buf.specs.Contents.{RightTokens, FaultIs}
-use Rattle.part_store.specs.declared.entry.Entry.{Entry}
+use Rattle.part_store.specs.declared.entry.Queued.{Queued}
 use Rattle.part_store.specs.Queues.{front, holds, joined, open_queues}
 use Rattle.part_store.specs.Contents.{is_bare, asking, cell, is_on_row, holds_op, PartContent}
 use Rattle.part_store.specs.Parted.{OnCell, Earlier, IsAddressed, Partly, Parting, Fronts, is_store_op}
@@ -59,7 +59,7 @@ module _ (image : Image) (world : World) (formed : Formed image) (sound : Sound 
       module _ (xs : List ℕ) (req : RightRequest image world k.wave k.instr xs)
           (may : Issuable image s.counts c.chain false k.wave k.instr xs)
           (first_is : slice_index xs 0 ≡ k.first) (within : is_past_at image k ≡ false)
-          (word : ℕ) (queued : List Entry) (left : Holding) (d : PartContent)
+          (word : ℕ) (queued : List Queued) (left : Holding) (d : PartContent)
           (go : Counted image c k word queued left d)
           (same : (v i : ℕ) → has (issued_with image s.counts s.memory k.wave k.instr xs v i) ≡ has
           (issued_in d.kept v i))
@@ -85,7 +85,7 @@ module _ (image : Image) (world : World) (formed : Formed image) (sound : Sound 
     -- the row and the first entry on the cell of a load or store
     held_front : (k : Kept) → is_on_row (instr_at image k.instr).op (array_at image k.instr - 1) ≡ true →
         holds_op c.queued (instr_at image k.instr).op k.first ≡ true →
-        (e : Entry) × (front c.queued (array_at image k.instr - 1) k.first ≡ Some e)
+        (e : Queued) × (front c.queued (array_at image k.instr - 1) k.first ≡ Some e)
     held_front k row h = elim (O.cases_row image c.queued k.instr k.first) [
       | inl z ↦ has_some (front c.queued (array_at image k.instr - 1) k.first) (sym z.1 ∙ h)
       | inr z ↦ absurd (both_ways (is_on_row (instr_at image k.instr).op (array_at image k.instr - 1))
@@ -99,7 +99,7 @@ module _ (image : Image) (world : World) (formed : Formed image) (sound : Sound 
         (row : is_on_row (instr_at image k.instr).op (array_at image k.instr - 1) ≡ true)
         (first_is : slice_index xs 0 ≡ k.first) (within : is_past_at image k ≡ false)
         (d : PartContent) (go : Counted image c k 0 (joined (entry_at image k) c.queued) c.outside d) where
-      abbrev f : Entry
+      abbrev f : Queued
       f = record {
         wave = k.wave;
         instr = k.instr;
@@ -113,7 +113,7 @@ module _ (image : Image) (world : World) (formed : Formed image) (sound : Sound 
           (asking image c) s.counts s.memory legal s.partly k w.kept xs req may row first_is 0 d go
 
       -- the first entry on its cell comes before it
-      behind : (e : Entry) → front c.queued (array_at image k.instr - 1) k.first ≡ Some e →
+      behind : (e : Queued) → front c.queued (array_at image k.instr - 1) k.first ≡ Some e →
           Earlier image world e f
       behind e h =
           let i = F.front_in c.queued (array_at image k.instr - 1) k.first e h in
@@ -145,13 +145,13 @@ module _ (image : Image) (world : World) (formed : Formed image) (sound : Sound 
       New = Partly image world began (issued_with image s.counts s.memory k.wave k.instr xs)
           (effect_after image k.instr xs s.memory) d
 
-      move_to : (r j : ℕ) (o : Option Entry) → IsOn f r j →
+      move_to : (r j : ℕ) (o : Option Queued) → IsOn f r j →
           front c.queued (array_at image k.instr - 1) k.first ≡ o → front c.queued r j ≡ o
       move_to r j o on h = subst (λ (n : ℕ). front c.queued r n ≡ o) on.index
           (subst (λ (n : ℕ). front c.queued n k.first ≡ o) on.row h)
 
       -- a queue that is there
-      join_held : (e : Entry) → front c.queued (array_at image k.instr - 1) k.first ≡ Some e →
+      join_held : (e : Queued) → front c.queued (array_at image k.instr - 1) k.first ≡ Some e →
           Partly image world began (issued_with image s.counts s.memory k.wave k.instr xs)
           (effect_after image k.instr xs s.memory) d
       join_held e h = J.joins image world formed sound began c
@@ -230,22 +230,22 @@ module _ (image : Image) (world : World) (formed : Formed image) (sound : Sound 
               lt_or_eq m n l = elim (cases_lt m n) [ inl h ↦ inl h | inr h ↦ inr (omega (arith, l, h)) ]
 
       -- the first entries are stores without data then
-      join_fronts : ((e : Entry) × (front c.queued (array_at image k.instr - 1) k.first ≡ Some e)) ⊎
+      join_fronts : ((e : Queued) × (front c.queued (array_at image k.instr - 1) k.first ≡ Some e)) ⊎
           ((front c.queued (array_at image k.instr - 1) k.first ≡ None) × (is_bare c k.wave k.instr ≡ true)) →
           Fronts d
       join_fronts which x r j h0 = let h : front (joined f c.queued) r j ≡ Some x =
-          subst (λ (es : List Entry). front es r j ≡ Some x) go.queued_are h0 in
+          subst (λ (es : List Queued). front es r j ≡ Some x) go.queued_are h0 in
           go.bare x.wave x.instr ∙ elim (cell_cases f r j) [
             | inl o ↦ elim which [
               | inl z ↦ (let y : Some z.0 ≡ Some x =
                   sym (T.joined_front image world formed sound f c.queued r j z.0 s.partly.rising
                   (move_to r j (Some z.0) o.1 z.1) (behind z.0 z.1)) ∙ h in
                   let q : z.0 ≡ x = cc in
-                  subst (λ (e : Entry). is_bare c e.wave e.instr ≡ true) q
+                  subst (λ (e : Queued). is_bare c e.wave e.instr ≡ true) q
                   (fronts z.0 r j (move_to r j (Some z.0) o.1 z.1)))
               | inr z ↦ (let y : Some f ≡ Some x =
                   sym (F.joined_first f c.queued r j o.1 (move_to r j None o.1 z.0)) ∙ h in
-                  let q : f ≡ x = cc in subst (λ (e : Entry). is_bare c e.wave e.instr ≡ true) q z.1)
+                  let q : f ≡ x = cc in subst (λ (e : Queued). is_bare c e.wave e.instr ≡ true) q z.1)
             ]
             | inr n ↦ fronts x r j (sym (F.joined_other f c.queued r j n.1) ∙ h)
           ]
@@ -291,12 +291,12 @@ module _ (image : Image) (world : World) (formed : Formed image) (sound : Sound 
             ])
       ])
     where
-      front_case : (es : List Entry) (r j : ℕ) →
-          ((e : Entry) × (front es r j ≡ Some e)) ⊎ (front es r j ≡ None)
+      front_case : (es : List Queued) (r j : ℕ) →
+          ((e : Queued) × (front es r j ≡ Some e)) ⊎ (front es r j ≡ None)
       front_case es r j = which (front es r j) refl
         where
-          which : (q : Option Entry) → front es r j ≡ q →
-              ((e : Entry) × (front es r j ≡ Some e)) ⊎ (front es r j ≡ None)
+          which : (q : Option Queued) → front es r j ≡ q →
+              ((e : Queued) × (front es r j ≡ Some e)) ⊎ (front es r j ≡ None)
           which None e = inr e
           which (Some x) e = inl (x, e)
 
@@ -321,7 +321,7 @@ module _ (image : Image) (world : World) (formed : Formed image) (sound : Sound 
       (elim (which (front c.queued (array_at image k.instr - 1) k.first))
       [ inl h ↦ inl h | inr h ↦ inr (h, o.waits.bare_is) ])
     where
-      which : (q : Option Entry) → ((e : Entry) × (q ≡ Some e)) ⊎ (q ≡ None)
+      which : (q : Option Queued) → ((e : Queued) × (q ≡ Some e)) ⊎ (q ≡ None)
       which None = inr refl
       which (Some x) = inl (x, refl)
 
@@ -408,7 +408,7 @@ module _ (image : Image) (world : World) (formed : Formed image) (sound : Sound 
       )
 
   -- rule 3
-  followed_so : (c d : PartContent) → Parting image world began c → (e : Entry) → FrontGoes c e →
+  followed_so : (c d : PartContent) → Parting image world began c → (e : Queued) → FrontGoes c e →
       (some : List Token) → Followed image c e some d → c.fault ≡ None →
       Parting image world began d × RightTokens image world some
   followed_so c d s e fol some go going =

@@ -3,7 +3,7 @@ use Rattle.std.proofs.Common.{ℕ, ◌≡◌, ◌⊎◌, true, false, Option, So
 use Rattle.std.proofs.lemmas.Bool.{cases_eq}
 use Rattle.df_core.specs.Core.{has, same_key}
 use Rattle.df_core.proofs.Ports.{SameKey}
-use Rattle.part_store.specs.declared.entry.Entry.{Entry}
+use Rattle.part_store.specs.declared.entry.Queued.{Queued}
 use Rattle.part_store.specs.Queues.{same_cell}
 
 pub key_cases : (w i a b : ℕ) → ((same_key w i a b ≡ true) × SameKey w i a b) ⊎
@@ -17,11 +17,11 @@ key_cases w i a b = go (cases_eq w a) (cases_eq i b)
     go (inl e) (inr n) = inr (rw (eq-eqb w a e, ne_eqb i b n) refl, λ s. n s.instr)
 
 -- the entry is on the cell
-pub record IsOn (e : Entry) (r j : ℕ) : Type 0 where
+pub record IsOn (e : Queued) (r j : ℕ) : Type 0 where
   pub row : e.row ≡ r
   pub index : e.index ≡ j
 
-pub cell_cases : (e : Entry) (r j : ℕ) → ((same_cell e r j ≡ true) × IsOn e r j) ⊎
+pub cell_cases : (e : Queued) (r j : ℕ) → ((same_cell e r j ≡ true) × IsOn e r j) ⊎
     ((same_cell e r j ≡ false) × (IsOn e r j → ⊥))
 cell_cases e r j = go (cases_eq e.row r) (cases_eq e.index j)
   where
@@ -34,7 +34,7 @@ cell_cases e r j = go (cases_eq e.row r) (cases_eq e.index j)
 pub same_key_is : (w i : ℕ) → same_key w i w i ≡ true
 same_key_is w i = rw (eq-eqb w w refl, eq-eqb i i refl) refl
 
-pub same_cell_is : (e : Entry) (r j : ℕ) → IsOn e r j → same_cell e r j ≡ true
+pub same_cell_is : (e : Queued) (r j : ℕ) → IsOn e r j → same_cell e r j ≡ true
 same_cell_is e r j o = rw (eq-eqb e.row r o.row, eq-eqb e.index j o.index) refl
 
 pub some_has : {A : Type 0} (o : Option A) (x : A) → o ≡ Some x → has o ≡ true

@@ -4,7 +4,7 @@ use Rattle.std.proofs.Common.{subst, inl, inr, arith}
 use Rattle.std.proofs.lemmas.Bool.{both_ways, cases_Bool}
 use Rattle.df_core.specs.Core.{has}
 use Rattle.df_core.proofs.Ports.{SameKey}
-use Rattle.part_store.specs.declared.entry.Entry.{Entry}
+use Rattle.part_store.specs.declared.entry.Queued.{Queued}
 use Rattle.part_store.specs.Queues.{holds, is_queued, all_later, joined, open_queues, without}
 use Rattle.part_store.proofs.Keys.{IsOn, key_cases, cell_cases}
 use Rattle.part_store.proofs.Fronts as F
@@ -14,18 +14,18 @@ use Rattle.ws_words.specs.Items.{In}
 abbrev pub one_more : Bool → ℕ → ℕ
 one_more b n = cond b n (suc n)
 
-pub held_here : (x : Entry) (es : List Entry) (r j : ℕ) → IsOn x r j → holds (x ∷ es) r j ≡ true
+pub held_here : (x : Queued) (es : List Queued) (r j : ℕ) → IsOn x r j → holds (x ∷ es) r j ≡ true
 held_here x es r j o = ap has (F.front_here x es r j o)
 
-pub held_there : (x : Entry) (es : List Entry) (r j : ℕ) → (IsOn x r j → ⊥) →
+pub held_there : (x : Queued) (es : List Queued) (r j : ℕ) → (IsOn x r j → ⊥) →
     holds (x ∷ es) r j ≡ holds es r j
 held_there x es r j n = ap has (F.front_there x es r j n)
 
-on_same : (x f : Entry) → IsOn x f.row f.index → IsOn f x.row x.index
+on_same : (x f : Queued) → IsOn x f.row f.index → IsOn f x.row x.index
 on_same x f o = record { row = sym o.row; index = sym o.index }
 
 -- the same cell is held
-pub at_cell : (es : List Entry) (x : Entry) (r j : ℕ) → IsOn x r j → holds es x.row x.index ≡ holds es r j
+pub at_cell : (es : List Queued) (x : Queued) (r j : ℕ) → IsOn x r j → holds es x.row x.index ≡ holds es r j
 at_cell es x r j o = ap (λ (n : ℕ). holds es n x.index) o.row ∙ ap (holds es r) o.index
 
 pub swap : (a b : Bool) (n : ℕ) → one_more a (one_more b n) ≡ one_more b (one_more a n)
@@ -33,7 +33,7 @@ swap true b n = refl
 swap false true n = refl
 swap false false n = refl
 
-pub open_joined : (f : Entry) (es : List Entry) →
+pub open_joined : (f : Queued) (es : List Queued) →
     open_queues (joined f es) ≡ one_more (holds es f.row f.index) (open_queues es)
 open_joined f [] = refl
 open_joined f (x ∷ es) = elim (cases_Bool (all_later (x ∷ es) f)) [
@@ -57,8 +57,8 @@ open_joined f (x ∷ es) = elim (cases_Bool (all_later (x ∷ es) f)) [
 
 module _ (w i r j : ℕ) where
   -- what leaves a queue on this cell
-  pub open_without : (es : List Entry) → is_queued es w i ≡ true →
-      ((e : Entry) → In e es → SameKey e.wave e.instr w i → IsOn e r j) →
+  pub open_without : (es : List Queued) → is_queued es w i ≡ true →
+      ((e : Queued) → In e es → SameKey e.wave e.instr w i → IsOn e r j) →
       open_queues es ≡ one_more (holds (without es w i) r j) (open_queues (without es w i))
   open_without [] q all = absurd (both_ways false refl q)
   open_without (x ∷ es) q all = elim (key_cases x.wave x.instr w i) [
@@ -101,8 +101,8 @@ module _ (w i r j : ℕ) where
   fewer_by true n m e = omega (arith, e)
   fewer_by false n m e = omega (arith, e)
 
-  pub fewer_open : (es : List Entry) → is_queued es w i ≡ true →
-      ((e : Entry) → In e es → SameKey e.wave e.instr w i → IsOn e r j) →
+  pub fewer_open : (es : List Queued) → is_queued es w i ≡ true →
+      ((e : Queued) → In e es → SameKey e.wave e.instr w i → IsOn e r j) →
       open_queues (without es w i) ≤ open_queues es
   fewer_open es q all = fewer_by (holds (without es w i) r j) (open_queues (without es w i)) (open_queues es)
       (open_without es q all)

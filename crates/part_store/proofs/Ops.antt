@@ -20,7 +20,7 @@ use Rattle.df_core.proofs.Issuing.{printed_alike, took_alike}
 use Rattle.store_buf.specs.declared.kept.Kept.{Kept}
 use Rattle.store_buf.specs.Requests.{entry_of, answer_if}
 use Rattle.store_buf.specs.Outdoors.{Holding, OutIs, SlotIs}
-use Rattle.part_store.specs.declared.entry.Entry.{Entry}
+use Rattle.part_store.specs.declared.entry.Queued.{Queued}
 use Rattle.part_store.specs.Queues.{holds}
 use Rattle.part_store.specs.Contents.{cell, is_on_row, holds_op}
 use Rattle.part_store.specs.Parted.{is_store_op}
@@ -30,15 +30,15 @@ use Rattle.store_buf.proofs.Outside.{took_same as took_quiet}
 use Rattle.store_buf.proofs.Stepping.{out_effect}
 
 -- a load or store is on its array's row; another operation is on none
-pub record OnRow (es : List Entry) (op : Op) (j : ℕ) : Type 0 where
+pub record OnRow (es : List Queued) (op : Op) (j : ℕ) : Type 0 where
   pub row : is_on_row op (array_of_op op - 1) ≡ true
   pub held : holds_op es op j ≡ holds es (array_of_op op - 1) j
 
-pub record NoRow (es : List Entry) (op : Op) (j : ℕ) : Type 0 where
+pub record NoRow (es : List Queued) (op : Op) (j : ℕ) : Type 0 where
   pub row : (r : ℕ) → is_on_row op r ≡ false
   pub held : holds_op es op j ≡ false
 
-pub row_cases : (es : List Entry) (op : Op) (j : ℕ) → OnRow es op j ⊎ NoRow es op j
+pub row_cases : (es : List Queued) (op : Op) (j : ℕ) → OnRow es op j ⊎ NoRow es op j
 row_cases es (Load a) j = inl (record { row = eq-eqb (a - 1) (a - 1) refl; held = refl })
 row_cases es (Store a) j = inl (record { row = eq-eqb (a - 1) (a - 1) refl; held = refl })
 row_cases es _ j = inr (record { row = λ r. refl; held = refl })
@@ -86,7 +86,7 @@ module _ (image : Image) where
   unfolding array_at
   store_row i e = store_row_op (instr_at image i).op e
 
-  pub cases_row : (es : List Entry) (i j : ℕ) →
+  pub cases_row : (es : List Queued) (i j : ℕ) →
       ((is_on_row (instr_at image i).op (array_at image i - 1) ≡ true) ×
       (holds_op es (instr_at image i).op j ≡ holds es (array_at image i - 1) j))
       ⊎ (((r : ℕ) → is_on_row (instr_at image i).op r ≡ false) ×

@@ -25,7 +25,7 @@ use Rattle.store_buf.proofs.Coming.{entry_push, issued_push, kept_push}
 use Rattle.part_store.specs.Contents.{NoBare, is_bare, whole_of, PartContent}
 use Rattle.part_store.specs.Parted.{Parted}
 use Rattle.part_store.specs.Rules.{MovesTo, ComesIn}
-use Rattle.part_store.specs.Calls.{Arrives, SameAs, SubmittedSo, request_of, PartTookSo}
+use Rattle.part_store.specs.Calls.{ComesWhole, SameAs, SubmittedSo, request_of, PartTookSo}
 use Rattle.part_store.specs.Calls.{comes, fills}
 use Rattle.part_store.proofs.Keys.{key_cases}
 use Rattle.part_store.proofs.Standing as S
@@ -64,7 +64,7 @@ module _ (image : Image) (world : World) (formed : Formed image) (sound : Sound 
     come : ComesIn old (request_of r) false took.1.0
     come = go took.1.1
       where
-        go : Arrives old (request_of r) took.1.0 → ComesIn old (request_of r) false took.1.0
+        go : ComesWhole old (request_of r) took.1.0 → ComesIn old (request_of r) false took.1.0
         go (comes c) = c
         go (fills c) = absurd (both_ways (is_bare old r.wave r.instr) (none r.wave r.instr) c.bare)
 

@@ -13,7 +13,7 @@ use Rattle.store_buf.specs.Requests.{entry_of, issued_in, answer_if}
 use Rattle.store_buf.specs.Ordering.{kept_at, ready_flag}
 use Rattle.store_buf.proofs.Found.{entry_case}
 use Rattle.store_buf.proofs.Coming.{entry_push}
-use Rattle.part_store.specs.declared.entry.Entry.{Entry}
+use Rattle.part_store.specs.declared.entry.Queued.{Queued}
 use Rattle.part_store.specs.declared.parts.Parts.{Parts}
 use Rattle.part_store.specs.Bares.{is_in}
 use Rattle.part_store.specs.Queues.{front, open_queues}
@@ -26,8 +26,8 @@ use Rattle.part_store.proofs.Keys.{key_cases}
 use Rattle.ws_words.proofs.Bools.{or_left, or_right}
 use Rattle.df_core.proofs.Driving.{false_not}
 
-none_long : (es : List Entry) → es ≡ [] → nat_eq (length es) 0 ≡ true
-none_long es e = ap (λ (xs : List Entry). nat_eq (length xs) 0) e
+none_long : (es : List Queued) → es ≡ [] → nat_eq (length es) 0 ≡ true
+none_long es e = ap (λ (xs : List Queued). nat_eq (length xs) 0) e
 
 load_is_op : (image : Image) (i : ℕ) → is_load image i ≡ true → is_load_op (instr_at image i).op ≡ true
 unfolding is_load
@@ -131,7 +131,7 @@ module _ (image : Image) (c d : PartContent) (same : SameAs c d) (none : NoRule 
       next = next_back k o.next;
       within = o.within;
       going = sym same.fault ∙ o.going;
-      room = subst (λ (es : List Entry). (holds_op es (instr_at image k.instr).op k.first ≡ true) ⊎
+      room = subst (λ (es : List Queued). (holds_op es (instr_at image k.instr).op k.first ≡ true) ⊎
           (open_queues es < 16)) same.queued o.room;
     });
     goes = λ k g. none.goes k (record {
@@ -143,7 +143,7 @@ module _ (image : Image) (c d : PartContent) (same : SameAs c d) (none : NoRule 
       going = sym same.fault ∙ g.going;
     });
     follows = λ e f. none.follows e (record {
-      first = subst (λ (es : List Entry). front es e.row e.index ≡ Some e) same.queued f.first;
+      first = subst (λ (es : List Queued). front es e.row e.index ≡ Some e) same.queued f.first;
       whole = sym (same.bare e.wave e.instr) ∙ f.whole;
     });
     faults = λ k f. none.faults k (record {
@@ -234,7 +234,7 @@ module _ (image : Image) (c d : PartContent) (k : Kept) (b : Bool) (come : Comes
       next = next_old x o.next;
       within = o.within;
       going = sym come.fault ∙ o.going;
-      room = subst (λ (es : List Entry). (holds_op es (instr_at image x.instr).op x.first ≡ true) ⊎
+      room = subst (λ (es : List Queued). (holds_op es (instr_at image x.instr).op x.first ≡ true) ⊎
           (open_queues es < 16)) come.queued o.room;
     });
     goes = λ x g. let w = waits_old x false g.waits (goes_lets x g) in none.goes x (record {

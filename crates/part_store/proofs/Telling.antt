@@ -27,7 +27,7 @@ use Rattle.port_set.specs.Ports.{Told}
 use Rattle.store_buf.specs.Requests.{issued_in, answer_if}
 use Rattle.store_buf.specs.Outdoors.{OutIs, RoseAt, SlotsAre, began_of, port_of}
 use Rattle.store_buf.specs.Contents.{FaultIs, PortWaits}
-use Rattle.store_buf.specs.Ended.{PortFailed, Rested, Spent, Starved, Tripped}
+use Rattle.store_buf.specs.Ended.{PortFailed, RunWhole, Spent, Starved, Tripped}
 use Rattle.store_buf.proofs.Outside.{out_of}
 use Rattle.part_store.specs.Contents.{is_bare, PartContent}
 use Rattle.part_store.specs.Parted.{Fronts, IsKept, Parting, is_store_op}
@@ -238,7 +238,7 @@ module _ (image : Image) (world : World) (began : List (Option Began)) (c : Part
     pub rested : Fronts c → NoRule image c → c.fault ≡ None → (t : Tables) → TablesOk image world t →
         Once t.fired → Paid image t c [] →
         (handed : List (Option Told)) → began ≡ began_of handed →
-        Rested image world handed c.outside.printed c.outside.cells (length t.fired) c.outside.ports
+        RunWhole image world handed c.outside.printed c.outside.cells (length t.fired) c.outside.ports
     rested fronts none going t tok once paid handed e =
         let n = counted image world formed sound t tok once in
         let l = n.1 in

@@ -18,7 +18,7 @@ use Rattle.df_core.proofs.Passing.{same_fired}
 use Rattle.df_core.specs.Core.{same_key}
 use Rattle.df_core.proofs.Ports.{SameKey}
 use Rattle.df_core.proofs.Settling.{one_time}
-use Rattle.part_store.specs.declared.entry.Entry.{Entry}
+use Rattle.part_store.specs.declared.entry.Queued.{Queued}
 use Rattle.part_store.specs.Queues.{all_later, front, is_later, joined, without, without_first}
 use Rattle.part_store.specs.Contents.{is_on_row}
 use Rattle.part_store.specs.Parted.{OnCell, Earlier, IsNumbered, RisingEntries}
@@ -73,13 +73,13 @@ module _ (image : Image) (world : World) (formed : Formed image) (sound : Sound 
         instr = sym a.at.instr ∙ ap (λ (x : Inst). x.instr) s ∙ b.at.instr;
       }
 
-  abbrev At : Entry → ℕ → Type 0
+  abbrev At : Queued → ℕ → Type 0
   At e t = OnCell image world e.wave e.instr e.row e.index t
 
-  pub at_once : (e : Entry) (t u : ℕ) → At e t → At e u → t ≡ u
+  pub at_once : (e : Queued) (t u : ℕ) → At e t → At e u → t ≡ u
   at_once e t u a b = (one_there e.wave e.instr e.row e.index t e.row e.index u a b).time
 
-  pub earlier_then : (e f g : Entry) → Earlier image world e f → Earlier image world f g →
+  pub earlier_then : (e f g : Queued) → Earlier image world e f → Earlier image world f g →
       Earlier image world e g
   earlier_then e f g a b =
       let s : a.then ≡ b.time = at_once f a.then b.time a.other b.one in
@@ -92,18 +92,18 @@ module _ (image : Image) (world : World) (formed : Formed image) (sound : Sound 
         numbered = (a.numbered.0, b.numbered.1);
       }
 
-  pub earlier_by : (e f : Entry) (t u : ℕ) → At e t → At f u → t < u →
+  pub earlier_by : (e f : Queued) (t u : ℕ) → At e t → At f u → t < u →
       IsNumbered image e × IsNumbered image f → Earlier image world e f
   earlier_by e f t u a b l n = record { time = t; one = a; then = u; other = b; before = l; numbered = n }
 
-  pub earlier_times : (e f : Entry) (t u : ℕ) → Earlier image world e f → At e t → At f u → t < u
+  pub earlier_times : (e f : Queued) (t u : ℕ) → Earlier image world e f → At e t → At f u → t < u
   earlier_times e f t u s a b =
       let p : s.time ≡ t = at_once e s.time t s.one a in
       let q : s.then ≡ u = at_once f s.then u s.other b in
       let l : s.time < s.then = s.before in omega arith
 
   -- an entry isn't earlier than one of its own instance
-  pub not_self : (e f : Entry) → SameKey e.wave e.instr f.wave f.instr → Earlier image world e f → ⊥
+  pub not_self : (e f : Queued) → SameKey e.wave e.instr f.wave f.instr → Earlier image world e f → ⊥
   not_self e f k s =
       let b : OnCell image world f.wave f.instr e.row e.index s.time =
       subst (λ (n : ℕ). OnCell image world f.wave n e.row e.index s.time) k.instr
@@ -112,7 +112,7 @@ module _ (image : Image) (world : World) (formed : Formed image) (sound : Sound 
       let e : s.time ≡ s.then = q.time in
       let l : s.time < s.then = s.before in omega arith
 
-  waves_of : (e f : Entry) → Earlier image world e f →
+  waves_of : (e f : Queued) → Earlier image world e f →
       (e.wave < f.wave) ⊎ ((e.wave ≡ f.wave) × (e.seq < f.seq))
   waves_of e f s =
       let mx : is_memory image s.one.inst.instr ≡ true = ap (is_memory image) s.one.at.instr
@@ -138,14 +138,14 @@ module _ (image : Image) (world : World) (formed : Formed image) (sound : Sound 
       ]
 
   -- what comes later has the later wave or sequence number
-  pub later_is : (e f : Entry) → Earlier image world e f → is_later f e ≡ true
+  pub later_is : (e f : Queued) → Earlier image world e f → is_later f e ≡ true
   later_is e f s = elim (waves_of e f s) [
     | inl l ↦ rw (lt-ltb e.wave f.wave l) refl
     | inr h ↦ rw (le-ltb e.wave f.wave (omega (arith, h.0)), eq-eqb e.wave f.wave h.0, lt-ltb e.seq f.seq h.1)
         refl
   ]
 
-  pub later_not : (e f : Entry) → Earlier image world e f → is_later e f ≡ false
+  pub later_not : (e f : Queued) → Earlier image world e f → is_later e f ≡ false
   later_not e f s = elim (waves_of e f s) [
     | inl l ↦ rw (le-ltb f.wave e.wave (omega (arith, l)), ne_eqb f.wave e.wave (λ q. omega (arith, l, q)))
         refl
@@ -158,28 +158,28 @@ module _ (image : Image) (world : World) (formed : Formed image) (sound : Sound 
   ]
 
   -- a cell's first entry is the first in the walk's order
-  pub front_first : (es : List Entry) (r j : ℕ) (e f : Entry) → RisingEntries image world es →
+  pub front_first : (es : List Queued) (r j : ℕ) (e f : Queued) → RisingEntries image world es →
       front es r j ≡ Some e → In f es → IsOn f r j → (f ≡ e) ⊎ Earlier image world e f
   front_first [] r j e f rise h g o = absurd g
   front_first (x ∷ es) r j e f rise h g o = elim (cell_cases x r j) [
     | inl c ↦ (let q : Some x ≡ Some e = sym (F.front_here x es r j c.1) ∙ h in let s : x ≡ e = cc in elim g [
       | inl p ↦ inl (p ∙ s)
-      | inr k ↦ inr (subst (λ (y : Entry). Earlier image world y f) s (rise.0 f k))
+      | inr k ↦ inr (subst (λ (y : Queued). Earlier image world y f) s (rise.0 f k))
     ])
     | inr c ↦ elim g [
-      | inl p ↦ absurd (c.1 (subst (λ (y : Entry). IsOn y r j) p o))
+      | inl p ↦ absurd (c.1 (subst (λ (y : Queued). IsOn y r j) p o))
       | inr k ↦ front_first es r j e f rise.1 (sym (F.front_there x es r j c.1) ∙ h) k o
     ]
   ]
 
   -- a cell's first operation is the only one of its instance
-  pub first_leaves : (es : List Entry) (r j : ℕ) (e : Entry) → RisingEntries image world es → front es r j ≡ Some e →
+  pub first_leaves : (es : List Queued) (r j : ℕ) (e : Queued) → RisingEntries image world es → front es r j ≡ Some e →
       without_first es r j ≡ without es e.wave e.instr
   first_leaves [] r j e rise h = refl
   first_leaves (x ∷ es) r j e rise h = elim (cell_cases x r j) [
     | inl c ↦ (let q : Some x ≡ Some e = sym (F.front_here x es r j c.1) ∙ h in let s : x ≡ e = cc in
         let k : same_key x.wave x.instr e.wave e.instr ≡ true =
-        subst (λ (y : Entry). same_key x.wave x.instr y.wave y.instr ≡ true) s
+        subst (λ (y : Queued). same_key x.wave x.instr y.wave y.instr ≡ true) s
         (same_key_is x.wave x.instr) in
         ap (λ (b : Bool). cond b es (x ∷ without_first es r j)) c.0
         ∙ sym (ap (λ (b : Bool). cond b es (x ∷ without es e.wave e.instr)) k))
@@ -187,23 +187,23 @@ module _ (image : Image) (world : World) (formed : Formed image) (sound : Sound 
         ap (λ (b : Bool). cond b es (x ∷ without_first es r j)) c.0
         ∙ elim (key_cases x.wave x.instr e.wave e.instr) [
           | inl k ↦ absurd (not_self x e k.1 (rise.0 e (F.front_in es r j e g).0))
-          | inr k ↦ ap (λ (zs : List Entry). x ∷ zs) (first_leaves es r j e rise.1 g)
+          | inr k ↦ ap (λ (zs : List Queued). x ∷ zs) (first_leaves es r j e rise.1 g)
               ∙ sym (ap (λ (b : Bool). cond b es (x ∷ without es e.wave e.instr)) k.0)
         ])
   ]
 
   -- one more at its place keeps the order
-  module _ (f : Entry) where
-    later_all : (es : List Entry) → ((g : Entry) → In g es → Earlier image world f g) → all_later es f ≡ true
+  module _ (f : Queued) where
+    later_all : (es : List Queued) → ((g : Queued) → In g es → Earlier image world f g) → all_later es f ≡ true
     later_all [] all = refl
     later_all (x ∷ es) all = and_from (is_later x f) (all_later es f) (later_is f x (all x (inl refl)))
         (later_all es (λ g h. all g (inr h)))
 
-    not_all : (x : Entry) (es : List Entry) → Earlier image world x f → all_later (x ∷ es) f ≡ false
+    not_all : (x : Queued) (es : List Queued) → Earlier image world x f → all_later (x ∷ es) f ≡ false
     not_all x es a = ap (λ (b : Bool). b && all_later es f) (later_not x f a)
 
-    pub rising_joined : (es : List Entry) → RisingEntries image world es →
-        ((g : Entry) → In g es → Earlier image world g f ⊎ Earlier image world f g) →
+    pub rising_joined : (es : List Queued) → RisingEntries image world es →
+        ((g : Queued) → In g es → Earlier image world g f ⊎ Earlier image world f g) →
         RisingEntries image world (joined f es)
     rising_joined [] rise all = ((λ g h. absurd h), tt)
     rising_joined (x ∷ es) rise all = elim (cases_Bool (all_later (x ∷ es) f)) [
@@ -213,7 +213,7 @@ module _ (image : Image) (world : World) (formed : Formed image) (sound : Sound 
                 (and_parts (is_later x f) (all_later es f) l).0)
             | inr a ↦ (
               (λ g h. elim h [
-                | inl q ↦ subst (λ (y : Entry). Earlier image world f y)
+                | inl q ↦ subst (λ (y : Queued). Earlier image world f y)
                     (sym q) a
                 | inr k ↦ earlier_then f x g a (rise.0 g k)
               ]),
@@ -222,12 +222,12 @@ module _ (image : Image) (world : World) (formed : Formed image) (sound : Sound 
           ])
       | inr l ↦ subst (λ (b : Bool). RisingEntries image world (cond b (f ∷ x ∷ es) (x ∷ joined f es))) (sym l) (
         (λ g h. elim (F.joined_in f es g h) [
-          | inl q ↦ subst (λ (y : Entry). Earlier image world x y) (sym q) (elim (all x (inl refl)) [
+          | inl q ↦ subst (λ (y : Queued). Earlier image world x y) (sym q) (elim (all x (inl refl)) [
             | inl a ↦ a
             | inr a ↦ absurd (both_ways (all_later (x ∷ es) f) l
                 (later_all (x ∷ es) (λ g h.
                 elim h [
-                  | inl q ↦ subst (λ (y : Entry). Earlier image world f y)
+                  | inl q ↦ subst (λ (y : Queued). Earlier image world f y)
                       (sym q) a
                   | inr k ↦ earlier_then f x g a (rise.0 g k)
                 ])))
@@ -239,13 +239,13 @@ module _ (image : Image) (world : World) (formed : Formed image) (sound : Sound 
     ]
 
     -- the first entry of its cell stays the first, where it is earlier
-    pub joined_front : (es : List Entry) (r j : ℕ) (e : Entry) → RisingEntries image world es →
+    pub joined_front : (es : List Queued) (r j : ℕ) (e : Queued) → RisingEntries image world es →
         front es r j ≡ Some e → Earlier image world e f → front (joined f es) r j ≡ Some e
     joined_front [] r j e rise h a = absurd (let g : None ≡ Some e = h in cc)
     joined_front (x ∷ es) r j e rise h a = elim (cell_cases x r j) [
       | inl c ↦ (let q : Some x ≡ Some e = sym (F.front_here x es r j c.1) ∙ h in let s : x ≡ e = cc in
           let l : all_later (x ∷ es) f ≡ false =
-          not_all x es (subst (λ (y : Entry). Earlier image world y f) (sym s) a) in
+          not_all x es (subst (λ (y : Queued). Earlier image world y f) (sym s) a) in
           ap (λ (b : Bool). front (cond b (f ∷ x ∷ es) (x ∷ joined f es)) r j) l
           ∙ F.front_here x (joined f es) r j c.1 ∙ q)
       | inr c ↦ (let g : front es r j ≡ Some e = sym (F.front_there x es r j c.1) ∙ h in
@@ -256,7 +256,7 @@ module _ (image : Image) (world : World) (formed : Formed image) (sound : Sound 
     ]
 
   module _ (w i : ℕ) where
-    pub rising_without : (es : List Entry) → RisingEntries image world es → RisingEntries image world (without es w i)
+    pub rising_without : (es : List Queued) → RisingEntries image world es → RisingEntries image world (without es w i)
     rising_without [] rise = tt
     rising_without (x ∷ es) rise = elim (key_cases x.wave x.instr w i) [
       | inl k ↦ subst (λ (b : Bool). RisingEntries image world (cond b es (x ∷ without es w i))) (sym k.0) rise.1
@@ -265,14 +265,14 @@ module _ (image : Image) (world : World) (formed : Formed image) (sound : Sound 
     ]
 
     -- it stands no more among the others
-    pub gone : (es : List Entry) → RisingEntries image world es → (e : Entry) → In e (without es w i) →
+    pub gone : (es : List Queued) → RisingEntries image world es → (e : Queued) → In e (without es w i) →
         SameKey e.wave e.instr w i → ⊥
     gone [] rise e h k = h
     gone (x ∷ es) rise e h k = elim (key_cases x.wave x.instr w i) [
       | inl c ↦ not_self x e (record { wave = c.1.wave ∙ sym k.wave; instr = c.1.instr ∙ sym k.instr })
           (rise.0 e (subst (λ (b : Bool). In e (cond b es (x ∷ without es w i))) c.0 h))
       | inr c ↦ elim (subst (λ (b : Bool). In e (cond b es (x ∷ without es w i))) c.0 h) [
-        | inl q ↦ c.1 (subst (λ (y : Entry). SameKey y.wave y.instr w i) q k)
+        | inl q ↦ c.1 (subst (λ (y : Queued). SameKey y.wave y.instr w i) q k)
         | inr g ↦ gone es rise.1 e g k
       ]
     ]

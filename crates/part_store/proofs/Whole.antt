@@ -22,7 +22,7 @@ use Rattle.store_buf.specs.declared.kept.Kept.{Kept}
 use Rattle.store_buf.specs.Requests.{entry_of, issued_in, answer_if}
 use Rattle.store_buf.specs.Stores.{asked_of}
 use Rattle.df_core.proofs.Settling.{one_time}
-use Rattle.part_store.specs.declared.entry.Entry.{Entry}
+use Rattle.part_store.specs.declared.entry.Queued.{Queued}
 use Rattle.part_store.specs.Queues.{front, is_queued}
 use Rattle.part_store.specs.Contents.{is_bare, PartContent}
 use Rattle.part_store.specs.Parted.{Fronts, IsKept, Parting}
@@ -36,7 +36,7 @@ use Rattle.ws_isa.proofs.Images.{writing_memory}
 use Rattle.ws_words.specs.Items.{nth, In}
 use Rattle.ws_words.proofs.Places.{nth_there}
 
-none_in : (es : List Entry) → ((e : Entry) → In e es → ⊥) → es ≡ []
+none_in : (es : List Queued) → ((e : Queued) → In e es → ⊥) → es ≡ []
 none_in [] f = refl
 none_in (e ∷ es) f = absurd (f e (inl refl))
 
@@ -144,7 +144,7 @@ module _ (image : Image) (world : World) (formed : Formed image) (sound : Sound 
       ])
 
   -- a queue's entry is an operation of the walk
-  sat : (e : Entry) → In e c.queued → (u : ℕ) × (x : Inst) × FiresAt image world e.wave e.instr u x ×
+  sat : (e : Queued) → In e c.queued → (u : ℕ) × (x : Inst) × FiresAt image world e.wave e.instr u x ×
       (is_memory image x.instr ≡ true)
   sat e i =
       let on = (s.partly.sits e i).0 in (
@@ -156,13 +156,13 @@ module _ (image : Image) (world : World) (formed : Formed image) (sound : Sound 
       )
 
   -- and isn't done
-  not_left : (e : Entry) → In e c.queued → (x : Inst) → x.wave ≡ e.wave → x.instr ≡ e.instr →
+  not_left : (e : Queued) → In e c.queued → (x : Inst) → x.wave ≡ e.wave → x.instr ≡ e.instr →
       is_queued c.queued x.wave x.instr ≡ false → ⊥
   not_left e i x ew ei f = both_ways (is_queued c.queued x.wave x.instr) f
       (F.in_queued c.queued x.wave x.instr e i (record { wave = sym ew; instr = sym ei }))
 
   -- what waits in a queue before the cut isn't done
-  none_before : (u : ℕ) → DoneBelow u → (e : Entry) → In e c.queued → (n : ℕ) (x : Inst) →
+  none_before : (u : ℕ) → DoneBelow u → (e : Queued) → In e c.queued → (n : ℕ) (x : Inst) →
       FiresAt image world e.wave e.instr n x → n < u → ⊥
   none_before u below e i n x at l =
       let m : is_memory image x.instr ≡ true =
@@ -170,7 +170,7 @@ module _ (image : Image) (world : World) (formed : Formed image) (sound : Sound 
       not_left e i x at.wave at.instr ((below n x l at.fires).left m)
 
   -- a store is no load
-  bare_store : (e : Entry) → In e c.queued → is_bare c e.wave e.instr ≡ true → is_load image e.instr ≡ false
+  bare_store : (e : Queued) → In e c.queued → is_bare c e.wave e.instr ≡ true → is_load image e.instr ≡ false
   bare_store e i b =
       let a = (s.partly.sits e i).1 in
       let n = O.some_more (issued_in c.kept e.wave e.instr) (s.counts e.wave e.instr) a.0
@@ -189,12 +189,12 @@ module _ (image : Image) (world : World) (formed : Formed image) (sound : Sound 
   no_queue : (u : ℕ) → DoneBelow u → cut ≤ u → c.queued ≡ []
   no_queue u below l = first c.queued refl
     where
-      first : (es : List Entry) → c.queued ≡ es → c.queued ≡ []
+      first : (es : List Queued) → c.queued ≡ es → c.queued ≡ []
       first [] g = g
       first (e ∷ es) g =
-          let i : In e c.queued = subst (λ (fs : List Entry). In e fs) (sym g) (inl refl) in
+          let i : In e c.queued = subst (λ (fs : List Queued). In e fs) (sym g) (inl refl) in
           let f : front c.queued e.row e.index ≡ Some e =
-          subst (λ (fs : List Entry). front fs e.row e.index ≡ Some e) (sym g)
+          subst (λ (fs : List Queued). front fs e.row e.index ≡ Some e) (sym g)
           (F.front_here e es e.row e.index (record { row = refl; index = refl })) in
           let store = bare_store e i (fronts e e.row e.index f) in
           let a = (s.partly.sits e i).1 in
@@ -289,7 +289,7 @@ module _ (image : Image) (world : World) (formed : Formed image) (sound : Sound 
         s.partly.rising f.1 e.1 (record { row = refl; index = refl })) [
           | inl same ↦ both_ways (is_bare c x.wave x.instr) whole
               (subst (λ (m : ℕ × ℕ). is_bare c m.0 m.1 ≡ true) (λ j. (e.2.wave j, e.2.instr j))
-              (subst (λ (g : Entry). is_bare c g.wave g.instr ≡ true) (sym same) bare))
+              (subst (λ (g : Queued). is_bare c g.wave g.instr ≡ true) (sym same) bare))
           | inr early ↦ (let sf = (s.partly.sits f.0 fi.0).0 in
               let l = T.earlier_times image world formed sound f.0 e.0 sf.0 on.0 early sf.1 on.1 in
               none_before u below f.0 fi.0 sf.0 sf.1.inst sf.1.at (omega (arith, l, time)))

@@ -29,7 +29,7 @@ use Rattle.store_buf.specs.Contents.{FaultIs, IsBuffer}
 use Rattle.store_buf.specs.Contents as whole
 use Rattle.store_buf.specs.Stores.{asked_of}
 use Rattle.store_buf.proofs.Found.{entry_case}
-use Rattle.part_store.specs.declared.entry.Entry.{Entry}
+use Rattle.part_store.specs.declared.entry.Queued.{Queued}
 use Rattle.part_store.specs.Queues.{front, holds, is_queued, open_queues}
 use Rattle.part_store.specs.Contents.{NoBare, asking, cell, holds_op, is_bare, whole_of, PartContent}
 use Rattle.part_store.specs.Parted.{Fronts, IsKept, Parted, RisingEntries}
@@ -60,7 +60,7 @@ rows_alike (c ∷ cs) [] n f g = absurd (omega (arith, n))
 rows_alike (c ∷ cs) (d ∷ ds) n f g = let a : c ≡ d = words_alike c d (f 0) (g 0) in let b =
     rows_alike cs ds (omega (arith, n)) (λ r. f (suc r)) (λ r. g (suc r)) in λ i. a i ∷ b i
 
-none_front : (es : List Entry) → ((e : Entry) (r j : ℕ) → front es r j ≡ Some e → ⊥) → es ≡ []
+none_front : (es : List Queued) → ((e : Queued) (r j : ℕ) → front es r j ≡ Some e → ⊥) → es ≡ []
 none_front [] f = refl
 none_front (e ∷ es) f = absurd (f e e.row e.index
     (F.front_here e es e.row e.index (record { row = refl; index = refl })))
@@ -214,13 +214,13 @@ module _ (image : Image) (world : World) (formed : Formed image) (sound : Sound 
         go : (o : Option ℕ) → issued_in c.kept w i ≡ o → parted.0.counts w i ≡ issued_in c.kept w i
         go None e = O.no_more (parted.0.counts w i) (issued_in c.kept w i) (parted.0.partly.same w i) e
             ∙ sym e
-        go (Some a) e = parted.0.partly.told w i a (ap (λ (es : List Entry). is_queued es w i) no_queue) e
+        go (Some a) e = parted.0.partly.told w i a (ap (λ (es : List Queued). is_queued es w i) no_queue) e
             ∙ sym e
 
     cells_are : parted.0.memory.cells ≡ c.outside.cells
     cells_are = sym (rows_alike c.outside.cells parted.0.memory.cells parted.0.partly.rows
         parted.0.partly.shape (λ r j. parted.0.partly.free r j
-        (ap (λ (es : List Entry). holds es r j) no_queue)))
+        (ap (λ (es : List Queued). holds es r j) no_queue)))
 
     pub on_now : On c (has c.fault) parted.0.memory
     on_now = record {
@@ -372,7 +372,7 @@ module _ (image : Image) (world : World) (formed : Formed image) (sound : Sound 
       absurd (both_ways (is_bare c k.wave k.instr) (on.bare k.wave k.instr) o.waits.bare_is)
   way c d _ (joins {rest = rest} k fronts g held go more) going m on =
       absurd (both_ways (holds_op c.queued (instr_at image k.instr).op k.first)
-      (ap (λ (es : List Entry). holds_op es (instr_at image k.instr).op k.first) on.queued
+      (ap (λ (es : List Queued). holds_op es (instr_at image k.instr).op k.first) on.queued
       ∙ none_held (instr_at image k.instr).op k.first) held)
   way c d _ (issues {d = e} {rest = rest} k word left fronts g free told go more) going m on =
       let answers = told began m on.outside in
@@ -386,7 +386,7 @@ module _ (image : Image) (world : World) (formed : Formed image) (sound : Sound 
       }
   way c d _ (follows first f going' fol more) going m on =
       absurd (let e : None ≡ Some first =
-      sym (ap (λ (es : List Entry). front es first.row first.index) on.queued) ∙ f.first in cc)
+      sym (ap (λ (es : List Queued). front es first.row first.index) on.queued) ∙ f.first in cc)
   way c _ _ (stops k f) going m on = record {
     memory = m;
     issues = Holds.stops k.wave k.instr stopped Holds.stays;
@@ -475,8 +475,8 @@ module _ (image : Image) (world : World) (formed : Formed image) (sound : Sound 
   -- the other way round
   module _ (c : PartContent) (none : NoBare c) (free : c.queued ≡ []) (m : Outside)
       (is : IsBuffer image world began (whole_of c) m) where
-    no_front : (e : Entry) (r j : ℕ) → front c.queued r j ≡ Some e → ⊥
-    no_front e r j h = absurd (let z : None ≡ Some e = sym (ap (λ (es : List Entry). front es r j) free)
+    no_front : (e : Queued) (r j : ℕ) → front c.queued r j ≡ Some e → ⊥
+    no_front e r j h = absurd (let z : None ≡ Some e = sym (ap (λ (es : List Queued). front es r j) free)
         ∙ h in cc)
 
     asking_are : waiting_in image c.kept ≡ asking image c
@@ -502,11 +502,11 @@ module _ (image : Image) (world : World) (formed : Formed image) (sound : Sound 
           same = λ w i. refl;
           told = λ w i a q e. e;
           opened = λ w i a e b. absurd (both_ways (is_bare c w i) (none w i) b);
-          sits = λ e h. absurd (subst (λ (es : List Entry). In e es) free h);
-          numbered = λ e h. absurd (subst (λ (es : List Entry). In e es) free h);
+          sits = λ e h. absurd (subst (λ (es : List Queued). In e es) free h);
+          numbered = λ e h. absurd (subst (λ (es : List Queued). In e es) free h);
           rising = subst (RisingEntries image world) (sym free) tt;
           every = λ e r j t h. absurd (no_front e r j h);
-          few = subst (λ (es : List Entry). open_queues es ≤ 16) (sym free) (omega arith);
+          few = subst (λ (es : List Queued). open_queues es ≤ 16) (sym free) (omega arith);
           free = λ r j h. ap (λ (cs : List (List ℕ)). cell cs r j) (sym is.outside.cells_are);
           before = λ e r j t h. absurd (no_front e r j h);
           rows = ap (λ (cs : List (List ℕ)). length cs) (sym is.outside.cells_are);

@@ -3,14 +3,14 @@ use Rattle.std.specs.Prelude.{ℕ, ◌≡◌, ◌≤◌, List, Option}
 use Rattle.ws_words.specs.Outside.{World}
 use Rattle.ws_isa.specs.Image.{Image}
 use Rattle.port_set.specs.Ports.{Told}
-use Rattle.store_buf.specs.Ended.{Rested, Spent, Tripped, PortFailed, Starved}
+use Rattle.store_buf.specs.Ended.{RunWhole, Spent, Tripped, PortFailed, Starved}
 use Rattle.part_store.specs.declared.finish.PartFinish.{PartFinish}
 use Rattle.part_store.specs.declared.finish.PartFinish.TheVariants.{Done, Budget, Fault, Port, NoMemory}
 
 -- with these ports handed in, this budget, and these ports given back
 abbrev pub PartTells : Image → World → List (Option Told) → ℕ → PartFinish → List (Option Told) → Type 0
 PartTells image world handed budget (Done printed arrays fired) back =
-    (fired ≤ budget) × Rested image world handed printed arrays fired back
+    (fired ≤ budget) × RunWhole image world handed printed arrays fired back
 PartTells image world handed budget (Budget printed fired) back =
     (fired ≡ budget) × Spent image world handed budget printed back
 PartTells image world handed budget (Fault array printed arrays) back =

@@ -67,14 +67,14 @@ AddressSo image old k tokens (Err (Stopped port)) new = (old.fault ≡ None) × 
 AddressSo image old k tokens (Err (Ended array)) new = (old.fault ≡ Some array) × (new ≡ old)
 
 -- it had not come, or its address had come alone
-pub data Arrives (c : PartContent) (k : Kept) (d : PartContent) : Type 0 where
-  comes : ComesIn c k false d → Arrives c k d
-  fills : Fills c k d → Arrives c k d
+pub data ComesWhole (c : PartContent) (k : Kept) (d : PartContent) : Type 0 where
+  comes : ComesIn c k false d → ComesWhole c k d
+  fills : Fills c k d → ComesWhole c k d
 
 abbrev pub PartTookSo : Image → PartContent → Kept → List Token → Option ℕ → Option ℕ → Bool → PartContent →
     Type 0
 PartTookSo image old k tokens fault failed starved new = PartRuns old
-    × ((mid : PartContent) × Arrives old k mid × MovesTo image mid tokens new)
+    × ((mid : PartContent) × ComesWhole old k mid × MovesTo image mid tokens new)
     × (new.fault ≡ fault) × (new.failed ≡ failed) × (new.starved ≡ starved)
 
 -- what came of a request, likewise

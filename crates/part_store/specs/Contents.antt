@@ -15,7 +15,7 @@ use Rattle.store_buf.specs.Holds.{waiting_in}
 use Rattle.store_buf.specs.Outdoors.{Holding}
 use Rattle.store_buf.specs.Contents.{stop_of, gives_word}
 use Rattle.store_buf.specs.Contents as whole
-use Rattle.part_store.specs.declared.entry.Entry.{Entry}
+use Rattle.part_store.specs.declared.entry.Queued.{Queued}
 use Rattle.part_store.specs.Queues.{holds, is_queued}
 
 -- Requests, and addresses without their data, in the order in which they came. One that has an answer counts
@@ -26,7 +26,7 @@ use Rattle.part_store.specs.Queues.{holds, is_queued}
 pub record PartContent : Type 0 where
   pub kept : List Kept
   pub bare : List (ℕ × ℕ)
-  pub queued : List Entry
+  pub queued : List Queued
   pub chain : Chain
   pub fault : Option ℕ
   pub failed : Option ℕ
@@ -48,7 +48,7 @@ is_on_row (Store a) r = eqb (a - 1) r
 is_on_row _ r = false
 
 -- a queue holds the cell of an operation with this index
-abbrev pub holds_op : List Entry → Op → ℕ → Bool
+abbrev pub holds_op : List Queued → Op → ℕ → Bool
 holds_op es (Load a) j = holds es (a - 1) j
 holds_op es (Store a) j = holds es (a - 1) j
 holds_op es _ j = false

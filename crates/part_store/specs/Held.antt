@@ -3,20 +3,20 @@ use Rattle.std.specs.Prelude.{ℕ, ◌≡◌, false, List, [], ◌∷◌, Option
 use Rattle.std.specs.HashMap.{get}
 use Rattle.std.specs.Option.{option_map}
 use Rattle.store_buf.specs.Finding.{pair_eq}
-use Rattle.part_store.specs.declared.entry.Entry.{Entry}
+use Rattle.part_store.specs.declared.entry.Queued.{Queued}
 use Rattle.part_store.specs.declared.entry.Line.{Line}
 use Rattle.part_store.specs.declared.queues.Queues.{Queues}
 use Rattle.part_store.specs.Queues.{count_on, front, is_later, open_queues}
 use Rattle.ws_words.specs.Items.{In}
 
 -- the queue of a cell, where one holds it: its first operation, and how many wait
-abbrev pub line_of : List Entry → ℕ → ℕ → Option Line
+abbrev pub line_of : List Queued → ℕ → ℕ → Option Line
 line_of es r j = option_map (λ e. record { first = e; count = count_on es r j }) (front es r j)
 
 -- the walk comes to none of them later than to one behind it
-abbrev pub Sorted : List Entry → Type 0
+abbrev pub Sorted : List Queued → Type 0
 Sorted [] = Unit {0}
-Sorted (e ∷ es) = ((f : Entry) → In f es → is_later e f ≡ false) × Sorted es
+Sorted (e ∷ es) = ((f : Queued) → In f es → is_later e f ≡ false) × Sorted es
 
 -- operations stand in the walk's order, and the held cells are listed and counted
 pub record QueuesOk (q : Queues) : Type 0 where

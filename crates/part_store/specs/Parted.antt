@@ -16,7 +16,7 @@ use Rattle.store_buf.specs.Requests.{entry_of, issued_in}
 use Rattle.store_buf.specs.Outdoors.{OutIs}
 use Rattle.store_buf.specs.Contents.{FaultIs}
 use Rattle.store_buf.specs.Stores.{asked_of}
-use Rattle.part_store.specs.declared.entry.Entry.{Entry}
+use Rattle.part_store.specs.declared.entry.Queued.{Queued}
 use Rattle.part_store.specs.Queues.{front, holds, is_queued, open_queues}
 use Rattle.part_store.specs.Contents.{is_bare, asking, is_on_row, cell, PartContent}
 use Rattle.ws_words.specs.Items.{In}
@@ -29,11 +29,11 @@ pub record OnCell (image : Image) (world : World) (w i r j t : ℕ) : Type 0 whe
   pub index : slice_index inst.operands 0 ≡ j
 
 -- it has the sequence number of its instruction's note
-abbrev pub IsNumbered : Image → Entry → Type 0
+abbrev pub IsNumbered : Image → Queued → Type 0
 IsNumbered image e = e.seq ≡ (note_of image e.instr).seq
 
 -- the walk comes to the one before it comes to the other
-pub record Earlier (image : Image) (world : World) (e f : Entry) : Type 0 where
+pub record Earlier (image : Image) (world : World) (e f : Queued) : Type 0 where
   pub time : ℕ
   pub one : OnCell image world e.wave e.instr e.row e.index time
   pub then : ℕ
@@ -42,9 +42,9 @@ pub record Earlier (image : Image) (world : World) (e f : Entry) : Type 0 where
   pub numbered : IsNumbered image e × IsNumbered image f
 
 -- in the walk's order
-abbrev pub RisingEntries : Image → World → List Entry → Type 0
+abbrev pub RisingEntries : Image → World → List Queued → Type 0
 RisingEntries image world [] = Unit {0}
-RisingEntries image world (e ∷ es) = ((f : Entry) → In f es → Earlier image world e f) ×
+RisingEntries image world (e ∷ es) = ((f : Queued) → In f es → Earlier image world e f) ×
     RisingEntries image world es
 
 abbrev pub is_store_op : Op → Bool
@@ -76,11 +76,11 @@ pub record Partly (image : Image) (world : World) (began : List (Option Began))
   pub opened : (w i a : ℕ) → counts w i ≡ Some a → is_bare c w i ≡ true → is_queued c.queued w i ≡ true
   -- queues hold operations that count as issued, on their cells and in the walk's order, and from a cell's
   -- first one on all
-  pub sits : (e : Entry) → In e c.queued → ((t : ℕ) × OnCell image world e.wave e.instr e.row e.index t)
+  pub sits : (e : Queued) → In e c.queued → ((t : ℕ) × OnCell image world e.wave e.instr e.row e.index t)
       × ((a : ℕ) × (counts e.wave e.instr ≡ Some a))
-  pub numbered : (e : Entry) → In e c.queued → IsNumbered image e
+  pub numbered : (e : Queued) → In e c.queued → IsNumbered image e
   pub rising : RisingEntries image world c.queued
-  pub every : (e : Entry) (r j t : ℕ) → front c.queued r j ≡ Some e →
+  pub every : (e : Queued) (r j t : ℕ) → front c.queued r j ≡ Some e →
       OnCell image world e.wave e.instr r j t →
       (w i a u : ℕ) → counts w i ≡ Some a → OnCell image world w i r j u → t ≤ u →
       is_queued c.queued w i ≡ true
@@ -88,7 +88,7 @@ pub record Partly (image : Image) (world : World) (began : List (Option Began))
   -- a cell without a queue has its value after the passed operations, and one with a queue its value before
   -- the first entry
   pub free : (r j : ℕ) → holds c.queued r j ≡ false → cell c.outside.cells r j ≡ cell memory.cells r j
-  pub before : (e : Entry) (r j t : ℕ) → front c.queued r j ≡ Some e →
+  pub before : (e : Queued) (r j t : ℕ) → front c.queued r j ≡ Some e →
       OnCell image world e.wave e.instr r j t →
       cell c.outside.cells r j ≡ cell (effect_at image world t).cells r j
   pub rows : length c.outside.cells ≡ length memory.cells
@@ -103,7 +103,7 @@ pub record Partly (image : Image) (world : World) (began : List (Option Began))
 
 -- each queue's first entry is a store without data
 abbrev pub Fronts : PartContent → Type 0
-Fronts c = (e : Entry) (r j : ℕ) → front c.queued r j ≡ Some e → is_bare c e.wave e.instr ≡ true
+Fronts c = (e : Queued) (r j : ℕ) → front c.queued r j ≡ Some e → is_bare c e.wave e.instr ≡ true
 
 -- The passed operations are the first ones of the walk, none of them past the end; the others that count as
 -- issued are loads before their turn; none is next; and where the chain is stopped, the walk's first

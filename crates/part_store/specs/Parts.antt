@@ -26,7 +26,7 @@ use Rattle.store_buf.specs.declared.fault.Silent.TheVariants.{Failed, NoMemory}
 use Rattle.store_buf.specs.Outdoors.{RoseAt}
 use Rattle.store_buf.specs.Contents.{PortWaits, RightTokens}
 use Rattle.store_buf.specs.Outers.{holding}
-use Rattle.part_store.specs.declared.entry.Entry.{Entry}
+use Rattle.part_store.specs.declared.entry.Queued.{Queued}
 use Rattle.part_store.specs.declared.parts.Parts.{Parts}
 use Rattle.part_store.specs.Bares.{is_in}
 use Rattle.part_store.specs.Held.{QueuesOk}
@@ -39,7 +39,7 @@ use Rattle.part_store.specs.Rules.{Alike, Fills, FrontGoes, Moves, MovesTo, is_p
 
 -- each queue's first entry is a store without data, but on this cell
 abbrev pub FrontsBut : ℕ → ℕ → PartContent → Type 0
-FrontsBut r j c = (e : Entry) (q l : ℕ) → front c.queued q l ≡ Some e → (q ≡ r → l ≡ j → ⊥) →
+FrontsBut r j c = (e : Queued) (q l : ℕ) → front c.queued q l ≡ Some e → (q ≡ r → l ≡ j → ⊥) →
     is_bare c e.wave e.instr ≡ true
 
 module _ {P : Type 0} where
@@ -190,7 +190,7 @@ module _ {P : Type 0} where
     pub starved : new.starved ≡ old.starved
 
   -- the first entry of a queue is done
-  abbrev pub FinishLeads : Image → Entry → Parts P → Parts P → List Token → List Token → Type 0
+  abbrev pub FinishLeads : Image → Queued → Parts P → Parts P → List Token → List Token → Type 0
   FinishLeads image e old new before after = (tokens : List Token) × (after ≡ before ++ tokens)
       × ((world : World) (began : List (Option Began)) → Formed image → Sound image →
       PartsStand image world began old → old.fault ≡ None → FrontGoes (content_of old) e →
@@ -211,7 +211,7 @@ issued_flag o p w i =
 
 -- each queue's first entry is a store without data, but that of one instance
 abbrev pub FrontsBy : ℕ → ℕ → PartContent → Type 0
-FrontsBy w i c = (e : Entry) (r j : ℕ) → front c.queued r j ≡ Some e → (e.wave ≡ w → e.instr ≡ i → ⊥) →
+FrontsBy w i c = (e : Queued) (r j : ℕ) → front c.queued r j ≡ Some e → (e.wave ≡ w → e.instr ≡ i → ⊥) →
     is_bare c e.wave e.instr ≡ true
 
 abbrev pub kept_flag : Order → ℕ → ℕ → ℕ → Bool

@@ -9,7 +9,7 @@ use Rattle.df_core.specs.Rights.{operands_of}
 use Rattle.store_buf.specs.declared.kept.Kept.{Kept}
 use Rattle.store_buf.specs.Requests.{entry_of, issued_in}
 use Rattle.store_buf.specs.Outdoors.{Holding, OutIs, Performed}
-use Rattle.part_store.specs.declared.entry.Entry.{Entry}
+use Rattle.part_store.specs.declared.entry.Queued.{Queued}
 use Rattle.part_store.specs.Queues.{front, joined, open_queues, without}
 use Rattle.part_store.specs.Contents.{is_bare, cell, holds_op, PartContent}
 use Rattle.part_store.specs.Parted.{Fronts, is_store_op}
@@ -43,7 +43,7 @@ pub record GoesByChain (image : Image) (c : PartContent) (k : Kept) : Type 0 whe
   pub going : c.fault ≡ None
 
 -- rule 3: the first entry of a queue has its data, or needs none
-pub record FrontGoes (c : PartContent) (e : Entry) : Type 0 where
+pub record FrontGoes (c : PartContent) (e : Queued) : Type 0 where
   pub first : front c.queued e.row e.index ≡ Some e
   pub whole : is_bare c e.wave e.instr ≡ false
 
@@ -59,7 +59,7 @@ pub record Faults (image : Image) (c : PartContent) (k : Kept) : Type 0 where
 pub record NoRule (image : Image) (c : PartContent) : Type 0 where
   pub opens : (k : Kept) → OpensQueue image c k → ⊥
   pub goes : (k : Kept) → GoesByChain image c k → ⊥
-  pub follows : (e : Entry) → FrontGoes c e → ⊥
+  pub follows : (e : Queued) → FrontGoes c e → ⊥
   pub faults : (k : Kept) → Faults image c k → ⊥
 
 -- the request with this answer
@@ -68,7 +68,7 @@ answered k a = record { wave = k.wave; instr = k.instr; first = k.first; second 
 
 -- the operation has this answer and counts as issued, the chain passes what is next, and these queues are
 -- left
-pub record Counted (image : Image) (c : PartContent) (k : Kept) (word : ℕ) (queued : List Entry)
+pub record Counted (image : Image) (c : PartContent) (k : Kept) (word : ℕ) (queued : List Queued)
     (outside : Holding) (d : PartContent) : Type 0 where
   pub kept : (w i : ℕ) → entry_of d.kept w i
       ≡ with_key k.wave k.instr (Some (answered k (Some word))) (entry_of c.kept) w i
@@ -78,7 +78,7 @@ pub record Counted (image : Image) (c : PartContent) (k : Kept) (word : ℕ) (qu
   pub outside_is : d.outside ≡ outside
   pub fault : d.fault ≡ c.fault
 
-abbrev pub entry_at : Image → Kept → Entry
+abbrev pub entry_at : Image → Kept → Queued
 entry_at image k = record {
   wave = k.wave;
   instr = k.instr;
@@ -88,15 +88,15 @@ entry_at image k = record {
 }
 
 -- what a first entry gives, and the cells that it leaves
-abbrev pub word_of : Image → PartContent → Entry → ℕ
+abbrev pub word_of : Image → PartContent → Queued → ℕ
 word_of image c e = cond (is_store_op (instr_at image e.instr).op) 0 (cell c.outside.cells e.row e.index)
 
-abbrev pub cells_left : Image → PartContent → Kept → Entry → List (List ℕ)
+abbrev pub cells_left : Image → PartContent → Kept → Queued → List (List ℕ)
 cells_left image c k e = cond (is_store_op (instr_at image e.instr).op)
     (with_row c.outside.cells e.row (slice_set (row c.outside.cells e.row) e.index k.second)) c.outside.cells
 
 -- the first entry of a queue is done, and leaves it
-pub record Followed (image : Image) (c : PartContent) (e : Entry) (tokens : List Token)
+pub record Followed (image : Image) (c : PartContent) (e : Queued) (tokens : List Token)
     (d : PartContent) : Type 0 where
   pub request : Kept
   pub is_kept : entry_of c.kept e.wave e.instr ≡ Some request
@@ -136,7 +136,7 @@ pub data Moves (image : Image) : PartContent → List Token → PartContent → 
       Performed began (instr_at image k.instr).op (k.first ∷ k.second ∷ 0 ∷ []) o word left) →
       Counted image c k word c.queued left d → Moves image d rest e →
       Moves image c (sends image k.wave k.instr (operands_at image k) word ++ rest) e
-  follows : {c d e : PartContent} {some rest : List Token} (first : Entry) → FrontGoes c first →
+  follows : {c d e : PartContent} {some rest : List Token} (first : Queued) → FrontGoes c first →
       c.fault ≡ None →
       Followed image c first some d → Moves image d rest e → Moves image c (some ++ rest) e
   stops : {c : PartContent} (k : Kept) → Faults image c k →

@@ -6,7 +6,7 @@ ghost use Rattle.df_core.specs.Rights.{IsRight};
 ghost use Rattle.match_table.specs.Tables.{held, part};
 ghost use Rattle.port_set.specs.Ports.{Told};
 ghost use Rattle.store_buf.specs.Outdoors.{began_of};
-ghost use Rattle.store_buf.specs.Ended.{PortFailed, Rested, Spent, Starved, Tripped};
+ghost use Rattle.store_buf.specs.Ended.{PortFailed, RunWhole, Spent, Starved, Tripped};
 ghost use Rattle.part_store.specs.Runs.{Paid, GoesOn};
 
 use crate::part::PartBuffer;
@@ -20,7 +20,7 @@ pub fn whole_run<J: Job, P: Port>(code: &Code<'_, J>, table: &Table<J>, buffer: 
     requires going { GoesOn buffer.now }
     requires paid { Paid J.image (part table.now) buffer.now [] }
     ensures { (handed : List (Option Told)) → J.began ≡ began_of handed →
-        Rested J.image J.world handed buffer.now.outside.printed buffer.now.outside.cells
+        RunWhole J.image J.world handed buffer.now.outside.printed buffer.now.outside.cells
         (length table.now.fired) buffer.now.outside.ports }
 {
     let _ = code.program();

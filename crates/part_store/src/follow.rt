@@ -10,7 +10,7 @@ ghost use Rattle.df_core.specs.Places.{ProgramIs, image_of};
 ghost use Rattle.df_core.specs.Rights.{tokens_of};
 ghost use Rattle.store_buf.specs.Requests.{entry_of};
 ghost use Rattle.store_buf.specs.Ordering.{OrderOk, kept_at};
-ghost use Rattle.part_store.specs.declared.entry.Entry.{Entry};
+ghost use Rattle.part_store.specs.declared.entry.Queued.{Queued};
 ghost use Rattle.store_buf.specs.declared.kept.Kept.{Kept};
 ghost use Rattle.part_store.specs.Queues.{front, without_first};
 ghost use Rattle.part_store.specs.Parted.{is_store_op};
@@ -19,7 +19,7 @@ ghost use Rattle.part_store.specs.Bares.{is_in};
 ghost use Rattle.part_store.specs.Parts.{PartsOk, PartsFiled, Beside, DrainLeads, FinishLeads};
 ghost use Rattle.part_store.specs.Parts.{FollowsOn, issued_flag};
 
-use crate::entry::Entry;
+use crate::entry::Queued;
 use crate::parts::Parts;
 use crate::rows::row_of;
 use df_core::program::Program;
@@ -61,7 +61,7 @@ impl<P: Port> Parts<P> {
         ensures filed { PartsFiled (image_of program.now) self.new }
         ensures leads { FollowsOn (image_of program.now) row index self.old self.new
             (tokens_of told.old.items) (tokens_of told.new.items) }
-        ensures none { (e : Entry) → front self.new.queues.entries.items row index ≡ Some e →
+        ensures none { (e : Queued) → front self.new.queues.entries.items row index ≡ Some e →
             is_in self.new.bare e.wave e.instr ≡ true }
         ensures same { Beside self.old self.new }
         ensures room { HasRoomFor told.new (8 * self.new.order.waiting) }
@@ -73,13 +73,13 @@ impl<P: Port> Parts<P> {
     }
 
     // The first entry on a cell, where it isn't a store without data.
-    fn ready_front(&self, program: &Program<'_>, row: usize, index: u64) -> Option<Entry>
+    fn ready_front(&self, program: &Program<'_>, row: usize, index: u64) -> Option<Queued>
         requires program { ProgramIs program.now }
         requires ok { PartsOk self.now }
         requires filed { PartsFiled (image_of program.now) self.now }
         ensures some { IfSome result (λ e. (front self.now.queues.entries.items row index ≡ Some e)
             × (is_in self.now.bare e.wave e.instr ≡ false)) }
-        ensures none { IfNone result ((e : Entry) →
+        ensures none { IfNone result ((e : Queued) →
             front self.now.queues.entries.items row index ≡ Some e →
             is_in self.now.bare e.wave e.instr ≡ true) }
     {
@@ -96,7 +96,7 @@ impl<P: Port> Parts<P> {
     }
 
     // The first entry of a queue is done, and leaves it.
-    fn finish_front(&mut self, program: &Program<'_>, entry: Entry, told: &mut Told)
+    fn finish_front(&mut self, program: &Program<'_>, entry: Queued, told: &mut Told)
         requires program { ProgramIs program.now }
         requires formed { Formed (image_of program.now) }
         requires ok { PartsOk self.old }
@@ -181,7 +181,7 @@ impl<P: Port> Parts<P> {
 }
 
 // Does what an entry waits for on its cell, and gives its word; 0 where it is a store.
-fn use_cell<P: Port>(outer: &mut Outer<P>, op: Op, entry: Entry, second: u64) -> u64
+fn use_cell<P: Port>(outer: &mut Outer<P>, op: Op, entry: Queued, second: u64) -> u64
     ensures word { result ≡ cond (is_store_op op) 0 (cell outer.old.cells entry.row entry.index) }
     ensures cells { outer.new.cells ≡ cond (is_store_op op) (with_row outer.old.cells entry.row
         (slice_set (row outer.old.cells entry.row) entry.index second)) outer.old.cells }

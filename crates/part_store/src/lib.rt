@@ -39,10 +39,10 @@ pub mod parts;
 pub mod queues;
 pub mod quiet;
 mod room;
+mod rounds;
 mod rows;
 mod run;
 mod search;
-mod way;
 
 pub use finish::{PartEnd, PartFinish};
 pub use part::PartBuffer;

@@ -20,7 +20,7 @@ ghost use Rattle.part_store.specs.Parts.{GoesAt, MovesOn, NoneGoSo, NoneSought, 
 ghost use Rattle.part_store.specs.Parts.{PartsSilentSo, PartsLeadTo, PartsSettledSo, StaysCalm, go_flag};
 ghost use Rattle.part_store.specs.Parts.{left_over, rule_flag};
 
-use crate::entry::Entry;
+use crate::entry::Queued;
 use crate::parts::Parts;
 use crate::queues::QUEUES;
 use crate::rows::{array_of, row_of};
@@ -256,7 +256,7 @@ impl<P: Port> Parts<P> {
         ensures starved { self.new.starved ≡ self.old.starved }
     {
         let kept = self.order.request(place);
-        let entry = Entry {
+        let entry = Queued {
             wave: kept.wave,
             instr: kept.instr,
             seq: program.note(kept.instr).seq,

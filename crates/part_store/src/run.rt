@@ -19,7 +19,7 @@ ghost use Rattle.part_store.specs.Runs.{Covers, IsWhole, Paid, PaidWhile, PartEn
 
 use crate::finish::{Ending, PartEnd, PartFinish, finish};
 use crate::part::PartBuffer;
-use crate::way::Way;
+use crate::rounds::Rounds;
 use df_core::{Code, Job, Request, Token, start};
 use match_table::{Results, Table, Took};
 use port_set::{Port, Slots};
@@ -35,7 +35,7 @@ use ws_words::{NoMemory, Words};
 struct Run<J: Job, P: Port> {
     table: Table<J>,
     buffer: PartBuffer<J, P>,
-    way: Way<J>,
+    way: Rounds<J>,
     answers: Answers<J>,
 }
 
@@ -120,7 +120,7 @@ fn run_from<J: Job, P: Port>(
     let mut run = Run {
         table: Table::new(alloc),
         buffer,
-        way: Way::none(alloc),
+        way: Rounds::none(alloc),
         answers: Answers::none(alloc),
     };
     let ending = match begin(alloc, code, &mut run.way) {
@@ -131,7 +131,7 @@ fn run_from<J: Job, P: Port>(
 }
 
 // Puts the start pulse on the way.
-fn begin<J: Job>(alloc: Global, code: &Code<'_, J>, way: &mut Way<J>) -> Result<(), NoMemory>
+fn begin<J: Job>(alloc: Global, code: &Code<'_, J>, way: &mut Rounds<J>) -> Result<(), NoMemory>
     ensures { OnOk result (Covers (start_tokens J.image) way.new) }
 {
     way.pour(start(alloc, code)?)
@@ -239,7 +239,7 @@ fn tell<J: Job, P: Port>(
     code: &Code<'_, J>,
     buffer: &mut PartBuffer<J, P>,
     answers: &mut Answers<J>,
-    way: &mut Way<J>,
+    way: &mut Rounds<J>,
     token: Token<J>,
 ) -> Result<(), NoMemory>
     requires store { is_store_op (instr_at J.image token.instr).op ≡ true }
@@ -256,7 +256,7 @@ fn ask<J: Job, P: Port>(
     code: &Code<'_, J>,
     buffer: &mut PartBuffer<J, P>,
     answers: &mut Answers<J>,
-    way: &mut Way<J>,
+    way: &mut Rounds<J>,
     request: Request<J>,
 ) -> Result<(), NoMemory>
     ensures paid { OnOk result ((t : Tables) → Paid J.image t buffer.old way.old

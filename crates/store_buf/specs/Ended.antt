@@ -10,7 +10,7 @@ use Rattle.store_buf.specs.Outdoors.{SlotsAre, RoseAt, began_of, port_of}
 
 -- No load or store of the walk is past the end. The cost has fired; what is told and what the ports have is
 -- what the walk leaves.
-pub record Rested (image : Image) (world : World) (handed : List (Option Told)) (printed : List ℕ)
+pub record RunWhole (image : Image) (world : World) (handed : List (Option Told)) (printed : List ℕ)
     (arrays : List (List ℕ)) (fired : ℕ) (back : List (Option Told)) : Type 0 where
   pub no_fault : NoFault image world
   pub time : ℕ

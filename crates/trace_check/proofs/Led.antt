@@ -12,7 +12,7 @@ use Rattle.df_core.specs.Cores.{IsAt, Makes, IsEnabled, IsAtRest, event_of}
 use Rattle.df_core.specs.Quiet.{IsQuiet, IsQuietly, OnlyFires}
 use Rattle.trace_check.specs.declared.recording.TraceEnd.{TraceEnd}
 use Rattle.trace_check.specs.declared.recording.TraceEnd.TheVariants as end
-use Rattle.trace_check.specs.Recorded.{OutOfBudget, EndIs, Traces, Led, MakesEvents, IsDone, IsNext}
+use Rattle.trace_check.specs.Recorded.{OutOfBudget, EndIs, Traces, Led, MakesEvents, IsDone, MayComeNext}
 use Rattle.df_core.proofs.Saying.{no_fault_at as no_fault}
 use Rattle.df_core.proofs.Same.{same_refl}
 use Rattle.df_core.proofs.Quietly.{issue_quiet}
@@ -39,7 +39,7 @@ step_more image s t (Issue w i) st = let e = ap length (issue_quiet image s w i 
 pub next_any : (core : Core) (budget fired : ℕ) (o : Option Made) → fired < budget →
     ((image : Image) (world : World) (s : State) → IsAt image world core s → length s.fired ≡ fired) →
     MatchOption o (IsAtRest core) (λ e. IsEnabled (event_of e) core) →
-    MatchOption o (IsDone budget core) (λ e. IsNext budget (event_of e) core)
+    MatchOption o (IsDone budget core) (λ e. MayComeNext budget (event_of e) core)
 next_any core budget fired None l count m = λ image world s at. inr (inl (m image world s at))
 next_any core budget fired (Some e) l count m = λ image world s at. (
   m image world s at,
@@ -49,7 +49,7 @@ next_any core budget fired (Some e) l count m = λ image world s at. (
 pub next_quiet : (core : Core) (budget fired : ℕ) (o : Option Made) → budget ≤ fired →
     ((image : Image) (world : World) (s : State) → IsAt image world core s → length s.fired ≡ fired) →
     MatchOption o (OnlyFires core) (λ e. IsQuietly (event_of e) core) →
-    MatchOption o (IsDone budget core) (λ e. IsNext budget (event_of e) core)
+    MatchOption o (IsDone budget core) (λ e. MayComeNext budget (event_of e) core)
 next_quiet core budget fired None l count m = λ image world s at.
     let b = count image world s at in
     let le : budget ≤ length s.fired = omega arith in
@@ -67,7 +67,7 @@ one_more : (events : List Made) (e : Made) (es : List Event) → map event_of ev
 one_more [] e es = refl
 one_more (x ∷ events) e es = ap (λ (xs : List Event). event_of x ∷ xs) (one_more events e es)
 
-pub one_led : (events : List Made) (e : Made) (budget : ℕ) (old core new : Core) → MakesEvents budget events old core → IsNext budget (event_of e) core → Makes (event_of e) core new → MakesEvents budget (events ++ e ∷ []) old new
+pub one_led : (events : List Made) (e : Made) (budget : ℕ) (old core new : Core) → MakesEvents budget events old core → MayComeNext budget (event_of e) core → Makes (event_of e) core new → MakesEvents budget (events ++ e ∷ []) old new
 one_led events e budget old core new leads next makes image world s at le =
     let a = leads image world s at le in
     let m = makes image world a.state a.at in
@@ -78,7 +78,7 @@ one_led events e budget old core new leads next makes image world s at le =
       within = (next image world a.state a.at).1 a.within m.0 m.1;
     }
 
-pub next_enabled : (event : Event) (budget : ℕ) (core : Core) → IsNext budget event core → IsEnabled event core
+pub next_enabled : (event : Event) (budget : ℕ) (core : Core) → MayComeNext budget event core → IsEnabled event core
 next_enabled event budget core next image world s at = (next image world s at).0
 
 -- what the law of the core says of a state that the events lead to

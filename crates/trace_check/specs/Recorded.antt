@@ -61,7 +61,7 @@ IsDone budget core = (image : Image) (world : World) (s : State) → IsAt image 
     ⊎ ((budget ≤ length s.fired) × ((e : Event) → Enabled image s e → IsQuiet image s e → ⊥))
 
 -- the event may be made
-abbrev pub IsNext : ℕ → Event → Core → Type 0
-IsNext budget event core = (image : Image) (world : World) (s : State) → IsAt image world core s →
+abbrev pub MayComeNext : ℕ → Event → Core → Type 0
+MayComeNext budget event core = (image : Image) (world : World) (s : State) → IsAt image world core s →
     Enabled image s event × (length s.fired ≤ budget → (t : State) → Step image s event t →
     length t.fired ≤ budget)

@@ -6,7 +6,7 @@ ghost use Rattle.ws_words.specs.Plain.{world_of};
 ghost use Rattle.ws_isa.specs.Image.{Image};
 ghost use Rattle.df_core.specs.Core.{State};
 ghost use Rattle.df_core.specs.Cores.{IsAt, Makes, IsEnabled, event_of, IsRunning};
-ghost use Rattle.trace_check.specs.Recorded.{Traces, MakesEvents, IsDone, IsNext, EndIs};
+ghost use Rattle.trace_check.specs.Recorded.{Traces, MakesEvents, IsDone, MayComeNext, EndIs};
 
 use crate::events::Events;
 use df_core::{Core, Event, StepFault, counts, every_list_of_events};
@@ -35,7 +35,7 @@ pub struct Traced {
 fn next(core: &Core<'_>, budget: u64) -> Option<Event>
     requires { IsRunning core.now }
     ensures { MatchOption result (IsDone budget core.now)
-        (λ event. IsNext budget (event_of event) core.now) }
+        (λ event. MayComeNext budget (event_of event) core.now) }
 {
     if core.fault().is_some() {
         None

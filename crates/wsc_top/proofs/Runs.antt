@@ -8,7 +8,7 @@ use Rattle.ws_isa.specs.Walk.{mem, walk, CostAtMost}
 use Rattle.port_set.specs.Ports.{Told}
 use Rattle.fire_crew.specs.declared.finish.CrewFinish.{CrewFinish}
 use Rattle.fire_crew.specs.declared.finish.CrewFinish.TheVariants as finish
-use Rattle.store_buf.specs.Ended.{Rested, Spent, Tripped, PortFailed}
+use Rattle.store_buf.specs.Ended.{RunWhole, Spent, Tripped, PortFailed}
 use Rattle.fire_crew.specs.Answer.{CrewTells}
 use Rattle.wsc_top.specs.declared.status.Status.{Status}
 use Rattle.wsc_top.specs.declared.status.Status.TheVariants.{Done, Budget, Fault, PortFault}
@@ -24,7 +24,7 @@ module _ (options : RunOptions) (image : Image) (world : World) (handed back : L
       subst (λ (t : Status). Executes options image world handed t out back) (sym e) (subst (λ (t : List ℕ). Executes options image world handed s t back) (sym f) x)
 
   -- the whole walk has been run
-  rested_so : (printed : List ℕ) (rows : List (List ℕ)) (fired : ℕ) → fired ≤ options.budget → Rested image world handed printed rows fired back → (status : Status) (out : List ℕ)
+  rested_so : (printed : List ℕ) (rows : List (List ℕ)) (fired : ℕ) → fired ≤ options.budget → RunWhole image world handed printed rows fired back → (status : Status) (out : List ℕ)
       → status ≡ Done → out ≡ end_report options.report (shown_names image.arrays) printed (shown_cells image.arrays rows) fired → Executes options image world handed status out back
   rested_so printed rows fired le r status out e f =
       let names = shown_names image.arrays in

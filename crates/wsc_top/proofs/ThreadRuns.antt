@@ -8,7 +8,7 @@ use Rattle.port_set.specs.declared.slots.Slots.{Slots}
 use Rattle.port_set.specs.Slots.{AllOpen, IsOpen, contents, slots, told_all}
 use Rattle.store_buf.specs.Outdoors.{AllTell, TellsLeft, world_with}
 use Rattle.fire_crew.specs.declared.run.RunEnd.{RunEnd}
-use Rattle.multi_wave.specs.Parts.{Alone, Ready, EndSo, EndsAlone}
+use Rattle.multi_wave.specs.Parts.{Alone, PortsReady, EndSo, EndsAlone}
 use Rattle.wsc_top.specs.declared.status.Status.{Status}
 use Rattle.wsc_top.specs.declared.status.Status.TheVariants.{Done, Usage, Refused, Budget, ReadFault, WriteFault, PortFault, NoMemory, Fault}
 use Rattle.wsc_top.specs.declared.task.RunOptions.{RunOptions}
@@ -42,7 +42,7 @@ none_held tells ports e = ap (told_all tells) e
 
 -- The parts.
 
-pub ready_with : (budget : ℕ) (handed : List (Option Told)) (image : Option Image) (input : Option (List ℕ)) → AllTell handed → AllOpen handed → Ready (alone_with budget handed image input)
+pub ready_with : (budget : ℕ) (handed : List (Option Told)) (image : Option Image) (input : Option (List ℕ)) → AllTell handed → AllOpen handed → PortsReady (alone_with budget handed image input)
 ready_with budget handed None input tell open' = tt
 ready_with budget handed (Some i) None tell open' = tt
 ready_with budget handed (Some i) (Some w) tell open' = (tell, open')

@@ -5,7 +5,7 @@ use Rattle.df_core.specs.Places.{image_of}
 use Rattle.store_buf.specs.declared.kept.Kept.{Kept}
 use Rattle.store_buf.specs.Ordering.{kept_at}
 use Rattle.store_buf.proofs.Counted as C
-use Rattle.part_store.specs.declared.entry.Entry.{Entry}
+use Rattle.part_store.specs.declared.entry.Queued.{Queued}
 use Rattle.part_store.specs.Queues.{joined}
 use Rattle.part_store.proofs.Turning as U
 use Rattle.part_store.proofs.parts.Parts.wait_on.Goals as goal
@@ -54,5 +54,5 @@ returns-clause-queued g c =
     (kept_at c.args.self.now.order c.args.place) c.row_of.result c.row_of.ensures c.op.ensures q in
     let n : c.note.result.seq ≡ (note_of image (kept_at c.args.self.now.order c.args.place).instr).seq =
     ap (λ (x : _). x.seq) c.note.ensures ∙ ap (λ (x : Kept). (note_of image x.instr).seq) q in
-    c.join.ensures.entries ∙ ap (λ (e : Entry). joined e c.args.self.now.queues.entries.items)
+    c.join.ensures.entries ∙ ap (λ (e : Queued). joined e c.args.self.now.queues.entries.items)
     (λ j. record { wave = (q j).wave; instr = (q j).instr; seq = n j; row = r j; index = (q j).first })

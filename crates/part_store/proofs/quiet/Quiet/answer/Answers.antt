@@ -3,7 +3,7 @@ use Rattle.std.proofs.Common.{subst}
 use Rattle.ws_isa.specs.Image.{instr_at}
 use Rattle.store_buf.specs.Requests.{issued_in}
 use Rattle.store_buf.specs.Contents.{Content, answer_of, gives_word}
-use Rattle.part_store.specs.declared.entry.Entry.{Entry}
+use Rattle.part_store.specs.declared.entry.Queued.{Queued}
 use Rattle.part_store.specs.Queues.{is_queued}
 use Rattle.part_store.proofs.Wholly as W
 use Rattle.part_store.proofs.quiet.Quiet.answer.Goals as goal
@@ -20,6 +20,6 @@ returns g c =
     subst (λ (x : Content). c.answer.result ≡ answer_of g.J.Job.image x c.args.wave c.args.instr)
     c.self.view_is
     (c.answer.ensures
-    ∙ ap (λ (es : List Entry). cond (b && not (is_queued es c.args.wave c.args.instr)) o None)
+    ∙ ap (λ (es : List Queued). cond (b && not (is_queued es c.args.wave c.args.instr)) o None)
     (W.empty inner c.self.invariant c.facts.ensures.parted.1)
     ∙ unqueued b o)

@@ -1,6 +1,6 @@
 use Rattle.std.proofs.Common.{sym}
 use Rattle.part_store.proofs.Reaching.{covers_next, covers_round}
-use Rattle.part_store.proofs.way.Way.put.Goals as goal
+use Rattle.part_store.proofs.rounds.Rounds.put.Goals as goal
 
 pub returns-in_ok-push_back : goal.returns-in_ok-push_back
 returns-in_ok-push_back g c =

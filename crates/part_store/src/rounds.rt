@@ -17,14 +17,14 @@ use ws_words::NoMemory;
 /// far as it can before a later one begins: few waves are at work at a time, and what belongs together in
 /// a table lies near.
 #[derive(Drop)]
-pub struct Way<J: Job> {
+pub struct Rounds<J: Job> {
     round: VecDeque<Token<J>>,
     next: VecDeque<Token<J>>,
     // The wave number of the token that was taken last.
     wave: u64,
 }
 
-impl<J: Job> Model for Way<J> {
+impl<J: Job> Model for Rounds<J> {
     ghost use Rattle.std.specs.Prelude.{◌++◌, List};
     ghost use Rattle.ws_isa.specs.Image.{Token as Plain};
 
@@ -33,12 +33,12 @@ impl<J: Job> Model for Way<J> {
     ghost view = { λ w. w.round.items ++ w.next.items };
 }
 
-impl<J: Job> Way<J> {
+impl<J: Job> Rounds<J> {
     /// Nothing is on the way.
-    pub fn none(alloc: Global) -> Way<J>
+    pub fn none(alloc: Global) -> Rounds<J>
         ensures { result ≡ [] }
     {
-        Way {
+        Rounds {
             round: VecDeque::new(alloc),
             next: VecDeque::new(alloc),
             wave: 0,
