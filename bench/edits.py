@@ -9,8 +9,8 @@
 The edits of crates/*/must-fail are tried by every run of the gate. Those of edits/NAME are tried here, each in the
 form that `rt must-fail` reads, in a copy of the repository that is removed again; the first of a crate costs as much
 as its proof. What the contracts of a crate are is a checksum over its specs/ and over the signatures and contracts of
-its functions; edits/tried.txt has, for each crate, the one over which all its edits were refused. The exit status
-is 1 where an edit wasn't refused, or can't be applied.
+its functions; edits/tried.txt has, for each crate, the one over which all its edits were refused, or that of the same
+contracts under new names. The exit status is 1 where an edit wasn't refused, or can't be applied.
 """
 
 import argparse

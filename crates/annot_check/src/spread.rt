@@ -8,7 +8,7 @@ ghost use Rattle.ws_isa.specs.Image.{instr_at, first_number, block_at, is_first,
 ghost use Rattle.ws_isa.specs.Image.{IsIn, Landings};
 ghost use Rattle.ws_isa.specs.View as view;
 ghost use Rattle.ws_isa.specs.Sound.{HasPad, BringsResult, ExitShape, HangShape, DestShape};
-ghost use Rattle.annot_check.specs.Spread.{Reached, SpreadState, Hangs, op_of};
+ghost use Rattle.annot_check.specs.Spread.{HitOrMarked, SpreadState, Hangs, op_of};
 ghost use Rattle.ws_isa.specs.declared.instr.Op.TheVariants.{Send, Halt, Merge};
 ghost use Rattle.annot_check.specs.Facts.{TableOf};
 ghost use Rattle.ws_words.specs.Items.{flag_at};
@@ -72,7 +72,7 @@ impl Spread {
         requires hits { next ≤ length self.now.hits.items }
         ensures size { length self.new.marks.items ≡ length self.old.marks.items }
         ensures hit_size { length self.new.hits.items ≡ length self.old.hits.items }
-        ensures reached { Reached dests.now facts.now.ops.items port first next
+        ensures reached { HitOrMarked dests.now facts.now.ops.items port first next
             self.old.marks.items self.new.marks.items self.old.hits.items self.new.hits.items }
     {
         for dest in dests {

@@ -11,12 +11,12 @@ use Rattle.asm_text.specs.declared.line.Target.{Target}
 use Rattle.asm_text.specs.declared.line.InstrLine.{InstrLine}
 use Rattle.asm_text.specs.declared.line.Line.{Line}
 use Rattle.asm_text.specs.declared.state.Expected.{Expected}
-use Rattle.asm_text.specs.declared.state.State.{State}
+use Rattle.asm_text.specs.declared.state.TextState.{TextState}
 use Rattle.asm_text.specs.Names.{Names}
 use Rattle.asm_text.specs.Limits.{first_most_instrs, first_most_blocks, first_most_waves, first_most_landings}
 use Rattle.asm_text.specs.State.{opening, next_place, is_number, are_numbers, is_plain, is_above, is_numbered, limit, is_within_cells, is_within, is_new, is_other_version, with_name, counted, checked, behind}
 use Rattle.asm_text.specs.Printed.{few_landings, keeps_first_limits}
-use Rattle.asm_text.specs.Spelling.{Version, Array, Wave, Block, Pad, Exit, End, instr_items, wave_items, block_items, blocks_items, items, Naming, IsFor, Pairs, TargetIsFor, Spells, SpellsExit, Short, array_line_of}
+use Rattle.asm_text.specs.Spelling.{Version, Array, Wave, Block, Pad, Exit, End, instr_items, wave_items, block_items, blocks_items, items, Naming, IsFor, Pairs, TargetIsFor, Spells, SpellsExit, ShortNames, array_line_of}
 use Rattle.asm_text.proofs.Items.{InstrIn, BlockIn, First, firsts_of, blocks_formed, dests_small}
 use Rattle.asm_text.proofs.Held.{last_wave}
 use Rattle.ws_isa.specs.Image as plain
@@ -28,23 +28,23 @@ use Rattle.ws_words.proofs.Lists.{length_map}
 use Rattle.ws_words.proofs.Bools.{or_true}
 
 -- Lines lead from one state to another.
-abbrev pub Walks : State → List Line → State → Type 0
+abbrev pub Walks : TextState → List Line → TextState → Type 0
 Walks s [] t = s ≡ t
-Walks s (l ∷ ls) t = (u : State) × (behind s l false ≡ Ok u) × Walks u ls t
+Walks s (l ∷ ls) t = (u : TextState) × (behind s l false ≡ Ok u) × Walks u ls t
 
-pub walks_append : (xs ys : List Line) (s t u : State) → Walks s xs t → Walks t ys u → Walks s
+pub walks_append : (xs ys : List Line) (s t u : TextState) → Walks s xs t → Walks t ys u → Walks s
     (xs ++ ys) u
-walks_append [] ys s t u h k = let P : State → Type 0 = λ x. Walks x ys u in subst P (sym h) k
+walks_append [] ys s t u h k = let P : TextState → Type 0 = λ x. Walks x ys u in subst P (sym h) k
 walks_append (x ∷ xs) ys s t u h k = (h.0, h.1, walks_append xs ys h.0 t u h.2 k)
 
 -- a line that passes each test
-goes : (s : State) (l : Line) (p : Expected) → next_place s.place l ≡ Some p → is_other_version l false
+goes : (s : TextState) (l : Line) (p : Expected) → next_place s.place l ≡ Some p → is_other_version l false
     ≡ false → (s.named || is_plain l) ≡ true → is_numbered s l ≡ true → is_within s l ≡ true
     → is_new s l ≡ true → behind s l false ≡ Ok (record (counted s l) { place = p })
 unfolding behind checked
 goes s l p a o b c d e = rw (a, o, b, c, d, e)
 
-abbrev pub at : Expected → Bool → ℕ → ℕ → ℕ → ℕ → List ℕ → Option ℕ → Names → Names → State
+abbrev pub at : Expected → Bool → ℕ → ℕ → ℕ → ℕ → List ℕ → Option ℕ → Names → Names → TextState
 at p v a c w b ports pad bs is =
     record {
       place = p;
@@ -91,15 +91,15 @@ pub record Setting (image : plain.Image) (v : Bool) (names : Naming) : Type 0 wh
   pub formed : Formed image
   pub first : v ≡ false → keeps_first_limits image ≡ true
   pub plain : IsPlain v names
-  pub blocks : Short names.blocks
-  pub instrs : Short names.instrs
+  pub blocks : ShortNames names.blocks
+  pub instrs : ShortNames names.instrs
 
 abbrev pub IsIn : plain.Image → plain.Block → Type 0
 IsIn image b = BlockIn image (keeps_first_limits image) b
 
 -- Names so far, behind instructions and behind blocks.
 
-pub record Walked (names : Naming) (s : State) (ls : List Line) (p : Expected) (v : Bool) (a c w b : ℕ)
+pub record Walked (names : Naming) (s : TextState) (ls : List Line) (p : Expected) (v : Bool) (a c w b : ℕ)
     (ports : List ℕ) : Type 0 where
   pub pad : Option ℕ
   pub bs : Names
@@ -298,7 +298,7 @@ module _ (image : plain.Image) (v : Bool) (names : Naming) (S : Setting image v 
       (omega (arith, e, size)) most g.1 sb sound in
       let joined : ports' ++ map port_count xs ≡ ports ++ port_count x ∷ map port_count xs =
       append_assoc ports (port_count x ∷ []) (map port_count xs) in
-      let P : State → Type 0 = Walks u ls in
+      let P : TextState → Type 0 = Walks u ls in
       record {
         pad = rest.pad;
         bs = rest.bs;
@@ -399,7 +399,7 @@ module _ (image : plain.Image) (v : Bool) (names : Naming) (S : Setting image v 
   landings_keep (plain.Branch s b c) h w = tt
   landings_keep plain.Stop h w = tt
 
-  record Opened (a c k b : ℕ) (ports : List ℕ) (pad : Option ℕ) (bs is : Names) (s : State)
+  record Opened (a c k b : ℕ) (ports : List ℕ) (pad : Option ℕ) (bs is : Names) (s : TextState)
       (ls : List Line) : Type 0 where
     p : Expected
     begun : Begun p

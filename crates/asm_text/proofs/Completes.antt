@@ -14,7 +14,7 @@ use Rattle.asm_text.specs.declared.reading.Reading.{Reading}
 use Rattle.asm_text.specs.declared.reading.Reading.TheVariants.{Blank, Wrong, Found}
 use Rattle.asm_text.specs.declared.state.Expected.{Expected}
 use Rattle.asm_text.specs.declared.state.Expected.TheVariants as place
-use Rattle.asm_text.specs.declared.state.State.{State}
+use Rattle.asm_text.specs.declared.state.TextState.{TextState}
 use Rattle.asm_text.specs.Names.{Names, named}
 use Rattle.asm_text.specs.Words.{is}
 use Rattle.asm_text.specs.State.{opening, next_place, is_plain, is_numbered, is_within, is_new, with_name, counted, checked, behind}
@@ -32,16 +32,16 @@ use Rattle.ws_words.specs.Items.{In}
 
 -- Names that are given are found behind all lines.
 
-step_taken : (t u : State) (l : Line) → behind t l false ≡ Ok u → (p : Expected) × Taken t l p ×
+step_taken : (t u : TextState) (l : Line) → behind t l false ≡ Ok u → (p : Expected) × Taken t l p ×
     (u ≡ after t l p)
 step_taken t u l e = (IfOk-at_ok _ e (taken t l false)).1
 
-step_extends : (t u : State) (l : Line) → behind t l false ≡ Ok u → Extends t u
+step_extends : (t u : TextState) (l : Line) → behind t l false ≡ Ok u → Extends t u
 step_extends t u l e =
     let k = step_taken t u l e in subst (Extends t) (sym k.2)
     (placed t (counted t l) k.0 (counted_extends t l))
 
-walks_extend : (ls : List Line) (t s : State) → Walks t ls s → Extends t s
+walks_extend : (ls : List Line) (t s : TextState) → Walks t ls s → Extends t s
 walks_extend [] t s h = subst (Extends t) h (still t)
 walks_extend (l ∷ ls) t s h = onward t h.0 s (step_extends t h.0 l h.1) (walks_extend ls h.0 s h.2)
 
@@ -78,16 +78,16 @@ with_name_found : (names : Names) (own : Label) (w : List ℕ) (k : ℕ) → own
 with_name_found names own w k e =
     subst (λ l. IsNamed (with_name names l k) w) (sym e) (found_last names w k (is_same w))
 
-block_kept : (t : State) (w : List ℕ) → IsNamed (counted t (line.Block (Named w))).block_names w
+block_kept : (t : TextState) (w : List ℕ) → IsNamed (counted t (line.Block (Named w))).block_names w
 unfolding counted
 block_kept t w = with_name_found t.block_names (Named w) w (t.blocks + 1) refl
 
-instr_kept : (t : State) (i : InstrLine) (w : List ℕ) → i.own ≡ Named w → IsNamed
+instr_kept : (t : TextState) (i : InstrLine) (w : List ℕ) → i.own ≡ Named w → IsNamed
     (counted t (line.Instr i)).instr_names w
 unfolding counted
 instr_kept t i w e = with_name_found t.instr_names i.own w (length t.ports + 1) e
 
-pub block_found : (ls : List Line) (t s : State) (w : List ℕ) → Walks t ls s → In
+pub block_found : (ls : List Line) (t s : TextState) (w : List ℕ) → Walks t ls s → In
     (line.Block (Named w)) ls → IsNamed s.block_names w
 block_found [] t s w h k = absurd k
 block_found (l ∷ ls) t s w h (inl e) =
@@ -102,7 +102,7 @@ block_found (l ∷ ls) t s w h (inl e) =
     )
 block_found (l ∷ ls) t s w h (inr k) = block_found ls h.0 s w h.2 k
 
-pub instr_found : (ls : List Line) (t s : State) (i : InstrLine) (w : List ℕ) → Walks t ls s → i.own
+pub instr_found : (ls : List Line) (t s : TextState) (i : InstrLine) (w : List ℕ) → Walks t ls s → i.own
     ≡ Named w → In (line.Instr i) ls → IsNamed s.instr_names w
 instr_found [] t s i w h q k = absurd k
 instr_found (l ∷ ls) t s i w h q (inl e) =
@@ -119,9 +119,9 @@ instr_found (l ∷ ls) t s i w h q (inr k) = instr_found ls h.0 s i w h.2 q k
 
 -- Both passes over the texts of lines.
 
-passed_by : (t s : State) (n : ℕ) (r : Reading) (ls more : List Line)
-    (f : State → Result State Fault) → Says r ls more → Walks t ls s →
-    ((u : State) → Walks u more s → f u ≡ Ok s)
+passed_by : (t s : TextState) (n : ℕ) (r : Reading) (ls more : List Line)
+    (f : TextState → Result TextState Fault) → Says r ls more → Walks t ls s →
+    ((u : TextState) → Walks u more s → f u ≡ Ok s)
     → (on_line (n + 1) (step t r) >>= f) ≡ Ok s
 passed_by t s n Blank ls more f h w k = k t (subst (λ l. Walks t l s) h w)
 passed_by t s n Wrong ls more f h w k = absurd h
@@ -130,7 +130,7 @@ passed_by t s n (Found l wide) ls more f h w k =
     let e : behind t l wide ≡ Ok x.0 = ap (behind t l) h.0 ∙ x.1 in
     ap (λ r. on_line (n + 1) r >>= f) e ∙ k x.0 x.2
 
-passed_say : (texts : List (List ℕ)) (ls : List Line) (t s : State) (n : ℕ) → Say texts ls → Walks t
+passed_say : (texts : List (List ℕ)) (ls : List Line) (t s : TextState) (n : ℕ) → Say texts ls → Walks t
     ls s → is_ended s.place ≡ true → passed t n texts ≡ Ok s
 unfolding passed
 passed_say [] ls t s n h w e =
@@ -140,7 +140,7 @@ passed_say (text ∷ texts) ls t s n h w e =
     passed_by t s n (reading text) ls h.0 (λ u. passed u (n + 1) texts) h.1 w
     (λ u x. passed_say texts h.0 u s (n + 1) h.2 x e)
 
-made_by : (s : State) (b d : Built) (n : ℕ) (r : Reading) (ls more : List Line)
+made_by : (s : TextState) (b d : Built) (n : ℕ) (r : Reading) (ls more : List Line)
     (f : Built → Result Built Fault) → Says r ls more → Makes s b ls d →
     ((c : Built) → Makes s c more d → f c ≡ Ok d)
     → (on_line (n + 1) (add s b r) >>= f) ≡ Ok d
@@ -150,7 +150,7 @@ made_by s b d n (Found l wide) ls more f h w k =
     let x : Makes s b (l ∷ more) d = subst (λ z. Makes s b z d) h.1 w in
     ap (λ r. on_line (n + 1) r >>= f) x.1 ∙ k x.0 x.2
 
-made_say : (texts : List (List ℕ)) (ls : List Line) (s : State) (b d : Built) (n : ℕ) → Say texts ls
+made_say : (texts : List (List ℕ)) (ls : List Line) (s : TextState) (b d : Built) (n : ℕ) → Say texts ls
     → Makes s b ls d → made s b n texts ≡ Ok d
 unfolding made
 made_say [] ls s b d n h w = ap Ok (subst (λ l. Makes s b l d) h w)
@@ -163,7 +163,7 @@ made_say (text ∷ texts) ls s b d n h w =
 abbrev Known : ℕ → Naming → Type 0
 Known n names = (n ≡ 2) ⊎ ((n ≡ 1) × (names ≡ record { blocks = []; instrs = [] }))
 
-abbrev start : Bool → State
+abbrev start : Bool → TextState
 start v = at place.Arrays v 0 0 0 0 [] None [] []
 
 one_goes : behind opening (line.Version 1) false ≡ Ok (start false)

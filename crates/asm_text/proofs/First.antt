@@ -13,7 +13,7 @@ use Rattle.asm_text.specs.declared.line.Line.{Line}
 use Rattle.asm_text.specs.declared.line.Line.TheVariants as line
 use Rattle.asm_text.specs.declared.state.Expected.{Expected}
 use Rattle.asm_text.specs.declared.state.Expected.TheVariants as place
-use Rattle.asm_text.specs.declared.state.State.{State}
+use Rattle.asm_text.specs.declared.state.TextState.{TextState}
 use Rattle.asm_text.specs.Limits.{first_most_instrs, first_most_blocks, first_most_waves, first_most_landings}
 use Rattle.asm_text.specs.State.{next_place, is_short, is_within_op, are_few, limit, is_within, counted}
 use Rattle.asm_text.specs.Building.{Maybe, Built, dests_of, blocks_of, instr_of, block_of, is_known, exit_of, with_exit, built}
@@ -25,13 +25,13 @@ use Rattle.asm_text.proofs.Pairing.{blocks_for}
 use Rattle.asm_text.proofs.Labels.{pairs_length}
 use Rattle.asm_text.proofs.Told.{Lacks, Taken}
 
-pub record FirstOk (t : State) (b : Built) : Type 0 where
+pub record FirstOk (t : TextState) (b : Built) : Type 0 where
   pub ports : length t.ports ≤ first_most_instrs
   pub blocks : t.blocks ≤ first_most_blocks
   pub waves : t.waves ≤ first_most_waves
   pub each : list_all keeps_first_block b.blocks ≡ true
 
-abbrev pub FirstHeld : State → Built → Type 0
+abbrev pub FirstHeld : TextState → Built → Type 0
 FirstHeld t b = t.named ≡ false → FirstOk t b
 
 any_ok : {A : Type 0} (r : Maybe A) → IfOk r (λ _. Unit {0})
@@ -47,18 +47,18 @@ within_first : (v : Bool) (n few most : ℕ) → v ≡ false → nat_le n (limit
 within_first true n few most e h = absurd (false≢true (sym e))
 within_first false n few most e h = h
 
-start_named : (t : State) (b : Built) (n : ℕ) (q p : Expected) → next_place q (line.Version n) ≡ Some p
+start_named : (t : TextState) (b : Built) (n : ℕ) (q p : Expected) → next_place q (line.Version n) ≡ Some p
     → Lacks q t b → t.named ≡ false
 unfolding next_place
 start_named t b n place.Start p e l = l.3
 start_named t b n q p e l = absurd (none-some p e)
 
-wave_first : (t : State) (k : ℕ) → t.named ≡ false → is_within t (line.Wave k) ≡ true → t.waves <
+wave_first : (t : TextState) (k : ℕ) → t.named ≡ false → is_within t (line.Wave k) ≡ true → t.waves <
     first_most_waves
 unfolding is_within
 wave_first t k e h = below_first t.named t.waves first_most_waves most_waves e h
 
-block_first : (t : State) (l : Label) → t.named ≡ false → is_within t (line.Block l) ≡ true →
+block_first : (t : TextState) (l : Label) → t.named ≡ false → is_within t (line.Block l) ≡ true →
     t.blocks < first_most_blocks
 unfolding is_within
 block_first t l e h =
@@ -69,7 +69,7 @@ six : (a b c d e f : Bool) → (a && b && c && d && e && f) ≡ true → a ≡ t
 six true true true true true true h = refl
 six a b c d e f h = absurd (false≢true h)
 
-instr_first : (t : State) (i : InstrLine) → t.named ≡ false → is_within t (line.Instr i) ≡ true →
+instr_first : (t : TextState) (i : InstrLine) → t.named ≡ false → is_within t (line.Instr i) ≡ true →
     length t.ports < first_most_instrs
 unfolding is_within
 instr_first t i e h =
@@ -81,7 +81,7 @@ middle : (a b c : Bool) → (a && b && c) ≡ true → b ≡ true
 middle true true true h = refl
 middle a b c h = absurd (false≢true h)
 
-send_first : (t : State) (l : Label) (ls : List Label) → t.named ≡ false → is_within t
+send_first : (t : TextState) (l : Label) (ls : List Label) → t.named ≡ false → is_within t
     (line.Send l ls) ≡ true → nat_le (length ls) first_most_landings ≡ true
 unfolding is_within
 send_first t l ls e h =
@@ -91,11 +91,11 @@ send_first t l ls e h =
 
 -- An exit ends a block.
 
-abbrev FewExit : State → Option plain.Exit → Type 0
+abbrev FewExit : TextState → Option plain.Exit → Type 0
 FewExit t None = Unit {0}
 FewExit t (Some e) = t.named ≡ false → few_landings e ≡ true
 
-exit_first : (t : State) (b : Built) (e : Maybe (Option plain.Exit)) (p : Expected) → t.waves ≡ b.wave
+exit_first : (t : TextState) (b : Built) (e : Maybe (Option plain.Exit)) (p : Expected) → t.waves ≡ b.wave
     → FirstHeld t b → IfOk e (FewExit t) → IfOk (with_exit b e) (FirstHeld (record t { place = p }))
 exit_first t b (Err k) p w h x = tt
 exit_first t b (Ok None) p w h x =
@@ -119,7 +119,7 @@ exit_first t b (Ok (Some exit)) p w h x = λ e.
     in
     record { ports = k.ports; blocks = k.blocks; waves = k.waves; each = more }
 
-pub line_first : (s t : State) (b : Built) (l : Line) (p : Expected) → Held s t b → Lacks t.place t b →
+pub line_first : (s t : TextState) (b : Built) (l : Line) (p : Expected) → Held s t b → Lacks t.place t b →
     FirstHeld t b → Taken t l p → IfOk (built s b l) (FirstHeld (after t l p))
 unfolding built exit_of counted
 line_first s t b (line.Version n) p held a h g = λ _.
@@ -196,7 +196,7 @@ line_first s t b line.End p held a h g =
     }
 
 -- what is built of a whole text of version 1 keeps its limits
-pub first_kept : (s : State) (b : Built) → FirstOk s b → s.blocks ≡ length b.blocks → length s.ports
+pub first_kept : (s : TextState) (b : Built) → FirstOk s b → s.blocks ≡ length b.blocks → length s.ports
     ≡ length (flat b.blocks)
     → keeps_first_limits (record { arrays = b.arrays; blocks = b.blocks }) ≡ true
 unfolding keeps_first_limits

@@ -10,7 +10,7 @@ use Rattle.ws_isa.specs.Image.{Image, Block, Pad, Instr, Exit, Goto, Branch, Lan
 use Rattle.ws_isa.specs.Formed.{most_instrs, most_blocks, most_pads, most_dests, DestIn, DestsIn, OpIn, ExitIn, InstrWithin, BlockWithin, WavesFrom, WavesInOrder, RiseFrom, PadsRise, Formed}
 use Rattle.asm_text.specs.declared.state.Expected.{Expected}
 use Rattle.asm_text.specs.declared.state.Expected.TheVariants as place
-use Rattle.asm_text.specs.declared.state.State.{State}
+use Rattle.asm_text.specs.declared.state.TextState.{TextState}
 use Rattle.asm_text.specs.State.{opening}
 use Rattle.ws_isa.specs.View as view
 use Rattle.asm_text.specs.declared.build.Builder.{Builder}
@@ -44,13 +44,13 @@ port_there image (suc k) h =
     ∙ ports_same (flat image.blocks) k below
 
 -- the state has the counts of the image
-record Counts (s : State) (image : Image) : Type 0 where
+record Counts (s : TextState) (image : Image) : Type 0 where
   ports : s.ports ≡ ports_in (flat image.blocks)
   instrs : length s.ports ≡ length (flat image.blocks)
   blocks : s.blocks ≡ length image.blocks
   arrays : s.arrays ≡ length image.arrays
 
-module _ (s : State) (image : Image) (c : Counts s image) where
+module _ (s : TextState) (image : Image) (c : Counts s image) where
   instr_there : (n : ℕ) → Among (length s.ports) n → IsInstr image n
   instr_there n h = subst (λ m. Among m n) c.instrs h
 
@@ -84,7 +84,7 @@ module _ (s : State) (image : Image) (c : Counts s image) where
   pads_there pads h =
       all_with (PadHeld s) (λ p. DestsIn image p.dests) (λ p k. dests_there p.dests k.dests) pads h
 
-block_within : (s : State) (b : Block) → BlockHeld s b → BlockWithin b
+block_within : (s : TextState) (b : Block) → BlockHeld s b → BlockWithin b
 block_within s b h = record {
   wave = h.wave.1;
   pads =
@@ -105,19 +105,19 @@ first_wave : (w : ℕ) → (w ≡ 0) ⊎ (w ≡ suc 0) → 1 ≤ w → w ≡ 1
 first_wave w (inl e) h = absurd (omega arith)
 first_wave w (inr e) h = e
 
-waves_in_order : (s : State) (blocks : List Block) → 1 ≤ length blocks → AllByRecursion (BlockHeld s) blocks
+waves_in_order : (s : TextState) (blocks : List Block) → 1 ≤ length blocks → AllByRecursion (BlockHeld s) blocks
     → WavesFrom 0 blocks → WavesInOrder blocks
 waves_in_order s [] some h w = absurd (omega arith)
 waves_in_order s (b ∷ blocks) some h w =
     let one = first_wave b.wave w.0 (h.0).wave.0 in
     (one, subst (λ n. WavesFrom n blocks) one w.1)
 
-at_end : (p : Expected) (s : State) (b : Built) → is_ended p ≡ true → Stands p s b → Exited s b
+at_end : (p : Expected) (s : TextState) (b : Built) → is_ended p ≡ true → Stands p s b → Exited s b
 at_end place.Ended s b e h = h
 at_end p s b e h = absurd (false≢true e)
 
 -- what is built behind all lines is formed
-end_formed : (s : State) (b : Built) → AtEnd s b → Formed (record { arrays = b.arrays; blocks = b.blocks })
+end_formed : (s : TextState) (b : Built) → AtEnd s b → Formed (record { arrays = b.arrays; blocks = b.blocks })
 end_formed s b h =
     let held = h.0 in
     let exited = at_end s.place s b h.1 held.stands in
@@ -172,7 +172,7 @@ text_formed : (text : List ℕ) → IfOk (read text) Formed
 unfolding read
 text_formed text = by (passed opening 0 (lines_of text)) refl
   where
-    by : (r : Result State Fault) → passed opening 0 (lines_of text) ≡ r
+    by : (r : Result TextState Fault) → passed opening 0 (lines_of text) ≡ r
         → IfOk (r >>= λ s. made s nothing 0 (lines_of text) >>= λ b. Ok (image_of b)) Formed
     by (Err k) e = tt
     by (Ok s) e =
@@ -185,7 +185,7 @@ pub read_formed : (text : List ℕ) (image : Image) → read text ≡ Ok image �
 read_formed text image e = IfOk-at_ok Formed e (text_formed text)
 
 -- what the code builds of a text is formed
-pub made_formed : (text : List ℕ) (s : State) (b : Builder) → passed opening 0 (lines_of text) ≡ Ok s
+pub made_formed : (text : List ℕ) (s : TextState) (b : Builder) → passed opening 0 (lines_of text) ≡ Ok s
     → made s nothing 0 (lines_of text) ≡ Ok (view_of b)
     → Formed (view.parts b.arrays.items b.blocks.items)
 unfolding read

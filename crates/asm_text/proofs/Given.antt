@@ -10,19 +10,19 @@ use Rattle.asm_text.specs.declared.line.Label.TheVariants.{At, Named}
 use Rattle.asm_text.specs.declared.line.InstrLine.{InstrLine}
 use Rattle.asm_text.specs.declared.line.Line.{Line}
 use Rattle.asm_text.specs.declared.line.Line.TheVariants as line
-use Rattle.asm_text.specs.declared.state.State.{State}
+use Rattle.asm_text.specs.declared.state.TextState.{TextState}
 use Rattle.asm_text.specs.State.{is_short, is_within_op, are_few, limit, is_within, with_name, counted}
 use Rattle.asm_text.specs.Limits.{first_most_blocks, first_most_instrs}
-use Rattle.asm_text.specs.Spelling.{GivesBlock, GivesInstr, Short}
+use Rattle.asm_text.specs.Spelling.{GivesBlock, GivesInstr, ShortNames}
 use Rattle.ws_words.specs.Items.{In}
 use Rattle.ws_words.proofs.Places.{in_left}
 
 -- the names of t are given by these lines
-pub record Given (t : State) (ls : List Line) : Type 0 where
+pub record Given (t : TextState) (ls : List Line) : Type 0 where
   pub blocks : GivesBlock t.block_names ls
   pub instrs : GivesInstr t.instr_names ls
-  pub short_blocks : Short t.block_names
-  pub short_instrs : Short t.instr_names
+  pub short_blocks : ShortNames t.block_names
+  pub short_instrs : ShortNames t.instr_names
 
 in_last : {A : Type 0} (x : A) (xs : List A) → In x (xs ++ x ∷ [])
 in_last x [] = inl refl
@@ -87,7 +87,7 @@ instr_given names i (Named v) k ls q h w n e = by (named_in_more names v w k n e
 
 -- Names aren't too long.
 
-short_more : (names : Names) (own : Label) (k : ℕ) → is_short own ≡ true → Short names → Short
+short_more : (names : Names) (own : Label) (k : ℕ) → is_short own ≡ true → ShortNames names → ShortNames
     (with_name names own k)
 short_more names (At m) k h s w n e = s w n e
 short_more names (Named v) k h s w n e = by (named_in_more names v w k n e)
@@ -96,7 +96,7 @@ short_more names (Named v) k h s w n e = by (named_in_more names v w k n e)
     by (inl f) = s w n f
     by (inr f) = subst (λ u. length u ≤ most_name) (sym f.0) (leb-true (length v) most_name h)
 
-block_short : (t : State) (own : Label) → is_within t (line.Block own) ≡ true → is_short own ≡ true
+block_short : (t : TextState) (own : Label) → is_within t (line.Block own) ≡ true → is_short own ≡ true
 unfolding is_within
 block_short t own h =
     (and_parts (nat_lt t.blocks (limit t.named first_most_blocks most_blocks)) (is_short own) h).1
@@ -105,14 +105,14 @@ second : (a b c d e f : Bool) → (a && b && c && d && e && f) ≡ true → b �
 second true true true true true true h = refl
 second a b c d e f h = absurd (false≢true h)
 
-instr_short : (t : State) (i : InstrLine) → is_within t (line.Instr i) ≡ true → is_short i.own ≡
+instr_short : (t : TextState) (i : InstrLine) → is_within t (line.Instr i) ≡ true → is_short i.own ≡
     true
 unfolding is_within
 instr_short t i h =
     second (nat_lt (length t.ports) (limit t.named first_most_instrs most_instrs)) (is_short i.own)
     (is_within_op i.op) i.fits (are_few i.dests) (are_few i.others) h
 
-pub line_given : (t : State) (l : Line) (ls : List Line) → is_within t l ≡ true → Given t ls
+pub line_given : (t : TextState) (l : Line) (ls : List Line) → is_within t l ≡ true → Given t ls
     → Given (counted t l) (ls ++ l ∷ [])
 unfolding counted
 line_given t (line.Block own) ls s h = record {

@@ -9,17 +9,17 @@ use Rattle.ws_isa.specs.Image.{Array, Block, Pad, Instr, Exit, Goto, Branch, Lan
 use Rattle.ws_isa.specs.Formed.{most_instrs, most_blocks, most_waves, most_dests, most_pads, most_port, total_length, ArraysFormed, InstrWithin, ExitWithin, SomeLanding, DestsSuit, OthersSuit, NoteSuits, WavesFrom}
 use Rattle.asm_text.specs.declared.state.Expected.{Expected}
 use Rattle.asm_text.specs.declared.state.Expected.TheVariants as place
-use Rattle.asm_text.specs.declared.state.State.{State}
+use Rattle.asm_text.specs.declared.state.TextState.{TextState}
 use Rattle.asm_text.specs.declared.line.Line.{Line}
 use Rattle.asm_text.specs.State.{is_above, counted}
 use Rattle.asm_text.specs.Building.{Built}
 use Rattle.asm_text.proofs.HeldNames.{Among, DestFor}
 
-abbrev pub DestsFor : State → List Dest → Type 0
+abbrev pub DestsFor : TextState → List Dest → Type 0
 DestsFor s ds = AllByRecursion (DestFor s) ds
 
 -- the array and the port of an operation are there
-abbrev pub OpFor : State → Op → Type 0
+abbrev pub OpFor : TextState → Op → Type 0
 OpFor s (op.Load a) = Among s.arrays a
 OpFor s (op.Store a) = Among s.arrays a
 OpFor s (op.Give p) = Among most_port p
@@ -27,18 +27,18 @@ OpFor s (op.Take p) = Among most_port p
 OpFor s _ = Unit {0}
 
 -- the instruction and the blocks of an exit are there
-abbrev pub ExitFor : State → Exit → Type 0
+abbrev pub ExitFor : TextState → Exit → Type 0
 ExitFor s (Goto b) = Among s.blocks b
 ExitFor s (Branch n b c) = Among (length s.ports) n × Among s.blocks b × Among s.blocks c
 ExitFor s (Landings n ls) = Among (length s.ports) n × AllByRecursion (Among s.blocks) ls
 ExitFor s Stop = Unit {0}
 
-pub record ExitHeld (s : State) (e : Exit) : Type 0 where
+pub record ExitHeld (s : TextState) (e : Exit) : Type 0 where
   pub there : ExitFor s e
   pub few : ExitWithin e
   pub landing : SomeLanding e
 
-pub record InstrHeld (s : State) (i : Instr) : Type 0 where
+pub record InstrHeld (s : TextState) (i : Instr) : Type 0 where
   pub within : InstrWithin i
   pub op : OpFor s i.op
   pub dests : DestsFor s i.dests
@@ -47,7 +47,7 @@ pub record InstrHeld (s : State) (i : Instr) : Type 0 where
   pub others_suit : OthersSuit i.op i.others
   pub note : NoteSuits i.op i.note
 
-pub record PadHeld (s : State) (p : Pad) : Type 0 where
+pub record PadHeld (s : TextState) (p : Pad) : Type 0 where
   pub number : p.number < most_pads
   pub few : length p.dests ≤ most_dests
   pub dests : DestsFor s p.dests
@@ -61,11 +61,11 @@ abbrev pub last_pad : Option ℕ → List Pad → Option ℕ
 last_pad o [] = o
 last_pad o (p ∷ pads) = last_pad (Some p.number) pads
 
-pub record PadsHeld (s : State) (pads : List Pad) : Type 0 where
+pub record PadsHeld (s : TextState) (pads : List Pad) : Type 0 where
   pub all : AllByRecursion (PadHeld s) pads
   pub rise : Rises None pads
 
-pub record BlockHeld (s : State) (b : Block) : Type 0 where
+pub record BlockHeld (s : TextState) (b : Block) : Type 0 where
   pub wave : (1 ≤ b.wave) × (b.wave ≤ most_waves)
   pub pads : PadsHeld s b.pads
   pub exit : ExitHeld s b.exit
@@ -75,7 +75,7 @@ abbrev pub last_wave : ℕ → List Block → ℕ
 last_wave w [] = w
 last_wave w (b ∷ blocks) = last_wave b.wave blocks
 
-pub record BlocksHeld (s : State) (blocks : List Block) : Type 0 where
+pub record BlocksHeld (s : TextState) (blocks : List Block) : Type 0 where
   pub all : AllByRecursion (BlockHeld s) blocks
   pub order : WavesFrom 0 blocks
 
@@ -86,27 +86,27 @@ pub record ArraysHeld (count cells : ℕ) (arrays : List Array) : Type 0 where
   pub formed : ArraysFormed arrays
 
 -- the state has the ports of the instructions
-pub record InstrsHeld (s : State) (ports : List ℕ) (instrs : List Instr) : Type 0 where
+pub record InstrsHeld (s : TextState) (ports : List ℕ) (instrs : List Instr) : Type 0 where
   pub same : ports ≡ map (λ i. ports_of i.op) instrs
   pub few : length ports ≤ most_instrs
   pub all : AllByRecursion (InstrHeld s) instrs
 
 -- no block is begun
-abbrev pub Shut : State → Built → Type 0
+abbrev pub Shut : TextState → Built → Type 0
 Shut t b = (b.pads ≡ []) × (b.instrs ≡ []) × (t.blocks ≡ length b.blocks)
 
 -- behind an exit
-abbrev pub Exited : State → Built → Type 0
+abbrev pub Exited : TextState → Built → Type 0
 Exited t b = Shut t b × (t.waves ≡ last_wave 0 b.blocks) × (1 ≤ t.waves) × (1 ≤ length b.blocks)
 
 -- in a block, which isn't in the list yet
-abbrev pub Inside : State → Built → Type 0
+abbrev pub Inside : TextState → Built → Type 0
 Inside t b =
     (t.blocks ≡ length b.blocks + 1) ×
     ((t.waves ≡ last_wave 0 b.blocks) ⊎ (t.waves ≡ suc (last_wave 0 b.blocks))) × (1 ≤ t.waves) ×
     (t.pad ≡ last_pad None b.pads)
 
-abbrev pub Stands : Expected → State → Built → Type 0
+abbrev pub Stands : Expected → TextState → Built → Type 0
 Stands place.Start t b = Shut t b × (t.waves ≡ last_wave 0 b.blocks)
 Stands place.Arrays t b = Shut t b × (t.waves ≡ last_wave 0 b.blocks)
 Stands place.Wave t b = Shut t b × (t.waves ≡ suc (last_wave 0 b.blocks))
@@ -119,7 +119,7 @@ Stands place.Ended t b = Exited t b
 abbrev pub so_far : Built → List Instr
 so_far b = flat b.blocks ++ b.instrs
 
-pub record Held (s t : State) (b : Built) : Type 0 where
+pub record Held (s t : TextState) (b : Built) : Type 0 where
   pub arrays : ArraysHeld t.arrays t.cells b.arrays
   pub instrs : InstrsHeld s t.ports (so_far b)
   pub pads : PadsHeld s b.pads
@@ -129,5 +129,5 @@ pub record Held (s t : State) (b : Built) : Type 0 where
   pub stands : Stands t.place t b
 
 -- the state behind a line, at this place
-abbrev pub after : State → Line → Expected → State
+abbrev pub after : TextState → Line → Expected → TextState
 after t l p = record (counted t l) { place = p }

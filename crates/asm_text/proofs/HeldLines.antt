@@ -16,7 +16,7 @@ use Rattle.asm_text.specs.declared.line.Line.{Line}
 use Rattle.asm_text.specs.declared.line.Line.TheVariants as line
 use Rattle.asm_text.specs.declared.state.Expected.{Expected}
 use Rattle.asm_text.specs.declared.state.Expected.TheVariants as place
-use Rattle.asm_text.specs.declared.state.State.{State}
+use Rattle.asm_text.specs.declared.state.TextState.{TextState}
 use Rattle.asm_text.specs.Limits.{first_most_instrs, first_most_landings}
 use Rattle.asm_text.specs.State.{next_place, is_numbered, is_above, are_ports, is_within, is_within_cells, is_within_op, is_short, is_short_name, are_few, are_short, limit, counted}
 use Rattle.asm_text.specs.Building.{Maybe, Built, instr_of, block_of, blocks_of, dests_of, is_known, with_array, with_pad, with_instr, closed, exit_of, with_exit, built}
@@ -35,7 +35,7 @@ nowhere p e = absurd (none-some p e)
 
 -- Lines without a block.
 
-version_held : (s t : State) (b : Built) (n : ℕ) (p : Expected) → Held s t b
+version_held : (s t : TextState) (b : Built) (n : ℕ) (p : Expected) → Held s t b
     → next_place t.place (line.Version n) ≡ Some p → Held s (after t (line.Version n) p) b
 unfolding counted next_place
 version_held s t b n p h e =
@@ -54,16 +54,16 @@ version_held s t b n p h e =
     by place.Start e k = at_place (λ p. Stands p (after t (line.Version n) p) b) place.Arrays p e k
     by q e k = nowhere p e
 
-cells_keep : (t : State) (n : ℕ) → is_within_cells t n ≡ true
+cells_keep : (t : TextState) (n : ℕ) → is_within_cells t n ≡ true
     → (t.arrays < most_arrays) × (n ≤ most_length) × (t.cells + n ≤ most_cells)
 cells_keep t n e = (grind (arith, nat_tests), grind (arith, nat_tests), grind (arith, nat_tests))
 
 -- the state behind an array, at this place
-abbrev with_cells : State → ℕ → Expected → State
+abbrev with_cells : TextState → ℕ → Expected → TextState
 with_cells t n p = record t { place = p; arrays = t.arrays + 1; cells = t.cells + n }
 
 -- an array, with or without a name
-array_held : (s t : State) (b : Built) (o : Option (List ℕ)) (n : ℕ) (p : Expected) → Held s t b → NameFormed o
+array_held : (s t : TextState) (b : Built) (o : Option (List ℕ)) (n : ℕ) (p : Expected) → Held s t b → NameFormed o
     → is_within_cells t n ≡ true
     → Stands p (with_cells t n p) (with_array b o n)
     → Held s (with_cells t n p) (with_array b o n)
@@ -80,7 +80,7 @@ array_held s t b o n p h name within stands =
       stands = stands;
     }
 
-array_stands : (t : State) (b : Built) (w : List ℕ) (o : Option (List ℕ)) (n : ℕ) (q p : Expected)
+array_stands : (t : TextState) (b : Built) (w : List ℕ) (o : Option (List ℕ)) (n : ℕ) (q p : Expected)
     → next_place q (line.Array w n) ≡ Some p → Stands q t b
     → Stands p (with_cells t n p) (with_array b o n)
 unfolding next_place
@@ -93,7 +93,7 @@ unfolding next_place
 hidden_place place.Arrays n = refl
 hidden_place q n = refl
 
-wave_held : (s t : State) (b : Built) (k : ℕ) (p : Expected) → Held s t b
+wave_held : (s t : TextState) (b : Built) (k : ℕ) (p : Expected) → Held s t b
     → next_place t.place (line.Wave k) ≡ Some p → is_numbered t (line.Wave k) ≡ true
     → is_within t (line.Wave k) ≡ true
     → Held s (after t (line.Wave k) p) (record b { wave = k })
@@ -123,7 +123,7 @@ wave_held s t b k p h e n w =
 
 -- A block begins.
 
-block_held : (s t : State) (b : Built) (l : Label) (p : Expected) → Held s t b
+block_held : (s t : TextState) (b : Built) (l : Label) (p : Expected) → Held s t b
     → next_place t.place (line.Block l) ≡ Some p → is_within t (line.Block l) ≡ true
     → Held s (after t (line.Block l) p) b
 unfolding counted next_place
@@ -164,7 +164,7 @@ few_targets ts ds e h =
     let l = leb-true (length ts) most_dests few in
     omega arith
 
-pad_held : (s t : State) (b : Built) (k : ℕ) (ts : List Target) (ds : List Dest) (p : Expected) → Held s t b
+pad_held : (s t : TextState) (b : Built) (k : ℕ) (ts : List Target) (ds : List Dest) (p : Expected) → Held s t b
     → EachOf (DestFor s) ts ds
     → next_place t.place (line.Pad k ts) ≡ Some p → is_numbered t (line.Pad k ts) ≡ true
     → is_within t (line.Pad k ts) ≡ true
@@ -202,7 +202,7 @@ pad_held s t b k ts ds p h each e n w =
     by q e l = nowhere p e
 
 -- the array of an operation is there, and its port is one of the seven
-op_for : (s : State) (o : Op) → is_known s o ≡ true → is_within_op o ≡ true → OpFor s o
+op_for : (s : TextState) (o : Op) → is_known s o ≡ true → is_within_op o ≡ true → OpFor s o
 op_for s (op.Load a) k w =
     let p = and_parts (nat_le 1 a) (nat_le a s.arrays) k in (leb-true 1 a p.0, leb-true a s.arrays p.1)
 op_for s (op.Store a) k w =
@@ -225,7 +225,7 @@ six a b c d e f h = absurd (false≢true h)
 abbrev resolved : InstrLine → List Dest → List Dest → Instr
 resolved i ds os = record { op = i.op; note = i.note; dests = ds; others = os }
 
-instr_held : (s t : State) (b : Built) (i : InstrLine) (ds os : List Dest) (p : Expected) → Held s t b
+instr_held : (s t : TextState) (b : Built) (i : InstrLine) (ds os : List Dest) (p : Expected) → Held s t b
     → InstrFits i → is_known s i.op ≡ true
     → EachOf (DestFor s) i.dests ds → EachOf (DestFor s) i.others os
     → next_place t.place (line.Instr i) ≡ Some p → is_within t (line.Instr i) ≡ true
@@ -285,7 +285,7 @@ closed_so_far : (b : Built) (exit : Exit) → so_far (closed b exit) ≡ so_far 
 closed_so_far b exit =
     append-nil (flat (b.blocks ++ ended_by b exit ∷ [])) ∙ flat_snoc b.blocks (ended_by b exit)
 
-closed_held : (s t : State) (b : Built) (exit : Exit) → Held s t b → Inside t b → ExitHeld s exit
+closed_held : (s t : TextState) (b : Built) (exit : Exit) → Held s t b → Inside t b → ExitHeld s exit
     → Held s (record t { place = place.Exited }) (closed b exit)
 closed_held s t b exit h k held =
     let x = ended_by b exit in
@@ -310,14 +310,14 @@ closed_held s t b exit h k held =
     length_more [] x = refl
     length_more (b ∷ bs) x = ap suc (length_more bs x) ∙ omega arith
 
-exit_of_parts : (s : State) (e : Exit) → ExitFor s e → ExitWithin e → SomeLanding e → ExitHeld s e
+exit_of_parts : (s : TextState) (e : Exit) → ExitFor s e → ExitWithin e → SomeLanding e → ExitHeld s e
 exit_of_parts s e h k l = record { there = h; few = k; landing = l }
 
-abbrev SomeExit : State → Option Exit → Type 0
+abbrev SomeExit : TextState → Option Exit → Type 0
 SomeExit s None = ⊥
 SomeExit s (Some exit) = ExitHeld s exit
 
-exit_held : (s t : State) (b : Built) (e : Maybe (Option Exit)) (p : Expected) → Held s t b
+exit_held : (s t : TextState) (b : Built) (e : Maybe (Option Exit)) (p : Expected) → Held s t b
     → IfOk e (SomeExit s) → (place.Exited ≡ p) × Inside t b
     → IfOk (with_exit b e) (Held s (record t { place = p }))
 exit_held s t b (Err k) p h x i = tt
@@ -328,35 +328,35 @@ exit_held s t b (Ok (Some exit)) p h x i =
 exit_at : (P : Type 0) (p : Expected) → Some place.Exited ≡ Some p → P → (place.Exited ≡ p) × P
 exit_at P p e k = (same_Some place.Exited p e, k)
 
-go_at : (t : State) (b : Built) (l : Label) (q p : Expected) → next_place q (line.Go l) ≡ Some p → Stands q t b
+go_at : (t : TextState) (b : Built) (l : Label) (q p : Expected) → next_place q (line.Go l) ≡ Some p → Stands q t b
     → (place.Exited ≡ p) × Inside t b
 unfolding next_place
 go_at t b l place.Pads p e k = exit_at (Inside t b) p e k
 go_at t b l place.Instrs p e k = exit_at (Inside t b) p e k
 go_at t b l q p e k = nowhere p e
 
-branch_at : (t : State) (b : Built) (l m n : Label) (q p : Expected) → next_place q (line.If l m n) ≡ Some p
+branch_at : (t : TextState) (b : Built) (l m n : Label) (q p : Expected) → next_place q (line.If l m n) ≡ Some p
     → Stands q t b → (place.Exited ≡ p) × Inside t b
 unfolding next_place
 branch_at t b l m n place.Pads p e k = exit_at (Inside t b) p e k
 branch_at t b l m n place.Instrs p e k = exit_at (Inside t b) p e k
 branch_at t b l m n q p e k = nowhere p e
 
-send_at : (t : State) (b : Built) (l : Label) (ls : List Label) (q p : Expected)
+send_at : (t : TextState) (b : Built) (l : Label) (ls : List Label) (q p : Expected)
     → next_place q (line.Send l ls) ≡ Some p → Stands q t b → (place.Exited ≡ p) × Inside t b
 unfolding next_place
 send_at t b l ls place.Pads p e k = exit_at (Inside t b) p e k
 send_at t b l ls place.Instrs p e k = exit_at (Inside t b) p e k
 send_at t b l ls q p e k = nowhere p e
 
-stop_at : (t : State) (b : Built) (q p : Expected) → next_place q line.Stop ≡ Some p → Stands q t b
+stop_at : (t : TextState) (b : Built) (q p : Expected) → next_place q line.Stop ≡ Some p → Stands q t b
     → (place.Exited ≡ p) × Inside t b
 unfolding next_place
 stop_at t b place.Pads p e k = exit_at (Inside t b) p e k
 stop_at t b place.Instrs p e k = exit_at (Inside t b) p e k
 stop_at t b q p e k = nowhere p e
 
-end_held : (s t : State) (b : Built) (p : Expected) → Held s t b → next_place t.place line.End ≡ Some p
+end_held : (s t : TextState) (b : Built) (p : Expected) → Held s t b → next_place t.place line.End ≡ Some p
     → Held s (after t line.End p) b
 unfolding counted next_place
 end_held s t b p h e =
@@ -384,7 +384,7 @@ middle : (a b c : Bool) → (a && b && c) ≡ true → b ≡ true
 middle true true true h = refl
 middle a b c h = absurd (false≢true h)
 
-send_few : (t : State) (l : Label) (ls : List Label) → is_within t (line.Send l ls) ≡ true
+send_few : (t : TextState) (l : Label) (ls : List Label) → is_within t (line.Send l ls) ≡ true
     → length ls ≤ most_landings
 unfolding is_within
 send_few t l ls w =
@@ -392,18 +392,18 @@ send_few t l ls w =
     (middle (is_short l) (nat_le (length ls) (limit t.named first_most_landings most_landings))
     (list_all is_short ls) w)
 
-array_parts : (t : State) (v : List ℕ) (n : ℕ) → is_within t (line.Array v n) ≡ true
+array_parts : (t : TextState) (v : List ℕ) (n : ℕ) → is_within t (line.Array v n) ≡ true
     → (is_within_cells t n ≡ true) × (length v ≤ most_name)
 unfolding is_within
 array_parts t v n w =
     let p = and_parts (is_within_cells t n) (is_short_name v) w in (p.0, leb-true (length v) most_name p.1)
 
-hidden_part : (t : State) (n : ℕ) → is_within t (line.Hidden n) ≡ true → is_within_cells t n ≡ true
+hidden_part : (t : TextState) (n : ℕ) → is_within t (line.Hidden n) ≡ true → is_within_cells t n ≡ true
 unfolding is_within
 hidden_part t n w = w
 
 -- what is built of a line that is taken
-pub line_held : (s t : State) (b : Built) (l : Line) (p : Expected) → NamesThere s → Held s t b → LineFits l
+pub line_held : (s t : TextState) (b : Built) (l : Line) (p : Expected) → NamesThere s → Held s t b → LineFits l
     → next_place t.place l ≡ Some p → is_numbered t l ≡ true → is_within t l ≡ true
     → IfOk (built s b l) (Held s (after t l p))
 unfolding built exit_of counted

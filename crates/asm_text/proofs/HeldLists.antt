@@ -3,7 +3,7 @@ use Rattle.std.proofs.Common.{◌≡◌, ◌⊎◌, ℕ, suc, ◌+◌, ◌<◌, 
 use Rattle.std.specs.List.{AllByRecursion}
 use Rattle.ws_isa.specs.Image.{Array, Block, Pad, Instr, flat, ports_of}
 use Rattle.ws_isa.specs.Formed.{most_arrays, most_length, most_cells, most_instrs, total_length, NameFormed, WavesFrom}
-use Rattle.asm_text.specs.declared.state.State.{State}
+use Rattle.asm_text.specs.declared.state.TextState.{TextState}
 use Rattle.asm_text.specs.State.{is_above}
 use Rattle.asm_text.proofs.HeldNames.{length_snoc}
 use Rattle.asm_text.proofs.Held.{Rises, last_pad, last_wave, ArraysHeld, InstrHeld, InstrsHeld, PadHeld, PadsHeld, BlockHeld, BlocksHeld}
@@ -41,7 +41,7 @@ arrays_more count cells as' x h name few long all =
 
 -- Instructions.
 
-pub instrs_more : (s : State) (ports : List ℕ) (is : List Instr) (x : Instr) → InstrsHeld s ports is
+pub instrs_more : (s : TextState) (ports : List ℕ) (is : List Instr) (x : Instr) → InstrsHeld s ports is
     → length ports < most_instrs → InstrHeld s x
     → InstrsHeld s (ports ++ ports_of x.op ∷ []) (is ++ x ∷ [])
 instrs_more s ports is x h few k =
@@ -68,7 +68,7 @@ pub last_pad_snoc : (o : Option ℕ) (ps : List Pad) (x : Pad) → last_pad o (p
 last_pad_snoc o [] x = refl
 last_pad_snoc o (p ∷ ps) x = last_pad_snoc (Some p.number) ps x
 
-pub pads_more : (s : State) (ps : List Pad) (x : Pad) → PadsHeld s ps → PadHeld s x
+pub pads_more : (s : TextState) (ps : List Pad) (x : Pad) → PadsHeld s ps → PadHeld s x
     → is_above (last_pad None ps) x.number ≡ true → PadsHeld s (ps ++ x ∷ [])
 pads_more s ps x h k above =
     record { all = all_snoc (PadHeld s) ps x h.all k; rise = rises_snoc None ps x h.rise above }
@@ -84,7 +84,7 @@ pub last_wave_snoc : (w : ℕ) (bs : List Block) (x : Block) → last_wave w (bs
 last_wave_snoc w [] x = refl
 last_wave_snoc w (b ∷ bs) x = last_wave_snoc b.wave bs x
 
-pub blocks_more : (s : State) (bs : List Block) (x : Block) → BlocksHeld s bs → BlockHeld s x
+pub blocks_more : (s : TextState) (bs : List Block) (x : Block) → BlocksHeld s bs → BlockHeld s x
     → (x.wave ≡ last_wave 0 bs) ⊎ (x.wave ≡ suc (last_wave 0 bs)) → BlocksHeld s (bs ++ x ∷ [])
 blocks_more s bs x h k next =
     record { all = all_snoc (BlockHeld s) bs x h.all k; order = waves_snoc 0 bs x h.order next }

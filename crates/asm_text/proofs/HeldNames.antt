@@ -16,7 +16,7 @@ use Rattle.asm_text.specs.declared.line.Line.{Line}
 use Rattle.asm_text.specs.declared.line.Line.TheVariants.{Block, Instr}
 use Rattle.asm_text.specs.declared.reading.Reading.{Reading}
 use Rattle.asm_text.specs.declared.reading.Reading.TheVariants.{Blank, Wrong, Found}
-use Rattle.asm_text.specs.declared.state.State.{State}
+use Rattle.asm_text.specs.declared.state.TextState.{TextState}
 use Rattle.asm_text.specs.State.{counted, with_name, opening}
 use Rattle.asm_text.specs.Building.{Maybe, by_name, place_of, instr_of, block_of, ports_at, dest_of, dests_of, blocks_of, each}
 use Rattle.asm_text.specs.Reading.{step, reading, passed, is_ended}
@@ -29,7 +29,7 @@ use Rattle.ws_words.proofs.Lists.{all_append}
 abbrev pub NamesIn : ℕ → Names → Type 0
 NamesIn count names = AllByRecursion (λ n. (1 ≤ n.1) × (n.1 ≤ count)) names
 
-pub record NamesThere (s : State) : Type 0 where
+pub record NamesThere (s : TextState) : Type 0 where
   pub instrs : NamesIn (length s.ports) s.instr_names
   pub blocks : NamesIn s.blocks s.block_names
 
@@ -47,7 +47,7 @@ with_name_in names (Named w) n h =
 pub length_snoc : {A : Type 0} (xs : List A) (x : A) → length (xs ++ x ∷ []) ≡ length xs + 1
 length_snoc xs x = length-append xs (x ∷ [])
 
-counted_names : (t : State) (l : Line) → NamesThere t → NamesThere (counted t l)
+counted_names : (t : TextState) (l : Line) → NamesThere t → NamesThere (counted t l)
 unfolding counted
 counted_names t (Block l) h =
     record { instrs = h.instrs; blocks = with_name_in t.block_names l t.blocks h.blocks }
@@ -59,14 +59,14 @@ counted_names t (Instr i) h =
     }
 counted_names t l h = record { instrs = h.instrs; blocks = h.blocks }
 
-step_names : (t : State) (r : Reading) → NamesThere t → IfOk (step t r) NamesThere
+step_names : (t : TextState) (r : Reading) → NamesThere t → IfOk (step t r) NamesThere
 step_names t Blank h = h
 step_names t Wrong h = tt
 step_names t (Found l wide) h =
     behind_ok t l wide NamesThere
     (λ p e n w. let k = counted_names t l h in record { instrs = k.instrs; blocks = k.blocks })
 
-lines_names : (t : State) (n : ℕ) (lines : List (List ℕ)) → NamesThere t → IfOk (passed t n lines) NamesThere
+lines_names : (t : TextState) (n : ℕ) (lines : List (List ℕ)) → NamesThere t → IfOk (passed t n lines) NamesThere
 unfolding passed
 lines_names t n [] h = if_ok NamesThere (is_ended t.place) _ _ (λ _. h) (λ _. tt)
 lines_names t n (line ∷ lines) h =
@@ -105,17 +105,17 @@ place_in names count (At n) h =
     (λ _. tt)
 place_in names count (Named w) h = by_name_in (named names w) count (named_in names w count h)
 
-pub instr_in : (s : State) (l : Label) → NamesThere s → IfOk (instr_of s l) (Among (length s.ports))
+pub instr_in : (s : TextState) (l : Label) → NamesThere s → IfOk (instr_of s l) (Among (length s.ports))
 instr_in s l h = place_in s.instr_names (length s.ports) l h.instrs
 
-pub block_in : (s : State) (l : Label) → NamesThere s → IfOk (block_of s l) (Among s.blocks)
+pub block_in : (s : TextState) (l : Label) → NamesThere s → IfOk (block_of s l) (Among s.blocks)
 block_in s l h = place_in s.block_names s.blocks l h.blocks
 
 -- a destination is a port that is there
-abbrev pub DestFor : State → Dest → Type 0
+abbrev pub DestFor : TextState → Dest → Type 0
 DestFor s d = Among (length s.ports) d.instr × (d.port < ports_at s.ports d.instr)
 
-dest_in : (s : State) (t : Target) → NamesThere s → IfOk (dest_of s t) (DestFor s)
+dest_in : (s : TextState) (t : Target) → NamesThere s → IfOk (dest_of s t) (DestFor s)
 unfolding dest_of
 dest_in s t h =
     then_ok (Among (length s.ports)) (DestFor s) (instr_of s t.instr) _ (instr_in s t.instr h) (λ n k.
@@ -136,10 +136,10 @@ each_in f P h (x ∷ xs) =
     then_ok (EachOf P xs) (EachOf P (x ∷ xs)) (each f xs) _ (each_in f P h xs)
     (λ ys q. record { all = (p, q.all); many = ap suc q.many }))
 
-pub dests_in : (s : State) (ts : List Target) → NamesThere s → IfOk (dests_of s ts) (EachOf (DestFor s) ts)
+pub dests_in : (s : TextState) (ts : List Target) → NamesThere s → IfOk (dests_of s ts) (EachOf (DestFor s) ts)
 dests_in s ts h = each_in (dest_of s) (DestFor s) (λ t. dest_in s t h) ts
 
-pub blocks_in : (s : State) (ls : List Label) → NamesThere s
+pub blocks_in : (s : TextState) (ls : List Label) → NamesThere s
     → IfOk (blocks_of s ls) (EachOf (Among s.blocks) ls)
 blocks_in s ls h = each_in (block_of s) (Among s.blocks) (λ l. block_in s l h) ls
 

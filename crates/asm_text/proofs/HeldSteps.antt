@@ -2,7 +2,7 @@
 use Rattle.std.proofs.Common.{◌≡◌, ℕ, ◌||◌, not, cond, Bool, true, false, IfOk, Option, Some, None, Result, Ok, Err, refl}
 use Rattle.std.proofs.lemmas.Bool.{or_parts}
 use Rattle.asm_text.specs.declared.line.Line.{Line}
-use Rattle.asm_text.specs.declared.state.State.{State}
+use Rattle.asm_text.specs.declared.state.TextState.{TextState}
 use Rattle.asm_text.specs.declared.state.Expected.{Expected}
 use Rattle.asm_text.specs.declared.fault.AsmKind as kind
 use Rattle.asm_text.specs.declared.fault.AsmKind.TheVariants as Kind
@@ -27,7 +27,7 @@ line_ok P Q n (Err k) f h g = tt
 line_ok P Q n (Ok a) f h g = g a h
 
 -- a line that is taken may stand where it does, with its numbers in order, and keeps the limits
-pub behind_ok : (t : State) (l : Line) (wide : Bool) (Q : State → Type 0)
+pub behind_ok : (t : TextState) (l : Line) (wide : Bool) (Q : TextState → Type 0)
     → ((p : Expected) → next_place t.place l ≡ Some p → is_numbered t l ≡ true → is_within t l ≡ true
     → Q (record (counted t l) { place = p }))
     → IfOk (behind t l wide) Q

@@ -10,7 +10,7 @@ use Rattle.asm_text.specs.declared.line.Label.TheVariants.{At, Named}
 use Rattle.asm_text.specs.declared.line.Target.{Target}
 use Rattle.asm_text.specs.Names.{Names, named}
 use Rattle.asm_text.specs.State.{is_number, are_numbers, is_next, are_ports, is_short, are_short, are_few, is_new_label, with_name}
-use Rattle.asm_text.specs.Spelling.{Naming, IsFor, Pairs, TargetIsFor, Short}
+use Rattle.asm_text.specs.Spelling.{Naming, IsFor, Pairs, TargetIsFor, ShortNames}
 use Rattle.asm_text.proofs.Items.{Small}
 use Rattle.asm_text.proofs.Given.{named_in_more}
 use Rattle.ws_words.proofs.Bools.{or_true}
@@ -90,12 +90,12 @@ targets_number (t ∷ ts) [] h = absurd h
 targets_number (t ∷ ts) (d ∷ ds) h =
     rw (label_number t.instr d.instr (h.0).0, targets_number ts ds h.1)
 
-pub label_short : (names : Names) (l : Label) (n : ℕ) → Short names → IsFor names l n → is_short l ≡
+pub label_short : (names : Names) (l : Label) (n : ℕ) → ShortNames names → IsFor names l n → is_short l ≡
     true
 label_short names (At m) n s h = refl
 label_short names (Named w) n s h = le-leb (length w) most_name (s w n h)
 
-pub labels_short : (names : Names) (ls : List Label) (ns : List ℕ) → Short names → Pairs
+pub labels_short : (names : Names) (ls : List Label) (ns : List ℕ) → ShortNames names → Pairs
     (IsFor names)
     ls ns → list_all is_short ls ≡ true
 labels_short names [] [] s h = refl
@@ -104,7 +104,7 @@ labels_short names (l ∷ ls) [] s h = absurd h
 labels_short names (l ∷ ls) (n ∷ ns) s h =
     rw (label_short names l n s h.0, labels_short names ls ns s h.1)
 
-pub targets_short : (names : Names) (ts : List Target) (ds : List Dest) → Short names → Pairs
+pub targets_short : (names : Names) (ts : List Target) (ds : List Dest) → ShortNames names → Pairs
     (TargetIsFor names) ts ds → are_short ts ≡ true
 targets_short names [] [] s h = refl
 targets_short names [] (d ∷ ds) s h = absurd h
@@ -122,7 +122,7 @@ targets_ports names (t ∷ ts) (d ∷ ds) s h =
     let small : d.port ≤ 2 = (s.0).port in
     rw (le-leb t.port 2 (omega (arith, port, small)), targets_ports names ts ds s.1 h.1)
 
-pub targets_few : (names : Names) (ts : List Target) (ds : List Dest) → Short names → Pairs
+pub targets_few : (names : Names) (ts : List Target) (ds : List Dest) → ShortNames names → Pairs
     (TargetIsFor names) ts ds → length ds ≤ most_dests → are_few ts ≡ true
 targets_few names ts ds s h k =
     let e : length ts ≡ length ds = pairs_length (TargetIsFor names) ts ds h in

@@ -5,7 +5,7 @@ use Rattle.ws_isa.specs.Image.{flat}
 use Rattle.asm_text.specs.declared.line.Label.{Label}
 use Rattle.asm_text.specs.declared.line.Label.TheVariants.{At, Named}
 use Rattle.asm_text.specs.declared.line.Target.{Target}
-use Rattle.asm_text.specs.declared.state.State.{State}
+use Rattle.asm_text.specs.declared.state.TextState.{TextState}
 use Rattle.asm_text.specs.Names.{Names, named}
 use Rattle.asm_text.specs.Building.{Maybe, by_name, place_of, instr_of, block_of, ports_at, dest_of, dests_of, blocks_of, each}
 use Rattle.asm_text.specs.Spelling.{Instr, instr_items, block_items, blocks_items, IsFor, Pairs, TargetIsFor}
@@ -33,13 +33,13 @@ place_for names count (At n) =
     if_ok (IsFor names (At n)) (nat_le 1 n && nat_le n count) _ _ (λ _. refl) (λ _. tt)
 place_for names count (Named w) = named_for (named names w)
 
-pub instr_for : (s : State) (l : Label) → IfOk (instr_of s l) (IsFor s.instr_names l)
+pub instr_for : (s : TextState) (l : Label) → IfOk (instr_of s l) (IsFor s.instr_names l)
 instr_for s l = place_for s.instr_names (length s.ports) l
 
-pub block_for : (s : State) (l : Label) → IfOk (block_of s l) (IsFor s.block_names l)
+pub block_for : (s : TextState) (l : Label) → IfOk (block_of s l) (IsFor s.block_names l)
 block_for s l = place_for s.block_names s.blocks l
 
-dest_for : (s : State) (t : Target) → IfOk (dest_of s t) (TargetIsFor s.instr_names t)
+dest_for : (s : TextState) (t : Target) → IfOk (dest_of s t) (TargetIsFor s.instr_names t)
 unfolding dest_of
 dest_for s t =
     then_ok (IsFor s.instr_names t.instr) (TargetIsFor s.instr_names t) (instr_of s t.instr) _
@@ -54,10 +54,10 @@ each_for f R h (x ∷ xs) =
     then_ok (R x) (Pairs R (x ∷ xs)) (f x) _ (h x)
     (λ y p. then_ok (Pairs R xs) (Pairs R (x ∷ xs)) (each f xs) _ (each_for f R h xs) (λ ys q. (p, q)))
 
-pub dests_for : (s : State) (ts : List Target) → IfOk (dests_of s ts) (Pairs (TargetIsFor s.instr_names) ts)
+pub dests_for : (s : TextState) (ts : List Target) → IfOk (dests_of s ts) (Pairs (TargetIsFor s.instr_names) ts)
 dests_for s ts = each_for (dest_of s) (TargetIsFor s.instr_names) (dest_for s) ts
 
-pub blocks_for : (s : State) (ls : List Label) → IfOk (blocks_of s ls) (Pairs (IsFor s.block_names) ls)
+pub blocks_for : (s : TextState) (ls : List Label) → IfOk (blocks_of s ls) (Pairs (IsFor s.block_names) ls)
 blocks_for s ls = each_for (block_of s) (IsFor s.block_names) (block_for s) ls
 
 -- Items.

@@ -11,7 +11,7 @@ use Rattle.asm_text.specs.declared.line.Label.TheVariants.{At, Named}
 use Rattle.asm_text.specs.declared.line.Target.{Target}
 use Rattle.asm_text.specs.declared.line.InstrLine.{InstrLine}
 use Rattle.asm_text.specs.declared.line.Line.{Line}
-use Rattle.asm_text.specs.declared.state.State.{State}
+use Rattle.asm_text.specs.declared.state.TextState.{TextState}
 use Rattle.asm_text.specs.Names.{Names, named}
 use Rattle.asm_text.specs.Building.{place_of, instr_of, block_of, dest_of, each, dests_of, blocks_of, Built, exit_of, built, or_zero, ports_at, is_known}
 use Rattle.asm_text.specs.Spelling.{Version, Array, Wave, Block, Pad, Exit, End, instr_items, wave_items, block_items, blocks_items, items, Naming, IsFor, Pairs, TargetIsFor, Spells, SpellsExit, array_line_of}
@@ -29,12 +29,12 @@ use Rattle.ws_words.proofs.Lists.{length_map}
 use Rattle.ws_words.specs.Items.{nth, or_else}
 
 -- The counts of an image, as the state behind its text has them.
-pub record Counts (image : plain.Image) (s : State) : Type 0 where
+pub record Counts (image : plain.Image) (s : TextState) : Type 0 where
   pub arrays : s.arrays ≡ length image.arrays
   pub blocks : s.blocks ≡ length image.blocks
   pub ports : s.ports ≡ map port_count (flat image.blocks)
 
-pub count_is : (image : plain.Image) (s : State) → Counts image s → length s.ports ≡ length
+pub count_is : (image : plain.Image) (s : TextState) → Counts image s → length s.ports ≡ length
     (flat image.blocks)
 count_is image s c = ap length c.ports ∙ length_map port_count (flat image.blocks)
 
@@ -44,7 +44,7 @@ nth_ports [] k h = absurd (omega (arith, h))
 nth_ports (x ∷ xs) zero h = refl
 nth_ports (x ∷ xs) (suc k) h = nth_ports xs k (omega (arith, h))
 
-pub ports_found : (image : plain.Image) (s : State) (n : ℕ) → Counts image s → IsInstr image n
+pub ports_found : (image : plain.Image) (s : TextState) (n : ℕ) → Counts image s → IsInstr image n
     → ports_at s.ports n ≡ ports image n
 unfolding ports instr_at
 ports_found image s zero c h = absurd (omega (arith, h.0))
@@ -53,7 +53,7 @@ ports_found image s (suc k) c h =
     (λ i. or_zero (slice_get (c.ports i) (back i))) ∙ nth_ports (flat image.blocks) k
     (omega (arith, h.1))
 
-pub array_known : (image : plain.Image) (s : State) (op : Op) → Counts image s → OpIn image op
+pub array_known : (image : plain.Image) (s : TextState) (op : Op) → Counts image s → OpIn image op
     → is_known s op ≡ true
 array_known image s (Load a) c h =
     rw (le-leb 1 a h.0, le-leb a s.arrays (omega (arith, h.1, c.arrays)))
@@ -61,7 +61,7 @@ array_known image s (Store a) c h =
     rw (le-leb 1 a h.0, le-leb a s.arrays (omega (arith, h.1, c.arrays)))
 array_known image s op c h = refl
 
-pub array_built : (s : State) (b : Built) (a : plain.Array)
+pub array_built : (s : TextState) (b : Built) (a : plain.Array)
     → built s b (array_line_of a.name a.length) ≡ Ok (record b { arrays = b.arrays ++ a ∷ [] })
 unfolding built
 array_built s b a = by a.name
@@ -91,22 +91,22 @@ unfolding place_of
 place_is names all count (At m) n s has h a b = rw (h, le-leb 1 n a, le-leb n count b)
 place_is names all count (Named w) n s has h a b = rw (named_is names all count w n s h (has w n h))
 
-abbrev pub Makes : State → Built → List Line → Built → Type 0
+abbrev pub Makes : TextState → Built → List Line → Built → Type 0
 Makes s b [] d = b ≡ d
 Makes s b (l ∷ ls) d = (e : Built) × (built s b l ≡ Ok e) × Makes s e ls d
 
-makes_append : (s : State) (xs ys : List Line) (b d e : Built) → Makes s b xs d → Makes s d ys e →
+makes_append : (s : TextState) (xs ys : List Line) (b d e : Built) → Makes s b xs d → Makes s d ys e →
     Makes s b (xs ++ ys) e
 makes_append s [] ys b d e h k = let P : Built → Type 0 = λ x. Makes s x ys e in subst P (sym h) k
 makes_append s (x ∷ xs) ys b d e h k = (h.0, h.1, makes_append s xs ys h.0 d e h.2 k)
 
 -- all labels are read as what they stand for
-pub record Resolved (image : plain.Image) (s : State) (names : Naming) : Type 0 where
+pub record Resolved (image : plain.Image) (s : TextState) (names : Naming) : Type 0 where
   pub counts : Counts image s
   pub block : (l : Label) (n : ℕ) → IsFor names.blocks l n → IsBlock image n → block_of s l ≡ Ok n
   pub instr : (l : Label) (n : ℕ) → IsFor names.instrs l n → IsInstr image n → instr_of s l ≡ Ok n
 
-module _ (image : plain.Image) (s : State) (names : Naming) (r : Resolved image s names) where
+module _ (image : plain.Image) (s : TextState) (names : Naming) (r : Resolved image s names) where
   dest_is : (t : Target) (d : Dest) → TargetIsFor names.instrs t d → DestIn image d → dest_of s t ≡
       Ok d
   unfolding dest_of

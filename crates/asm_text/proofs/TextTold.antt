@@ -12,7 +12,7 @@ use Rattle.asm_text.specs.declared.reading.Reading.{Reading}
 use Rattle.asm_text.specs.declared.reading.Reading.TheVariants.{Blank, Wrong, Found}
 use Rattle.asm_text.specs.declared.state.Expected.{Expected}
 use Rattle.asm_text.specs.declared.state.Expected.TheVariants as place
-use Rattle.asm_text.specs.declared.state.State.{State}
+use Rattle.asm_text.specs.declared.state.TextState.{TextState}
 use Rattle.asm_text.specs.declared.fault.AsmKind as kind
 use Rattle.asm_text.specs.declared.fault.AsmKind.TheVariants as Kind
 use Rattle.asm_text.specs.Names.{Names}
@@ -39,12 +39,12 @@ narrow_version : (l : Line) (wide : Bool) → is_other_version l wide ≡ false 
     → is_other_version l false ≡ false
 narrow_version l wide h e = ap (is_other_version l) (sym e) ∙ h
 
-pub taken : (t : State) (l : Line) (wide : Bool)
+pub taken : (t : TextState) (l : Line) (wide : Bool)
     → IfOk (behind t l wide) (λ u. (wide ≡ false) × ((p : Expected) × Taken t l p × (u ≡ after t l p)))
 unfolding behind checked
 taken t l wide = by (next_place t.place l) refl
   where
-    Q : State → Type 0
+    Q : TextState → Type 0
     Q u = (wide ≡ false) × ((p : Expected) × Taken t l p × (u ≡ after t l p))
 
     past : (b : Bool) (k : kind.AsmKind) (r : Result Expected kind.AsmKind)
@@ -83,7 +83,7 @@ more_name : (names : Names) (l : Label) (n : ℕ) → (more : Names) ×
 more_name names (At m) n = ([], sym (append-nil names))
 more_name names (Named w) n = ((w, n) ∷ [], refl)
 
-pub still : (t : State) → Extends t t
+pub still : (t : TextState) → Extends t t
 still t =
     record {
       block_more = [];
@@ -92,7 +92,7 @@ still t =
       instrs = sym (append-nil t.instr_names);
     }
 
-pub onward : (t u s : State) → Extends t u → Extends u s → Extends t s
+pub onward : (t u s : TextState) → Extends t u → Extends u s → Extends t s
 onward t u s h k = record {
   block_more = h.block_more ++ k.block_more;
   blocks =
@@ -104,7 +104,7 @@ onward t u s h k = record {
       k.instr_more;
 }
 
-pub counted_extends : (t : State) (l : Line) → Extends t (counted t l)
+pub counted_extends : (t : TextState) (l : Line) → Extends t (counted t l)
 unfolding counted
 counted_extends t (line.Block l) =
     let m = more_name t.block_names l (t.blocks + 1) in
@@ -132,7 +132,7 @@ counted_extends t l =
       instrs = sym (append-nil t.instr_names);
     }
 
-pub placed : (t u : State) (p : Expected) → Extends t u → Extends t (record u { place = p })
+pub placed : (t u : TextState) (p : Expected) → Extends t u → Extends t (record u { place = p })
 placed t u p h =
     record {
       block_more = h.block_more;
@@ -142,7 +142,7 @@ placed t u p h =
           h.instrs;
     }
 
-step_extends : (t : State) (r : Reading) → IfOk (step t r) (Extends t)
+step_extends : (t : TextState) (r : Reading) → IfOk (step t r) (Extends t)
 step_extends t Blank = still t
 step_extends t Wrong = tt
 step_extends t (Found l wide) =
@@ -150,7 +150,7 @@ step_extends t (Found l wide) =
     (λ u h. subst (Extends t) (sym h.1.2) (placed t (counted t l) h.1.0 (counted_extends t l)))
     (taken t l wide)
 
-lines_extend : (t : State) (n : ℕ) (lines : List (List ℕ)) → IfOk (passed t n lines) (Extends t)
+lines_extend : (t : TextState) (n : ℕ) (lines : List (List ℕ)) → IfOk (passed t n lines) (Extends t)
 unfolding passed
 lines_extend t n [] = if_ok (Extends t) (is_ended t.place) _ _ (λ _. still t) (λ _. tt)
 lines_extend t n (text ∷ texts) =
@@ -162,7 +162,7 @@ lines_extend t n (text ∷ texts) =
 -- Line by line.
 
 -- what a line of a text adds to the lines before it
-record Adds (s u : State) (c : Built) (r : Reading) (ls : List Line) : Type 0 where
+record Adds (s u : TextState) (c : Built) (r : Reading) (ls : List Line) : Type 0 where
   more : List Line
   says : (rest : List Line) → Says r (more ++ rest) rest
   held : Held s u c
@@ -180,7 +180,7 @@ under : {A : Type 0} (X : Type 0) (r : Maybe A) (P : A → Type 0) → (X → If
 under X (Ok a) P h = h
 under X (Err e) P h = tt
 
-step_told : (s t : State) (b : Built) (r : Reading) (ls : List Line) → NamesThere s → Held s t b
+step_told : (s t : TextState) (b : Built) (r : Reading) (ls : List Line) → NamesThere s → Held s t b
     → Told s t b ls → Given t ls → FirstHeld t b → ReadingFits r
     → IfOk (step t r) (λ u. IfOk (add s b r) (λ c. Adds s u c r ls))
 step_told s t b Blank ls names held h y z f =
@@ -197,7 +197,7 @@ step_told s t b (Found l wide) ls names held h y z f =
     IfOk-weaker (behind t l wide) _ (λ u. IfOk (built s b l) (λ c. Adds s u c (Found l wide) ls))
     (λ u k. one u k.0 k.1.0 k.1.1 k.1.2) (taken t l wide)
   where
-    one : (u : State) → wide ≡ false → (p : Expected) → Taken t l p → u ≡ after t l p
+    one : (u : TextState) → wide ≡ false → (p : Expected) → Taken t l p → u ≡ after t l p
         → IfOk (built s b l) (λ c. Adds s u c (Found l wide) ls)
     one u w p g e =
         let v = after t l p in
@@ -214,7 +214,7 @@ step_told s t b (Found l wide) ls names held h y z f =
         let spelled = under (Extends v s) (built s b l) (λ c. Told s v c (ls ++ l ∷ []))
         (λ x. line_told s t b l p ls held h g x) in
         IfOk-weaker (built s b l) _ (λ c. Adds s u c (Found l wide) ls)
-        (λ c m. let P : State → Type 0 = λ u. Adds s u c (Found l wide) ls in
+        (λ c m. let P : TextState → Type 0 = λ u. Adds s u c (Found l wide) ls in
         subst P (sym e) (record {
           more = l ∷ [];
           says = λ rest. (w, refl);
@@ -225,23 +225,23 @@ step_told s t b (Found l wide) ls names held h y z f =
         }))
         (all_ok (built s b l) _ _ _ kept spelled (line_first s t b l p held h.lacks z g))
 
-ended : (t s : State) (k : Fault) (b : Bool) → ◌≡◌ {A = Result State Fault} (cond b (Ok t) (Err k))
+ended : (t s : TextState) (k : Fault) (b : Bool) → ◌≡◌ {A = Result TextState Fault} (cond b (Ok t) (Err k))
     (Ok s) →
     (b ≡ true) × (t ≡ s)
 ended t s k true e = (refl, cc)
 ended t s k false e = absurd (cc)
 
-along : (n : ℕ) (P : Built → Type 0) (s : State) (st : Maybe State) (ad : Maybe Built)
-    (f : State → Result State Fault) (g : Built → Result Built Fault)
-    → (H : State → Built → Type 0) → IfOk st (λ u. IfOk ad (H u))
-    → ((u : State) (c : Built) → H u c → f u ≡ Ok s → IfOk (g c) P)
+along : (n : ℕ) (P : Built → Type 0) (s : TextState) (st : Maybe TextState) (ad : Maybe Built)
+    (f : TextState → Result TextState Fault) (g : Built → Result Built Fault)
+    → (H : TextState → Built → Type 0) → IfOk st (λ u. IfOk ad (H u))
+    → ((u : TextState) (c : Built) → H u c → f u ≡ Ok s → IfOk (g c) P)
     → (on_line n st >>= f) ≡ Ok s → IfOk (on_line n ad >>= g) P
 along n P s (Ok u) (Ok c) f g H h k e = k u c h e
 along n P s (Ok u) (Err x) f g H h k e = tt
 along n P s (Err x) ad f g H h k e = absurd (cc)
 
 -- what a whole text says
-record Tells (s : State) (ls : List Line) (texts : List (List ℕ)) (d : Built) : Type 0 where
+record Tells (s : TextState) (ls : List Line) (texts : List (List ℕ)) (d : Built) : Type 0 where
   more : List Line
   say : Say texts more
   told : Told s s d (ls ++ more)
@@ -250,7 +250,7 @@ record Tells (s : State) (ls : List Line) (texts : List (List ℕ)) (d : Built) 
   held : Held s s d
   end : is_ended s.place ≡ true
 
-lines_tell : (s t : State) (b : Built) (n : ℕ) (texts : List (List ℕ)) (ls : List Line) → NamesThere
+lines_tell : (s t : TextState) (b : Built) (n : ℕ) (texts : List (List ℕ)) (ls : List Line) → NamesThere
     s
     → Held s t b → Told s t b ls → Given t ls → FirstHeld t b → passed t n texts ≡ Ok s
     → IfOk (made s b n texts) (Tells s ls texts)
@@ -286,7 +286,7 @@ lines_tell s t b n (text ∷ texts) ls names held h y z e =
     (lines_tell s u c (n + 1) texts (ls ++ k.more) names k.held told k.given k.first g))
     e
 
-nothing_told : (s : State) → Told s opening nothing []
+nothing_told : (s : TextState) → Told s opening nothing []
 unfolding opening nothing
 nothing_told s = record {
   spelled = tt;
@@ -308,7 +308,7 @@ unfolding opening nothing
 nothing_first =
     λ e. record { ports = omega arith; blocks = omega arith; waves = omega arith; each = refl }
 
-at_end : (p : Expected) (s : State) (b : Built) → is_ended p ≡ true → Stands p s b → Exited s b
+at_end : (p : Expected) (s : TextState) (b : Built) → is_ended p ≡ true → Stands p s b → Exited s b
 at_end place.Ended s b e h = h
 at_end p s b e h = absurd (true≢false (sym e))
 
@@ -316,7 +316,7 @@ is_first : (v : Bool) → number v ≡ 1 → v ≡ false
 is_first true e = absurd (omega (arith, e))
 is_first false e = refl
 
-first_limits : (s : State) (d : Built) → Held s s d → is_ended s.place ≡ true → FirstHeld s d
+first_limits : (s : TextState) (d : Built) → Held s s d → is_ended s.place ≡ true → FirstHeld s d
     → number s.named ≡ 1 → keeps_first_limits (record { arrays = d.arrays; blocks = d.blocks }) ≡
     true
 first_limits s d held e h v =
@@ -329,7 +329,7 @@ first_limits s d held e h v =
     in
     first_kept s d (h (is_first s.named v)) (exited.0).2 many
 
-known_version : (v : Bool) (s : State) → (v ≡ false → NoNames s) → (number v ≡ 2) ⊎
+known_version : (v : Bool) (s : TextState) → (v ≡ false → NoNames s) → (number v ≡ 2) ⊎
     ((number v ≡ 1) × (naming s ≡ record { blocks = []; instrs = [] }))
 known_version true s h = inl refl
 known_version false s h =
@@ -340,7 +340,7 @@ end_items : (p : Expected) (v : ℕ) (b : Built) → is_ended p ≡ true → tol
 end_items place.Ended v b e = refl
 end_items p v b e = absurd (true≢false (sym e))
 
-end_spelled : (text : List ℕ) (s : State) (d : Built) → Tells s [] (lines_of text) d → Spelled text
+end_spelled : (text : List ℕ) (s : TextState) (d : Built) → Tells s [] (lines_of text) d → Spelled text
     (record { arrays = d.arrays; blocks = d.blocks })
 end_spelled text s d h = record {
   version = number s.named;
@@ -362,7 +362,7 @@ text_spelled : (text : List ℕ) → IfOk (read text) (Spelled text)
 unfolding read
 text_spelled text = by (passed opening 0 (lines_of text)) refl
   where
-    by : (r : Result State Fault) → passed opening 0 (lines_of text) ≡ r
+    by : (r : Result TextState Fault) → passed opening 0 (lines_of text) ≡ r
         → IfOk
         (r >>= λ s. made s nothing 0 (lines_of text) >>= λ b. Ok
         (record { arrays = b.arrays; blocks = b.blocks })) (Spelled text)

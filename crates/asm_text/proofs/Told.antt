@@ -15,7 +15,7 @@ use Rattle.asm_text.specs.declared.line.Line.{Line}
 use Rattle.asm_text.specs.declared.line.Line.TheVariants as line
 use Rattle.asm_text.specs.declared.state.Expected.{Expected}
 use Rattle.asm_text.specs.declared.state.Expected.TheVariants as place
-use Rattle.asm_text.specs.declared.state.State.{State}
+use Rattle.asm_text.specs.declared.state.TextState.{TextState}
 use Rattle.asm_text.specs.Names.{Names, named}
 use Rattle.asm_text.specs.Words.{is}
 use Rattle.asm_text.specs.Limits.{first_most_instrs}
@@ -34,7 +34,7 @@ use Rattle.ws_words.proofs.Bools.{plain_of}
 abbrev pub number : Bool → ℕ
 number v = if v then 2 else 1
 
-abbrev pub naming : State → Naming
+abbrev pub naming : TextState → Naming
 naming s = record { blocks = s.block_names; instrs = s.instr_names }
 
 abbrev top : ℕ → Built → List Item
@@ -59,31 +59,31 @@ told_items place.Instrs v b = shut v b ++ begun b
 told_items place.Exited v b = shut v b
 told_items place.Ended v b = shut v b ++ End ∷ []
 
-abbrev pub NoNames : State → Type 0
+abbrev pub NoNames : TextState → Type 0
 NoNames t = (t.block_names ≡ []) × (t.instr_names ≡ [])
 
 -- what isn't there yet
-abbrev pub Lacks : Expected → State → Built → Type 0
+abbrev pub Lacks : Expected → TextState → Built → Type 0
 Lacks place.Start t b = (b.arrays ≡ []) × (b.blocks ≡ []) × NoNames t × (t.named ≡ false)
 Lacks place.Arrays t b = b.blocks ≡ []
 Lacks place.Pads t b = b.instrs ≡ []
 Lacks p t b = Unit {0}
 
 -- s is the state behind all lines, t the one behind these
-pub record Told (s t : State) (b : Built) (ls : List Line) : Type 0 where
+pub record Told (s t : TextState) (b : Built) (ls : List Line) : Type 0 where
   pub spelled : Pairs (Spells (naming s)) ls (told_items t.place (number t.named) b)
   pub lacks : Lacks t.place t b
   pub plain : t.named ≡ false → NoNames t
 
 -- the names of t are the first of s
-pub record Extends (t s : State) : Type 0 where
+pub record Extends (t s : TextState) : Type 0 where
   pub block_more : Names
   pub blocks : s.block_names ≡ t.block_names ++ block_more
   pub instr_more : Names
   pub instrs : s.instr_names ≡ t.instr_names ++ instr_more
 
 -- a line that is taken passes each test
-pub record Taken (t : State) (l : Line) (p : Expected) : Type 0 where
+pub record Taken (t : TextState) (l : Line) (p : Expected) : Type 0 where
   pub next : next_place t.place l ≡ Some p
   pub version : is_other_version l false ≡ false
   pub plain : (t.named || is_plain l) ≡ true
@@ -129,7 +129,7 @@ plain_name names (At m) n e h = h
 plain_name names (Named w) n e h = absurd (false≢true e)
 
 -- One more line and its item.
-told_more : (s t u : State) (b c : Built) (l : Line) (ls : List Line) (x : Item) → Told s t b ls
+told_more : (s t u : TextState) (b c : Built) (l : Line) (ls : List Line) (x : Item) → Told s t b ls
     → Spells (naming s) l x
     → (told_items u.place (number u.named) c ≡ told_items t.place (number t.named) b ++ x ∷ []) × Lacks
     u.place u c
@@ -155,7 +155,7 @@ version_is n e =
     one true r = refl
     one false r = absurd (true≢false r)
 
-version_told : (s t : State) (b : Built) (n : ℕ) (p : Expected) (ls : List Line) → Told s t b ls
+version_told : (s t : TextState) (b : Built) (n : ℕ) (p : Expected) (ls : List Line) → Told s t b ls
     → Taken t (line.Version n) p → Told s (after t (line.Version n) p) b (ls ++ line.Version n ∷ [])
 unfolding counted next_place
 version_told s t b n p ls h k =
@@ -163,7 +163,7 @@ version_told s t b n p ls h k =
     told_more s t (after t (line.Version n) p) b b (line.Version n) ls (Version n) h refl (m.0, m.1)
     (λ _. m.2)
   where
-    u : State
+    u : TextState
     u = after t (line.Version n) p
 
     v : ℕ
@@ -178,7 +178,7 @@ version_told s t b n p ls h k =
 
 -- Arrays.
 
-array_told : (s t u : State) (b : Built) (l : Line) (o : Option (List ℕ)) (n : ℕ) (ls : List Line) → Told s
+array_told : (s t u : TextState) (b : Built) (l : Line) (o : Option (List ℕ)) (n : ℕ) (ls : List Line) → Told s
     t b ls → Spells (naming s) l (Array (record { name = o; length = n }))
     → t.place ≡ place.Arrays → u.place ≡ place.Arrays → u.named ≡ t.named → u.block_names ≡ t.block_names
     → u.instr_names ≡ t.instr_names
@@ -210,14 +210,14 @@ hidden_place n q p e = nowhere p e
 
 -- Waves.
 
-wave_told : (s t : State) (b : Built) (k : ℕ) (p : Expected) (ls : List Line) → Told s t b ls → Taken t
+wave_told : (s t : TextState) (b : Built) (k : ℕ) (p : Expected) (ls : List Line) → Told s t b ls → Taken t
     (line.Wave k) p → Told s (after t (line.Wave k) p) (record b { wave = k }) (ls ++ line.Wave k ∷ [])
 unfolding counted next_place
 wave_told s t b k p ls h g =
     told_more s t (after t (line.Wave k) p) b (record b { wave = k }) (line.Wave k) ls (Wave k) h refl
     (by t.place g.next h.lacks) h.plain
   where
-    u : State
+    u : TextState
     u = after t (line.Wave k) p
 
     v : ℕ
@@ -255,7 +255,7 @@ same_wave last wave e = rw (eq-eqb last wave (sym e))
 new_wave : (last wave : ℕ) → wave ≡ suc last → wave_items last wave ≡ Wave wave ∷ []
 new_wave last wave e = rw (ne_eqb last wave (λ d. absurd (omega (arith, d, e))))
 
-block_told : (s t : State) (b : Built) (own : Label) (p : Expected) (ls : List Line) → Held s t b
+block_told : (s t : TextState) (b : Built) (own : Label) (p : Expected) (ls : List Line) → Held s t b
     → Told s t b ls → Taken t (line.Block own) p → Extends (after t (line.Block own) p) s
     → Told s (after t (line.Block own) p) b (ls ++ line.Block own ∷ [])
 unfolding counted next_place is_numbered is_new is_plain
@@ -268,7 +268,7 @@ block_told s t b own p ls held h g x =
     told_more s t (after t (line.Block own) p) b b (line.Block own) ls (Block (1 + length b.blocks)) h
     (own, refl, label) (m.0, m.1) plain
   where
-    u : State
+    u : TextState
     u = after t (line.Block own) p
 
     v : ℕ
@@ -324,7 +324,7 @@ begun_pad b k ds q =
     let short : begun b ≡ before = (λ i. before ++ instr_items m (q i)) ∙ append-nil before in
     long ∙ ap (λ is. is ++ Pad x ∷ []) (sym short)
 
-pad_told : (s t : State) (b : Built) (k : ℕ) (ts : List Target) (ds : List Dest) (p : Expected) (ls : List Line)
+pad_told : (s t : TextState) (b : Built) (k : ℕ) (ts : List Target) (ds : List Dest) (p : Expected) (ls : List Line)
     → Told s t b ls → Taken t (line.Pad k ts) p → Pairs (TargetIsFor s.instr_names) ts ds
     → Told s (after t (line.Pad k ts) p) (with_pad b k ds) (ls ++ line.Pad k ts ∷ [])
 unfolding counted next_place
@@ -332,7 +332,7 @@ pad_told s t b k ts ds p ls h g d =
     told_more s t (after t (line.Pad k ts) p) b (with_pad b k ds) (line.Pad k ts) ls
     (Pad (record { number = k; dests = ds })) h (ts, refl, d) (by t.place g.next h.lacks) h.plain
   where
-    u : State
+    u : TextState
     u = after t (line.Pad k ts) p
 
     v : ℕ
@@ -369,7 +369,7 @@ six : (a b c d e f : Bool) → (a && b && c && d && e && f) ≡ true → d ≡ t
 six true true true true true true h = refl
 six a b c d e f h = absurd (false≢true h)
 
-instr_fits : (t : State) (i : InstrLine) → is_within t (line.Instr i) ≡ true → i.fits ≡ true
+instr_fits : (t : TextState) (i : InstrLine) → is_within t (line.Instr i) ≡ true → i.fits ≡ true
 unfolding is_within
 instr_fits t i h =
     six (nat_lt (length t.ports) (limit t.named first_most_instrs most_instrs)) (is_short i.own)
@@ -379,7 +379,7 @@ first_of_three : (a b c : Bool) → (a && b && c) ≡ true → a ≡ true
 first_of_three true true true h = refl
 first_of_three a b c h = absurd (false≢true h)
 
-instr_told : (s t : State) (b : Built) (i : InstrLine) (ds os : List Dest) (p : Expected) (ls : List Line)
+instr_told : (s t : TextState) (b : Built) (i : InstrLine) (ds os : List Dest) (p : Expected) (ls : List Line)
     → Held s t b → Told s t b ls → Taken t (line.Instr i) p → Extends (after t (line.Instr i) p) s
     → Pairs (TargetIsFor s.instr_names) i.dests ds → Pairs (TargetIsFor s.instr_names) i.others os
     → Told s (after t (line.Instr i) p) (with_instr b (record {
@@ -403,7 +403,7 @@ instr_told s t b i ds os p ls held h g x d o =
     (i.own, i.dests, i.others, (λ j. line.Instr (record i { fits = fits j })), label, d, o)
     (by t.place g.next) plain
   where
-    u : State
+    u : TextState
     u = after t (line.Instr i) p
 
     v : ℕ
@@ -488,7 +488,7 @@ abbrev SpellsSome : Naming → Line → Option plain.Exit → Type 0
 SpellsSome names l None = ⊥
 SpellsSome names l (Some e) = SpellsExit names l e
 
-exit_told : (s t : State) (b : Built) (l : Line) (e : Maybe (Option plain.Exit)) (p : Expected) (ls : List Line)
+exit_told : (s t : TextState) (b : Built) (l : Line) (e : Maybe (Option plain.Exit)) (p : Expected) (ls : List Line)
     → Told s t b ls → Leaves (number t.named) b t.place p → IfOk e (SpellsSome (naming s) l)
     → IfOk (with_exit b e) (λ c. Told s (record t { place = p }) c (ls ++ l ∷ []))
 exit_told s t b l (Err k) p ls h g x = tt
@@ -499,16 +499,16 @@ exit_told s t b l (Ok (Some e)) p ls h g x =
     let same : told_items p v c ≡ told_items t.place v b ++ Exit e ∷ [] =
     (λ i. told_items (g.exited i) v c) ∙ shut_exit v b e ∙ (λ i. sym g.inside i ++ Exit e ∷ [])
     in
-    let u : State = record t { place = p } in
+    let u : TextState = record t { place = p } in
     told_more s t u b c l ls (Exit e) h x (same, subst (λ p. Lacks p u c) (sym g.exited) tt) h.plain
 
-end_told : (s t : State) (b : Built) (p : Expected) (ls : List Line) → Told s t b ls → Taken t line.End p
+end_told : (s t : TextState) (b : Built) (p : Expected) (ls : List Line) → Told s t b ls → Taken t line.End p
     → Told s (after t line.End p) b (ls ++ line.End ∷ [])
 unfolding counted next_place
 end_told s t b p ls h g =
     told_more s t (after t line.End p) b b line.End ls End h refl (by t.place g.next) h.plain
   where
-    u : State
+    u : TextState
     u = after t line.End p
 
     v : ℕ
@@ -522,7 +522,7 @@ end_told s t b p ls h g =
     by q e = nowhere p e
 
 -- One line.
-pub line_told : (s t : State) (b : Built) (l : Line) (p : Expected) (ls : List Line) → Held s t b
+pub line_told : (s t : TextState) (b : Built) (l : Line) (p : Expected) (ls : List Line) → Held s t b
     → Told s t b ls → Taken t l p → Extends (after t l p) s
     → IfOk (built s b l) (λ c. Told s (after t l p) c (ls ++ l ∷ []))
 unfolding built exit_of counted

@@ -130,8 +130,8 @@ GivesInstr names lines =
     → (i : InstrLine) × (i.own ≡ Named w) × In (line.Instr i) lines
 
 -- names aren't longer than they may be
-abbrev pub Short : Names → Type 0
-Short names = (w : List ℕ) (n : ℕ) → named names w ≡ Some n → length w ≤ most_name
+abbrev pub ShortNames : Names → Type 0
+ShortNames names = (w : List ℕ) (n : ℕ) → named names w ≡ Some n → length w ≤ most_name
 
 -- The lines of a text spell the items of an image. Version 1 has no names, and limits of its own.
 pub record Spelled (text : List ℕ) (image : plain.Image) : Type 0 where
@@ -143,6 +143,6 @@ pub record Spelled (text : List ℕ) (image : plain.Image) : Type 0 where
   pub said : Say (lines_of text) lines
   pub given_blocks : GivesBlock naming.blocks lines
   pub given_instrs : GivesInstr naming.instrs lines
-  pub short_blocks : Short naming.blocks
-  pub short_instrs : Short naming.instrs
+  pub short_blocks : ShortNames naming.blocks
+  pub short_instrs : ShortNames naming.instrs
   pub spelled : Pairs (Spells naming) lines (items version image)

@@ -7,7 +7,7 @@ ghost use Rattle.asm_text.specs.State as spec;
 
 use crate::line::{InstrLine, Label, Line};
 use crate::names::NameTable;
-use crate::state::State;
+use crate::state::TextState;
 use std::alloc::Global;
 use ws_isa::Op;
 use ws_words::NoMemory;
@@ -23,7 +23,7 @@ fn is_new_label(names: &NameTable, label: &Label) -> bool
 
 /// Whether a line gives no name that stands already.
 #[tactic(auto, unfolding(crate::specs::State::is_new))]
-pub(crate) fn is_new(state: &State, line: &Line) -> bool
+pub(crate) fn is_new(state: &TextState, line: &Line) -> bool
     ensures { result ≡ spec.is_new state.now line.now }
 {
     match line {
@@ -61,7 +61,7 @@ fn ports(op: Op) -> u8
 
 // Counts an array.
 #[tactic(auto, using(crate::proofs::Counts::cells_fit), unfolding(ws_isa::specs::Formed::most_arrays, ws_isa::specs::Formed::most_length, ws_isa::specs::Formed::most_cells))]
-fn count_array(state: &mut State, cells: u32)
+fn count_array(state: &mut TextState, cells: u32)
     requires { spec.is_within_cells state.old cells ≡ true }
     ensures { state.new ≡ record state.old {
       arrays = state.old.arrays + 1;
@@ -74,7 +74,7 @@ fn count_array(state: &mut State, cells: u32)
 
 // Counts a block.
 #[tactic(auto, unfolding(ws_isa::specs::Formed::most_blocks))]
-fn count_block(state: &mut State, alloc: Global, label: &Label) -> Result<(), NoMemory>
+fn count_block(state: &mut TextState, alloc: Global, label: &Label) -> Result<(), NoMemory>
     requires few { state.old.blocks < most_blocks }
     requires new { spec.is_new_label state.old.block_names label.now ≡ true }
     ensures { OnOk result (state.new ≡ spec.with_block state.old label.now) }
@@ -86,7 +86,7 @@ fn count_block(state: &mut State, alloc: Global, label: &Label) -> Result<(), No
 
 // Counts an instruction.
 #[tactic(auto, unfolding(ws_isa::specs::Formed::most_instrs))]
-fn count_instr(state: &mut State, alloc: Global, instr: &InstrLine) -> Result<(), NoMemory>
+fn count_instr(state: &mut TextState, alloc: Global, instr: &InstrLine) -> Result<(), NoMemory>
     requires few { length state.old.ports < most_instrs }
     requires new { spec.is_new_label state.old.instr_names instr.now.own ≡ true }
     ensures with { OnOk result (state.new ≡ spec.with_instr state.old instr.now) }
@@ -99,7 +99,7 @@ fn count_instr(state: &mut State, alloc: Global, instr: &InstrLine) -> Result<()
 
 // Counts what a line has.
 #[tactic(auto, using(crate::proofs::Counts::counts), unfolding(crate::specs::State::counted, crate::specs::State::is_within, crate::specs::State::is_new))]
-pub(crate) fn count(state: &mut State, alloc: Global, line: &Line) -> Result<(), NoMemory>
+pub(crate) fn count(state: &mut TextState, alloc: Global, line: &Line) -> Result<(), NoMemory>
     requires within { spec.is_within state.old line.now ≡ true }
     requires new { spec.is_new state.old line.now ≡ true }
     requires few { length state.old.ports ≤ most_instrs }

@@ -6,7 +6,7 @@ ghost use Rattle.ws_isa.specs.Formed.{most_instrs, most_blocks};
 ghost use Rattle.asm_text.specs.State as spec;
 
 use crate::line::{Label, Line, Target};
-use crate::state::State;
+use crate::state::TextState;
 use ws_isa::Op;
 use ws_words::Bytes;
 
@@ -63,7 +63,7 @@ fn limit(named: bool, first: u64, second: u64) -> u64
 }
 
 #[tactic(auto, unfolding(ws_isa::specs::Formed::most_arrays, ws_isa::specs::Formed::most_length, ws_isa::specs::Formed::most_cells))]
-fn is_within_cells(state: &State, cells: u32) -> bool
+fn is_within_cells(state: &TextState, cells: u32) -> bool
     ensures { result ≡ spec.is_within_cells state.now cells }
 {
     state.arrays < 256 && cells <= 65536 && u64::from(state.cells) + u64::from(cells) <= 2_097_152
@@ -71,7 +71,7 @@ fn is_within_cells(state: &State, cells: u32) -> bool
 
 /// Whether a line keeps the limits.
 #[tactic(auto, unfolding(crate::specs::State::is_within, crate::specs::Limits::first_most_waves, crate::specs::Limits::first_most_blocks, crate::specs::Limits::first_most_instrs, crate::specs::Limits::first_most_landings, ws_isa::specs::Formed::most_waves, ws_isa::specs::Formed::most_blocks, ws_isa::specs::Formed::most_pads, ws_isa::specs::Formed::most_instrs, ws_isa::specs::Formed::most_landings))]
-pub(crate) fn is_within(state: &State, line: &Line) -> bool
+pub(crate) fn is_within(state: &TextState, line: &Line) -> bool
     ensures { result ≡ spec.is_within state.now line.now }
 {
     match line {

@@ -5,7 +5,7 @@ ghost use Rattle.std.specs.List.{list_all};
 ghost use Rattle.asm_text.specs.State as spec;
 
 use crate::line::{Label, Line, Target};
-use crate::state::State;
+use crate::state::TextState;
 
 fn is_number(label: &Label) -> bool
     ensures { result ≡ spec.is_number label.now }
@@ -70,7 +70,7 @@ fn is_above(last: Option<u8>, number: u8) -> bool
 
 /// Whether own numbers are the next in count, pads rise, and ports are below 3.
 #[tactic(auto, unfolding(crate::specs::State::is_numbered))]
-pub(crate) fn is_numbered(state: &State, line: &Line) -> bool
+pub(crate) fn is_numbered(state: &TextState, line: &Line) -> bool
     ensures { result ≡ spec.is_numbered state.now line.now }
 {
     match line {

@@ -3,9 +3,9 @@ use Rattle.std.proofs.Common.{ℕ, zero, suc, ◌+◌, ◌-◌, ◌≡◌, ◌<�
 use Rattle.std.specs.List.{sum_by}
 use Rattle.std.proofs.lemmas.List.{length-replicate}
 use Rattle.std.proofs.lemmas.List.Sums.{sum_by-append}
-use Rattle.ws_words.specs.Outside.{State, World, row, zeros, opening_out}
+use Rattle.ws_words.specs.Outside.{ProcState, World, row, zeros, opening_out}
 use Rattle.cfg_core.specs.Graph.{Exit, Goto, Branch, Call, Return, Send, Stop, Graph, GraphArray, Spot, spots, spot_at, block_at, proc_at, entry_of}
-use Rattle.cfg_core.specs.Walk.{Outcome, Done, Out, and_then, run_ops, Frame, Config, At, Over, Going, leave, passed, step, walk, cells_of, opening, IsOver}
+use Rattle.cfg_core.specs.Walk.{OpsOutcome, Done, Out, and_then, run_ops, Frame, Config, At, Over, Going, leave, passed, step, walk, cells_of, opening, IsOver}
 use Rattle.cfg_core.specs.Weights.{block_left, path, first_block, WalksWeigh}
 use Rattle.cfg_core.proofs.Paired.{walk_add, Match}
 use Rattle.cfg_core.proofs.Total.{comes}
@@ -42,13 +42,13 @@ module _ (g : Graph) (live : List (List ℕ)) (G : Given g live) (F : Placed g l
     abbrev v : ℕ
     v = (spot_at g b).vars
 
-    abbrev rest : Exit → Outcome → Config
+    abbrev rest : Exit → OpsOutcome → Config
     rest x o = passed h (and_then o (run_ops (saves g live (spot_at g b).home v x))) (left g (spot_at g b).home v b x) []
 
     abbrev budget : Exit → ℕ
     budget x = beside w (places g live) b x + owes callers
 
-    by_exit : (x : Exit) → (block_at g b).exit ≡ x → (s t : State) (k : ℕ) → States g (rows g live) (size g live) v extra hidden (After g x) s t → Reaches g live w (budget x) (leave g x s frames k) (rest x (Done t k))
+    by_exit : (x : Exit) → (block_at g b).exit ≡ x → (s t : ProcState) (k : ℕ) → States g (rows g live) (size g live) v extra hidden (After g x) s t → Reaches g live w (budget x) (leave g x s frames k) (rest x (Done t k))
     by_exit (Goto c) is s t k st = reaches_more g live w (owes callers) _ _ _ (omega arith) (goes_on g live G F C b there w c is s t frames callers k extra hidden roomy stack st)
     by_exit (Branch term c d) is s t k st = reaches_more g live w (owes callers) _ _ _ (omega arith) (branches g live G F C b there w term c d is s t frames callers k extra hidden roomy stack st)
     by_exit (Call r f ts back) is s t k st = reaches_more g live w (w (door g f) + owes (b ∷ callers)) _ _ _ (omega arith) (calls g live G F C b there r f ts back is s t frames callers k extra hidden roomy stack st w)
@@ -57,7 +57,7 @@ module _ (g : Graph) (live : List (List ℕ)) (G : Given g live) (F : Placed g l
     by_exit Stop is s t k st = record { blocks = 0; callers = callers; relates = (refl, record { hidden = hidden; same = st.out }); weigh = omega arith }
 
     -- a block of g, with the same one of h and what stands beside it
-    by_outcome : (o p : Outcome) → Outcomes g (rows g live) (size g live) v extra hidden (After g (block_at g b).exit) o p → (s t : State) (k j : ℕ) → step h (At (moved g b) t [] j) ≡ rest (block_at g b).exit p
+    by_outcome : (o p : OpsOutcome) → Outcomes g (rows g live) (size g live) v extra hidden (After g (block_at g b).exit) o p → (s t : ProcState) (k j : ℕ) → step h (At (moved g b) t [] j) ≡ rest (block_at g b).exit p
         → Reaches g live w (sum_by weight (block_left (At b s frames k) (passed g o (block_at g b).exit frames)) + owes callers) (passed g o (block_at g b).exit frames) (At (moved g b) t [] j)
     by_outcome (Done u i) (Done x l) e s t k j same =
         let left = left_few g live w (moved g b) t [] j (step h (At (moved g b) t [] j)) in
@@ -71,18 +71,18 @@ module _ (g : Graph) (live : List (List ℕ)) (G : Given g live) (F : Placed g l
     by_outcome (Done s k) (Out p) e u t i j same = absurd e
     by_outcome (Out o) (Done t j) e u x i l same = absurd e
 
-    at_block : (s t : State) (k : ℕ) → States g (rows g live) (size g live) v extra hidden (Live g b) s t → Reaches g live w (sum_by weight (block_left (At b s frames k) (step g (At b s frames k))) + owes callers) (step g (At b s frames k)) (At (moved g b) t [] k)
+    at_block : (s t : ProcState) (k : ℕ) → States g (rows g live) (size g live) v extra hidden (Live g b) s t → Reaches g live w (sum_by weight (block_left (At b s frames k) (step g (At b s frames k))) + owes callers) (step g (At b s frames k)) (At (moved g b) t [] k)
     at_block s t k st =
         let ops = (block_at g b).ops in
         let same = ops_same g (rows g live) (size g live) v extra hidden ops (After g (block_at g b).exit) (numbers_at g G.rules b).ops s t k (record { vars = λ x lt n. st.vars x lt (needed_is_live g b x n); long = st.long; longer = st.longer; more = st.more; out = st.out }) in
         by_outcome (run_ops ops s k) (run_ops ops t k) same s t k k
         (ap (λ (p : Spot). passed h (run_ops p.block.ops t k) p.block.exit []) (F.plain b there)
-        ∙ ap (λ (o : Outcome). passed h o (left g (spot_at g b).home v b (block_at g b).exit) []) (run_append ops (saves g live (spot_at g b).home v (block_at g b).exit) t k))
+        ∙ ap (λ (o : OpsOutcome). passed h o (left g (spot_at g b).home v b (block_at g b).exit) []) (run_append ops (saves g live (spot_at g b).home v (block_at g b).exit) t k))
 
-  abbrev Passes : ℕ → State → List Frame → ℕ → List ℕ → Config → Type 0
+  abbrev Passes : ℕ → ProcState → List Frame → ℕ → List ℕ → Config → Type 0
   Passes b s frames k callers d = Reaches g live w (sum_by weight (block_left (At b s frames k) (step g (At b s frames k))) + owes callers) (step g (At b s frames k)) d
 
-  one_block : (b : ℕ) (s : State) (frames : List Frame) (k : ℕ) (callers : List ℕ) (d : Config) → Relates g live callers (At b s frames k) d → Passes b s frames k callers d
+  one_block : (b : ℕ) (s : ProcState) (frames : List Frame) (k : ℕ) (callers : List ℕ) (d : Config) → Relates g live callers (At b s frames k) d → Passes b s frames k callers d
   one_block b s frames k callers (At c t others j) r =
       let st = r.3 in
       subst (λ i. Passes b s frames k callers (At i t others j)) (sym r.0)

@@ -4,10 +4,10 @@ use Rattle.std.specs.List.{AllByRecursion, filter}
 use Rattle.std.proofs.lemmas.Bool.{cases_lt}
 use Rattle.std.proofs.lemmas.Bool.Decides.{nat_tests}
 use Rattle.std.proofs.lemmas.List.{get_or_append_left, get_or_push, length_push, get_or_past}
-use Rattle.ws_words.specs.Outside.{Act, Outside, State, zeros, with_acts}
+use Rattle.ws_words.specs.Outside.{Act, Outside, ProcState, zeros, with_acts}
 use Rattle.cfg_core.specs.Graph.{Term, Number, Goto, Call, Graph, GraphProc, Spot, no_proc, spots, spot_at, block_at, proc_at, entry_of}
 use Rattle.cfg_core.specs.Rules.{TermIn, ProcNumbers}
-use Rattle.cfg_core.specs.Walk.{Outcome, Done, and_then, run_ops, values, values_of, all_loads, Frame, At, landed, entered, leave, passed, step}
+use Rattle.cfg_core.specs.Walk.{OpsOutcome, Done, and_then, run_ops, values, values_of, all_loads, Frame, At, landed, entered, leave, passed, step}
 use Rattle.live_vars.specs.Live.{Live}
 use Rattle.live_vars.specs.Marks.{has}
 use Rattle.call_gen.specs.Spelled.{is_called, is_calling, moved, door, address, cell, below, saves, left, is_unset, clear, door_block, spelled}
@@ -85,7 +85,7 @@ module _ (g : Graph) (live : List (List ℕ)) (G : Given g live) (F : Placed g l
   goes_in w o p ws vars frames callers extra k hidden long longer agree zero_there more out roomy stack =
       let c = clears_run g (total g live) hidden o (record { vars = vars; out = p }) unset k out in
       let same : (x : ℕ) → get_or c.state.vars x 0 ≡ get_or vars x 0 = λ x. unchanged vars unset (record { vars = vars; out = p }) c.state c.zero_still c.others zero_there x in
-      reaches_by g live w _ _ _ _ (ap (λ (q : Outcome). passed h q (Goto (moved g start)) []) c.run)
+      reaches_by g live w _ _ _ _ (ap (λ (q : OpsOutcome). passed h q (Goto (moved g start)) []) c.run)
       (record {
         blocks = 0;
         callers = callers;
@@ -118,11 +118,11 @@ module _ (g : Graph) (live : List (List ℕ)) (G : Given g live) (F : Placed g l
         | inr ne ↦ elim (in_or_not x xs) [ inl i ↦ inl (inr i) | inr never ↦ inr (λ i. elim i [ inl e ↦ ne e | inr j ↦ never j ]) ]
       ]
 
-      unchanged : (vars xs : List ℕ) (t u : State) → ((x : ℕ) → get_or t.vars x 0 ≡ 0 → get_or u.vars x 0 ≡ 0) → ((x : ℕ) → (In x xs → ⊥) → get_or u.vars x 0 ≡ get_or t.vars x 0) → ((x : ℕ) → In x xs → get_or t.vars x 0 ≡ 0) → (x : ℕ) → get_or u.vars x 0 ≡ get_or t.vars x 0
+      unchanged : (vars xs : List ℕ) (t u : ProcState) → ((x : ℕ) → get_or t.vars x 0 ≡ 0 → get_or u.vars x 0 ≡ 0) → ((x : ℕ) → (In x xs → ⊥) → get_or u.vars x 0 ≡ get_or t.vars x 0) → ((x : ℕ) → In x xs → get_or t.vars x 0 ≡ 0) → (x : ℕ) → get_or u.vars x 0 ≡ get_or t.vars x 0
       unchanged vars xs t u still others z x = elim (in_or_not x xs) [ inl i ↦ still x (z x i) ∙ sym (z x i) | inr never ↦ others x never ]
 
 -- A call in block b.
-module _ (g : Graph) (live : List (List ℕ)) (G : Given g live) (F : Placed g live) (C : Celled g) (b : ℕ) (there : b < length (spots g)) (r : Option ℕ) (f : ℕ) (ts : List Term) (back : ℕ) (is : (block_at g b).exit ≡ Call r f ts back) (s t : State) (frames : List Frame) (callers : List ℕ) (k extra : ℕ) (hidden : List (List ℕ)) (roomy : Roomy (total g live) hidden) (stack : Stack g live hidden (spot_at g b).home extra frames callers) (st : States g (rows g live) (size g live) (spot_at g b).vars extra hidden (After g (Call r f ts back)) s t) where
+module _ (g : Graph) (live : List (List ℕ)) (G : Given g live) (F : Placed g live) (C : Celled g) (b : ℕ) (there : b < length (spots g)) (r : Option ℕ) (f : ℕ) (ts : List Term) (back : ℕ) (is : (block_at g b).exit ≡ Call r f ts back) (s t : ProcState) (frames : List Frame) (callers : List ℕ) (k extra : ℕ) (hidden : List (List ℕ)) (roomy : Roomy (total g live) hidden) (stack : Stack g live hidden (spot_at g b).home extra frames callers) (st : States g (rows g live) (size g live) (spot_at g b).vars extra hidden (After g (Call r f ts back)) s t) where
   abbrev hg : Graph
   hg = spelled g live
 
@@ -221,13 +221,13 @@ module _ (g : Graph) (live : List (List ℕ)) (G : Given g live) (F : Placed g l
       each (p ∷ ps) zero h lt = h.0.params
       each (p ∷ ps) (suc f) h lt = each ps f h.1 (omega arith)
 
-  abbrev sent : State
+  abbrev sent : ProcState
   sent = with_acts done.state []
 
   sent_states : States g (rows g live) (size g live) v extra after P s sent
   sent_states = record { vars = done.states.vars; long = done.states.long; longer = done.states.longer; more = done.states.more; out = same_nil g (total g live) after s.out done.state.out done.states.out }
 
-  terms_in : AllByRecursion (TermIn g v) ts
+  terms_in : AllByRecursion (TermIn (length g.arrays) v) ts
   terms_in = (exit_in g live G F b (Call r f ts back) is).3
 
   sent_words : values (ts ++ last ∷ []) sent.vars sent.out.cells ≡ words ++ address g f b ∷ []
@@ -292,7 +292,7 @@ module _ (g : Graph) (live : List (List ℕ)) (G : Given g live) (F : Placed g l
       let vars_are : landed (if is_called g f then named else []) (values (ts ++ last ∷ []) sent.vars sent.out.cells) (zeros (suc (proc_at g f).vars)) ≡ fresh =
       ap (λ (xs : List ℕ). landed xs (values (ts ++ last ∷ []) sent.vars sent.out.cells) (zeros (suc (proc_at g f).vars))) at_named
       ∙ ap (λ (ws : List ℕ). landed named ws (zeros (suc (proc_at g f).vars))) sent_words in
-      reaches_by g live w _ _ _ _ (ap (λ (q : Outcome). passed hg q (left g home v b (Call r f ts back)) []) done.run)
+      reaches_by g live w _ _ _ _ (ap (λ (q : OpsOutcome). passed hg q (left g home v b (Call r f ts back)) []) done.run)
       (reaches_later g live w (owed g live w (b ∷ callers)) _ (door g f) _ _ _ (reaches_by g live w _ _ _ _
       (at_door g live G F f f_there door_vars all k
       ∙ ap (λ (vs : List ℕ). passed hg (run_ops (door_block g live f (proc_at g f)).ops (record { vars = vs; out = all }) k) (Goto (moved g (entry_of g f))) []) vars_are)

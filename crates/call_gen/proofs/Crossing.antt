@@ -45,7 +45,7 @@ written_left [] ys x h = absurd h
 written_left (op ∷ xs) ys x (inl w) = inl w
 written_left (op ∷ xs) ys x (inr w) = inr (written_left xs ys x w)
 
-ops_low : (g : Graph) (v : ℕ) (ops : List Op) (x : ℕ) → AllByRecursion (OpIn g v) ops → ReadsIn ops x → x < v
+ops_low : (g : Graph) (v : ℕ) (ops : List Op) (x : ℕ) → AllByRecursion (OpIn (length g.arrays) v) ops → ReadsIn ops x → x < v
 ops_low g v [] x i r = absurd r
 ops_low g v (op ∷ ops) x i (inl r) = op_low g v op x i.0 r
 ops_low g v (op ∷ ops) x i (inr r) = ops_low g v ops x i.1 r.1

@@ -4,9 +4,9 @@ use Rattle.std.specs.List.{AllByRecursion}
 use Rattle.std.proofs.lemmas.Bool.{cases_eq}
 use Rattle.std.proofs.lemmas.Bool.Decides.{nat_tests}
 use Rattle.std.proofs.lemmas.List.{get_or-set_same, get_or-set_other, length-set}
-use Rattle.ws_words.specs.Outside.{Outside, State, zeros}
+use Rattle.ws_words.specs.Outside.{Outside, ProcState, zeros}
 use Rattle.cfg_core.specs.Graph.{Term, Exit, Goto, Branch, Call, Graph, Spot, spots, spot_at, block_at, proc_at}
-use Rattle.cfg_core.specs.Walk.{Outcome, run_ops, value_of, Frame, At, landed, with_result, leave, passed, step}
+use Rattle.cfg_core.specs.Walk.{OpsOutcome, run_ops, value_of, Frame, At, landed, with_result, leave, passed, step}
 use Rattle.live_vars.specs.Live.{ExitWrites, Live}
 use Rattle.live_vars.specs.Marks.{has}
 use Rattle.call_gen.specs.Spelled.{is_called, is_calling, moved, cell, below, is_result, is_saved, saved, load, spelled}
@@ -47,11 +47,11 @@ module _ (g : Graph) (live : List (List ℕ)) (G : Given g live) (F : Placed g l
   abbrev v : ℕ
   v = (spot_at g b).vars
 
-  abbrev S : ℕ → List (List ℕ) → (ℕ → Type 0) → State → State → Type 0
+  abbrev S : ℕ → List (List ℕ) → (ℕ → Type 0) → ProcState → ProcState → Type 0
   S extra hidden P s t = States g (rows g live) (size g live) v extra hidden P s t
 
   -- on to a block of the same procedure
-  onward : (c : ℕ) → c < length (spots g) → (spot_at g c).home ≡ home → (extra : ℕ) (hidden : List (List ℕ)) (s t : State) (frames : List Frame) (callers : List ℕ) → S extra hidden (Live g c) s t → Roomy (total g live) hidden → Stack g live hidden home extra frames callers → Stands g live c s frames callers t
+  onward : (c : ℕ) → c < length (spots g) → (spot_at g c).home ≡ home → (extra : ℕ) (hidden : List (List ℕ)) (s t : ProcState) (frames : List Frame) (callers : List ℕ) → S extra hidden (Live g c) s t → Roomy (total g live) hidden → Stack g live hidden home extra frames callers → Stands g live c s frames callers t
   onward c lt same extra hidden s t frames callers h roomy stack =
       let vars : v ≡ (spot_at g c).vars = (F.home b there).1 ∙ ap (λ n. (proc_at g n).vars) (sym same) ∙ sym (F.home c lt).1 in
       record {
@@ -108,12 +108,12 @@ module _ (g : Graph) (live : List (List ℕ)) (G : Given g live) (F : Placed g l
   abbrev h : Graph
   h = spelled g live
 
-  pub goes_on : (w : ℕ → ℕ) (c : ℕ) → (block_at g b).exit ≡ Goto c → (s t : State) (frames : List Frame) (callers : List ℕ) (k extra : ℕ) (hidden : List (List ℕ)) → Roomy (total g live) hidden → Stack g live hidden home extra frames callers → S extra hidden (After g (Goto c)) s t → Reaches g live w (owed g live w callers) (At c s frames k) (At (moved g c) t [] k)
+  pub goes_on : (w : ℕ → ℕ) (c : ℕ) → (block_at g b).exit ≡ Goto c → (s t : ProcState) (frames : List Frame) (callers : List ℕ) (k extra : ℕ) (hidden : List (List ℕ)) → Roomy (total g live) hidden → Stack g live hidden home extra frames callers → S extra hidden (After g (Goto c)) s t → Reaches g live w (owed g live w callers) (At c s frames k) (At (moved g c) t [] k)
   goes_on w c is s t frames callers k extra hidden roomy stack st =
       let i = exit_in g live G F b (Goto c) is in
       record { blocks = 0; callers = callers; relates = (refl, refl, refl, onward c i.0 i.1 extra hidden s t frames callers (record { vars = λ x lt l. st.vars x lt (inr ((λ w. w), (c, refl, l))); long = st.long; longer = st.longer; more = st.more; out = st.out }) roomy stack); weigh = omega arith }
 
-  pub branches : (w : ℕ → ℕ) (term : Term) (c d : ℕ) → (block_at g b).exit ≡ Branch term c d → (s t : State) (frames : List Frame) (callers : List ℕ) (k extra : ℕ) (hidden : List (List ℕ)) → Roomy (total g live) hidden → Stack g live hidden home extra frames callers → S extra hidden (After g (Branch term c d)) s t
+  pub branches : (w : ℕ → ℕ) (term : Term) (c d : ℕ) → (block_at g b).exit ≡ Branch term c d → (s t : ProcState) (frames : List Frame) (callers : List ℕ) (k extra : ℕ) (hidden : List (List ℕ)) → Roomy (total g live) hidden → Stack g live hidden home extra frames callers → S extra hidden (After g (Branch term c d)) s t
       → Reaches g live w (owed g live w callers) (leave g (Branch term c d) s frames k) (leave h (Branch term (moved g c) (moved g d)) t [] k)
   branches w term c d is s t frames callers k extra hidden roomy stack st =
       let i = exit_in g live G F b (Branch term c d) is in
@@ -129,7 +129,7 @@ module _ (g : Graph) (live : List (List ℕ)) (G : Given g live) (F : Placed g l
     result_low : (y : ℕ) → r ≡ Some y → y < v
     result_low y e = by_result r e (exit_in g live G F b (Call r f ts back) is).0
       where
-        by_result : (q : Option ℕ) → q ≡ Some y → Rattle.cfg_core.specs.Rules.ResultIn v q → y < v
+        by_result : (q : Option ℕ) → q ≡ Some y → Rattle.cfg_core.specs.Rules.TargetIn v q → y < v
         by_result None e h = absurd (cc)
         by_result (Some z) e h = let same : z ≡ y = cc in omega (arith, same, h)
 
@@ -188,7 +188,7 @@ module _ (g : Graph) (live : List (List ℕ)) (G : Given g live) (F : Placed g l
     comes_back weight o p w u k vars frames callers hidden ew out roomy long kept_vars stack =
         let i = exit_in g live G F b (Call r f ts back) is in
         let xs = kept r back in
-        let start : State = record { vars = set (zeros (suc v)) (or_else r v) u; out = p } in
+        let start : ProcState = record { vars = set (zeros (suc v)) (or_else r v) u; out = p } in
         let l = loads_run g (total g live) home hidden o start xs k (kept_in r back calling) out in
         let count : length start.vars ≡ suc v = length-set (zeros (suc v)) (or_else r v) u ∙ zeros_count (suc v) in
         let agree : (x : ℕ) → x < v → Live g back x → get_or (with_result r w vars) x 0 ≡ get_or l.state.vars x 0 = λ x lt live_x. elim (written_or_not x) [
@@ -215,7 +215,7 @@ module _ (g : Graph) (live : List (List ℕ)) (G : Given g live) (F : Placed g l
               (sym (ap (λ (vs : List ℕ). get_or vs v 0) l.vars ∙ peeks_in (total g live) (at r back) (at_apart r back) hidden xs start.vars v (omega (arith, count)) (inr (kept_address r back c)))) stack
           | inr nc ↦ stack_any g live G F hidden home (peek hidden (cell g home v)) (get_or l.state.vars v 0) frames callers nc stack
         ] in
-        reaches_later g live weight (owed g live weight callers) _ (suc (moved g b)) _ _ _ (reaches_by g live weight _ _ _ _ (at_point p u k ∙ ap (λ (q : Outcome). passed h q (Goto (moved g back)) []) l.run)
+        reaches_later g live weight (owed g live weight callers) _ (suc (moved g b)) _ _ _ (reaches_by g live weight _ _ _ _ (at_point p u k ∙ ap (λ (q : OpsOutcome). passed h q (Goto (moved g back)) []) l.run)
         (record { blocks = 0; callers = callers; relates = (refl, refl, refl, onward back i.4.0 i.4.1 (get_or l.state.vars v 0) hidden _ l.state frames callers st roomy rest); weigh = omega arith }))
       where
         vars_same : back < length (spots g) → (spot_at g back).home ≡ home → v ≡ (spot_at g back).vars

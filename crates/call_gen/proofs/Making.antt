@@ -13,7 +13,7 @@ use Rattle.cfg_core.specs.declared.blocks.GraphProc.{GraphProc}
 use Rattle.cfg_core.specs.declared.blocks.GraphBlock.{GraphBlock}
 use Rattle.call_gen.specs.Spelled.{cells_in_all, hidden_arrays, spelled_proc, spelled_procs, spelled}
 use Rattle.call_gen.specs.Keeps.{HasNoCall, NoneLiveAcross, ParamsAtMost, SendsAtMost}
-use Rattle.call_gen.specs.Sizes.{Sizes, IsWithin, spelled_sizes}
+use Rattle.call_gen.specs.Sizes.{Sizes, KeepsSizes, spelled_sizes}
 use Rattle.call_gen.specs.Charged.{CallsCharged}
 use Rattle.call_gen.proofs.Facts.{Given}
 use Rattle.call_gen.proofs.Sizing.{is_within}
@@ -68,7 +68,7 @@ pub record AllKept (g : Graph) (live : List (List ℕ)) (made : Graph) : Type 0 
   pub no_call : HasNoCall made
   pub across : NoneLiveAcross made
   pub values : (n : ℕ) → ParamsAtMost n g → (b : ℕ) → SendsAtMost (suc n) (block_at made b).exit
-  pub sizes : (z : Sizes) → IsWithin z g → IsWithin (spelled_sizes z) made
+  pub sizes : (z : Sizes) → KeepsSizes z g → KeepsSizes (spelled_sizes z) made
   pub arms : ArmsAlone g → ArmsAlone made
   pub charged : CallsCharged g live made
   pub start : (block_at made (first_block made)).named ≡ []

@@ -6,7 +6,7 @@ use Rattle.cfg_core.specs.Graph.{Graph, Branch, Call, Stop, spots, block_at, ent
 use Rattle.cfg_core.specs.Rules.{IsGraph}
 use Rattle.call_gen.specs.Keeps.{HasNoSend}
 use Rattle.call_gen.specs.Reached.{Reached, start, follow, enter}
-use Rattle.call_gen.specs.Part.{AreReached, unset, Marks, Next, Finding}
+use Rattle.call_gen.specs.Part.{AreReached, unset, FlagsMore, LeadsOrEnters, Finding}
 use Rattle.call_gen.proofs.PartReached.{reached_there}
 use Rattle.ws_words.specs.Items.{In, flag_at}
 use Rattle.ws_words.proofs.Places.{in_left}
@@ -31,7 +31,7 @@ one_less (v ∷ flags) zero lt e = here v e
 one_less (v ∷ flags) (suc b) lt e = omega (arith, one_less flags b (omega arith) e)
 
 -- a new block is flagged and waits
-pub marks_one : (flags : List Bool) (waits : List ℕ) (b : ℕ) → b < length flags → flag_at flags b ≡ false → Marks (λ c. c ≡ b) flags (set flags b true) waits (waits ++ b ∷ [])
+pub marks_one : (flags : List Bool) (waits : List ℕ) (b : ℕ) → b < length flags → flag_at flags b ≡ false → FlagsMore (λ c. c ≡ b) flags (set flags b true) waits (waits ++ b ∷ [])
 marks_one flags waits b lt off = record {
   count = length-set flags b true;
   keeps = λ c h. elim (cases_eq c b) [
@@ -50,11 +50,11 @@ marks_one flags waits b lt off = record {
 }
 
 -- nothing is flagged where nothing is said, or where it is flagged already
-pub marks_none : (P : ℕ → Type 0) (flags : List Bool) (waits : List ℕ) → ((c : ℕ) → c < length flags → P c → flag_at flags c ≡ true) → Marks P flags flags waits waits
+pub marks_none : (P : ℕ → Type 0) (flags : List Bool) (waits : List ℕ) → ((c : ℕ) → c < length flags → P c → flag_at flags c ≡ true) → FlagsMore P flags flags waits waits
 marks_none P flags waits all = record { count = refl; keeps = λ c h. h; only = λ c h. inl h; all = all; waiting = λ c i. i; known = λ c i. inl i; fresh = λ c h. inl h; lighter = omega arith }
 
 -- one after another
-pub marks_both : (P Q R : ℕ → Type 0) (o m n : List Bool) (u v w : List ℕ) → ((c : ℕ) → P c → R c) → ((c : ℕ) → Q c → R c) → ((c : ℕ) → R c → P c ⊎ Q c) → Marks P o m u v → Marks Q m n v w → Marks R o n u w
+pub marks_both : (P Q R : ℕ → Type 0) (o m n : List Bool) (u v w : List ℕ) → ((c : ℕ) → P c → R c) → ((c : ℕ) → Q c → R c) → ((c : ℕ) → R c → P c ⊎ Q c) → FlagsMore P o m u v → FlagsMore Q m n v w → FlagsMore R o n u w
 marks_both P Q R o m n u v w left right split p q = record {
   count = q.count ∙ p.count;
   keeps = λ c h. q.keeps c (p.keeps c h);
@@ -67,26 +67,26 @@ marks_both P Q R o m n u v w left right split p q = record {
 }
 
 -- the two arms of a branch, and a call's callee and return block
-pub marks_arms : (g : Graph) (t : Rattle.cfg_core.specs.Graph.Term) (a b : ℕ) (o m n : List Bool) (u v w : List ℕ) → Marks (λ c. c ≡ a) o m u v → Marks (λ c. c ≡ b) m n v w → Marks (Next g (Branch t a b)) o n u w
-marks_arms g t a b o m n u v w p q = marks_both (λ c. c ≡ a) (λ c. c ≡ b) (Next g (Branch t a b)) o m n u v w (λ c e. inl (inl e)) (λ c e. inl (inr e)) split p q
+pub marks_arms : (g : Graph) (t : Rattle.cfg_core.specs.Graph.Term) (a b : ℕ) (o m n : List Bool) (u v w : List ℕ) → FlagsMore (λ c. c ≡ a) o m u v → FlagsMore (λ c. c ≡ b) m n v w → FlagsMore (LeadsOrEnters g (Branch t a b)) o n u w
+marks_arms g t a b o m n u v w p q = marks_both (λ c. c ≡ a) (λ c. c ≡ b) (LeadsOrEnters g (Branch t a b)) o m n u v w (λ c e. inl (inl e)) (λ c e. inl (inr e)) split p q
   where
-    split : (c : ℕ) → Next g (Branch t a b) c → (c ≡ a) ⊎ (c ≡ b)
+    split : (c : ℕ) → LeadsOrEnters g (Branch t a b) c → (c ≡ a) ⊎ (c ≡ b)
     split c (inl l) = l
     split c (inr l) = absurd l
 
-pub marks_call : (g : Graph) (r : Option ℕ) (f : ℕ) (ts : List Rattle.cfg_core.specs.Graph.Term) (back entry : ℕ) (o m n : List Bool) (u v w : List ℕ) → entry ≡ entry_of g f → Marks (λ c. c ≡ entry) o m u v → Marks (λ c. c ≡ back) m n v w → Marks (Next g (Call r f ts back)) o n u w
-marks_call g r f ts back entry o m n u v w is p q = marks_both (λ c. c ≡ entry) (λ c. c ≡ back) (Next g (Call r f ts back)) o m n u v w (λ c e. inr (e ∙ is)) (λ c e. inl e) split p q
+pub marks_call : (g : Graph) (r : Option ℕ) (f : ℕ) (ts : List Rattle.cfg_core.specs.Graph.Term) (back entry : ℕ) (o m n : List Bool) (u v w : List ℕ) → entry ≡ entry_of g f → FlagsMore (λ c. c ≡ entry) o m u v → FlagsMore (λ c. c ≡ back) m n v w → FlagsMore (LeadsOrEnters g (Call r f ts back)) o n u w
+marks_call g r f ts back entry o m n u v w is p q = marks_both (λ c. c ≡ entry) (λ c. c ≡ back) (LeadsOrEnters g (Call r f ts back)) o m n u v w (λ c e. inr (e ∙ is)) (λ c e. inl e) split p q
   where
-    split : (c : ℕ) → Next g (Call r f ts back) c → (c ≡ entry) ⊎ (c ≡ back)
+    split : (c : ℕ) → LeadsOrEnters g (Call r f ts back) c → (c ≡ entry) ⊎ (c ≡ back)
     split c (inl l) = inr l
     split c (inr l) = inl (l ∙ sym is)
 
 -- past the last block nothing is led to
-pub marks_beyond : (g : Graph) (b : ℕ) (flags : List Bool) (waits : List ℕ) → Rattle.cfg_core.specs.Graph.spot_at g b ≡ no_spot → Marks (Next g (block_at g b).exit) flags flags waits waits
+pub marks_beyond : (g : Graph) (b : ℕ) (flags : List Bool) (waits : List ℕ) → Rattle.cfg_core.specs.Graph.spot_at g b ≡ no_spot → FlagsMore (LeadsOrEnters g (block_at g b).exit) flags flags waits waits
 unfolding no_spot
-marks_beyond g b flags waits e = subst (λ (s : Rattle.cfg_core.specs.Graph.Spot). Marks (Next g s.block.exit) flags flags waits waits) (sym e) (marks_none (Next g Stop) flags waits (λ c lt l. absurd (never c l)))
+marks_beyond g b flags waits e = subst (λ (s : Rattle.cfg_core.specs.Graph.Spot). FlagsMore (LeadsOrEnters g s.block.exit) flags flags waits waits) (sym e) (marks_none (LeadsOrEnters g Stop) flags waits (λ c lt l. absurd (never c l)))
   where
-    never : (c : ℕ) → Next g Stop c → ⊥
+    never : (c : ℕ) → LeadsOrEnters g Stop c → ⊥
     never c (inl l) = l
     never c (inr l) = l
 
@@ -99,7 +99,7 @@ module _ (g : Graph) (rules : IsGraph g) (no_send : HasNoSend g) where
   none_flagged (suc n) (suc b) h = none_flagged n b h
 
   -- main's first block is found
-  pub found_main : (n main : ℕ) (new : List Bool) (waits : List ℕ) → n ≡ length (spots g) → length (replicate n false) ≡ n → main ≡ entry_of g (length g.procs - 1) → Marks (λ c. c ≡ main) (replicate n false) new [] waits → Finding g new waits
+  pub found_main : (n main : ℕ) (new : List Bool) (waits : List ℕ) → n ≡ length (spots g) → length (replicate n false) ≡ n → main ≡ entry_of g (length g.procs - 1) → FlagsMore (λ c. c ≡ main) (replicate n false) new [] waits → Finding g new waits
   found_main n main new waits en el em m = record {
     count = m.count ∙ el ∙ en;
     main = subst (λ k. flag_at new k ≡ true) em (m.all main (omega (arith, el, en, em, reached_there g rules no_send (entry_of g (length g.procs - 1)) start)) refl);
@@ -108,12 +108,12 @@ module _ (g : Graph) (rules : IsGraph g) (no_send : HasNoSend g) where
     led = λ b c h lt l. elim (m.fresh b h) [ inl i ↦ absurd (none_flagged n b i) | inr i ↦ inl i ];
   }
 
-  next_reached : (b c : ℕ) → Reached g b → Next g (block_at g b).exit c → Reached g c
+  next_reached : (b c : ℕ) → Reached g b → LeadsOrEnters g (block_at g b).exit c → Reached g c
   next_reached b c r (inl l) = follow b c r l
   next_reached b c r (inr l) = enter b c r l
 
   -- a block that waited is looked at
-  pub found_more : (b : ℕ) (old new : List Bool) (waited rest waits : List ℕ) → waited ≡ rest ++ b ∷ [] → Finding g old waited → Marks (Next g (block_at g b).exit) old new rest waits → Finding g new waits
+  pub found_more : (b : ℕ) (old new : List Bool) (waited rest waits : List ℕ) → waited ≡ rest ++ b ∷ [] → Finding g old waited → FlagsMore (LeadsOrEnters g (block_at g b).exit) old new rest waits → Finding g new waits
   found_more b old new waited rest waits e f m =
       let here : flag_at old b ≡ true = f.waiting b (subst (λ (ws : List ℕ). In b ws) (sym e) (in_last b rest)) in
       record {
@@ -130,7 +130,7 @@ module _ (g : Graph) (rules : IsGraph g) (no_send : HasNoSend g) where
             | inr k ↦ inr (m.keeps d k)
             | inl w ↦ elim (in_split c b rest (subst (λ (ws : List ℕ). In c ws) e w)) [
               | inl j ↦ inl (m.waiting c j)
-              | inr same ↦ inr (m.all d (omega (arith, lt, f.count)) (subst (λ k. Next g (block_at g k).exit d) same l))
+              | inr same ↦ inr (m.all d (omega (arith, lt, f.count)) (subst (λ k. LeadsOrEnters g (block_at g k).exit d) same l))
             ]
           ]
         ];
@@ -140,7 +140,7 @@ module _ (g : Graph) (rules : IsGraph g) (no_send : HasNoSend g) where
   pub found_all : (flags : List Bool) (waits : List ℕ) → waits ≡ [] → Finding g flags waits → AreReached g flags
   found_all flags waits e f = record { count = f.count; only = f.only; all = λ b lt r. all b r }
     where
-      step : (b c : ℕ) → flag_at flags b ≡ true → Reached g c → Next g (block_at g b).exit c → flag_at flags c ≡ true
+      step : (b c : ℕ) → flag_at flags b ≡ true → Reached g c → LeadsOrEnters g (block_at g b).exit c → flag_at flags c ≡ true
       step b c h r l = elim (f.led b c h (reached_there g rules no_send c r) l) [ inl i ↦ absurd (let z : In b [] = subst (λ (ws : List ℕ). In b ws) e i in z) | inr k ↦ k ]
 
       all : (b : ℕ) → Reached g b → flag_at flags b ≡ true

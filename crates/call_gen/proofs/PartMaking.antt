@@ -11,7 +11,7 @@ use Rattle.cfg_core.specs.View as view
 use Rattle.cfg_core.specs.declared.blocks.GraphProc.{GraphProc}
 use Rattle.call_gen.specs.Keeps.{HasNoSend}
 use Rattle.call_gen.specs.Reached.{AllReached}
-use Rattle.call_gen.specs.Sizes.{Sizes, IsWithin}
+use Rattle.call_gen.specs.Sizes.{Sizes, KeepsSizes}
 use Rattle.call_gen.specs.Charged.{ReachedInPlace}
 use Rattle.call_gen.specs.Part.{before, part_proc, part_procs, part, ExitThere, BlocksThere, AreReached}
 use Rattle.call_gen.proofs.Making.{split_all}
@@ -69,7 +69,7 @@ pub record ReachedKept (g made : Graph) : Type 0 where
   pub rules : IsGraph made
   pub no_send : HasNoSend made
   pub shape : IsShaped g → IsShaped made
-  pub sizes : (z : Sizes) → IsWithin z g → IsWithin z made
+  pub sizes : (z : Sizes) → KeepsSizes z g → KeepsSizes z made
   pub arms : ArmsAlone g → ArmsAlone made
   pub places : ReachedInPlace g made
 

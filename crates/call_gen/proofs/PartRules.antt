@@ -19,7 +19,7 @@ use Rattle.ws_words.proofs.Places.{nth_short, all_of}
 
 -- what names something names it where there are as many arrays
 module _ (g h : Graph) (same : g.arrays ≡ h.arrays) where
-  term_in : (v : ℕ) (t : Term) → TermIn g v t → TermIn h v t
+  term_in : (v : ℕ) (t : Term) → TermIn (length g.arrays) v t → TermIn (length h.arrays) v t
   term_in v (Number n) i = tt
   term_in v (Var x) i = i
   term_in v (Cell a t) i = ((i.0.0, omega (arith, i.0.1, ap length same)), term_in v t i.1)
@@ -28,7 +28,7 @@ module _ (g h : Graph) (same : g.arrays ≡ h.arrays) where
   term_in v (Neg t) i = term_in v t i
   term_in v (Binary op a b) i = (term_in v a i.0, term_in v b i.1)
 
-  op_in : (v : ℕ) (op : Op) → OpIn g v op → OpIn h v op
+  op_in : (v : ℕ) (op : Op) → OpIn (length g.arrays) v op → OpIn (length h.arrays) v op
   op_in v (Assign x t) i = (i.0, term_in v t i.1)
   op_in v (Store a t u) i = ((i.0.0, omega (arith, i.0.1, ap length same)), term_in v t i.1, term_in v u i.2)
   op_in v (Print t) i = term_in v t i
@@ -39,11 +39,11 @@ module _ (g h : Graph) (same : g.arrays ≡ h.arrays) where
   op_in v (Tick n) i = tt
   op_in v (TickBy t n m) i = term_in v t i
 
-  all_terms_in : (v : ℕ) (ts : List Term) → AllByRecursion (TermIn g v) ts → AllByRecursion (TermIn h v) ts
+  all_terms_in : (v : ℕ) (ts : List Term) → AllByRecursion (TermIn (length g.arrays) v) ts → AllByRecursion (TermIn (length h.arrays) v) ts
   all_terms_in v [] i = tt
   all_terms_in v (t ∷ ts) i = (term_in v t i.0, all_terms_in v ts i.1)
 
-  all_ops_in : (v : ℕ) (ops : List Op) → AllByRecursion (OpIn g v) ops → AllByRecursion (OpIn h v) ops
+  all_ops_in : (v : ℕ) (ops : List Op) → AllByRecursion (OpIn (length g.arrays) v) ops → AllByRecursion (OpIn (length h.arrays) v) ops
   all_ops_in v [] i = tt
   all_ops_in v (op ∷ ops) i = (op_in v op i.0, all_ops_in v ops i.1)
 

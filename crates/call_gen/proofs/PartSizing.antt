@@ -5,7 +5,7 @@ use Rattle.cfg_core.specs.Graph.{Exit, Goto, Branch, Call, Return, Send, Stop, G
 use Rattle.cfg_core.specs.Rules.{calls, IsGraph}
 use Rattle.cfg_core.specs.Weights.{exit_nodes}
 use Rattle.call_gen.specs.Keeps.{HasNoSend, SendsAtMost}
-use Rattle.call_gen.specs.Sizes.{call_count, Sizes, LandingsAtMost, BlockWithin, ProcWithin, IsWithin}
+use Rattle.call_gen.specs.Sizes.{call_count, Sizes, LandingsAtMost, BlockWithin, ProcWithin, KeepsSizes}
 use Rattle.call_gen.specs.Part.{part_proc, part_procs, keeps, number, name, part}
 use Rattle.call_gen.proofs.PartPlaces.{before_most, part_spot, part_spots}
 use Rattle.call_gen.proofs.PartWalk.{Closed, spots_are, procs_are, spot_is}
@@ -39,7 +39,7 @@ module _ (keep : ℕ → Bool) (named : Exit → Exit) (home : ℕ → ℕ) (sam
       by_test true h = (record { params = i.0.params; vars = i.0.vars }, h)
       by_test false h = h
 
-module _ (g : Graph) (keep : ℕ → Bool) (rules : IsGraph g) (C : Closed g keep) (no_send : HasNoSend g) (z : Sizes) (W : IsWithin z g) where
+module _ (g : Graph) (keep : ℕ → Bool) (rules : IsGraph g) (C : Closed g keep) (no_send : HasNoSend g) (z : Sizes) (W : KeepsSizes z g) where
   abbrev h : Graph
   h = part g keep
 
@@ -85,7 +85,7 @@ module _ (g : Graph) (keep : ℕ → Bool) (rules : IsGraph g) (C : Closed g kee
         landings = (none_sent (block_at g b).exit).1;
       }
 
-  pub is_within : IsWithin z h
+  pub is_within : KeepsSizes z h
   unfolding part
   is_within = record {
     arrays = W.arrays;

@@ -2,11 +2,11 @@
 use Rattle.std.proofs.Common.{ℕ, zero, suc, ◌+◌, ◌-◌, ◌==◌, ◌≡◌, ◌<◌, ◌≤◌, Bool, true, false, if◌then◌else◌, List, [], ◌∷◌, length, map, refl, sym, ap, ◌∙◌, subst, inl, inr, Option, Some, arith}
 use Rattle.std.specs.List.{AllByRecursion, sum_by}
 use Rattle.std.proofs.lemmas.List.Sums.{sum_by-append}
-use Rattle.ws_words.specs.Outside.{Outside, State, World, zeros, opening_out}
+use Rattle.ws_words.specs.Outside.{Outside, ProcState, World, zeros, opening_out}
 use Rattle.cfg_core.specs.Graph.{Exit, Goto, Branch, Call, Return, Send, Stop, GraphProc, Graph, Spot, spots, no_spot, no_proc, spot_at, block_at, proc_at, entry_of}
 use Rattle.cfg_core.specs.Rules.{ExitIn, Leads, CallsEarlier, IsGraph}
 use Rattle.cfg_core.specs.Edges.{Edge}
-use Rattle.cfg_core.specs.Walk.{value_of, values_of, Outcome, Done, Out, run_ops, Frame, Config, At, Over, Going, entered, returned, leave, passed, step, walk, cells_of, opening, IsOver}
+use Rattle.cfg_core.specs.Walk.{value_of, values_of, OpsOutcome, Done, Out, run_ops, Frame, Config, At, Over, Going, entered, returned, leave, passed, step, walk, cells_of, opening, IsOver}
 use Rattle.cfg_core.specs.Shown.{SameShown, SameWalks, SameArrays, AllInside}
 use Rattle.cfg_core.specs.Weights.{block_left, path, WalksWeigh}
 use Rattle.cfg_core.proofs.Paired as paired
@@ -140,7 +140,7 @@ module _ (g : Graph) (keep : ℕ → Bool) (rules : IsGraph g) (C : Closed g kee
       edge_is : (x : Exit) (c : ℕ) → (block_at g b).exit ≡ x → Leads x c → keep c ≡ true
       edge_is x c e l = C.edge b c kept (subst (λ (y : Exit). Leads y c) (sym e) l)
 
-      leaves : (x : Exit) → (block_at g b).exit ≡ x → (s : State) (k : ℕ) → Relates (leave g x s frames k) (leave h (named x) s (moved_frames frames) k)
+      leaves : (x : Exit) → (block_at g b).exit ≡ x → (s : ProcState) (k : ℕ) → Relates (leave g x s frames k) (leave h (named x) s (moved_frames frames) k)
       leaves (Goto c) e s k = (edge_is (Goto c) c e refl, waiting, refl)
       leaves (Branch t c d) e s k = by_test ((value_of t s).0 == 0)
         where
@@ -162,7 +162,7 @@ module _ (g : Graph) (keep : ℕ → Bool) (rules : IsGraph g) (C : Closed g kee
       leaves (Send t ts ls) e s k = absurd (subst NoSend e (no_send b))
       leaves Stop e s k = refl
 
-    passes : (b : ℕ) → keep b ≡ true → (frames : List Frame) → Waiting frames → (o : Outcome) → Relates (passed g o (block_at g b).exit frames) (passed h o (named (block_at g b).exit) (moved_frames frames))
+    passes : (b : ℕ) → keep b ≡ true → (frames : List Frame) → Waiting frames → (o : OpsOutcome) → Relates (passed g o (block_at g b).exit frames) (passed h o (named (block_at g b).exit) (moved_frames frames))
     passes b kept frames waiting (Done s k) = leaves b kept frames waiting (block_at g b).exit refl s k
     passes b kept frames waiting (Out o) = refl
 
@@ -193,7 +193,7 @@ module _ (g : Graph) (keep : ℕ → Bool) (rules : IsGraph g) (C : Closed g kee
 
     -- What the walks weigh, where blocks that are kept weigh as much as those in their places or more.
     module _ (w given : ℕ → ℕ) (fits : (b : ℕ) → keep b ≡ true → w (place b) ≤ given b) where
-      left_few : (b : ℕ) → keep b ≡ true → (s t : State) (frames fs : List Frame) (k j : ℕ) (c d : Config) → Relates c d → sum_by w (block_left (At (place b) t fs j) d) ≤ sum_by given (block_left (At b s frames k) c)
+      left_few : (b : ℕ) → keep b ≡ true → (s t : ProcState) (frames fs : List Frame) (k j : ℕ) (c d : Config) → Relates c d → sum_by w (block_left (At (place b) t fs j) d) ≤ sum_by given (block_left (At b s frames k) c)
       left_few b kept s t frames fs k j (At e u gs i) d r =
           subst (λ (x : Config). sum_by w (block_left (At (place b) t fs j) x) ≤ sum_by given (block_left (At b s frames k) (At e u gs i))) (sym r.2) (omega (arith, fits b kept))
       left_few b kept s t frames fs k j (Over o i) d r =

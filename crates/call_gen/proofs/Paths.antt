@@ -2,7 +2,7 @@
 use Rattle.std.proofs.Common.{ℕ, zero, suc, ◌+◌, ◌≡◌, ◌≤◌, ◌==◌, Bool, true, false, if◌then◌else◌, List, [], ◌∷◌, refl, ap, ◌∙◌, arith}
 use Rattle.std.specs.List.{sum_by}
 use Rattle.std.proofs.lemmas.List.Sums.{sum_by-append}
-use Rattle.ws_words.specs.Outside.{Outside, State}
+use Rattle.ws_words.specs.Outside.{Outside, ProcState}
 use Rattle.cfg_core.specs.Graph.{Exit, Goto, Branch, Call, Return, Send, Stop, Graph}
 use Rattle.cfg_core.specs.Walk.{value_of, Frame, Config, At, Over, Going, returned, leave, step, walk, IsOver}
 use Rattle.cfg_core.specs.Weights.{block_left, path}
@@ -29,16 +29,16 @@ module _ (h : Graph) (f : ℕ → ℕ) where
       let e : sum_by f (path h (m + n) c) ≡ sum_by f (path h (n + m) c) = ap (λ k. sum_by f (path h k c)) (let z : m + n ≡ n + m = omega arith in z) in
       omega (arith, e, path_add n m c, path_add m n c, path_over m (walk h n c) over)
 
-  leaves_if : (b : ℕ) (s : State) (frames : List Frame) (j : ℕ) (v : Bool) (c d : ℕ) (t : State) (fs : List Frame) (k : ℕ) → sum_by f (block_left (At b s frames j) (if v then At c t fs k else At d t fs k)) ≡ f b
+  leaves_if : (b : ℕ) (s : ProcState) (frames : List Frame) (j : ℕ) (v : Bool) (c d : ℕ) (t : ProcState) (fs : List Frame) (k : ℕ) → sum_by f (block_left (At b s frames j) (if v then At c t fs k else At d t fs k)) ≡ f b
   leaves_if b s frames j true c d t fs k = omega arith
   leaves_if b s frames j false c d t fs k = omega arith
 
-  leaves_back : (b : ℕ) (s : State) (frames : List Frame) (j : ℕ) (w : ℕ) (o : Outside) (fs : List Frame) (k : ℕ) → sum_by f (block_left (At b s frames j) (returned w o fs k)) ≡ f b
+  leaves_back : (b : ℕ) (s : ProcState) (frames : List Frame) (j : ℕ) (w : ℕ) (o : Outside) (fs : List Frame) (k : ℕ) → sum_by f (block_left (At b s frames j) (returned w o fs k)) ≡ f b
   leaves_back b s frames j w o [] k = omega arith
   leaves_back b s frames j w o (x ∷ fs) k = omega arith
 
   -- an exit leaves its block
-  pub leaves_one : (b : ℕ) (s : State) (frames : List Frame) (j : ℕ) (x : Exit) (t : State) (fs : List Frame) (k : ℕ) → sum_by f (block_left (At b s frames j) (leave h x t fs k)) ≡ f b
+  pub leaves_one : (b : ℕ) (s : ProcState) (frames : List Frame) (j : ℕ) (x : Exit) (t : ProcState) (fs : List Frame) (k : ℕ) → sum_by f (block_left (At b s frames j) (leave h x t fs k)) ≡ f b
   leaves_one b s frames j (Goto c) t fs k = omega arith
   leaves_one b s frames j (Branch u c d) t fs k = leaves_if b s frames j ((value_of u t).0 == 0) d c (value_of u t).1 fs k
   leaves_one b s frames j (Call r e ts back) t fs k = omega arith

@@ -1,7 +1,7 @@
 -- What both walks do at a Return.
 use Rattle.std.proofs.Common.{ℕ, suc, ◌≡◌, ◌<◌, Bool, true, false, if◌then◌else◌, List, [], ◌∷◌, ◌++◌, length, get_or, refl, sym, ap, ◌∙◌, subst, inl, inr, arith}
 use Rattle.std.proofs.lemmas.List.{append-nil}
-use Rattle.ws_words.specs.Outside.{Act, Outside, State, zeros}
+use Rattle.ws_words.specs.Outside.{Act, Outside, ProcState, zeros}
 use Rattle.cfg_core.specs.Graph.{Term, Var, Exit, Return, Send, Graph, spots, spot_at, block_at}
 use Rattle.cfg_core.specs.Walk.{Done, value_of, loads_of, Frame, Config, At, landed, landing, returned, passed}
 use Rattle.call_gen.specs.Spelled.{is_called, moved, landings, left, spelled}
@@ -15,7 +15,7 @@ use Rattle.ws_words.proofs.Bools.{decide}
 use Rattle.ws_words.proofs.Acts.{with_more}
 use Rattle.live_vars.proofs.Needed.{After}
 
-module _ (g : Graph) (live : List (List ℕ)) (G : Given g live) (F : Placed g live) (C : Celled g) (b : ℕ) (there : b < length (spots g)) (term : Term) (is : (block_at g b).exit ≡ Return term) (s t : State) (k extra : ℕ) (hidden : List (List ℕ)) (roomy : Roomy (total g live) hidden) (st : States g (rows g live) (size g live) (spot_at g b).vars extra hidden (After g (Return term)) s t) where
+module _ (g : Graph) (live : List (List ℕ)) (G : Given g live) (F : Placed g live) (C : Celled g) (b : ℕ) (there : b < length (spots g)) (term : Term) (is : (block_at g b).exit ≡ Return term) (s t : ProcState) (k extra : ℕ) (hidden : List (List ℕ)) (roomy : Roomy (total g live) hidden) (st : States g (rows g live) (size g live) (spot_at g b).vars extra hidden (After g (Return term)) s t) where
   abbrev h : Graph
   h = spelled g live
 

@@ -4,7 +4,7 @@ use Rattle.std.specs.List.{AllByRecursion, filter}
 use Rattle.std.proofs.lemmas.Bool.{cases_lt}
 use Rattle.std.proofs.lemmas.List.{length-append, length-replicate, length_push}
 use Rattle.cfg_core.specs.Graph.{Term, Number, Var, Cell, Flip, Not, Neg, Binary, Op, Assign, Store, Print, Read, Give, Take, Choose, Tick, TickBy, Exit, Goto, Branch, Call, Return, Send, Stop, GraphProc, Graph, Spot, spots, no_spot, no_proc, spot_at, block_at, proc_at, entry_of}
-use Rattle.cfg_core.specs.Rules.{IsArray, TermIn, OpIn, StaysIn, ResultIn, ExitIn, BlockNumbers, ProcNumbers, Lands, CallsEarlier, calls, has_tick, ChoosesBare, IsGraph}
+use Rattle.cfg_core.specs.Rules.{IsArray, TermIn, OpIn, StaysIn, TargetIn, ExitIn, BlockNumbers, ProcNumbers, Lands, CallsEarlier, calls, has_tick, ChoosesBare, IsGraph}
 use Rattle.call_gen.specs.Spelled.{is_called, moved, door, landings, address, cell, array_of, cells_in_all, hidden_arrays, below, saved, save, load, saves, left, clear, is_unset, spelled_procs, spelled}
 use Rattle.call_gen.specs.Keeps.{NoCall, HasNoCall}
 use Rattle.call_gen.proofs.Facts.{Given, Placed, Celled}
@@ -46,7 +46,7 @@ module _ (g : Graph) (live : List (List ℕ)) (G : Given g live) where
   arrays_more = length-append g.arrays (hidden_arrays g) ∙ ap (λ m. length g.arrays + m) (length-replicate (min 192 (cells_in_all g)) _)
 
   -- numbers that name something still do
-  term_in : (v : ℕ) (t : Term) → TermIn g v t → TermIn h (suc v) t
+  term_in : (v : ℕ) (t : Term) → TermIn (length g.arrays) v t → TermIn (length h.arrays) (suc v) t
   term_in v (Number n) i = tt
   term_in v (Var x) i = omega (arith, i)
   term_in v (Cell a t) i = ((i.0.0, omega (arith, i.0.1, arrays_more)), term_in v t i.1)
@@ -55,7 +55,7 @@ module _ (g : Graph) (live : List (List ℕ)) (G : Given g live) where
   term_in v (Neg t) i = term_in v t i
   term_in v (Binary op a b) i = (term_in v a i.0, term_in v b i.1)
 
-  op_in : (v : ℕ) (op : Op) → OpIn g v op → OpIn h (suc v) op
+  op_in : (v : ℕ) (op : Op) → OpIn (length g.arrays) v op → OpIn (length h.arrays) (suc v) op
   op_in v (Assign x t) i = (omega (arith, i.0), term_in v t i.1)
   op_in v (Store a t u) i = ((i.0.0, omega (arith, i.0.1, arrays_more)), term_in v t i.1, term_in v u i.2)
   op_in v (Print t) i = term_in v t i
@@ -66,7 +66,7 @@ module _ (g : Graph) (live : List (List ℕ)) (G : Given g live) where
   op_in v (Tick n) i = tt
   op_in v (TickBy t n m) i = term_in v t i
 
-  cell_there : (k : ℕ) → k < cells_in_all g → IsArray h (array_of g k)
+  cell_there : (k : ℕ) → k < cells_in_all g → IsArray (length h.arrays) (array_of g k)
   cell_there k lt = (omega arith, omega (arith, arrays_more, lt))
 
   -- places of blocks
@@ -100,13 +100,13 @@ module _ (g : Graph) (live : List (List ℕ)) (G : Given g live) where
     abbrev v : ℕ
     v = (spot_at g b).vars
 
-    cell_in : (r : Option ℕ) (f : ℕ) (ts : List Term) (back x : ℕ) → (block_at g b).exit ≡ Call r f ts back → In x (saved g live home v r back) → (x ≤ v) × IsArray h (array_of g (cell g home x))
+    cell_in : (r : Option ℕ) (f : ℕ) (ts : List Term) (back x : ℕ) → (block_at g b).exit ≡ Call r f ts back → In x (saved g live home v r back) → (x ≤ v) × IsArray (length h.arrays) (array_of g (cell g home x))
     cell_in r f ts back x e i =
         let le = kept_low g live G F C b there r back x i in
         (le, cell_there (cell g home x) (C.there home x (F.home b there).0 (F.called b r f ts back there e).1 (omega (arith, le, (F.home b there).1))))
 
-    saves_in : (x : Exit) → (block_at g b).exit ≡ x → AllByRecursion (OpIn h (suc v)) (saves g live home v x)
-    saves_in (Call r f ts back) e = map_in (OpIn h (suc v)) (save g home) (saved g live home v r back) (λ x i. let c = cell_in r f ts back x e i in (c.1, tt, omega (arith, c.0)))
+    saves_in : (x : Exit) → (block_at g b).exit ≡ x → AllByRecursion (OpIn (length h.arrays) (suc v)) (saves g live home v x)
+    saves_in (Call r f ts back) e = map_in (OpIn (length h.arrays) (suc v)) (save g home) (saved g live home v r back) (λ x i. let c = cell_in r f ts back x e i in (c.1, tt, omega (arith, c.0)))
     saves_in (Goto c) e = tt
     saves_in (Branch t c d) e = tt
     saves_in (Return t) e = tt
@@ -118,7 +118,7 @@ module _ (g : Graph) (live : List (List ℕ)) (G : Given g live) where
     left_in (Branch t c d) e = let i = exit_in g live G F b (Branch t c d) e in (term_in v t i.0, stays home c i.1, stays home d i.2)
     left_in (Call r f ts back) e =
         let i = exit_in g live G F b (Call r f ts back) e in
-        (tt, all_both (TermIn h (suc v)) ts (Number (address g f b) ∷ []) (all_have (TermIn g v) (TermIn h (suc v)) ts (term_in v) i.3) (tt, tt), (there_door f i.1, tt))
+        (tt, all_both (TermIn (length h.arrays) (suc v)) ts (Number (address g f b) ∷ []) (all_have (TermIn (length g.arrays) v) (TermIn (length h.arrays) (suc v)) ts (term_in v) i.3) (tt, tt), (there_door f i.1, tt))
     left_in (Return t) e = by_called (is_called g home)
       where
         by_called : (c : Bool) → ExitIn h home (suc v) (if c then Send (Var v) (t ∷ []) (landings g home) else Return t)
@@ -127,14 +127,14 @@ module _ (g : Graph) (live : List (List ℕ)) (G : Given g live) where
     left_in (Send t ts ls) e = tt
     left_in Stop e = tt
 
-    place_low : (r : Option ℕ) → ResultIn v r → or_else r v < suc v
+    place_low : (r : Option ℕ) → TargetIn v r → or_else r v < suc v
     place_low None i = omega arith
     place_low (Some x) i = omega (arith, i)
 
   numbers : (s : Spot) → Sort g live G F s → BlockNumbers h s
   unfolding no_spot
   numbers _ (is_door f lt) = record {
-    ops = map_in (OpIn h (suc (proc_at g f).vars)) clear (filter (is_unset g live f (proc_at g f).params) (below (proc_at g f).vars)) (λ x i. (let l = unset_low g live G F f lt x i in omega (arith, l), tt));
+    ops = map_in (OpIn (length h.arrays) (suc (proc_at g f).vars)) clear (filter (is_unset g live f (proc_at g f).params) (below (proc_at g f).vars)) (λ x i. (let l = unset_low g live G F f lt x i in omega (arith, l), tt));
     exit = stays f (entry_of g f) ((F.first f lt).0, (F.first f lt).1);
     named = by_called (is_called g f);
     once = once (is_called g f);
@@ -149,14 +149,14 @@ module _ (g : Graph) (live : List (List ℕ)) (G : Given g live) where
       once true = apart_push (below (proc_at g f).params) (proc_at g f).vars (below_apart (proc_at g f).params) (λ i. omega (arith, below_all (proc_at g f).params (proc_at g f).vars i, few_params f lt))
       once false = tt
   numbers _ (is_plain b lt) = record {
-    ops = all_both (OpIn h (suc (spot_at g b).vars)) (block_at g b).ops (saves g live (spot_at g b).home (spot_at g b).vars (block_at g b).exit)
-        (all_have (OpIn g (spot_at g b).vars) (OpIn h (suc (spot_at g b).vars)) (block_at g b).ops (op_in (spot_at g b).vars) (numbers_at g G.rules b).ops) (saves_in b lt (block_at g b).exit refl);
+    ops = all_both (OpIn (length h.arrays) (suc (spot_at g b).vars)) (block_at g b).ops (saves g live (spot_at g b).home (spot_at g b).vars (block_at g b).exit)
+        (all_have (OpIn (length g.arrays) (spot_at g b).vars) (OpIn (length h.arrays) (suc (spot_at g b).vars)) (block_at g b).ops (op_in (spot_at g b).vars) (numbers_at g G.rules b).ops) (saves_in b lt (block_at g b).exit refl);
     exit = left_in b lt (block_at g b).exit refl;
     named = tt;
     once = tt;
   }
   numbers _ (is_point b r f ts back lt e) = record {
-    ops = map_in (OpIn h (suc (spot_at g b).vars)) (load g (spot_at g b).home) (saved g live (spot_at g b).home (spot_at g b).vars r back) (λ x i. let c = cell_in b lt r f ts back x e i in (omega (arith, c.0), (c.1, tt)));
+    ops = map_in (OpIn (length h.arrays) (suc (spot_at g b).vars)) (load g (spot_at g b).home) (saved g live (spot_at g b).home (spot_at g b).vars r back) (λ x i. let c = cell_in b lt r f ts back x e i in (omega (arith, c.0), (c.1, tt)));
     exit = stays (spot_at g b).home back (exit_in g live G F b (Call r f ts back) e).4;
     named = (place_low b lt r (exit_in g live G F b (Call r f ts back) e).0, tt);
     once = (λ z. z, tt);

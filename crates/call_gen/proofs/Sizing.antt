@@ -10,7 +10,7 @@ use Rattle.cfg_core.specs.Rules.{calls}
 use Rattle.cfg_core.specs.Weights.{term_nodes, op_nodes, exit_nodes}
 use Rattle.call_gen.specs.Spelled.{callee_is, count_of, is_call, is_called, is_calling, is_saved, is_unset, address, own_cells, first_cell, cells_in_all, hidden_arrays, landings, landings_from, below, saved, save, load, saves, left, clear, spelled_procs, spelled}
 use Rattle.call_gen.specs.Keeps.{NoCall, ParamsAtMost}
-use Rattle.call_gen.specs.Sizes.{call_count, cell_count, Sizes, LandingsAtMost, BlockWithin, ProcWithin, IsWithin, larger, most_hidden_arrays, hidden_cells, spelled_sizes}
+use Rattle.call_gen.specs.Sizes.{call_count, cell_count, Sizes, LandingsAtMost, BlockWithin, ProcWithin, KeepsSizes, larger, most_hidden_arrays, hidden_cells, spelled_sizes}
 use Rattle.call_gen.proofs.Facts.{Given, Placed}
 use Rattle.call_gen.proofs.Slots.{below_count}
 use Rattle.call_gen.proofs.Charging.{terms_push, each_sum}
@@ -86,7 +86,7 @@ rows_few c =
     let m : min 192 c * suc (c / 192) ≤ 192 * suc (c / 192) = mul-le-mul_right (suc (c / 192)) le in
     omega (arith, m)
 
-module _ (g : Graph) (live : List (List ℕ)) (G : Given g live) (z : Sizes) (W : IsWithin z g) where
+module _ (g : Graph) (live : List (List ℕ)) (G : Given g live) (z : Sizes) (W : KeepsSizes z g) where
   abbrev pub F : Placed g live
   F = all_placed g live G.rules
 
@@ -238,7 +238,7 @@ module _ (g : Graph) (live : List (List ℕ)) (G : Given g live) (z : Sizes) (W 
   row_few : suc (cells_in_all g / 192) ≤ larger z.length (suc (hidden_cells z / most_hidden_arrays))
   row_few = omega (arith, cells_few, larger_right z.length (suc (hidden_cells z / most_hidden_arrays)))
 
-  pub is_within : IsWithin (spelled_sizes z) h
+  pub is_within : KeepsSizes (spelled_sizes z) h
   unfolding hidden_arrays
   is_within = record {
     arrays = omega (arith, arrays_more g live G, W.arrays);

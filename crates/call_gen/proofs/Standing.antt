@@ -2,7 +2,7 @@
 use Rattle.std.proofs.Common.{ℕ, suc, ◌+◌, ◌-◌, ◌/◌, ◌≡◌, ◌<◌, ◌≤◌, ◌⊎◌, min, Bool, true, false, List, [], ◌∷◌, length, get_or, sym, ◌∙◌, subst, Option, arith}
 use Rattle.std.specs.List.{sum_by}
 use Rattle.std.proofs.lemmas.List.Sums.{sum_by-append}
-use Rattle.ws_words.specs.Outside.{Outside, State}
+use Rattle.ws_words.specs.Outside.{Outside, ProcState}
 use Rattle.cfg_core.specs.Graph.{Term, Exit, Call, Graph, Spot, no_spot, spots, spot_at, block_at, proc_at}
 use Rattle.cfg_core.specs.Rules.{ExitIn, CallsEarlier}
 use Rattle.cfg_core.specs.Walk.{Frame, Config, At, Over, Going, step, walk}
@@ -41,7 +41,7 @@ module _ (g : Graph) (live : List (List ℕ)) where
   Stack hidden f ra (frame ∷ frames) (b ∷ callers) = Waits hidden f ra frame b × Stack hidden (spot_at g b).home (peek hidden (cell g (spot_at g b).home (spot_at g b).vars)) frames callers
   Stack hidden f ra _ _ = ⊥
 
-  pub record Stands (b : ℕ) (s : State) (frames : List Frame) (callers : List ℕ) (t : State) : Type 0 where
+  pub record Stands (b : ℕ) (s : ProcState) (frames : List Frame) (callers : List ℕ) (t : ProcState) : Type 0 where
     pub there : b < length (spots g)
     pub hidden : List (List ℕ)
     pub extra : ℕ
@@ -96,12 +96,12 @@ module _ (g : Graph) (live : List (List ℕ)) where
         record { blocks = suc r.blocks; callers = r.callers; relates = r.relates; weigh = omega (arith, e, le, r.weigh) }
 
     -- a step leaves one block at most
-    pub left_few : (b : ℕ) (s : State) (frames : List Frame) (k : ℕ) (d : Config) → sum_by w (block_left (At b s frames k) d) ≤ w b
+    pub left_few : (b : ℕ) (s : ProcState) (frames : List Frame) (k : ℕ) (d : Config) → sum_by w (block_left (At b s frames k) d) ≤ w b
     left_few b s frames k (At c t others j) = omega arith
     left_few b s frames k (Over o j) = omega arith
     left_few b s frames k (Going o) = omega arith
 
-    pub reaches_later : (n : ℕ) (c : Config) (b : ℕ) (s : State) (frames : List Frame) (k : ℕ) → Reaches w n c (step (spelled g live) (At b s frames k)) → Reaches w (w b + n) c (At b s frames k)
+    pub reaches_later : (n : ℕ) (c : Config) (b : ℕ) (s : ProcState) (frames : List Frame) (k : ℕ) → Reaches w n c (step (spelled g live) (At b s frames k)) → Reaches w (w b + n) c (At b s frames k)
     reaches_later n c b s frames k r = reaches_past n (w b + n) c (At b s frames k) (omega (arith, left_few b s frames k (step (spelled g live) (At b s frames k)))) r
 
   module _ (G : Given g live) (F : Placed g live) where

@@ -80,7 +80,7 @@ unset [] = 0
 unset (v ∷ flags) = (if v then 0 else 1) + unset flags
 
 -- Of the blocks of P those that weren't flagged are now, and wait to be looked at; no others are.
-pub record Marks (P : ℕ → Type 0) (old new : List Bool) (waited waits : List ℕ) : Type 0 where
+pub record FlagsMore (P : ℕ → Type 0) (old new : List Bool) (waited waits : List ℕ) : Type 0 where
   pub count : length new ≡ length old
   pub keeps : (c : ℕ) → flag_at old c ≡ true → flag_at new c ≡ true
   pub only : (c : ℕ) → flag_at new c ≡ true → (flag_at old c ≡ true) ⊎ P c
@@ -91,8 +91,8 @@ pub record Marks (P : ℕ → Type 0) (old new : List Bool) (waited waits : List
   pub lighter : 2 * unset new + length waits ≤ 2 * unset old + length waited
 
 -- where a block with this exit leads to
-abbrev pub Next : Graph → Exit → ℕ → Type 0
-Next g exit c = Leads exit c ⊎ Enters g exit c
+abbrev pub LeadsOrEnters : Graph → Exit → ℕ → Type 0
+LeadsOrEnters g exit c = Leads exit c ⊎ Enters g exit c
 
 -- Flagged blocks are reached, and where they lead to is flagged, unless they wait.
 pub record Finding (g : Graph) (flags : List Bool) (waits : List ℕ) : Type 0 where
@@ -100,7 +100,7 @@ pub record Finding (g : Graph) (flags : List Bool) (waits : List ℕ) : Type 0 w
   pub main : flag_at flags (entry_of g (length g.procs - 1)) ≡ true
   pub only : (b : ℕ) → flag_at flags b ≡ true → Reached g b
   pub waiting : (b : ℕ) → In b waits → flag_at flags b ≡ true
-  pub led : (b c : ℕ) → flag_at flags b ≡ true → c < length (spots g) → Next g (block_at g b).exit c
+  pub led : (b c : ℕ) → flag_at flags b ≡ true → c < length (spots g) → LeadsOrEnters g (block_at g b).exit c
       → In b waits ⊎ (flag_at flags c ≡ true)
 
 -- the numbers that the part is made from

@@ -6,7 +6,7 @@ use Rattle.cfg_core.specs.Graph.{Graph, spots, block_at}
 use Rattle.cfg_core.specs.View as view
 use Rattle.cfg_core.specs.Shows.{TableIs}
 use Rattle.call_gen.specs.Spelled.{callee_is, is_called, moved, address, first_cell, cells_in_all}
-use Rattle.call_gen.specs.declared.plan.Plan.{Plan}
+use Rattle.call_gen.specs.declared.plan.CallPlan.{CallPlan}
 
 -- the numbers of the spelled graph's blocks, procedures and arrays have 32 bits
 pub record Few (g : Graph) : Type 0 where
@@ -22,7 +22,7 @@ pub record Tallied (g : Graph) (counts : List ℕ) (b : ℕ) : Type 0 where
 abbrev pub CallPlaced : Graph → ℕ → ℕ → Type 0
 CallPlaced g b n = (f : ℕ) → f < length g.procs → callee_is (block_at g b).exit f ≡ true → n ≡ address g f b
 
-pub record PlanIs (plan : Plan) : Type 0 where
+pub record PlanIs (plan : CallPlan) : Type 0 where
   pub table : TableIs plan.table
   pub few : Few (view.graph plan.table.graph.now)
   pub homes : plan.homes.items ≡ map (λ s. s.home) (spots (view.graph plan.table.graph.now))

@@ -48,7 +48,7 @@ pub record ProcWithin (z : Sizes) (p : GraphProc) : Type 0 where
   pub vars : p.vars ≤ z.vars
 
 -- the graph keeps these bounds
-pub record IsWithin (z : Sizes) (g : Graph) : Type 0 where
+pub record KeepsSizes (z : Sizes) (g : Graph) : Type 0 where
   pub arrays : length g.arrays ≤ z.arrays
   pub lengths : AllByRecursion (λ a. a.length ≤ z.length) g.arrays
   pub cells : cell_count g.arrays ≤ z.cells

@@ -9,12 +9,12 @@ ghost use Rattle.cfg_core.specs.View as view;
 ghost use Rattle.call_gen.specs.Spelled as spelled;
 ghost use Rattle.call_gen.specs.Plans.{PlanIs};
 
-use crate::plan::Plan;
+use crate::plan::CallPlan;
 use cfg_core::{GraphBlock, GraphOp, GraphOps, Leave, Term};
 use std::alloc::Global;
 use ws_words::NoMemory;
 
-impl<'a> Plan<'a> {
+impl<'a> CallPlan<'a> {
     /// The door of a procedure.
     pub(crate) fn door_block(
         &self,

@@ -6,7 +6,7 @@ ghost use Rattle.cfg_core.specs.Rules.{IsGraph};
 ghost use Rattle.cfg_core.specs.View as view;
 ghost use Rattle.cfg_core.specs.Shows.{TableIs};
 ghost use Rattle.call_gen.specs.Keeps.{NoSend, HasNoSend};
-ghost use Rattle.call_gen.specs.Part.{AreReached, Marks, Next};
+ghost use Rattle.call_gen.specs.Part.{AreReached, FlagsMore, LeadsOrEnters};
 
 use cfg_core::{GraphTable, Leave};
 use std::alloc::Global;
@@ -22,7 +22,7 @@ pub(crate) struct Finder {
 impl Finder {
     // Flags a block, which waits if it is new. Past the last block nothing changes.
     fn mark(&mut self, b: usize) -> Result<(), NoMemory>
-        ensures { OnOk result (Marks (λ c. c ≡ b)
+        ensures { OnOk result (FlagsMore (λ c. c ≡ b)
             self.old.flags.items self.new.flags.items
             self.old.waits.items self.new.waits.items) }
     {
@@ -37,7 +37,7 @@ impl Finder {
     fn leave(&mut self, table: &GraphTable<'_>, exit: &Leave) -> Result<(), NoMemory>
         requires table { TableIs table.now }
         requires no_send { NoSend (view.exit exit.now) }
-        ensures { OnOk result (Marks (Next (view.graph table.now.graph.now) (view.exit exit.now))
+        ensures { OnOk result (FlagsMore (LeadsOrEnters (view.graph table.now.graph.now) (view.exit exit.now))
             self.old.flags.items self.new.flags.items
             self.old.waits.items self.new.waits.items) }
     {
@@ -62,7 +62,7 @@ impl Finder {
         requires table { TableIs table.now }
         requires no_send { HasNoSend (view.graph table.now.graph.now) }
         ensures { let g = view.graph table.now.graph.now in
-            OnOk result (Marks (Next g (block_at g b).exit)
+            OnOk result (FlagsMore (LeadsOrEnters g (block_at g b).exit)
             self.old.flags.items self.new.flags.items
             self.old.waits.items self.new.waits.items) }
     {

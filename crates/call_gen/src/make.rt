@@ -14,10 +14,10 @@ ghost use Rattle.live_vars.specs.Marks.{AreLive};
 ghost use Rattle.call_gen.specs.Spelled as spelled;
 ghost use Rattle.call_gen.specs.Plans.{PlanIs};
 ghost use Rattle.call_gen.specs.Keeps.{HasNoSend, HasNoCall, NoneLiveAcross, ParamsAtMost, SendsAtMost};
-ghost use Rattle.call_gen.specs.Sizes.{Sizes, IsWithin, spelled_sizes};
+ghost use Rattle.call_gen.specs.Sizes.{Sizes, KeepsSizes, spelled_sizes};
 ghost use Rattle.call_gen.specs.Charged.{CallsCharged};
 
-use crate::plan::{HIDDEN_ARRAYS, Plan};
+use crate::plan::{CallPlan, HIDDEN_ARRAYS};
 use cfg_core::{
     Graph, GraphArray, GraphArrays, GraphBlock, GraphBlocks, GraphProc, GraphProcs, Leave,
     copy_arrays,
@@ -29,7 +29,7 @@ use ws_words::NoMemory;
 // Puts the new form of block b after others, and after that a call's return point.
 fn add_block(
     alloc: Global,
-    plan: &Plan<'_>,
+    plan: &CallPlan<'_>,
     blocks: &mut GraphBlocks,
     home: u32,
     vars: u32,
@@ -61,7 +61,7 @@ fn add_block(
 
 fn spelled_proc(
     alloc: Global,
-    plan: &Plan<'_>,
+    plan: &CallPlan<'_>,
     f: u32,
     first: u32,
     proc: &GraphProc,
@@ -93,7 +93,7 @@ fn spelled_proc(
     })
 }
 
-fn spelled_procs(alloc: Global, plan: &Plan<'_>) -> Result<GraphProcs, NoMemory>
+fn spelled_procs(alloc: Global, plan: &CallPlan<'_>) -> Result<GraphProcs, NoMemory>
     requires plan { PlanIs plan.now }
     requires rules { IsGraph (view.graph plan.now.table.graph.now) }
     ensures { IfOk result (λ procs. map view.proc procs.items ≡
@@ -110,7 +110,7 @@ fn spelled_procs(alloc: Global, plan: &Plan<'_>) -> Result<GraphProcs, NoMemory>
 }
 
 // Puts the arrays of hidden cells after others.
-fn add_hidden(plan: &Plan<'_>, arrays: &mut GraphArrays) -> Result<(), NoMemory>
+fn add_hidden(plan: &CallPlan<'_>, arrays: &mut GraphArrays) -> Result<(), NoMemory>
     requires { PlanIs plan.now }
     ensures { OnOk result (map view.array arrays.new.items ≡
         map view.array arrays.old.items ++ spelled.hidden_arrays
@@ -135,7 +135,7 @@ fn rows(total: u64) -> u64
     }
 }
 
-fn made(alloc: Global, plan: &Plan<'_>) -> Result<Graph, NoMemory>
+fn made(alloc: Global, plan: &CallPlan<'_>) -> Result<Graph, NoMemory>
     requires plan { PlanIs plan.now }
     requires rules { IsGraph (view.graph plan.now.table.graph.now) }
     ensures { IfOk result (λ graph. view.graph graph ≡
@@ -166,8 +166,8 @@ pub fn spell_calls(alloc: Global, graph: &Graph, live: &LiveSets) -> Result<Grap
         (b : ℕ) → SendsAtMost (suc n) (block_at (view.graph made) b).exit) }
 
     // blocks, operations, nodes, landings and hidden cells are bounded by those of the graph
-    ensures sizes { IfOk result (λ made. (z : Sizes) → IsWithin z (view.graph graph.now) →
-        IsWithin (spelled_sizes z) (view.graph made)) }
+    ensures sizes { IfOk result (λ made. (z : Sizes) → KeepsSizes z (view.graph graph.now) →
+        KeepsSizes (spelled_sizes z) (view.graph made)) }
     ensures arms { IfOk result (λ made. ArmsAlone (view.graph graph.now) →
         ArmsAlone (view.graph made)) }
 
@@ -178,7 +178,7 @@ pub fn spell_calls(alloc: Global, graph: &Graph, live: &LiveSets) -> Result<Grap
     ensures charged { IfOk result (λ made. CallsCharged (view.graph graph.now) live.now
         (view.graph made)) }
 {
-    let plan = Plan::of(alloc, graph, live)?;
+    let plan = CallPlan::of(alloc, graph, live)?;
     let graph = made(alloc, &plan)?;
     Ok(graph)
 }

@@ -9,7 +9,7 @@ ghost use Rattle.cfg_core.specs.Shown.{SameWalks, SameArrays};
 ghost use Rattle.cfg_core.specs.View as view;
 ghost use Rattle.call_gen.specs.Keeps.{HasNoSend};
 ghost use Rattle.call_gen.specs.Reached.{AllReached};
-ghost use Rattle.call_gen.specs.Sizes.{Sizes, IsWithin};
+ghost use Rattle.call_gen.specs.Sizes.{Sizes, KeepsSizes};
 ghost use Rattle.call_gen.specs.Charged.{ReachedInPlace};
 ghost use Rattle.call_gen.specs.Part.{PartIs, ExitThere, BlocksThere, before, number, name, part_block};
 ghost use Rattle.call_gen.specs.Part.{part_blocks, part_proc, part_procs, part};
@@ -223,8 +223,8 @@ pub fn reached(alloc: Global, graph: &Graph) -> Result<Graph, NoMemory>
         IsShaped (view.graph made)) }
     ensures arms { IfOk result (λ made. ArmsAlone (view.graph graph.now) →
         ArmsAlone (view.graph made)) }
-    ensures sizes { IfOk result (λ made. (z : Sizes) → IsWithin z (view.graph graph.now) →
-        IsWithin z (view.graph made)) }
+    ensures sizes { IfOk result (λ made. (z : Sizes) → KeepsSizes z (view.graph graph.now) →
+        KeepsSizes z (view.graph made)) }
 
     // the blocks that are reached pay for what walks pass here
     ensures places { IfOk result (λ made. ReachedInPlace (view.graph graph.now)

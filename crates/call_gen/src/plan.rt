@@ -26,7 +26,7 @@ const MOST: usize = 1 << 30;
 /// What the spelled graph's numbers are made from: for each block its procedure, its new number and
 /// the place of its call, for each procedure whether it is called and the number of its first hidden cell.
 #[derive(Drop)]
-pub(crate) struct Plan<'a> {
+pub(crate) struct CallPlan<'a> {
     pub(crate) table: GraphTable<'a>,
     pub(crate) live: &'a LiveSets,
     pub(crate) homes: Vec<u32>,
@@ -57,14 +57,14 @@ fn is_few(table: &GraphTable<'_>) -> bool
     table.graph.arrays.len() < MOST
 }
 
-impl<'a> Plan<'a> {
+impl<'a> CallPlan<'a> {
     /// The plan of a graph. One of more than a billion blocks, procedures or arrays, or of more
     /// hidden cells than 32 bits count, is answered as want of memory.
     pub(crate) fn of(
         alloc: Global,
         graph: &'a Graph,
         live: &'a LiveSets,
-    ) -> Result<Plan<'a>, NoMemory>
+    ) -> Result<CallPlan<'a>, NoMemory>
         ensures graph { IfOk result (λ plan. plan.table.graph.now ≡ graph.now) }
         ensures live { IfOk result (λ plan. plan.live.now ≡ live.now) }
         ensures plan { IfOk result (λ plan. PlanIs plan) }
@@ -78,7 +78,7 @@ impl<'a> Plan<'a> {
         let addresses = addresses(alloc, &table)?;
         let called = called(alloc, &table)?;
         let (cells, total) = cells(alloc, &table, &homes)?;
-        Ok(Plan {
+        Ok(CallPlan {
             table,
             live,
             homes,

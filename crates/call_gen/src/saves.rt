@@ -5,12 +5,12 @@ ghost use Rattle.cfg_core.specs.View as view;
 ghost use Rattle.call_gen.specs.Spelled as spelled;
 ghost use Rattle.call_gen.specs.Plans.{PlanIs};
 
-use crate::plan::{Plan, push_if};
+use crate::plan::{CallPlan, push_if};
 use cfg_core::{GraphOp, GraphOps, Leave, Term};
 use std::alloc::Global;
 use ws_words::NoMemory;
 
-impl<'a> Plan<'a> {
+impl<'a> CallPlan<'a> {
     // Whether a call saves the variable.
     fn is_saved(&self, home: u32, vars: u32, target: Option<u32>, back: u32, x: u32) -> bool
         requires plan { PlanIs self.now }

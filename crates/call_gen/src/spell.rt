@@ -8,12 +8,12 @@ ghost use Rattle.cfg_core.specs.View as view;
 ghost use Rattle.call_gen.specs.Spelled as spelled;
 ghost use Rattle.call_gen.specs.Plans.{PlanIs};
 
-use crate::plan::Plan;
+use crate::plan::CallPlan;
 use cfg_core::{GraphBlock, Leave, Term, copy_ops, copy_term, copy_terms};
 use std::alloc::Global;
 use ws_words::NoMemory;
 
-impl<'a> Plan<'a> {
+impl<'a> CallPlan<'a> {
     // The new exit of block b of this procedure.
     fn left(
         &self,

@@ -5,7 +5,7 @@ use Rattle.seq_run.specs.Resolved.{Action, Assign, Store, Print, Read, Give, Tak
 use Rattle.cfg_core.specs.Graph as graph
 use Rattle.cfg_core.specs.Graph.{Term, Goto, Branch, Block, Graph, Spot}
 use Rattle.cfg_core.specs.Rules.{Leads, calls, has_tick}
-use Rattle.cfg_build.specs.Lowered.{op, Part, leaves, goes_to, last_part, begun, block, Made, led_by, whole, made}
+use Rattle.cfg_build.specs.Lowered.{op, BlockRest, leaves, goes_to, last_part, begun, block, Made, led_by, whole, made}
 use Rattle.cfg_core.specs.Shape.{is_branch, TestsInATurn}
 use Rattle.cfg_build.specs.Keeps.{IsFirstOp, IsFirstExit}
 use Rattle.cfg_build.proofs.Stand.{HasAt, front, next_at, length_made}
@@ -87,11 +87,11 @@ module _ (g : Graph) (all : List (Option ℕ)) where
   led_fine : (b : ℕ) (a : Action) (m : Made) → FineAll b (whole m) → FineAll b (whole (led_by (op a) m))
   led_fine b a m h = (record { on = h.0.on; kept = h.0.kept; apart = h.0.apart; ops = (refl, (first_op a, h.0.ops)); exit = h.0.exit; named = refl; ticks = λ e. refl }, h.1)
 
-  then_blocks : (st : Steps) (c : ℕ) (rest : Part) (ys : List Block) → FineAll c (whole (made st c rest)) → FineAll (suc (c + begun st)) ys → FineAll c (whole (made st c rest) ++ ys)
+  then_blocks : (st : Steps) (c : ℕ) (rest : BlockRest) (ys : List Block) → FineAll c (whole (made st c rest)) → FineAll (suc (c + begun st)) ys → FineAll c (whole (made st c rest) ++ ys)
   then_blocks st c rest ys h i = each_both Fine c (suc (c + begun st)) (whole (made st c rest)) ys (omega (arith, length_made st c rest)) h i
 
   -- the blocks of steps, of which the last one ends with `rest`
-  pub made_fine : (home vars : ℕ) (st : Steps) (c : ℕ) (l : Option ℕ) (rest : Part) → HasAt g home vars (suc c) (made st c rest).blocks → LabelsAt all c (labels st c l) → Fine (c + begun st) (block rest) → FineAll c (whole (made st c rest))
+  pub made_fine : (home vars : ℕ) (st : Steps) (c : ℕ) (l : Option ℕ) (rest : BlockRest) → HasAt g home vars (suc c) (made st c rest).blocks → LabelsAt all c (labels st c l) → Fine (c + begun st) (block rest) → FineAll c (whole (made st c rest))
   made_fine home vars Nothing c l rest h i f = let e : c + 0 ≡ c = omega arith in (subst (λ n. Fine n (block rest)) e f, tt)
   made_fine home vars (Then (Do a) more) c l rest h i f = led_fine c a (made more c rest) (made_fine home vars more c l rest h i f)
   made_fine home vars (Then (Call x p ts) more) c l rest h i f =

@@ -4,7 +4,7 @@ use Rattle.std.proofs.lemmas.List.{append-nil}
 use Rattle.seq_run.specs.Resolved.{Do, Call, If, While, Steps, Nothing, Then}
 use Rattle.cfg_core.specs.Graph as graph
 use Rattle.cfg_core.specs.Graph.{Op, Exit, Block, Tick, Goto, Branch}
-use Rattle.cfg_build.specs.Lowered.{Part, goes_to, op, begun, Made, whole, made}
+use Rattle.cfg_build.specs.Lowered.{BlockRest, goes_to, op, begun, Made, whole, made}
 use Rattle.cfg_build.specs.Building.{Builder, number, closed, with_op, emit, ended}
 
 -- the finished blocks, then the steps' blocks, the first of which begins with the operations at hand
@@ -55,7 +55,7 @@ number_emit (Then (While t body) rest) d =
 closed_is : (d : Builder) (exit : Exit) → (closed exit d).done ≡ ended d (record { ops = []; exit = exit })
 closed_is d exit = ap (λ (ops : List Op). d.done ++ record { named = []; ops = ops; exit = exit } ∷ []) (sym (append-nil d.ops))
 
-pub emit_made : (st : Steps) (d : Builder) (rest : Part) → ended (emit st d) rest ≡ added_to d (made st (number d) rest)
+pub emit_made : (st : Steps) (d : Builder) (rest : BlockRest) → ended (emit st d) rest ≡ added_to d (made st (number d) rest)
 emit_made Nothing d rest = refl
 emit_made (Then (Do a) next) d rest =
     emit_made next _ rest

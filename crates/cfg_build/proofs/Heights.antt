@@ -7,7 +7,7 @@ use Rattle.seq_run.specs.Resolved.{Action, Do, Call, If, While, Steps, Nothing, 
 use Rattle.cfg_core.specs.Graph as graph
 use Rattle.cfg_core.specs.Graph.{Tick, Exit, Branch, Block, Graph, Spot, no_spot, spots, spots_in, spot_at, entry_from, entry_of}
 use Rattle.cfg_core.specs.Weights.{turns_of, handed_on, TwoBlocksATurn}
-use Rattle.cfg_build.specs.Lowered.{Part, leaves, goes_to, last_part, ticked, op, begun, block, whole, made, proc_blocks, procs, lowered}
+use Rattle.cfg_build.specs.Lowered.{BlockRest, leaves, goes_to, last_part, ticked, op, begun, block, whole, made, proc_blocks, procs, lowered}
 use Rattle.cfg_build.proofs.Places.{StandAt, stand_all, stand_front, stand_back}
 use Rattle.cfg_build.proofs.Stand.{proc_end, proc_spots}
 use Rattle.ws_words.specs.Items.{nth, or_else}
@@ -92,11 +92,11 @@ module _ (g : Graph) (all : List ℕ) (entries : (f : ℕ) → height_in all (en
   in_turn : (h : ℕ) (exit : Exit) → handed_on g (height_in all) exit ≤ suc h → Paid h (block (leaves exit))
   in_turn h exit le = omega (arith, sum_by-cons turns_of (Tick 1) [], le)
 
-  acts_more : (h : ℕ) (a : Action) (m : Part) → Paid h (block m) → Paid h (block (ticked (op a) m))
+  acts_more : (h : ℕ) (a : Action) (m : BlockRest) → Paid h (block m) → Paid h (block (ticked (op a) m))
   acts_more h a m paid = omega (arith, sum_by-cons turns_of (Tick 1) (op a ∷ m.ops), sum_by-cons turns_of (op a) m.ops, paid)
 
   -- the blocks of steps, of which the last one ends with `rest`
-  made_paid : (st : Steps) (c d : ℕ) (rest : Part) → HeightsAt c (heights st d) → Paid (suc d) (block rest) → Both Paid (heights st d) (whole (made st c rest))
+  made_paid : (st : Steps) (c d : ℕ) (rest : BlockRest) → HeightsAt c (heights st d) → Paid (suc d) (block rest) → Both Paid (heights st d) (whole (made st c rest))
   made_paid Nothing c d rest h last = (last, tt)
   made_paid (Then (Do a) more) c d rest h last = first_more (heights more d) (made_paid more c d rest h last)
     where

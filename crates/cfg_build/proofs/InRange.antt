@@ -1,32 +1,25 @@
 -- Each number in a lowered block names something of the graph.
-use Rattle.std.proofs.Common.{ℕ, suc, ◌+◌, ◌≡◌, ◌<◌, List, [], ◌∷◌, ◌++◌, length, Option, Some, None, refl, sym, ap, ◌∙◌, arith}
+use Rattle.std.proofs.Common.{ℕ, suc, ◌+◌, ◌≡◌, ◌<◌, List, [], ◌∷◌, ◌++◌, length, Option, Some, None, refl, sym, subst, ap, ◌∙◌, arith}
 use Rattle.std.specs.List.{AllByRecursion}
 use Rattle.seq_run.specs.Resolved.{Action, Assign, Store, Print, Read, Give, Take, Do, Call, If, While, Steps, Nothing, Then, Proc, nth_proc}
 use Rattle.seq_run.specs.InRange as source
 use Rattle.seq_run.specs.InRange.{StepsIn}
 use Rattle.cfg_core.specs.Graph as graph
-use Rattle.cfg_core.specs.Graph.{Term, Number, Var, Cell, Flip, Not, Neg, Binary, Block, Graph, Spot, proc_at}
-use Rattle.cfg_core.specs.Rules.{TermIn, OpIn, StaysIn, ResultIn, ExitIn, CallsEarlier}
-use Rattle.cfg_build.specs.Lowered.{op, Part, leaves, goes_to, last_part, begun, block, Made, led_by, whole, made}
+use Rattle.cfg_core.specs.Graph.{Term, Block, Graph, Spot, proc_at}
+use Rattle.cfg_core.specs.Rules.{TermIn, OpIn, StaysIn, ExitIn, CallsEarlier}
+use Rattle.cfg_build.specs.Lowered.{op, BlockRest, leaves, goes_to, last_part, begun, block, Made, led_by, whole, made}
 use Rattle.cfg_build.proofs.Stand.{HasAt, front, next_at}
 use Rattle.ws_words.proofs.Lists.{all_append as all_both}
 
 module _ (g : Graph) (arrays : ℕ) (same : length g.arrays ≡ arrays) where
   -- a term of the program names arrays and variables of the graph
-  pub term_in : (vars : ℕ) (t : Term) → source.TermIn arrays vars t → TermIn g vars t
-  term_in vars (Number n) h = tt
-  term_in vars (Var x) h = h
-  term_in vars (Cell a t) h = ((h.0.0, omega (arith, h.0.1, same)), term_in vars t h.1)
-  term_in vars (Flip t) h = term_in vars t h
-  term_in vars (Not t) h = term_in vars t h
-  term_in vars (Neg t) h = term_in vars t h
-  term_in vars (Binary o a b) h = (term_in vars a h.0, term_in vars b h.1)
+  pub term_in : (vars : ℕ) (t : Term) → TermIn arrays vars t → TermIn (length g.arrays) vars t
+  term_in vars t h = subst (λ n. TermIn n vars t) (sym same) h
 
-  terms_in : (vars : ℕ) (ts : List Term) → AllByRecursion (source.TermIn arrays vars) ts → AllByRecursion (TermIn g vars) ts
-  terms_in vars [] h = tt
-  terms_in vars (t ∷ ts) h = (term_in vars t h.0, terms_in vars ts h.1)
+  terms_in : (vars : ℕ) (ts : List Term) → AllByRecursion (TermIn arrays vars) ts → AllByRecursion (TermIn (length g.arrays) vars) ts
+  terms_in vars ts h = subst (λ n. AllByRecursion (TermIn n vars) ts) (sym same) h
 
-  op_in : (vars : ℕ) (a : Action) → source.ActionIn arrays vars a → OpIn g vars (op a)
+  op_in : (vars : ℕ) (a : Action) → source.ActionIn arrays vars a → OpIn (length g.arrays) vars (op a)
   op_in vars (Assign x t) h = (h.0, term_in vars t h.1)
   op_in vars (Store a t u) h = ((h.0.0, omega (arith, h.0.1, same)), term_in vars t h.1, term_in vars u h.2)
   op_in vars (Print t) h = term_in vars t h
@@ -34,13 +27,9 @@ module _ (g : Graph) (arrays : ℕ) (same : length g.arrays ≡ arrays) where
   op_in vars (Give p x) h = (h.0, h.1)
   op_in vars (Take p t) h = (h.0, term_in vars t h.1)
 
-  target_in : (vars : ℕ) (x : Option ℕ) → source.TargetIn vars x → ResultIn vars x
-  target_in vars None h = tt
-  target_in vars (Some x) h = h
-
   -- of a block of the procedure with this number and so many variables
   pub record BlockIn (home vars : ℕ) (x : Block) : Type 0 where
-    pub ops : AllByRecursion (OpIn g vars) x.ops
+    pub ops : AllByRecursion (OpIn (length g.arrays) vars) x.ops
     pub exit : ExitIn g home vars x.exit
     pub earlier : CallsEarlier home x.exit
     pub named : x.named ≡ []
@@ -54,7 +43,7 @@ module _ (g : Graph) (arrays : ℕ) (same : length g.arrays ≡ arrays) where
   goes_in : (home vars b : ℕ) → StaysIn g home b → BlockIn home vars (block (goes_to b))
   goes_in home vars b h = record { ops = tt; exit = h; earlier = tt; named = refl }
 
-  tests_in : (home vars : ℕ) (t : Term) (b c : ℕ) → source.TermIn arrays vars t → StaysIn g home b → StaysIn g home c → BlockIn home vars (block (leaves (graph.Branch t b c)))
+  tests_in : (home vars : ℕ) (t : Term) (b c : ℕ) → TermIn arrays vars t → StaysIn g home b → StaysIn g home c → BlockIn home vars (block (leaves (graph.Branch t b c)))
   tests_in home vars t b c h i j = record { ops = (tt, tt); exit = (term_in vars t h, i, j); earlier = tt; named = refl }
 
   pub last_in : (home vars : ℕ) (r : Option Term) → source.ResultIn arrays vars r → BlockIn home vars (block (last_part r))
@@ -69,13 +58,13 @@ module _ (g : Graph) (arrays : ℕ) (same : length g.arrays ≡ arrays) where
     calls_in : (vars : ℕ) (x : Option ℕ) (f : ℕ) (ts : List Term) (b : ℕ) → source.StepIn arrays ps home vars (Call x f ts) → StaysIn g home b → BlockIn home vars (block (leaves (graph.Call x f ts b)))
     calls_in vars x f ts b h i = record {
       ops = (tt, tt);
-      exit = (target_in vars x h.0, omega (arith, h.1, few), h.2 ∙ sym (params f h.1), terms_in vars ts h.3, i);
+      exit = (h.0, omega (arith, h.1, few), h.2 ∙ sym (params f h.1), terms_in vars ts h.3, i);
       earlier = h.1;
       named = refl;
     }
 
     -- the blocks of steps, of which the last one ends with `rest`
-    pub made_in : (vars : ℕ) (st : Steps) (c : ℕ) (rest : Part) → StepsIn arrays ps home vars st → HasAt g home vars (suc c) (made st c rest).blocks → BlockIn home vars (block rest) → BlocksIn home vars (whole (made st c rest))
+    pub made_in : (vars : ℕ) (st : Steps) (c : ℕ) (rest : BlockRest) → StepsIn arrays ps home vars st → HasAt g home vars (suc c) (made st c rest).blocks → BlockIn home vars (block rest) → BlocksIn home vars (whole (made st c rest))
     made_in vars Nothing c rest i h r = (r, tt)
     made_in vars (Then (Do a) more) c rest i h r = led_in home vars a (made more c rest) i.0 (made_in vars more c rest i.1 h r)
     made_in vars (Then (Call x f ts) more) c rest i h r =

@@ -2,7 +2,7 @@
 use Rattle.std.proofs.Common.{ℕ, zero, suc, ◌+◌, ◌-◌, ◌≡◌, ◌<◌, ◌≤◌, ◌==◌, Bool, true, false, List, [], ◌∷◌, ◌++◌, length, if◌then◌else◌, refl, sym, ap, ◌∙◌, subst, arith}
 use Rattle.std.proofs.lemmas.Bool.{eqb-true}
 use Rattle.std.proofs.lemmas.Bool.Decides.{nat_tests}
-use Rattle.ws_words.specs.Outside.{Outside, State, World, zeros, opening_out}
+use Rattle.ws_words.specs.Outside.{Outside, ProcState, World, zeros, opening_out}
 use Rattle.src_ast.specs.Syntax.{Part}
 use Rattle.src_ast.specs.Turns.{CallEnd, Returned, Stopped}
 use Rattle.src_ast.specs.Meaning as meaning
@@ -21,7 +21,7 @@ use Rattle.cfg_core.proofs.Cost.{one_answer}
 
 -- a run never has more turns left than it had
 abbrev pub TurnsNeverGrow : Type 0
-TurnsNeverGrow = (procs : List Proc) (below : ℕ) (steps : Steps) (s : State) (turns : ℕ) → AtMost turns (run_all (calls_below below procs) steps s turns)
+TurnsNeverGrow = (procs : List Proc) (below : ℕ) (steps : Steps) (s : ProcState) (turns : ℕ) → AtMost turns (run_all (calls_below below procs) steps s turns)
 
 -- the run on names is the run on their places
 abbrev pub NamesArePlaces : Type 0
@@ -73,7 +73,7 @@ module _ (grow : TurnsNeverGrow) (program : ResolvedProgram) (fit : ProgramIn pr
       let g = lowered program in let p = nth_proc program.procs n in let calls = calls_below n program.procs in
       let first = entry_of g n in let rest = last_part p.result in
       let at : HasAt g n (p.params + p.locals) first (proc_blocks p first) = has_blocks program n lt in
-      let s : State = record { vars = args ++ zeros p.locals; out = o } in
+      let s : ProcState = record { vars = args ++ zeros p.locals; out = o } in
       subst (λ (vs : List ℕ). FollowsCall g (run_proc calls p args o k) (At first (record { vars = vs; out = o }) fs k) fs) (sym same)
       (finished g (run_all calls p.body s k) p.result (At first s fs k) fs
       (at_whole g n (p.params + p.locals) first (made p.body first rest) at (run_all calls p.body s k) s k rest fs

@@ -19,7 +19,7 @@ use Rattle.seq_run.specs.InRange.{steps_in, ProgramIn}
 use Rattle.cfg_core.specs.Graph as graph
 use Rattle.cfg_core.specs.Graph.{Term, Tick, Exit, Branch, Return, Block, GraphProc, GraphArray, Spot, no_spot, spots, spots_in, spot_at}
 use Rattle.cfg_core.specs.Weights.{turns_of, acts_of, jumps_of, term_nodes, op_nodes, exit_nodes, block_nodes, TurnsPayWork}
-use Rattle.cfg_build.specs.Lowered.{Part, op, begun, block, ticked, leaves, goes_to, last_part, whole, made, proc_blocks, procs, lowered}
+use Rattle.cfg_build.specs.Lowered.{BlockRest, op, begun, block, ticked, leaves, goes_to, last_part, whole, made, proc_blocks, procs, lowered}
 use Rattle.src_ast.specs.LanguageLimits.{most_procedures, most_statements, most_parameters, most_array_cells}
 use Rattle.cfg_build.specs.Sizes.{own_blocks, own_ops, ending_ops, own_nodes, result_nodes, IsSized, IsSmall}
 use Rattle.cfg_build.specs.Keeps.{arrays_of}
@@ -218,7 +218,7 @@ module _ (most : ℕ) where
   op_works (resolved.Give q x) = (refl, refl)
   op_works (resolved.Take q t) = (refl, refl)
 
-  ticked_works : (a : Action) (p : Part) → op_nodes (op a) ≤ most → Works (block p) → Works (block (ticked (op a) p))
+  ticked_works : (a : Action) (p : BlockRest) → op_nodes (op a) ≤ most → Works (block p) → Works (block (ticked (op a) p))
   ticked_works a p le h =
       let o = op a in let turns = sum_by turns_of p.ops in
       let t1 = sum_by-cons turns_of (Tick 1) (o ∷ p.ops) in let t2 = sum_by-cons turns_of o p.ops in
@@ -248,7 +248,7 @@ module _ (most : ℕ) where
   abbrev AllWork : List Block → Type 0
   AllWork xs = AllByRecursion Works xs
 
-  made_works : (st : Steps) (c : ℕ) (rest : Part) → EachAtMost step_nodes most st → Works (block rest) → AllWork (whole (made st c rest))
+  made_works : (st : Steps) (c : ℕ) (rest : BlockRest) → EachAtMost step_nodes most st → Works (block rest) → AllWork (whole (made st c rest))
   made_works Nothing c rest h last = (last, tt)
   made_works (Then (Do a) more) c rest h last = let r = made_works more c rest h.1 last in (ticked_works a (made more c rest).front h.0 r.0, r.1)
   made_works (Then (Call x f ts) more) c rest h last =

@@ -3,14 +3,14 @@ use Rattle.std.proofs.Common.{ℕ, zero, suc, ◌+◌, ◌≡◌, ◌<◌, List,
 use Rattle.std.proofs.lemmas.List.{length-append}
 use Rattle.seq_run.specs.Resolved.{Do, Call, If, While, Steps, Nothing, Then, Proc, nth_proc, ResolvedProgram}
 use Rattle.cfg_core.specs.Graph.{Block, Graph, Spot, spots, spots_in, spots_from, spot_at, proc_at, entry_from, entry_of, no_spot, no_proc}
-use Rattle.cfg_build.specs.Lowered.{Part, goes_to, begun, whole, made, proc, procs, proc_blocks, last_part, lowered}
+use Rattle.cfg_build.specs.Lowered.{BlockRest, goes_to, begun, whole, made, proc, procs, proc_blocks, last_part, lowered}
 use Rattle.cfg_build.proofs.Places.{StandAt, stand_all, stand_front, stand_back, Each, each_both}
 use Rattle.cfg_core.proofs.Weighing.{count_in as count_spots}
 use Rattle.cfg_core.proofs.Spots.{spots_in_both as spots_both}
 use Rattle.ws_words.specs.Items.{nth, or_else}
 
 -- how many blocks stand after the first one
-pub length_made : (st : Steps) (c : ℕ) (rest : Part) → length (made st c rest).blocks ≡ begun st
+pub length_made : (st : Steps) (c : ℕ) (rest : BlockRest) → length (made st c rest).blocks ≡ begun st
 length_made Nothing c rest = refl
 length_made (Then (Do a) more) c rest = length_made more c rest
 length_made (Then (Call x f ts) more) c rest = ap suc (length_made more (suc c) rest)
@@ -46,7 +46,7 @@ module _ (g : Graph) where
   front home vars b xs ys h = stand_front (spot_at g) (length (spots g)) b (spots_in home vars xs) (spots_in home vars ys) (apart home vars b xs ys h)
 
   -- after the blocks of steps stand those of what follows
-  pub next_at : (home vars : ℕ) (st : Steps) (c : ℕ) (rest : Part) (ys : List Block) → HasAt home vars c (whole (made st c rest) ++ ys) → HasAt home vars (suc (c + begun st)) ys
+  pub next_at : (home vars : ℕ) (st : Steps) (c : ℕ) (rest : BlockRest) (ys : List Block) → HasAt home vars c (whole (made st c rest) ++ ys) → HasAt home vars (suc (c + begun st)) ys
   next_at home vars st c rest ys h =
       let xs = whole (made st c rest) in
       stand_back (spot_at g) (length (spots g)) c (suc (c + begun st)) (spots_in home vars xs) (spots_in home vars ys) (omega (arith, count_spots home vars xs, length_made st c rest)) (apart home vars c xs ys h)

@@ -12,7 +12,7 @@ use Rattle.seq_run.specs.Resolving as resolving
 use Rattle.seq_run.specs.InRange.{size_all, steps_in}
 use Rattle.cfg_core.specs.Graph as graph
 use Rattle.cfg_core.specs.Graph.{Term, Op, Exit, Branch, Block, Spot, spots_in}
-use Rattle.cfg_build.specs.Lowered.{Part, op, begun, block, ticked, leaves, goes_to, last_part, whole, made, proc_blocks}
+use Rattle.cfg_build.specs.Lowered.{BlockRest, op, begun, block, ticked, leaves, goes_to, last_part, whole, made, proc_blocks}
 use Rattle.cfg_build.specs.Sizes.{sum_over, sum_procs}
 use Rattle.cfg_build.proofs.Stand.{proc_spots}
 
@@ -63,7 +63,7 @@ procs_most own last most more (p ∷ ps) h =
 
 -- a measure of blocks, by its value at an operation after a turn, at an exit after a turn, and at a Goto alone
 pub record IsMeasure (measure : Block → ℕ) (acts : Op → ℕ) (exits : Exit → ℕ) (goto : ℕ) : Type 0 where
-  pub act : (o : Op) (p : Part) → measure (block (ticked o p)) ≡ acts o + measure (block p)
+  pub act : (o : Op) (p : BlockRest) → measure (block (ticked o p)) ≡ acts o + measure (block p)
   pub exit : (exit : Exit) → measure (block (leaves exit)) ≡ exits exit
   pub goes : (b : ℕ) → measure (block (goes_to b)) ≡ goto
   pub branch : (t : Term) (a b : ℕ) → exits (Branch t a b) ≡ exits (Branch t 0 0)
@@ -77,7 +77,7 @@ own_of acts exits goto (If t a b) = exits (Branch t 0 0) + (goto + goto)
 own_of acts exits goto (While t body) = exits (Branch t 0 0) + (goto + goto)
 
 module _ (measure : Block → ℕ) (acts : Op → ℕ) (exits : Exit → ℕ) (goto : ℕ) (is : IsMeasure measure acts exits goto) where
-  made_total : (st : Steps) (c : ℕ) (rest : Part) → sum_by measure (whole (made st c rest)) ≡ total (own_of acts exits goto) st + measure (block rest)
+  made_total : (st : Steps) (c : ℕ) (rest : BlockRest) → sum_by measure (whole (made st c rest)) ≡ total (own_of acts exits goto) st + measure (block rest)
   made_total Nothing c rest = let e = sum_by-cons measure (block rest) [] in omega (arith, e)
   made_total (Then (Do a) more) c rest =
       let m = made more c rest in

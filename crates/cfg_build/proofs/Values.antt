@@ -1,6 +1,6 @@
 -- Actions have the same effects in the graph as in the run.
 use Rattle.std.proofs.Common.{ℕ, ◌≡◌, List, Option, Some, None, refl}
-use Rattle.ws_words.specs.Outside.{State}
+use Rattle.ws_words.specs.Outside.{ProcState}
 use Rattle.src_ast.specs.Turns as turns
 use Rattle.seq_run.specs.Resolved.{Action, Assign, Store, Print, Read, Give, Take, done}
 use Rattle.cfg_core.specs.Walk as walks
@@ -8,7 +8,7 @@ use Rattle.cfg_core.specs.Walk.{Done, run_op}
 use Rattle.cfg_build.specs.Lowered.{op}
 
 -- an action is one operation
-pub action_same : (a : Action) (s : State) (k : ℕ) → run_op (op a) s k ≡ Done (done a s) k
+pub action_same : (a : Action) (s : ProcState) (k : ℕ) → run_op (op a) s k ≡ Done (done a s) k
 action_same (Assign x t) s k = refl
 action_same (Store a t u) s k = refl
 action_same (Print t) s k = refl

@@ -4,7 +4,7 @@ use Rattle.std.specs.Prelude.{ℕ, suc, ◌+◌, ◌^◌, ◌<◌, List, [], ◌
 use Rattle.seq_run.specs.Resolved.{Action, Give, Take, Step, Do, Call, If, While, Steps, Nothing, Then, Proc}
 use Rattle.cfg_core.specs.Graph as graph
 use Rattle.cfg_core.specs.Graph.{Op, Tick, Exit, Goto, Branch, Block}
-use Rattle.cfg_build.specs.Lowered.{Part, op, begun}
+use Rattle.cfg_build.specs.Lowered.{BlockRest, op, begun}
 
 -- `first` is the number of the first block
 pub record Builder : Type 0 where
@@ -47,7 +47,7 @@ abbrev mutual
   emit (Then s rest) d = emit rest (emit_one s d)
 
 -- the blocks with the one at hand, where this part follows
-abbrev pub ended : Builder → Part → List Block
+abbrev pub ended : Builder → BlockRest → List Block
 ended d rest = d.done ++ record { named = []; ops = d.ops ++ rest.ops; exit = rest.exit } ∷ []
 
 -- the length of an array fits into 32 bits

@@ -16,24 +16,24 @@ op (Give p x) = graph.Give p x
 op (Take p t) = graph.Take p t
 
 -- what is left of a block: a place in the graph
-pub record Part : Type 0 where
+pub record BlockRest : Type 0 where
   pub ops : List Op
   pub exit : Exit
 
 -- an operation after a turn, then what is left
-abbrev pub ticked : Op → Part → Part
+abbrev pub ticked : Op → BlockRest → BlockRest
 ticked o p = record { ops = Tick 1 ∷ o ∷ p.ops; exit = p.exit }
 
 -- an exit after a turn
-abbrev pub leaves : Exit → Part
+abbrev pub leaves : Exit → BlockRest
 leaves exit = record { ops = Tick 1 ∷ []; exit = exit }
 
 -- an exit to a block, without a turn
-abbrev pub goes_to : ℕ → Part
+abbrev pub goes_to : ℕ → BlockRest
 goes_to b = record { ops = []; exit = Goto b }
 
 -- the last part of a procedure: without a `return` the result is 0
-abbrev pub last_part : Option graph.Term → Part
+abbrev pub last_part : Option graph.Term → BlockRest
 last_part None = record { ops = []; exit = Return (graph.Number 0) }
 last_part (Some t) = leaves (Return t)
 
@@ -47,12 +47,12 @@ begun (Then (If t a b) rest) = suc (begun a + suc (begun b + suc (begun rest)))
 begun (Then (While t body) rest) = suc (suc (begun body + suc (begun rest)))
 
 -- a block that begins with this part
-abbrev pub block : Part → Block
+abbrev pub block : BlockRest → Block
 block p = record { named = []; ops = p.ops; exit = p.exit }
 
 -- the part with which steps begin in the block at hand, and the blocks after that one
 pub record Made : Type 0 where
-  pub front : Part
+  pub front : BlockRest
   pub blocks : List Block
 
 -- a turn and an operation first
@@ -66,7 +66,7 @@ whole m = block m.front ∷ m.blocks
 -- Steps that begin in the block with this number, where `rest` follows them. Of an `if`, the blocks
 -- of its first arm come before those of its second, and the join after both; of a `while`, its
 -- header comes first, then the blocks of its body, then the block after it.
-abbrev pub made : Steps → ℕ → Part → Made
+abbrev pub made : Steps → ℕ → BlockRest → Made
 made Nothing c rest = record { front = rest; blocks = [] }
 made (Then (Do a) more) c rest = led_by (op a) (made more c rest)
 made (Then (Call x f ts) more) c rest =

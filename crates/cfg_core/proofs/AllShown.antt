@@ -31,7 +31,7 @@ cells_shown (a ∷ arrays) h (r ∷ cells) e =
     ∙ ap (λ (rs : List (List ℕ)). r ∷ rs) (cells_shown arrays h.1 cells (omega arith))
 
 module _ (g : Graph) (none : NoneHidden g.arrays) where
-  not_hidden : (a : ℕ) → IsArray g a → is_hidden g.arrays a ≡ false
+  not_hidden : (a : ℕ) → IsArray (length g.arrays) a → is_hidden g.arrays a ≡ false
   not_hidden a h = named_at g.arrays none (a - 1) (omega arith)
 
   act_shown : (act : Act) → ActIn g act → shown_act g.arrays act ≡ act ∷ []

@@ -1,16 +1,16 @@
 -- The acts of a walk name arrays that are there, and as many arrays are left as the graph has.
 use Rattle.std.proofs.Common.{ℕ, zero, suc, ◌-◌, ◌≡◌, ◌==◌, Bool, true, false, List, [], ◌∷◌, ◌++◌, length, if◌then◌else◌, refl, sym, ap, ◌∙◌, subst}
 use Rattle.std.specs.List.{AllByRecursion}
-use Rattle.ws_words.specs.Outside.{Act, loads, stores, reads, prints, gives, takes, Outside, State, World, with_row}
+use Rattle.ws_words.specs.Outside.{Act, loads, stores, reads, prints, gives, takes, Outside, ProcState, World, with_row}
 use Rattle.cfg_core.specs.Graph.{Term, Number, Var, Cell, Flip, Not, Neg, Binary, Op, Assign, Store, Print, Read, Give, Take, Choose, Tick, TickBy, Exit, Goto, Branch, Call, Return, Send, Stop, GraphArray, Graph, no_spot, spots, spot_at, block_at}
-use Rattle.cfg_core.specs.Walk.{loads_of, all_loads, value_of, values_of, Outcome, Done, Out, and_then, spend, run_op, run_ops, Frame, Config, At, Over, Going, returned, leave, passed, step, walk, cells_of, opening, Ends, Goes}
-use Rattle.cfg_core.specs.Rules.{IsArray, TermIn, OpIn, ExitIn, BlockNumbers, Numbers}
+use Rattle.cfg_core.specs.Walk.{loads_of, all_loads, value_of, values_of, OpsOutcome, Done, Out, and_then, spend, run_op, run_ops, Frame, Config, At, Over, Going, returned, leave, passed, step, walk, cells_of, opening, Ends, Goes}
+use Rattle.cfg_core.specs.Rules.{IsArray, TermIn, OpIn, ExitIn, BlockNumbers, GraphNumbers}
 use Rattle.cfg_core.proofs.Spots.{each_at}
 
 -- an act on an array of the graph, or on none
 abbrev pub ActIn : Graph → Act → Type 0
-ActIn g (loads a i) = IsArray g a
-ActIn g (stores a i w) = IsArray g a
+ActIn g (loads a i) = IsArray (length g.arrays) a
+ActIn g (stores a i w) = IsArray (length g.arrays) a
 ActIn g reads = Unit {0}
 ActIn g (prints w) = Unit {0}
 ActIn g (gives p) = Unit {0}
@@ -25,7 +25,7 @@ pub record OutIn (g : Graph) (o : Outside) : Type 0 where
   pub cells : length o.cells ≡ length g.arrays
 
 -- what is outside after operations has the arrays of the graph, and acts on them alone
-abbrev pub OutcomeIn : Graph → Outcome → Type 0
+abbrev pub OutcomeIn : Graph → OpsOutcome → Type 0
 OutcomeIn g (Done s k) = OutIn g s.out
 OutcomeIn g (Out o) = OutIn g o
 
@@ -49,7 +49,7 @@ module _ (g : Graph) where
   both_in [] ys h i = i
   both_in (x ∷ xs) ys h i = (h.0, both_in xs ys h.1 i)
 
-  loads_in : (n : ℕ) (t : Term) → TermIn g n t → (vars : List ℕ) (cells : List (List ℕ)) → ActsIn g (loads_of t vars cells)
+  loads_in : (n : ℕ) (t : Term) → TermIn (length g.arrays) n t → (vars : List ℕ) (cells : List (List ℕ)) → ActsIn g (loads_of t vars cells)
   loads_in n (Number m) h vars cells = tt
   loads_in n (Var x) h vars cells = tt
   loads_in n (Cell a t) h vars cells = both_in (loads_of t vars cells) _ (loads_in n t h.1 vars cells) (h.0, tt)
@@ -58,7 +58,7 @@ module _ (g : Graph) where
   loads_in n (Neg t) h vars cells = loads_in n t h vars cells
   loads_in n (Binary op a b) h vars cells = both_in (loads_of a vars cells) (loads_of b vars cells) (loads_in n a h.0 vars cells) (loads_in n b h.1 vars cells)
 
-  all_loads_in : (n : ℕ) (ts : List Term) → AllByRecursion (TermIn g n) ts → (vars : List ℕ) (cells : List (List ℕ)) → ActsIn g (all_loads ts vars cells)
+  all_loads_in : (n : ℕ) (ts : List Term) → AllByRecursion (TermIn (length g.arrays) n) ts → (vars : List ℕ) (cells : List (List ℕ)) → ActsIn g (all_loads ts vars cells)
   all_loads_in n [] h vars cells = tt
   all_loads_in n (t ∷ ts) h vars cells = both_in (loads_of t vars cells) (all_loads ts vars cells) (loads_in n t h.0 vars cells) (all_loads_in n ts h.1 vars cells)
 
@@ -66,17 +66,17 @@ module _ (g : Graph) where
   more_in : (o p : Outside) (acts : List Act) → p.acts ≡ o.acts ++ acts → length p.cells ≡ length o.cells → ActsIn g acts → OutIn g o → OutIn g p
   more_in o p acts e c h i = record { acts = subst (λ (xs : List Act). ActsIn g xs) (sym e) (both_in o.acts acts i.acts h); cells = c ∙ i.cells }
 
-  loaded_in : (n : ℕ) (t : Term) → TermIn g n t → (s : State) → OutIn g s.out → OutIn g (value_of t s).1.out
+  loaded_in : (n : ℕ) (t : Term) → TermIn (length g.arrays) n t → (s : ProcState) → OutIn g s.out → OutIn g (value_of t s).1.out
   loaded_in n t h s i = more_in s.out _ (loads_of t s.vars s.out.cells) refl refl (loads_in n t h s.vars s.out.cells) i
 
-  all_loaded_in : (n : ℕ) (ts : List Term) → AllByRecursion (TermIn g n) ts → (s : State) → OutIn g s.out → OutIn g (values_of ts s).1.out
+  all_loaded_in : (n : ℕ) (ts : List Term) → AllByRecursion (TermIn (length g.arrays) n) ts → (s : ProcState) → OutIn g s.out → OutIn g (values_of ts s).1.out
   all_loaded_in n ts h s i = more_in s.out _ (all_loads ts s.vars s.out.cells) refl refl (all_loads_in n ts h s.vars s.out.cells) i
 
   -- one act more
   acted_in : (o p : Outside) (act : Act) → p.acts ≡ o.acts ++ act ∷ [] → length p.cells ≡ length o.cells → ActIn g act → OutIn g o → OutIn g p
   acted_in o p act e c h i = more_in o p (act ∷ []) e c (h, tt) i
 
-  if_outcome : (b : Bool) (o p : Outcome) → OutcomeIn g o → OutcomeIn g p → OutcomeIn g (if b then o else p)
+  if_outcome : (b : Bool) (o p : OpsOutcome) → OutcomeIn g o → OutcomeIn g p → OutcomeIn g (if b then o else p)
   if_outcome true o p h i = h
   if_outcome false o p h i = i
 
@@ -84,12 +84,12 @@ module _ (g : Graph) where
   if_config true c d h i = h
   if_config false c d h i = i
 
-  spend_in : (n : ℕ) (s : State) (k : ℕ) → OutIn g s.out → OutcomeIn g (spend n s k)
+  spend_in : (n : ℕ) (s : ProcState) (k : ℕ) → OutIn g s.out → OutcomeIn g (spend n s k)
   spend_in zero s k h = h
   spend_in (suc n) s zero h = h
   spend_in (suc n) s (suc k) h = spend_in n s k h
 
-  op_in : (n : ℕ) (op : Op) → OpIn g n op → (s : State) (k : ℕ) → OutIn g s.out → OutcomeIn g (run_op op s k)
+  op_in : (n : ℕ) (op : Op) → OpIn (length g.arrays) n op → (s : ProcState) (k : ℕ) → OutIn g s.out → OutcomeIn g (run_op op s k)
   op_in n (Assign x t) h s k i = loaded_in n t h.1 s i
   op_in n (Store a t u) h s k i =
       let v = (value_of t s).1 in let w = value_of u v in
@@ -106,11 +106,11 @@ module _ (g : Graph) where
       let j = loaded_in n t h s i in
       if_outcome ((value_of t s).0 == 0) _ _ (spend_in l (value_of t s).1 k j) (spend_in m (value_of t s).1 k j)
 
-  then_in : (o : Outcome) (go : State → ℕ → Outcome) → OutcomeIn g o → ((s : State) (k : ℕ) → OutIn g s.out → OutcomeIn g (go s k)) → OutcomeIn g (and_then o go)
+  then_in : (o : OpsOutcome) (go : ProcState → ℕ → OpsOutcome) → OutcomeIn g o → ((s : ProcState) (k : ℕ) → OutIn g s.out → OutcomeIn g (go s k)) → OutcomeIn g (and_then o go)
   then_in (Done s k) go h f = f s k h
   then_in (Out o) go h f = h
 
-  ops_in : (n : ℕ) (ops : List Op) → AllByRecursion (OpIn g n) ops → (s : State) (k : ℕ) → OutIn g s.out → OutcomeIn g (run_ops ops s k)
+  ops_in : (n : ℕ) (ops : List Op) → AllByRecursion (OpIn (length g.arrays) n) ops → (s : ProcState) (k : ℕ) → OutIn g s.out → OutcomeIn g (run_ops ops s k)
   ops_in n [] h s k i = i
   ops_in n (op ∷ ops) h s k i = then_in (run_op op s k) (run_ops ops) (op_in n op h.0 s k i) (ops_in n ops h.1)
 
@@ -118,7 +118,7 @@ module _ (g : Graph) where
   returned_in v o [] k h = h
   returned_in v o (f ∷ frames) k h = h
 
-  leave_in : (home n : ℕ) (exit : Exit) → ExitIn g home n exit → (s : State) (frames : List Frame) (k : ℕ) → OutIn g s.out → ConfigIn g (leave g exit s frames k)
+  leave_in : (home n : ℕ) (exit : Exit) → ExitIn g home n exit → (s : ProcState) (frames : List Frame) (k : ℕ) → OutIn g s.out → ConfigIn g (leave g exit s frames k)
   leave_in home n (Goto b) h s frames k i = i
   leave_in home n (Branch t a b) h s frames k i = let j = loaded_in n t h.0 s i in if_config ((value_of t s).0 == 0) _ _ j j
   leave_in home n (Call x f ts back) h s frames k i = all_loaded_in n ts h.3 s i
@@ -126,11 +126,11 @@ module _ (g : Graph) where
   leave_in home n (Send t ts ls) h s frames k i = all_loaded_in n ts h.1 (value_of t s).1 (loaded_in n t h.0 s i)
   leave_in home n Stop h s frames k i = i
 
-  passed_in : (home n : ℕ) (o : Outcome) (exit : Exit) → ExitIn g home n exit → (frames : List Frame) → OutcomeIn g o → ConfigIn g (passed g o exit frames)
+  passed_in : (home n : ℕ) (o : OpsOutcome) (exit : Exit) → ExitIn g home n exit → (frames : List Frame) → OutcomeIn g o → ConfigIn g (passed g o exit frames)
   passed_in home n (Done s k) exit h frames i = leave_in home n exit h s frames k i
   passed_in home n (Out o) exit h frames i = i
 
-  module _ (numbers : Numbers g) where
+  module _ (numbers : GraphNumbers g) where
     block_numbers : (b : ℕ) → BlockNumbers g (spot_at g b)
     unfolding spot_at no_spot
     block_numbers b = each_at (BlockNumbers g) (spots g) no_spot numbers.blocks (record { ops = tt; exit = tt; named = tt; once = tt }) b

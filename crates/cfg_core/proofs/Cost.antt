@@ -1,31 +1,31 @@
 -- A walk that ended with turns left ends with each other number of turns left, if it has as many more or fewer.
 use Rattle.std.proofs.Common.{ℕ, zero, suc, ◌+◌, ◌-◌, ◌≡◌, ◌≤◌, ◌⊎◌, ◌==◌, Bool, true, false, List, [], ◌∷◌, if◌then◌else◌, refl, sym, ap, ◌∙◌, subst, inl, inr, arith}
-use Rattle.ws_words.specs.Outside.{Outside, State, World}
+use Rattle.ws_words.specs.Outside.{Outside, ProcState, World}
 use Rattle.cfg_core.specs.Graph.{Op, Assign, Store, Print, Read, Give, Take, Choose, Tick, TickBy, Exit, Goto, Branch, Call, Return, Send, Stop, Graph, block_at}
-use Rattle.cfg_core.specs.Walk.{value_of, Outcome, Done, Out, and_then, spend, run_op, run_ops, Frame, Config, At, Over, Going, returned, leave, passed, step, walk, opening, Ends, EndsWith, Goes, IsOver}
+use Rattle.cfg_core.specs.Walk.{value_of, OpsOutcome, Done, Out, and_then, spend, run_op, run_ops, Frame, Config, At, Over, Going, returned, leave, passed, step, walk, opening, Ends, EndsWith, Goes, IsOver}
 
 -- with `cost` turns more than are left at the end
-record Cost (h : ℕ → Outcome) (u : State) (j k : ℕ) : Type 0 where
+record Cost (h : ℕ → OpsOutcome) (u : ProcState) (j k : ℕ) : Type 0 where
   cost : ℕ
   sum : k ≡ j + cost
   again : (i : ℕ) → h (i + cost) ≡ Done u i
 
-no_cost : (s u : State) (j k : ℕ) → Done s k ≡ Done u j → Cost (λ i. Done s i) u j k
-no_cost s u j k e = record { cost = 0; sum = (let z : k ≡ j = cc in omega (arith, z)); again = λ i. let z : i + 0 ≡ i = omega arith in let w : s ≡ u = cc in ap (λ n. Done s n) z ∙ ap (λ (x : State). Done x i) w }
+no_cost : (s u : ProcState) (j k : ℕ) → Done s k ≡ Done u j → Cost (λ i. Done s i) u j k
+no_cost s u j k e = record { cost = 0; sum = (let z : k ≡ j = cc in omega (arith, z)); again = λ i. let z : i + 0 ≡ i = omega arith in let w : s ≡ u = cc in ap (λ n. Done s n) z ∙ ap (λ (x : ProcState). Done x i) w }
 
-then_cost : (h : ℕ → Outcome) (go : State → ℕ → Outcome) (u : State) (j k : ℕ) → ((s : State) (i : ℕ) → h k ≡ Done s i → Cost h s i k) → ((s : State) (i : ℕ) → go s i ≡ Done u j → Cost (go s) u j i) → (o : Outcome) → h k ≡ o → and_then o go ≡ Done u j → Cost (λ i. and_then (h i) go) u j k
+then_cost : (h : ℕ → OpsOutcome) (go : ProcState → ℕ → OpsOutcome) (u : ProcState) (j k : ℕ) → ((s : ProcState) (i : ℕ) → h k ≡ Done s i → Cost h s i k) → ((s : ProcState) (i : ℕ) → go s i ≡ Done u j → Cost (go s) u j i) → (o : OpsOutcome) → h k ≡ o → and_then o go ≡ Done u j → Cost (λ i. and_then (h i) go) u j k
 then_cost h go u j k f g (Done s i) e d = let r = f s i e in let q = g s i d in record {
   cost = q.cost + r.cost;
   sum = omega (arith, r.sum, q.sum);
-  again = λ n. let z : n + (q.cost + r.cost) ≡ (n + q.cost) + r.cost = omega arith in ap (λ m. and_then (h m) go) z ∙ ap (λ (x : Outcome). and_then x go) (r.again (n + q.cost)) ∙ q.again n;
+  again = λ n. let z : n + (q.cost + r.cost) ≡ (n + q.cost) + r.cost = omega arith in ap (λ m. and_then (h m) go) z ∙ ap (λ (x : OpsOutcome). and_then x go) (r.again (n + q.cost)) ∙ q.again n;
 }
 then_cost h go u j k f g (Out o) e d = absurd (cc)
 
-if_cost : (b : Bool) (h g : ℕ → Outcome) (u : State) (j k : ℕ) → (h k ≡ Done u j → Cost h u j k) → (g k ≡ Done u j → Cost g u j k) → (if b then h k else g k) ≡ Done u j → Cost (λ i. if b then h i else g i) u j k
+if_cost : (b : Bool) (h g : ℕ → OpsOutcome) (u : ProcState) (j k : ℕ) → (h k ≡ Done u j → Cost h u j k) → (g k ≡ Done u j → Cost g u j k) → (if b then h k else g k) ≡ Done u j → Cost (λ i. if b then h i else g i) u j k
 if_cost true h g u j k f i e = f e
 if_cost false h g u j k f i e = i e
 
-spend_cost : (n : ℕ) (s : State) (k : ℕ) (u : State) (j : ℕ) → spend n s k ≡ Done u j → Cost (spend n s) u j k
+spend_cost : (n : ℕ) (s : ProcState) (k : ℕ) (u : ProcState) (j : ℕ) → spend n s k ≡ Done u j → Cost (spend n s) u j k
 spend_cost zero s k u j e = no_cost s u j k e
 spend_cost (suc n) s zero u j e = absurd (cc)
 spend_cost (suc n) s (suc k) u j e = let r = spend_cost n s k u j e in record {
@@ -34,7 +34,7 @@ spend_cost (suc n) s (suc k) u j e = let r = spend_cost n s k u j e in record {
   again = λ i. let z : i + suc r.cost ≡ suc (i + r.cost) = omega arith in ap (λ m. spend (suc n) s m) z ∙ r.again i;
 }
 
-op_cost : (op : Op) (s : State) (k : ℕ) (u : State) (j : ℕ) → run_op op s k ≡ Done u j → Cost (run_op op s) u j k
+op_cost : (op : Op) (s : ProcState) (k : ℕ) (u : ProcState) (j : ℕ) → run_op op s k ≡ Done u j → Cost (run_op op s) u j k
 op_cost (Assign x t) s k u j e = no_cost _ u j k e
 op_cost (Store a t w) s k u j e = no_cost _ u j k e
 op_cost (Print t) s k u j e = no_cost _ u j k e
@@ -45,13 +45,13 @@ op_cost (Choose x t a b) s k u j e = if_cost ((value_of t s).0 == 0) _ _ u j k (
 op_cost (Tick n) s k u j e = spend_cost n s k u j e
 op_cost (TickBy t n m) s k u j e = if_cost ((value_of t s).0 == 0) (spend m (value_of t s).1) (spend n (value_of t s).1) u j k (spend_cost m (value_of t s).1 k u j) (spend_cost n (value_of t s).1 k u j) e
 
-ops_cost : (ops : List Op) (s : State) (k : ℕ) (u : State) (j : ℕ) → run_ops ops s k ≡ Done u j → Cost (run_ops ops s) u j k
+ops_cost : (ops : List Op) (s : ProcState) (k : ℕ) (u : ProcState) (j : ℕ) → run_ops ops s k ≡ Done u j → Cost (run_ops ops s) u j k
 ops_cost [] s k u j e = no_cost s u j k e
 ops_cost (op ∷ ops) s k u j e = then_cost (run_op op s) (run_ops ops) u j k (λ t i d. op_cost op s k t i d) (λ t i d. ops_cost ops t i u j d) (run_op op s k) refl e
 
 -- what a block leads to, whatever turns are left
 data Onward (h : ℕ → Config) : Type 0 where
-  at : (b : ℕ) (s : State) (frames : List Frame) → ((k : ℕ) → h k ≡ At b s frames k) → Onward h
+  at : (b : ℕ) (s : ProcState) (frames : List Frame) → ((k : ℕ) → h k ≡ At b s frames k) → Onward h
   over : (o : Outside) → ((k : ℕ) → h k ≡ Over o k) → Onward h
 
 if_onward : (v : Bool) (h g : ℕ → Config) → Onward h → Onward g → Onward (λ k. if v then h k else g k)
@@ -63,7 +63,7 @@ returned_onward v o [] = over o (λ k. refl)
 returned_onward v o (f ∷ frames) = at _ _ frames (λ k. refl)
 
 module _ (g : Graph) where
-  leave_onward : (exit : Exit) (s : State) (frames : List Frame) → Onward (leave g exit s frames)
+  leave_onward : (exit : Exit) (s : ProcState) (frames : List Frame) → Onward (leave g exit s frames)
   leave_onward (Goto b) s frames = at b s frames (λ k. refl)
   leave_onward (Branch t a b) s frames = if_onward ((value_of t s).0 == 0) _ _ (at b _ frames (λ k. refl)) (at a _ frames (λ k. refl))
   leave_onward (Call x f ts back) s frames = at _ _ _ (λ k. refl)
@@ -94,7 +94,7 @@ module _ (g : Graph) where
       (cc, λ i. walk_over m p i ∙ ap (λ (x : Outside). Over x i) q)
 
   -- what follows the operations
-  exit_cost : (m : ℕ) (o : Outside) (j : ℕ) → ((c : ℕ) (v : State) (fs : List Frame) (i : ℕ) → walk g m (At c v fs i) ≡ Over o j → WalkCost m (At c v fs) o j i) → (h : ℕ → Config) (i : ℕ) → Onward h → walk g m (h i) ≡ Over o j → WalkCost m h o j i
+  exit_cost : (m : ℕ) (o : Outside) (j : ℕ) → ((c : ℕ) (v : ProcState) (fs : List Frame) (i : ℕ) → walk g m (At c v fs i) ≡ Over o j → WalkCost m (At c v fs) o j i) → (h : ℕ → Config) (i : ℕ) → Onward h → walk g m (h i) ≡ Over o j → WalkCost m h o j i
   exit_cost m o j f h i (at c v fs same) d =
       let r = f c v fs i (sym (ap (walk g m) (same i)) ∙ d) in
       record { cost = r.cost; sum = r.sum; again = λ n. ap (walk g m) (same (n + r.cost)) ∙ r.again n }
@@ -102,7 +102,7 @@ module _ (g : Graph) where
       let r = over_again m p o i j (sym (ap (walk g m) (same i)) ∙ d) in
       record { cost = 0; sum = omega (arith, r.0); again = λ n. let z : n + 0 ≡ n = omega arith in ap (walk g m) (same (n + 0)) ∙ r.1 (n + 0) ∙ ap (λ x. Over o x) z }
 
-  passed_cost : (m : ℕ) (o : Outside) (j : ℕ) → ((c : ℕ) (v : State) (fs : List Frame) (i : ℕ) → walk g m (At c v fs i) ≡ Over o j → WalkCost m (At c v fs) o j i) → (b : ℕ) (s : State) (frames : List Frame) (k : ℕ) (q : Outcome) → run_ops (block_at g b).ops s k ≡ q → walk g m (passed g q (block_at g b).exit frames) ≡ Over o j → WalkCost (suc m) (At b s frames) o j k
+  passed_cost : (m : ℕ) (o : Outside) (j : ℕ) → ((c : ℕ) (v : ProcState) (fs : List Frame) (i : ℕ) → walk g m (At c v fs i) ≡ Over o j → WalkCost m (At c v fs) o j i) → (b : ℕ) (s : ProcState) (frames : List Frame) (k : ℕ) (q : OpsOutcome) → run_ops (block_at g b).ops s k ≡ q → walk g m (passed g q (block_at g b).exit frames) ≡ Over o j → WalkCost (suc m) (At b s frames) o j k
   passed_cost m o j f b s frames k (Done u i) q d =
       let r = ops_cost (block_at g b).ops s k u i q in
       let w = exit_cost m o j f (leave g (block_at g b).exit u frames) i (leave_onward (block_at g b).exit u frames) d in
@@ -111,7 +111,7 @@ module _ (g : Graph) where
         sum = omega (arith, r.sum, w.sum);
         again = λ n. let z : n + (w.cost + r.cost) ≡ (n + w.cost) + r.cost = omega arith in
             ap (λ x. walk g m (passed g (run_ops (block_at g b).ops s x) (block_at g b).exit frames)) z
-            ∙ ap (λ (x : Outcome). walk g m (passed g x (block_at g b).exit frames)) (r.again (n + w.cost))
+            ∙ ap (λ (x : OpsOutcome). walk g m (passed g x (block_at g b).exit frames)) (r.again (n + w.cost))
             ∙ w.again n;
       }
   passed_cost m o j f b s frames k (Out p) q d = absurd (no_end (sym (walk_going m p) ∙ d))
@@ -119,7 +119,7 @@ module _ (g : Graph) where
       no_end : Going p ≡ Over o j → ⊥
       no_end e = cc
 
-  at_cost : (m : ℕ) (b : ℕ) (s : State) (frames : List Frame) (k : ℕ) (o : Outside) (j : ℕ) → walk g m (At b s frames k) ≡ Over o j → WalkCost m (At b s frames) o j k
+  at_cost : (m : ℕ) (b : ℕ) (s : ProcState) (frames : List Frame) (k : ℕ) (o : Outside) (j : ℕ) → walk g m (At b s frames k) ≡ Over o j → WalkCost m (At b s frames) o j k
   at_cost zero b s frames k o j e = absurd (cc)
   at_cost (suc m) b s frames k o j e = passed_cost m o j (λ c v fs i d. at_cost m c v fs i o j d) b s frames k (run_ops (block_at g b).ops s k) refl e
 

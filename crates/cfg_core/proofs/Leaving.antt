@@ -1,6 +1,6 @@
 -- What the code does at exits is what the walk does.
 use Rattle.std.proofs.Common.{ℕ, zero, suc, ◌-◌, ◌≡◌, ◌<◌, ◌≤◌, Bool, true, false, List, [], ◌∷◌, ◌++◌, length, drop, if◌then◌else◌, slice_index, slice_set, refl, sym, ap, ◌∙◌, subst, append_assoc, arith}
-use Rattle.ws_words.specs.Outside.{State, zeros}
+use Rattle.ws_words.specs.Outside.{ProcState, zeros}
 use Rattle.ws_words.proofs.Rows.{zeros_more}
 use Rattle.cfg_core.specs.Walk as walks
 use Rattle.cfg_core.specs.Walk.{value, values, value_of, values_of, leave, landing, Config, At, Over, landed, returned, with_result}
@@ -58,20 +58,20 @@ stacked_last [] f below = refl
 stacked_last (g ∷ fs) f below = stacked_last fs f (record { result = g.result; back = g.back; vars = g.vars } ∷ below)
 
 -- back into the last call that waits
-pub given_back : (s : State) (frames : List walks.Frame) (k v : ℕ) (w n : Walker) (f : Frame) → Shows s frames k w → w.frames.items ≡ n.frames.items ++ f ∷ [] → n.vars ≡ with_result f.result v f.vars → OutIs s.out n.memory → n.turns ≡ w.turns → NextIs (returned v s.out frames k) (next.At f.back) n
+pub given_back : (s : ProcState) (frames : List walks.Frame) (k v : ℕ) (w n : Walker) (f : Frame) → Shows s frames k w → w.frames.items ≡ n.frames.items ++ f ∷ [] → n.vars ≡ with_result f.result v f.vars → OutIs s.out n.memory → n.turns ≡ w.turns → NextIs (returned v s.out frames k) (next.At f.back) n
 given_back s frames k v w n f sh ef ev on et =
     let same : frames ≡ record { result = f.result; back = f.back; vars = f.vars } ∷ stacked n.frames.items [] = sh.waiting ∙ ap (λ (fs : List Frame). stacked fs []) ef ∙ stacked_last n.frames.items f [] in
     subst (λ (fs : List walks.Frame). NextIs (returned v s.out fs k) (next.At f.back) n) (sym same)
     (refl, record { vars = sym ev; outside = on; waiting = refl; turns = sh.turns ∙ sym et })
 
 -- no call waits
-pub none_waits : (s : State) (frames : List walks.Frame) (k v : ℕ) (w n : Walker) → Shows s frames k w → w.frames.items ≡ [] → OutIs s.out n.memory → n.turns ≡ w.turns → NextIs (returned v s.out frames k) next.Over n
+pub none_waits : (s : ProcState) (frames : List walks.Frame) (k v : ℕ) (w n : Walker) → Shows s frames k w → w.frames.items ≡ [] → OutIs s.out n.memory → n.turns ≡ w.turns → NextIs (returned v s.out frames k) next.Over n
 none_waits s frames k v w n sh ef on et =
     let same : frames ≡ [] = sh.waiting ∙ ap (λ (fs : List Frame). stacked fs []) ef in
     subst (λ (fs : List walks.Frame). NextIs (returned v s.out fs k) next.Over n) (sym same) (on, sh.turns ∙ sym et)
 
 -- the code's exit is that of the graph
-pub from_exit : (g : Graph) (x y : Leave) (s : State) (frames : List walks.Frame) (k : ℕ) (n : Next) (w : Walker) → y ≡ x → NextIs (leave g (view.exit x) s frames k) n w → NextIs (leave g (view.exit y) s frames k) n w
+pub from_exit : (g : Graph) (x y : Leave) (s : ProcState) (frames : List walks.Frame) (k : ℕ) (n : Next) (w : Walker) → y ≡ x → NextIs (leave g (view.exit x) s frames k) n w → NextIs (leave g (view.exit y) s frames k) n w
 from_exit g x y s frames k n w e h = subst (λ (z : Leave). NextIs (leave g (view.exit z) s frames k) n w) (sym e) h
 
 -- a choice of ways by a test that holds
@@ -82,7 +82,7 @@ if_true b c d n w e h = subst (λ (v : Bool). NextIs (if v then c else d) n w) (
 pub if_false : (b : Bool) (c d : Config) (n : Next) (w : Walker) → b ≡ false → NextIs d n w → NextIs (if b then c else d) n w
 if_false b c d n w e h = subst (λ (v : Bool). NextIs (if v then c else d) n w) (sym e) h
 
-module _ (g : Graph) (s : State) (frames : List walks.Frame) (k : ℕ) (w : Walker) (sh : Shows s frames k w) where
+module _ (g : Graph) (s : ProcState) (frames : List walks.Frame) (k : ℕ) (w : Walker) (sh : Shows s frames k w) where
   -- a call enters its procedure
   pub called : (x : Option ℕ) (f : ℕ) (ts : List Term) (back : ℕ) (room : Room) (words now : List ℕ) (fs : Vec Frame Global) → room.entry ≡ entry_of g f → room.params ≡ (proc_at g f).params → room.vars ≡ (proc_at g f).vars → words ≡ values ts w.vars w.memory.cells → now ≡ words ++ zeros (room.vars - room.params) → fs.items ≡ w.frames.items ++ record { result = x; back = back; vars = w.vars } ∷ [] → NextIs (leave g (Call x f ts back) s frames k) (next.At room.entry) (record w { vars = now; frames = fs })
   called x f ts back room words now fs ee ep ev ew en ef =

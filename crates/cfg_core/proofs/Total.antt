@@ -1,8 +1,8 @@
 -- A walk of any number of turns comes to an answer: each block makes it lighter.
 use Rattle.std.proofs.Common.{ℕ, zero, suc, ◌+◌, ◌-◌, ◌*◌, ◌≡◌, ◌<◌, ◌≤◌, ◌==◌, min, Bool, true, false, List, [], ◌∷◌, length, if◌then◌else◌, refl, ap, inl, inr, arith}
-use Rattle.ws_words.specs.Outside.{Outside, State}
+use Rattle.ws_words.specs.Outside.{Outside, ProcState}
 use Rattle.cfg_core.specs.Graph.{Exit, Goto, Branch, Call, Return, Send, Stop, Graph, Spot, no_spot, spots, spot_at, block_at, entry_of}
-use Rattle.cfg_core.specs.Walk.{value_of, values_of, Outcome, Done, Out, run_ops, Frame, Config, At, Over, Going, landing, returned, leave, passed, step, walk, IsOver}
+use Rattle.cfg_core.specs.Walk.{value_of, values_of, OpsOutcome, Done, Out, run_ops, Frame, Config, At, Over, Going, landing, returned, leave, passed, step, walk, IsOver}
 use Rattle.cfg_core.specs.Rules.{Leads, has_turn, has_tick, calls, Lands, IsGraph}
 use Rattle.cfg_core.proofs.Turns.{AtMost, Fewer, ops_most, ops_fewer, has_tick_turns}
 use Rattle.cfg_core.proofs.Rank.{rank, rank_most, rank_falls}
@@ -49,7 +49,7 @@ module _ (g : Graph) where
     returned_lighter small v o (f ∷ fs) e = small f.back f fs e
 
     -- after a turn
-    leave_turn : ((c : ℕ) (fs : List Frame) → length fs ≤ suc (length frames) → weight g (length fs) k c < w) → (exit : Exit) (s : State) → Lighter g w (leave g exit s frames k)
+    leave_turn : ((c : ℕ) (fs : List Frame) → length fs ≤ suc (length frames) → weight g (length fs) k c < w) → (exit : Exit) (s : ProcState) → Lighter g w (leave g exit s frames k)
     leave_turn small (Goto b) s = small b frames (omega arith)
     leave_turn small (Branch t a b) s = if_lighter w ((value_of t s).0 == 0) _ _ (small b frames (omega arith)) (small a frames (omega arith))
     leave_turn small (Call x f ts back) s = small (entry_of g f) (record { result = x; back = back; vars = (values_of ts s).1.vars } ∷ frames) (omega arith)
@@ -58,7 +58,7 @@ module _ (g : Graph) where
     leave_turn small Stop s = tt
 
     -- along an edge
-    leave_quiet : ((c : ℕ) (f : Frame) (fs : List Frame) → frames ≡ f ∷ fs → weight g (length fs) k c < w) → (exit : Exit) → Lands g exit → calls exit ≡ false → ((c : ℕ) → Leads exit c → weight g (length frames) k c < w) → (s : State) → Lighter g w (leave g exit s frames k)
+    leave_quiet : ((c : ℕ) (f : Frame) (fs : List Frame) → frames ≡ f ∷ fs → weight g (length fs) k c < w) → (exit : Exit) → Lands g exit → calls exit ≡ false → ((c : ℕ) → Leads exit c → weight g (length frames) k c < w) → (s : ProcState) → Lighter g w (leave g exit s frames k)
     leave_quiet small (Goto b) lands none edge s = edge b refl
     leave_quiet small (Branch t a b) lands none edge s = if_lighter w ((value_of t s).0 == 0) _ _ (edge b (inr refl)) (edge a (inl refl))
     leave_quiet small (Call x f ts back) lands none edge s = absurd (no_both refl none)
@@ -66,7 +66,7 @@ module _ (g : Graph) where
     leave_quiet small (Send t ts ls) lands none edge s = edge _ (in_landing (value_of t s).0 ls lands.0)
     leave_quiet small Stop lands none edge s = tt
 
-  passed_turn : (o : Outcome) (exit : Exit) (frames : List Frame) (k b : ℕ) → Fewer k o → Lighter g (weight g (length frames) k b) (passed g o exit frames)
+  passed_turn : (o : OpsOutcome) (exit : Exit) (frames : List Frame) (k b : ℕ) → Fewer k o → Lighter g (weight g (length frames) k b) (passed g o exit frames)
   passed_turn (Done s j) exit frames k b lt = leave_turn (weight g (length frames) k b) frames j (λ c fs le. fewer_rounds (length frames) k (length fs) j b c (omega arith)) exit s
   passed_turn (Out o) exit frames k b lt = tt
 
@@ -80,7 +80,7 @@ module _ (g : Graph) where
     unfolding spot_at no_spot
     ticks_at b = each_at (λ (s : Spot). calls s.block.exit ≡ true → has_tick s.block.ops ≡ true) (spots g) no_spot rules.call_ticks (λ e. absurd (no_both e refl)) b
 
-    passed_quiet : (b : ℕ) → has_turn (block_at g b).ops ≡ false → (o : Outcome) (frames : List Frame) (k : ℕ) → AtMost k o → Lighter g (weight g (length frames) k b) (passed g o (block_at g b).exit frames)
+    passed_quiet : (b : ℕ) → has_turn (block_at g b).ops ≡ false → (o : OpsOutcome) (frames : List Frame) (k : ℕ) → AtMost k o → Lighter g (weight g (length frames) k b) (passed g o (block_at g b).exit frames)
     passed_quiet b e (Done s j) frames k le = leave_quiet (weight g (length frames) k b) frames j
         (λ c f fs d. fewer_rounds (length frames) k (length fs) j b c (let h : length frames ≡ suc (length fs) = ap length d in omega arith))
         (block_at g b).exit (lands_at b) (no_call (calls (block_at g b).exit) refl)
@@ -92,7 +92,7 @@ module _ (g : Graph) where
     passed_quiet b e (Out o) frames k le = tt
 
     -- each block leads to a place that weighs less
-    pub step_lighter : (b : ℕ) (s : State) (frames : List Frame) (k : ℕ) → Lighter g (weight g (length frames) k b) (step g (At b s frames k))
+    pub step_lighter : (b : ℕ) (s : ProcState) (frames : List Frame) (k : ℕ) → Lighter g (weight g (length frames) k b) (step g (At b s frames k))
     step_lighter b s frames k = by_bool (has_turn (block_at g b).ops) (Lighter g (weight g (length frames) k b) (step g (At b s frames k)))
         (λ e. passed_turn (run_ops (block_at g b).ops s k) (block_at g b).exit frames k b (ops_fewer (block_at g b).ops e s k))
         (λ e. passed_quiet b e (run_ops (block_at g b).ops s k) frames k (ops_most (block_at g b).ops s k))
@@ -114,5 +114,5 @@ module _ (g : Graph) where
         lighter_still (Going o) i = tt
 
     -- it does so from the start of each block
-    pub comes : (b : ℕ) (s : State) (frames : List Frame) (k : ℕ) → Comes (At b s frames k)
+    pub comes : (b : ℕ) (s : ProcState) (frames : List Frame) (k : ℕ) → Comes (At b s frames k)
     comes b s frames k = comes_below (suc (weight g (length frames) k b)) (At b s frames k) (omega arith)

@@ -1,6 +1,6 @@
 -- What the code does block by block is what the walk does.
 use Rattle.std.proofs.Common.{ℕ, zero, suc, ◌+◌, ◌-◌, ◌≡◌, ◌<◌, ◌≤◌, Bool, true, false, List, [], ◌∷◌, ◌++◌, length, drop, map, if◌then◌else◌, refl, sym, ap, ◌∙◌, subst, append_assoc, arith}
-use Rattle.ws_words.specs.Outside.{Outside, State, World, zeros, opening_out}
+use Rattle.ws_words.specs.Outside.{Outside, ProcState, World, zeros, opening_out}
 use Rattle.std.proofs.lemmas.List.{length-map}
 use Rattle.cfg_core.specs.Graph.{Graph, GraphArray, entry_of, proc_at}
 use Rattle.cfg_core.specs.View as view
@@ -8,7 +8,7 @@ use Rattle.cfg_core.specs.Shown.{has_name, shown_cells}
 use Rattle.cfg_core.specs.declared.blocks.GraphArray.{GraphArray as CodeArray}
 use Rattle.cfg_core.specs.Walk as walks
 use Rattle.cfg_core.specs.Walk.{Config, At, Over, Going, step, walk, opening, Ends, EndsWith}
-use Rattle.cfg_core.specs.Answer.{EndsSo, GoesSo}
+use Rattle.cfg_core.specs.Answer.{EndsInTurns, GoesSo}
 use Rattle.cfg_core.specs.Rules.{IsGraph}
 use Rattle.ws_words.specs.Memory.{OutIs}
 use Rattle.cfg_core.specs.Shows.{Shows, NextIs, Held, FinalIs, AnswerIs, stacked, shown_at}
@@ -27,7 +27,7 @@ walk_more g (suc n) c = walk_more g n (step g c)
 -- what the code is at, from which the walk goes on
 pub record WalkUpto (g : Graph) (c : Config) (b : ℕ) (w : Walker) : Type 0 where
   pub blocks : ℕ
-  pub state : State
+  pub state : ProcState
   pub frames : List walks.Frame
   pub left : ℕ
   pub shows : Shows state frames left w
@@ -39,7 +39,7 @@ at_next g c (Over o k) n b w same h = absurd h
 at_next g c (Going o) n b w same h = absurd h
 
 -- the code has come to the next block
-pub walk_next : (g : Graph) (c : Config) (b d : ℕ) (w n : Walker) → WalkUpto g c b w → ((s : State) (frames : List walks.Frame) (k : ℕ) → Shows s frames k w → NextIs (step g (At b s frames k)) (next.At d) n) → WalkUpto g c d n
+pub walk_next : (g : Graph) (c : Config) (b d : ℕ) (w n : Walker) → WalkUpto g c b w → ((s : ProcState) (frames : List walks.Frame) (k : ℕ) → Shows s frames k w → NextIs (step g (At b s frames k)) (next.At d) n) → WalkUpto g c d n
 walk_next g c b d w n u f = at_next g c (step g (At b u.state u.frames u.left)) (suc u.blocks) d n (walk_more g u.blocks c ∙ ap (step g) u.same) (f u.state u.frames u.left u.shows)
 
 over_final : (d : Config) (w : Walker) → NextIs d next.Over w → FinalIs d true w
@@ -53,18 +53,18 @@ going_final (Over o k) w h = absurd h
 going_final (Going o) w h = h
 
 -- the code has come to the end
-pub walk_over : (g : Graph) (c : Config) (b : ℕ) (w n : Walker) → WalkUpto g c b w → ((s : State) (frames : List walks.Frame) (k : ℕ) → Shows s frames k w → NextIs (step g (At b s frames k)) next.Over n) → AnswerIs g c true n
+pub walk_over : (g : Graph) (c : Config) (b : ℕ) (w n : Walker) → WalkUpto g c b w → ((s : ProcState) (frames : List walks.Frame) (k : ℕ) → Shows s frames k w → NextIs (step g (At b s frames k)) next.Over n) → AnswerIs g c true n
 walk_over g c b w n u f = record { blocks = suc u.blocks; final = step g (At b u.state u.frames u.left); same = walk_more g u.blocks c ∙ ap (step g) u.same; is = over_final (step g (At b u.state u.frames u.left)) n (f u.state u.frames u.left u.shows) }
 
 -- the code is out of turns
-pub walk_going : (g : Graph) (c : Config) (b : ℕ) (w n : Walker) → WalkUpto g c b w → ((s : State) (frames : List walks.Frame) (k : ℕ) → Shows s frames k w → NextIs (step g (At b s frames k)) next.Going n) → AnswerIs g c false n
+pub walk_going : (g : Graph) (c : Config) (b : ℕ) (w n : Walker) → WalkUpto g c b w → ((s : ProcState) (frames : List walks.Frame) (k : ℕ) → Shows s frames k w → NextIs (step g (At b s frames k)) next.Going n) → AnswerIs g c false n
 walk_going g c b w n u f = record { blocks = suc u.blocks; final = step g (At b u.state u.frames u.left); same = walk_more g u.blocks c ∙ ap (step g) u.same; is = going_final (step g (At b u.state u.frames u.left)) n (f u.state u.frames u.left u.shows) }
 
 length_stacked : (fs : List Frame) (below : List walks.Frame) → length (stacked fs below) ≡ length fs + length below
 length_stacked [] below = omega arith
 length_stacked (f ∷ fs) below = let h = length_stacked fs (record { result = f.result; back = f.back; vars = f.vars } ∷ below) in omega (arith, h)
 
-frames_of : (s : State) (frames : List walks.Frame) (k : ℕ) (w : Walker) → Shows s frames k w → length frames ≡ length w.frames.items
+frames_of : (s : ProcState) (frames : List walks.Frame) (k : ℕ) (w : Walker) → Shows s frames k w → length frames ≡ length w.frames.items
 frames_of s frames k w sh = let h = length_stacked w.frames.items [] in ap length sh.waiting ∙ omega (arith, h)
 
 held_next : (d : Config) (b : ℕ) (w : Walker) → NextIs d (next.At b) w → Held w
@@ -73,7 +73,7 @@ held_next (Over o k) b w h = absurd h
 held_next (Going o) b w h = absurd h
 
 -- the code holds a state at the next block
-pub still_held : (g : Graph) (b d : ℕ) (w n : Walker) → Held w → ((s : State) (frames : List walks.Frame) (k : ℕ) → Shows s frames k w → NextIs (step g (At b s frames k)) (next.At d) n) → Held n
+pub still_held : (g : Graph) (b d : ℕ) (w n : Walker) → Held w → ((s : ProcState) (frames : List walks.Frame) (k : ℕ) → Shows s frames k w → NextIs (step g (At b s frames k)) (next.At d) n) → Held n
 still_held g b d w n h f = held_next (step g (At b h.state h.frames h.left)) d n (f h.state h.frames h.left h.shows)
 
 -- what falls at each block
@@ -87,7 +87,7 @@ lighter_next g limit (Over o k) b w l h = absurd h
 lighter_next g limit (Going o) b w l h = absurd h
 
 -- the measure falls at each block
-pub falls : (g : Graph) → IsGraph g → (b d : ℕ) (w n : Walker) → Held w → ((s : State) (frames : List walks.Frame) (k : ℕ) → Shows s frames k w → NextIs (step g (At b s frames k)) (next.At d) n) → heft g d n < heft g b w
+pub falls : (g : Graph) → IsGraph g → (b d : ℕ) (w n : Walker) → Held w → ((s : ProcState) (frames : List walks.Frame) (k : ℕ) → Shows s frames k w → NextIs (step g (At b s frames k)) (next.At d) n) → heft g d n < heft g b w
 falls g rules b d w n h f =
     let l : Lighter g (heft g b w) (step g (At b h.state h.frames h.left)) =
     subst (λ m. Lighter g (weight g m w.turns b) (step g (At b h.state h.frames h.left))) (frames_of h.state h.frames h.left w h.shows)
@@ -174,7 +174,7 @@ pub in_time : (g : Graph) (world : World) (turns : ℕ) (w : Walker) → EndedIs
 in_time g world turns w h = let r = fewer g world turns w.turns h.outside h.ends in omega (arith, r.1)
 
 -- the answer says how the walk ends
-pub ends_so : (g : Graph) (world : World) (turns : ℕ) (w : Walker) (arrays : List (List ℕ)) → EndedIs g world turns w → arrays ≡ shown_cells g.arrays w.memory.cells → EndsSo g world turns w.memory.printed arrays w.memory.took (turns - w.turns)
+pub ends_so : (g : Graph) (world : World) (turns : ℕ) (w : Walker) (arrays : List (List ℕ)) → EndedIs g world turns w → arrays ≡ shown_cells g.arrays w.memory.cells → EndsInTurns g world turns w.memory.printed arrays w.memory.took (turns - w.turns)
 ends_so g world turns w arrays h e =
     let r = fewer g world turns w.turns h.outside h.ends in
     let n : r.0 ≡ turns - w.turns = omega (arith, r.1) in

@@ -5,9 +5,9 @@ use Rattle.std.proofs.Math.Nat.{mul-add, add-mul, mul_assoc, mul_comm}
 use Rattle.std.proofs.lemmas.Nat.{mul-le}
 use Rattle.std.proofs.lemmas.List.{length-append}
 use Rattle.std.proofs.lemmas.List.Sums.{sum_by-cons, sum_by-append}
-use Rattle.ws_words.specs.Outside.{Outside, State, zeros}
+use Rattle.ws_words.specs.Outside.{Outside, ProcState, zeros}
 use Rattle.cfg_core.specs.Graph.{Op, Assign, Store, Print, Read, Give, Take, Choose, Tick, TickBy, Exit, Goto, Branch, Call, Return, Send, Stop, Block, GraphProc, Graph, no_spot, spots_in, spots_from, spots, spot_at, block_at, proc_at, entry_from, entry_of}
-use Rattle.cfg_core.specs.Walk.{value_of, values_of, Outcome, Done, Out, and_then, spend, run_op, run_ops, Frame, Config, At, Over, Going, landed, landing, with_result, entered, returned, leave, passed, step, opening}
+use Rattle.cfg_core.specs.Walk.{value_of, values_of, OpsOutcome, Done, Out, and_then, spend, run_op, run_ops, Frame, Config, At, Over, Going, landed, landing, with_result, entered, returned, leave, passed, step, opening}
 use Rattle.cfg_core.specs.Rules.{Lands, ExitIn, ProcNumbers, BlockNumbers, IsGraph}
 use Rattle.cfg_core.specs.Weights.{turns_of, turns_at, block_left, path, highest, handed_on, IsPotential, WeighsAtMost, first_block, WalksWeigh}
 use Rattle.cfg_core.proofs.Total.{in_landing, lands_at}
@@ -16,31 +16,31 @@ use Rattle.cfg_core.proofs.Spots.{each_at}
 
 -- Operations take at least the turns that are counted for them.
 
-abbrev Takes : ℕ → ℕ → Outcome → Type 0
+abbrev Takes : ℕ → ℕ → OpsOutcome → Type 0
 Takes n k (Done s j) = j + n ≤ k
 Takes n k (Out o) = Unit {0}
 
-no_turn : (s : State) (k : ℕ) → Takes 0 k (Done s k)
+no_turn : (s : ProcState) (k : ℕ) → Takes 0 k (Done s k)
 no_turn s k = omega arith
 
-one_more : (n k : ℕ) (o : Outcome) → Takes n k o → Takes (suc n) (suc k) o
+one_more : (n k : ℕ) (o : OpsOutcome) → Takes n k o → Takes (suc n) (suc k) o
 one_more n k (Done s j) h = omega arith
 one_more n k (Out o) h = tt
 
-less : (n m k : ℕ) (o : Outcome) → m ≤ n → Takes n k o → Takes m k o
+less : (n m k : ℕ) (o : OpsOutcome) → m ≤ n → Takes n k o → Takes m k o
 less n m k (Done s j) le h = omega arith
 less n m k (Out o) le h = tt
 
-if_takes : (n k : ℕ) (b : Bool) (o u : Outcome) → Takes n k o → Takes n k u → Takes n k (if b then o else u)
+if_takes : (n k : ℕ) (b : Bool) (o u : OpsOutcome) → Takes n k o → Takes n k u → Takes n k (if b then o else u)
 if_takes n k true o u h i = h
 if_takes n k false o u h i = i
 
-spend_takes : (n : ℕ) (s : State) (k : ℕ) → Takes n k (spend n s k)
+spend_takes : (n : ℕ) (s : ProcState) (k : ℕ) → Takes n k (spend n s k)
 spend_takes zero s k = no_turn s k
 spend_takes (suc n) s zero = tt
 spend_takes (suc n) s (suc k) = one_more n k (spend n s k) (spend_takes n s k)
 
-op_takes : (op : Op) (s : State) (k : ℕ) → Takes (turns_of op) k (run_op op s k)
+op_takes : (op : Op) (s : ProcState) (k : ℕ) → Takes (turns_of op) k (run_op op s k)
 op_takes (Assign x t) s k = no_turn s k
 op_takes (Store a t u) s k = no_turn s k
 op_takes (Print t) s k = no_turn s k
@@ -55,15 +55,15 @@ op_takes (TickBy t n m) s k =
     (less m (min n m) k (spend m v.1 k) (omega arith) (spend_takes m v.1 k))
     (less n (min n m) k (spend n v.1 k) (omega arith) (spend_takes n v.1 k))
 
-then_takes : (n m k : ℕ) (o : Outcome) (go : State → ℕ → Outcome) → Takes n k o → ((s : State) (j : ℕ) → Takes m j (go s j)) → Takes (n + m) k (and_then o go)
+then_takes : (n m k : ℕ) (o : OpsOutcome) (go : ProcState → ℕ → OpsOutcome) → Takes n k o → ((s : ProcState) (j : ℕ) → Takes m j (go s j)) → Takes (n + m) k (and_then o go)
 then_takes n m k (Done s j) go h f = still (go s j) (f s j)
   where
-    still : (u : Outcome) → Takes m j u → Takes (n + m) k u
+    still : (u : OpsOutcome) → Takes m j u → Takes (n + m) k u
     still (Done t i) e = omega (arith, h, e)
     still (Out o) e = tt
 then_takes n m k (Out o) go h f = tt
 
-ops_take : (ops : List Op) (s : State) (k : ℕ) → Takes (sum_by turns_of ops) k (run_ops ops s k)
+ops_take : (ops : List Op) (s : ProcState) (k : ℕ) → Takes (sum_by turns_of ops) k (run_ops ops s k)
 ops_take [] s k = no_turn s k
 ops_take (op ∷ ops) s k =
     subst (λ n. Takes n k (run_ops (op ∷ ops) s k)) (sym (sum_by-cons turns_of op ops))
@@ -127,12 +127,12 @@ module _ (g : Graph) (rules : IsGraph g) (weight : ℕ → ℕ) (pay : ℕ) (p :
   IsThere (Over o k) = Unit {0}
   IsThere (Going o) = Unit {0}
 
-  module _ (b : ℕ) (s : State) (frames : List Frame) (k : ℕ) (there : AllThere frames) where
+  module _ (b : ℕ) (s : ProcState) (frames : List Frame) (k : ℕ) (there : AllThere frames) where
     -- a configuration to which a step from here leads, its block there and paid
     abbrev Stepped : Config → Type 0
     Stepped d = IsThere d × (sum_by weight (block_left (At b s frames k) d) + left d ≤ left (At b s frames k))
 
-    leads_to : (c : ℕ) (t : State) (fs : List Frame) (j : ℕ) → There c → AllThere fs → weight b + (p c + waiting fs) ≤ p b + pay * turns_at g b + waiting frames → j + turns_at g b ≤ k → Stepped (At c t fs j)
+    leads_to : (c : ℕ) (t : ProcState) (fs : List Frame) (j : ℕ) → There c → AllThere fs → weight b + (p c + waiting fs) ≤ p b + pay * turns_at g b + waiting frames → j + turns_at g b ≤ k → Stepped (At c t fs j)
     leads_to c t fs j here all h le = ((here, all), omega (arith, sum_by-cons weight b [], paid_by_turns pay j (turns_at g b) k le, h))
 
     ends_at : (o : Outside) (j : ℕ) → weight b ≤ p b + pay * turns_at g b → j + turns_at g b ≤ k → Stepped (Over o j)
@@ -146,7 +146,7 @@ module _ (g : Graph) (rules : IsGraph g) (weight : ℕ → ℕ) (pay : ℕ) (p :
     returned_pays v o [] j all e h le = ends_at o j h le
     returned_pays v o (f ∷ fs) j all e h le = leads_to f.back (record { vars = with_result f.result v f.vars; out = o }) fs j all.0 all.1 (omega (arith, e, h)) le
 
-    leave_pays : (exit : Exit) (home vars : ℕ) → ExitIn g home vars exit → Lands g exit → weight b + handed_on g p exit ≤ p b + pay * turns_at g b → (t : State) (j : ℕ) → j + turns_at g b ≤ k → Stepped (leave g exit t frames j)
+    leave_pays : (exit : Exit) (home vars : ℕ) → ExitIn g home vars exit → Lands g exit → weight b + handed_on g p exit ≤ p b + pay * turns_at g b → (t : ProcState) (j : ℕ) → j + turns_at g b ≤ k → Stepped (leave g exit t frames j)
     leave_pays (Goto c) home vars fit lands h t j le = leads_to c t frames j fit.0 there (omega (arith, h)) le
     leave_pays (Branch u c d) home vars fit lands h t j le =
         let v = value_of u t in
@@ -164,7 +164,7 @@ module _ (g : Graph) (rules : IsGraph g) (weight : ℕ → ℕ) (pay : ℕ) (p :
         leads_to c (record { vars = landed (block_at g c).named vs.0 (zeros (spot_at g c).vars); out = vs.1.out }) frames j (all_in There ls fit.2 c i) there (omega (arith, h, highest_of p c ls i)) le
     leave_pays Stop home vars fit lands h t j le = ends_at t.out j (omega (arith, h)) le
 
-    passed_pays : (o : Outcome) → Takes (turns_at g b) k o → There b → Stepped (passed g o (block_at g b).exit frames)
+    passed_pays : (o : OpsOutcome) → Takes (turns_at g b) k o → There b → Stepped (passed g o (block_at g b).exit frames)
     passed_pays (Done t j) le here = leave_pays (block_at g b).exit (spot_at g b).home (spot_at g b).vars (numbers_at b).exit (lands_at g rules b) (paid b here) t j le
     passed_pays (Out o) le here = (tt, omega arith)
 

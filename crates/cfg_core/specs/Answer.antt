@@ -7,7 +7,7 @@ use Rattle.cfg_core.specs.Walk.{Ends, Goes}
 use Rattle.cfg_core.specs.Shown.{shown_cells}
 
 -- the walk takes n turns, at most as many as were given, and leaves this
-pub record EndsSo (g : Graph) (world : World) (turns : ℕ) (printed : List ℕ)
+pub record EndsInTurns (g : Graph) (world : World) (turns : ℕ) (printed : List ℕ)
     (arrays took : List (List ℕ)) (n : ℕ) : Type 0 where
   pub outside : Outside
   pub within : n ≤ turns

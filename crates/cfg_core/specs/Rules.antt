@@ -9,56 +9,61 @@ use Rattle.ws_words.specs.Items.{In, Distinct}
 
 -- Rule 1: each number names something that exists.
 
-abbrev pub IsArray : Graph → ℕ → Type 0
-IsArray g a = (1 ≤ a) × (a ≤ length g.arrays)
+-- one of this many arrays, by its number from 1
+abbrev pub IsArray : ℕ → ℕ → Type 0
+IsArray arrays a = (1 ≤ a) × (a ≤ arrays)
 
+-- a port, by its number from 1
 abbrev pub IsPort : ℕ → Type 0
 IsPort p = (1 ≤ p) × (p ≤ 7)
 
--- the variables of a term are below this number, and its arrays exist
-abbrev pub TermIn : Graph → ℕ → Term → Type 0
-TermIn g vars (Number n) = Unit {0}
-TermIn g vars (Var x) = x < vars
-TermIn g vars (Cell a t) = IsArray g a × TermIn g vars t
-TermIn g vars (Flip t) = TermIn g vars t
-TermIn g vars (Not t) = TermIn g vars t
-TermIn g vars (Neg t) = TermIn g vars t
-TermIn g vars (Binary op a b) = TermIn g vars a × TermIn g vars b
+-- a term over this many arrays and variables
+abbrev pub TermIn : ℕ → ℕ → Term → Type 0
+TermIn arrays vars (Number n) = Unit {0}
+TermIn arrays vars (Var x) = x < vars
+TermIn arrays vars (Cell a t) = IsArray arrays a × TermIn arrays vars t
+TermIn arrays vars (Flip t) = TermIn arrays vars t
+TermIn arrays vars (Not t) = TermIn arrays vars t
+TermIn arrays vars (Neg t) = TermIn arrays vars t
+TermIn arrays vars (Binary op a b) = TermIn arrays vars a × TermIn arrays vars b
 
-abbrev pub OpIn : Graph → ℕ → Op → Type 0
-OpIn g vars (Assign x t) = (x < vars) × TermIn g vars t
-OpIn g vars (Store a t u) = IsArray g a × TermIn g vars t × TermIn g vars u
-OpIn g vars (Print t) = TermIn g vars t
-OpIn g vars (Read x) = x < vars
-OpIn g vars (Give p x) = IsPort p × (x < vars)
-OpIn g vars (Take p t) = IsPort p × TermIn g vars t
-OpIn g vars (Choose x t a b) = (x < vars) × TermIn g vars t × TermIn g vars a × TermIn g vars b
-OpIn g vars (Tick n) = Unit {0}
-OpIn g vars (TickBy t n m) = TermIn g vars t
+-- so is an operation
+abbrev pub OpIn : ℕ → ℕ → Op → Type 0
+OpIn arrays vars (Assign x t) = (x < vars) × TermIn arrays vars t
+OpIn arrays vars (Store a t u) = IsArray arrays a × TermIn arrays vars t × TermIn arrays vars u
+OpIn arrays vars (Print t) = TermIn arrays vars t
+OpIn arrays vars (Read x) = x < vars
+OpIn arrays vars (Give p x) = IsPort p × (x < vars)
+OpIn arrays vars (Take p t) = IsPort p × TermIn arrays vars t
+OpIn arrays vars (Choose x t a b) =
+    (x < vars) × TermIn arrays vars t × TermIn arrays vars a × TermIn arrays vars b
+OpIn arrays vars (Tick n) = Unit {0}
+OpIn arrays vars (TickBy t n m) = TermIn arrays vars t
 
 -- a block of this procedure
 abbrev pub StaysIn : Graph → ℕ → ℕ → Type 0
 StaysIn g home b = (b < length (spots g)) × ((spot_at g b).home ≡ home)
 
-abbrev pub ResultIn : ℕ → Option ℕ → Type 0
-ResultIn vars None = Unit {0}
-ResultIn vars (Some x) = x < vars
+-- the variable that takes a result, if one does
+abbrev pub TargetIn : ℕ → Option ℕ → Type 0
+TargetIn vars None = Unit {0}
+TargetIn vars (Some x) = x < vars
 
 -- of a block of the procedure with this number and this many variables
 abbrev pub ExitIn : Graph → ℕ → ℕ → Exit → Type 0
 ExitIn g home vars (Goto b) = StaysIn g home b
-ExitIn g home vars (Branch t a b) = TermIn g vars t × StaysIn g home a × StaysIn g home b
+ExitIn g home vars (Branch t a b) = TermIn (length g.arrays) vars t × StaysIn g home a × StaysIn g home b
 ExitIn g home vars (Call x f ts back) =
-    ResultIn vars x × (f < length g.procs) × (length ts ≡ (proc_at g f).params) ×
-    AllByRecursion (TermIn g vars) ts × StaysIn g home back
-ExitIn g home vars (Return t) = TermIn g vars t
+    TargetIn vars x × (f < length g.procs) × (length ts ≡ (proc_at g f).params) ×
+    AllByRecursion (TermIn (length g.arrays) vars) ts × StaysIn g home back
+ExitIn g home vars (Return t) = TermIn (length g.arrays) vars t
 ExitIn g home vars (Send t ts ls) =
-    TermIn g vars t × AllByRecursion (TermIn g vars) ts ×
+    TermIn (length g.arrays) vars t × AllByRecursion (TermIn (length g.arrays) vars) ts ×
     AllByRecursion (λ l. l < length (spots g)) ls
 ExitIn g home vars Stop = Unit {0}
 
 pub record BlockNumbers (g : Graph) (spot : Spot) : Type 0 where
-  pub ops : AllByRecursion (OpIn g spot.vars) spot.block.ops
+  pub ops : AllByRecursion (OpIn (length g.arrays) spot.vars) spot.block.ops
   pub exit : ExitIn g spot.home spot.vars spot.block.exit
   pub named : AllByRecursion (λ x. x < spot.vars) spot.block.named
   pub once : Distinct spot.block.named
@@ -67,7 +72,7 @@ pub record ProcNumbers (p : GraphProc) : Type 0 where
   pub some_block : 1 ≤ length p.blocks
   pub params : p.params ≤ p.vars
 
-pub record Numbers (g : Graph) : Type 0 where
+pub record GraphNumbers (g : Graph) : Type 0 where
   pub some_proc : 1 ≤ length g.procs
   pub procs : AllByRecursion ProcNumbers g.procs
   pub blocks : AllByRecursion (BlockNumbers g) (spots g)
@@ -143,7 +148,7 @@ ChoosesBare (TickBy t n m) = NoCell t
 ChoosesBare _ = Unit {0}
 
 pub record IsGraph (g : Graph) : Type 0 where
-  pub numbers : Numbers g
+  pub numbers : GraphNumbers g
   pub landings : AllByRecursion (λ s. Lands g s.block.exit) (spots g)
   pub earlier : AllByRecursion (λ s. CallsEarlier s.home s.block.exit) (spots g)
   pub call_ticks :

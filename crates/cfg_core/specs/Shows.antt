@@ -2,14 +2,14 @@
 use Rattle.std.specs.Prelude.{◌≡◌, ℕ, ◌+◌, Bool, true, false, List, [], ◌∷◌, map, length, if◌then◌else◌}
 use Rattle.std.specs.Prelude.{slice_get}
 use Rattle.std.specs.Option.{option_to_list}
-use Rattle.ws_words.specs.Outside.{State}
+use Rattle.ws_words.specs.Outside.{ProcState}
 use Rattle.ws_words.specs.Memory.{OutIs}
 use Rattle.cfg_core.specs.Graph as plain
 use Rattle.cfg_core.specs.Graph.{Block, GraphProc, spots}
 use Rattle.cfg_core.specs.View as view
 use Rattle.cfg_core.specs.Shown.{has_name}
 use Rattle.cfg_core.specs.Walk as walks
-use Rattle.cfg_core.specs.Walk.{Outcome, Done, Out, Config, At, Over, Going}
+use Rattle.cfg_core.specs.Walk.{OpsOutcome, Done, Out, Config, At, Over, Going}
 use Rattle.cfg_core.specs.declared.blocks.Term.{Term}
 use Rattle.cfg_core.specs.declared.table.Spot.{Spot}
 use Rattle.cfg_core.specs.declared.table.Room.{Room}
@@ -52,22 +52,22 @@ stacked (f ∷ frames) below =
     stacked frames (record { result = f.result; back = f.back; vars = f.vars } ∷ below)
 
 -- state, frames and turns left are those that the code holds
-pub record Shows (s : State) (frames : List walks.Frame) (k : ℕ) (w : Walker) : Type 0 where
+pub record Shows (s : ProcState) (frames : List walks.Frame) (k : ℕ) (w : Walker) : Type 0 where
   pub vars : s.vars ≡ w.vars
   pub outside : OutIs s.out w.memory
   pub waiting : frames ≡ stacked w.frames.items []
   pub turns : k ≡ w.turns
 
 -- the code's answer is that of the operations
-abbrev pub PaceIs : Outcome → List walks.Frame → Pace → Walker → Type 0
+abbrev pub PaceIs : OpsOutcome → List walks.Frame → Pace → Walker → Type 0
 PaceIs (Done s k) frames pace.Done w = Shows s frames k w
 PaceIs (Done s k) frames pace.Out w = ⊥
 PaceIs (Out o) frames pace.Done w = ⊥
 PaceIs (Out o) frames pace.Out w = OutIs o w.memory
 
 -- from each state that the code holds before, it does after what these operations do
-abbrev pub Paced : (State → ℕ → Outcome) → Walker → Pace → Walker → Type 0
-Paced run before pace after = (s : State) (frames : List walks.Frame) (k : ℕ) →
+abbrev pub Paced : (ProcState → ℕ → OpsOutcome) → Walker → Pace → Walker → Type 0
+Paced run before pace after = (s : ProcState) (frames : List walks.Frame) (k : ℕ) →
     Shows s frames k before → PaceIs (run s k) frames pace after
 
 -- the value of a term of the code on these variables and arrays
@@ -87,21 +87,21 @@ NextIs (Going o) next.Going w = OutIs o w.memory
 NextIs _ _ w = ⊥
 
 -- from each state that the code holds before, it is after where the walk goes
-abbrev pub Moved : (State → List walks.Frame → ℕ → Config) → Walker → Next → Walker → Type 0
-Moved way before next after = (s : State) (frames : List walks.Frame) (k : ℕ) →
+abbrev pub Moved : (ProcState → List walks.Frame → ℕ → Config) → Walker → Next → Walker → Type 0
+Moved way before next after = (s : ProcState) (frames : List walks.Frame) (k : ℕ) →
     Shows s frames k before → NextIs (way s frames k) next after
 
 -- from the start of a block
-abbrev pub passes : plain.Graph → ℕ → State → List walks.Frame → ℕ → Config
+abbrev pub passes : plain.Graph → ℕ → ProcState → List walks.Frame → ℕ → Config
 passes g b s frames k = walks.step g (walks.starts b s frames k)
 
 -- back from a call with this result
-abbrev pub comes_back : ℕ → State → List walks.Frame → ℕ → Config
+abbrev pub comes_back : ℕ → ProcState → List walks.Frame → ℕ → Config
 comes_back word s frames k = walks.returned word s.out frames k
 
 -- some state that the code holds
 pub record Held (w : Walker) : Type 0 where
-  pub state : State
+  pub state : ProcState
   pub frames : List walks.Frame
   pub left : ℕ
   pub shows : Shows state frames left w
@@ -121,7 +121,7 @@ pub record AnswerIs (g : plain.Graph) (c : Config) (ended : Bool) (w : Walker) :
 
 -- from each state that the code holds before, it is after where the walk from this block answers
 abbrev pub Walked : plain.Graph → ℕ → Walker → Bool → Walker → Type 0
-Walked g start before ended after = (s : State) (frames : List walks.Frame) (k : ℕ) →
+Walked g start before ended after = (s : ProcState) (frames : List walks.Frame) (k : ℕ) →
     Shows s frames k before → AnswerIs g (walks.starts start s frames k) ended after
 
 -- the cells of an array at a place, if it is shown

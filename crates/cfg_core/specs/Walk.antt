@@ -3,7 +3,8 @@ use Rattle.std.specs.Prelude.{◌≡◌, ℕ, zero, suc, ◌-◌, ◌^◌, ◌==
 use Rattle.std.specs.Prelude.{Some, None, if◌then◌else◌, slice_index, slice_set}
 use Rattle.ws_words.specs.declared.alu.Alu.TheVariants.{Sub}
 use Rattle.ws_words.specs.Operators.{applied, flag}
-use Rattle.ws_words.specs.Outside.{Outside, State, World, Act, loads, row, write, with_acts, stored, printed}
+use Rattle.ws_words.specs.Outside.{Act, loads, Outside, ProcState, World}
+use Rattle.ws_words.specs.Outside.{row, write, with_acts, stored, printed}
 use Rattle.ws_words.specs.Outside.{taken, has_read, given, zeros, opening_out}
 use Rattle.cfg_core.specs.Graph.{Term, Number, Var, Cell, Flip, Not, Neg, Binary, Op, Assign, Store, Print}
 use Rattle.cfg_core.specs.Graph.{Read, Give, Take, Choose, Tick, TickBy, Exit, Goto, Branch, Call, Return}
@@ -40,28 +41,28 @@ all_loads [] vars cells = []
 all_loads (t ∷ ts) vars cells = loads_of t vars cells ++ all_loads ts vars cells
 
 -- the value, and the state with the loads
-abbrev pub value_of : Term → State → ℕ × State
+abbrev pub value_of : Term → ProcState → ℕ × ProcState
 value_of t s = (value t s.vars s.out.cells, with_acts s (loads_of t s.vars s.out.cells))
 
-abbrev pub values_of : List Term → State → List ℕ × State
+abbrev pub values_of : List Term → ProcState → List ℕ × ProcState
 values_of ts s = (values ts s.vars s.out.cells, with_acts s (all_loads ts s.vars s.out.cells))
 
 -- operations are done, with turns left, or want a turn where none is left
-pub data Outcome : Type 0 where
-  Done : (s : State) (left : ℕ) → Outcome
-  Out : (o : Outside) → Outcome
+pub data OpsOutcome : Type 0 where
+  Done : (s : ProcState) (left : ℕ) → OpsOutcome
+  Out : (o : Outside) → OpsOutcome
 
-abbrev pub and_then : Outcome → (State → ℕ → Outcome) → Outcome
+abbrev pub and_then : OpsOutcome → (ProcState → ℕ → OpsOutcome) → OpsOutcome
 and_then (Done s k) go = go s k
 and_then (Out o) go = Out o
 
 -- takes n turns
-abbrev pub spend : ℕ → State → ℕ → Outcome
+abbrev pub spend : ℕ → ProcState → ℕ → OpsOutcome
 spend zero s k = Done s k
 spend (suc n) s zero = Out s.out
 spend (suc n) s (suc k) = spend n s k
 
-abbrev pub run_op : Op → State → ℕ → Outcome
+abbrev pub run_op : Op → ProcState → ℕ → OpsOutcome
 run_op (Assign x t) s k = let v = value_of t s in Done (write v.1 x v.0) k
 run_op (Store a t u) s k =
     let i = value_of t s in let v = value_of u i.1 in Done (stored v.1 a i.0 v.0) k
@@ -77,7 +78,7 @@ run_op (Tick n) s k = spend n s k
 run_op (TickBy t n m) s k =
     let v = value_of t s in if v.0 == 0 then spend m v.1 k else spend n v.1 k
 
-abbrev pub run_ops : List Op → State → ℕ → Outcome
+abbrev pub run_ops : List Op → ProcState → ℕ → OpsOutcome
 run_ops [] s k = Done s k
 run_ops (op ∷ ops) s k = and_then (run_op op s k) (run_ops ops)
 
@@ -89,7 +90,7 @@ pub record Frame : Type 0 where
 
 -- at the start of a block with turns left, ended with turns left, or going and out of turns
 pub data Config : Type 0 where
-  At : (b : ℕ) (s : State) (frames : List Frame) (left : ℕ) → Config
+  At : (b : ℕ) (s : ProcState) (frames : List Frame) (left : ℕ) → Config
   Over : (o : Outside) (left : ℕ) → Config
   Going : (o : Outside) → Config
 
@@ -117,13 +118,13 @@ returned v o (f ∷ frames) k =
 abbrev pub entered : GraphProc → List ℕ → List ℕ
 entered p vs = vs ++ zeros (p.vars - p.params)
 
-abbrev pub leave : Graph → Exit → State → List Frame → ℕ → Config
+abbrev pub leave : Graph → Exit → ProcState → List Frame → ℕ → Config
 leave g (Goto b) s frames k = At b s frames k
 leave g (Branch t a b) s frames k =
     let v = value_of t s in if v.0 == 0 then At b v.1 frames k else At a v.1 frames k
 leave g (Call x f ts back) s frames k =
     let vs = values_of ts s in
-    let inside : State = record { vars = entered (proc_at g f) vs.0; out = vs.1.out } in
+    let inside : ProcState = record { vars = entered (proc_at g f) vs.0; out = vs.1.out } in
     At (entry_of g f) inside (record { result = x; back = back; vars = vs.1.vars } ∷ frames) k
 leave g (Return t) s frames k = let v = value_of t s in returned v.0 v.1.out frames k
 leave g (Send t ts ls) s frames k =
@@ -134,7 +135,7 @@ leave g (Send t ts ls) s frames k =
 leave g Stop s frames k = Over s.out k
 
 -- the exit, after the operations
-abbrev pub passed : Graph → Outcome → Exit → List Frame → Config
+abbrev pub passed : Graph → OpsOutcome → Exit → List Frame → Config
 passed g (Done s k) exit frames = leave g exit s frames k
 passed g (Out o) exit frames = Going o
 
@@ -179,5 +180,5 @@ IsOver (Over o k) = Unit {0}
 IsOver (Going o) = Unit {0}
 
 -- the walk at the start of a block
-abbrev pub starts : ℕ → State → List Frame → ℕ → Config
+abbrev pub starts : ℕ → ProcState → List Frame → ℕ → Config
 starts b s frames k = At b s frames k

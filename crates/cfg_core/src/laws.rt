@@ -1,7 +1,7 @@
 //! Laws over the definitions of the graph and its walk.
 
 ghost use Rattle.std.specs.Prelude.{◌≡◌, ◌+◌, ◌*◌, ◌≤◌, ℕ, List};
-ghost use Rattle.ws_words.specs.Outside.{State, World, Outside};
+ghost use Rattle.ws_words.specs.Outside.{ProcState, World, Outside};
 ghost use Rattle.cfg_core.specs.Graph.{Graph};
 ghost use Rattle.cfg_core.specs.Walk.{Frame, walk, IsOver, starts, Ends, EndsWith, Goes};
 ghost use Rattle.cfg_core.specs.Rules.{IsGraph};
@@ -11,7 +11,7 @@ ghost use Rattle.cfg_core.specs.Shown.{NoneHidden, ShowsAll, StaysInside};
 /// A walk of any number of turns comes to an answer.
 pub fn walks_answer()
     ensures { (graph : Graph) → IsGraph graph →
-        (b : ℕ) (s : State) (frames : List Frame) (turns : ℕ) →
+        (b : ℕ) (s : ProcState) (frames : List Frame) (turns : ℕ) →
         (n : ℕ) × IsOver (walk graph n (starts b s frames turns)) }
 {}
 

@@ -7,7 +7,7 @@ ghost use Rattle.cfg_core.specs.Walk as walks;
 ghost use Rattle.cfg_core.specs.View as view;
 ghost use Rattle.cfg_core.specs.Rules.{IsGraph};
 ghost use Rattle.cfg_core.specs.Shown.{shown_cells};
-ghost use Rattle.cfg_core.specs.Answer.{EndsSo, GoesSo};
+ghost use Rattle.cfg_core.specs.Answer.{EndsInTurns, GoesSo};
 ghost use Rattle.cfg_core.specs.Shows.{Shows, Held, TableIs, Walked, shown_at};
 
 use crate::blocks::{Graph, GraphArray};
@@ -20,7 +20,7 @@ use ws_words::{Cells, Memory, NoMemory, Plain, Words, World};
 /// Walks a graph with at most so many turns.
 pub fn run_graph(alloc: Global, graph: &Graph, world: &World, turns: u64) -> Result<Plain, NoMemory>
     requires { IsGraph (view.graph graph.now) }
-    ensures ended { let ends = EndsSo (view.graph graph.now) (world_of world.now) turns in
+    ensures ended { let ends = EndsInTurns (view.graph graph.now) (world_of world.now) turns in
         IfOk result (λ plain. IfEnded plain ends) }
     ensures going { let goes = GoesSo (view.graph graph.now) (world_of world.now) turns in
         IfOk result (λ plain. IfGoing plain goes) }

@@ -8,7 +8,7 @@ use Rattle.ws_isa.specs.Operations.{ops, past, Effect, FaultsAt}
 use Rattle.df_core.specs.Effect.{effect_at}
 use Rattle.df_core.specs.Core.{State, HasFired, Issue, Enabled, Rest}
 use Rattle.df_core.specs.Fit.{IssuedOp, NoOp, Fit, Grounded}
-use Rattle.df_core.specs.Ends.{Whole, AtFault, FirstWithin, AfterFired, Passed}
+use Rattle.df_core.specs.Ends.{WholeRun, AtFault, FirstWithin, AfterFired, Passed}
 use Rattle.df_core.proofs.Facts.{WalkFacts}
 use Rattle.df_core.proofs.Past.{past_is, plain_within}
 use Rattle.df_core.proofs.Effects.{effect_is}
@@ -108,7 +108,7 @@ module _ (image : Image) (world : World) (facts : WalkFacts image world) where
         | inr mx ↦ plain_within image x.instr x.operands mx
       ]
 
-      pub whole : Whole image world s
+      pub whole : WholeRun image world s
       whole = record {
         going = going;
         fired = has_fired;
@@ -118,7 +118,7 @@ module _ (image : Image) (world : World) (facts : WalkFacts image world) where
         memory = λ t l. mem_quiet fit.legal.cut t l (all_passed t) ∙ sym fit.legal.ordered.memory;
       }
 
-  pub rest_ends : (s : State) → Fit image world s → Rest image s → Whole image world s ⊎ AtFault image world s
+  pub rest_ends : (s : State) → Fit image world s → Rest image s → WholeRun image world s ⊎ AtFault image world s
   rest_ends s fit rest = elim (cases_Bool s.stopped) [ inl e ↦ inr (at_fault s fit e) | inr e ↦ inl (whole s fit e rest) ]
 
   -- two effects of as many operations are one
@@ -139,7 +139,7 @@ module _ (image : Image) (world : World) (facts : WalkFacts image world) where
       ]
 
   -- two states that end leave the same memory
-  pub same_memory : (s t : State) → Whole image world s ⊎ AtFault image world s → Whole image world t ⊎ AtFault image world t → s.memory ≡ t.memory
+  pub same_memory : (s t : State) → WholeRun image world s ⊎ AtFault image world s → WholeRun image world t ⊎ AtFault image world t → s.memory ≡ t.memory
   same_memory s t (inl a) (inl b) = sym (a.memory (a.end + b.end) (omega arith)) ∙ b.memory (a.end + b.end) (omega arith)
   same_memory s t (inl a) (inr b) = absurd (both_ways (past image b.fault.inst) (a.within b.time b.fault.inst b.fault.fired) b.fault.is_past)
   same_memory s t (inr a) (inl b) = absurd (both_ways (past image a.fault.inst) (b.within a.time a.fault.inst a.fault.fired) a.fault.is_past)

@@ -11,7 +11,7 @@ use Rattle.ws_isa.specs.Sound.{Sound}
 use Rattle.df_core.specs.Effect.{effect_at}
 use Rattle.df_core.specs.Core.{State, HasFired, core_opening}
 use Rattle.df_core.specs.Fit.{FiresAt, RightToken, NoOp}
-use Rattle.df_core.specs.Ends.{Whole, AtFault, AfterFired}
+use Rattle.df_core.specs.Ends.{WholeRun, AtFault, AfterFired}
 use Rattle.df_core.proofs.Facts.{WalkFacts}
 use Rattle.df_core.proofs.FromSound.{facts_of}
 use Rattle.df_core.proofs.PortsThere.{ports_there}
@@ -35,7 +35,7 @@ use Rattle.df_core.specs.Outdoors.{MemoryIs}
 pub no_fault_at : (image : Image) (world : World) → NoFault image world → (t : ℕ) → FaultsAt image world t → ⊥
 no_fault_at image world none t f = both_ways _ (none t f.inst f.fired) f.is_past
 
-going_rest : (image : Image) (world : World) (s : State) → s.stopped ≡ false → Whole image world s ⊎ AtFault image world s → Whole image world s
+going_rest : (image : Image) (world : World) (s : State) → s.stopped ≡ false → WholeRun image world s ⊎ AtFault image world s → WholeRun image world s
 going_rest image world s going (inl w) = w
 going_rest image world s going (inr f) = absurd (both_ways _ going f.stopped)
 
@@ -51,7 +51,7 @@ module _ (image : Image) (world : World) (facts : WalkFacts image world) (budget
   tells_at : (t : ℕ) → effect_at image world t ≡ s.memory → Tells (mem image world t) (done_of flow)
   tells_at t e = tells (mem image world t) flow (subst (λ (o : Outside). MemoryIs o flow.memory) (sym e ∙ effect_is image world t) h.memory_is)
 
-  rested : flow.fired ≤ budget → Whole image world s → Rested image world budget (done_of flow)
+  rested : flow.fired ≤ budget → WholeRun image world s → Rested image world budget (done_of flow)
   rested within w =
       let f = fired_count image world facts s k.fit k.once in
       let n : length s.fired ≡ flow.fired = h.count_is in

@@ -9,8 +9,8 @@ use Rattle.df_core.specs.Core.{State, Once}
 use Rattle.df_core.specs.Fit.{Fit, Grounded}
 use Rattle.df_core.specs.Ends.{FirstWithin, AfterFired}
 use Rattle.df_core.specs.declared.answer.Done.{Done}
-use Rattle.df_core.specs.declared.answer.Run.{Run}
-use Rattle.df_core.specs.declared.answer.Run.TheVariants.{Rest, Budget, Fault}
+use Rattle.df_core.specs.declared.answer.RunAnswer.{RunAnswer}
+use Rattle.df_core.specs.declared.answer.RunAnswer.TheVariants.{Rest, Budget, Fault}
 use Rattle.ws_words.specs.Items.{In}
 
 -- the words printed, all cells and the words that ports took are those of what is outside
@@ -68,22 +68,22 @@ pub record Faulted (image : Image) (world : World) (budget array : ℕ) (d : Don
   pub within : d.fired ≤ budget
   pub left : Tells (mem image world time) d
 
-abbrev pub ToldSo : Image → World → ℕ → Run → Type 0
+abbrev pub ToldSo : Image → World → ℕ → RunAnswer → Type 0
 ToldSo image world budget (Rest d) = Rested image world budget d
 ToldSo image world budget (Budget d) = CutShort image world budget d
 ToldSo image world budget (Fault array d) = Faulted image world budget array d
 
-abbrev pub is_rest : Run → Bool
+abbrev pub is_rest : RunAnswer → Bool
 is_rest (Rest d) = true
 is_rest _ = false
 
-abbrev pub is_fault : Run → Bool
+abbrev pub is_fault : RunAnswer → Bool
 is_fault (Fault array d) = true
 is_fault _ = false
 
 -- a run rests exactly where the walk has no fault and costs at most the budget, and always ends at
 -- the fault where there is one and the cost fits
-pub record RunSo (image : Image) (world : World) (budget : ℕ) (run : Run) : Type 0 where
+pub record RunSo (image : Image) (world : World) (budget : ℕ) (run : RunAnswer) : Type 0 where
   pub told : ToldSo image world budget run
   pub rests : (is_rest run ≡ true) ↔ (NoFault image world × CostAtMost image world budget)
   pub faults : (t : ℕ) → FaultsAt image world t → CostAtMost image world budget →

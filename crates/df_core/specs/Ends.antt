@@ -9,7 +9,7 @@ use Rattle.df_core.specs.Core.{State, HasFired}
 
 -- every instance of the walk has fired, every operation is issued and none is past the end,
 -- and from some step on memory is what the walk leaves
-pub record Whole (image : Image) (world : World) (s : State) : Type 0 where
+pub record WholeRun (image : Image) (world : World) (s : State) : Type 0 where
   pub going : s.stopped ≡ false
   pub fired : (t : ℕ) (x : Inst) → fires image world t ≡ Some x → HasFired s.fired x.wave x.instr
   pub issued : (t : ℕ) (x : Inst) → fires image world t ≡ Some x → is_memory image x.instr ≡ true →

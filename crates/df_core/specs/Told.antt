@@ -1,7 +1,7 @@
 -- What the parts of a run tell at its end.
 use Rattle.df_core.specs.declared.answer.Done.{Done}
-use Rattle.df_core.specs.declared.answer.Run.{Run}
-use Rattle.df_core.specs.declared.answer.Run.TheVariants as run
+use Rattle.df_core.specs.declared.answer.RunAnswer.{RunAnswer}
+use Rattle.df_core.specs.declared.answer.RunAnswer.TheVariants as run
 use Rattle.df_core.specs.declared.drive.Finish.{Finish}
 use Rattle.df_core.specs.declared.drive.Finish.TheVariants as finish
 use Rattle.df_core.specs.declared.flow.Flow.{Flow}
@@ -15,10 +15,10 @@ done_of flow = record {
   fired = flow.fired;
 }
 
-abbrev pub run_from : Finish → Done → Run
+abbrev pub run_from : Finish → Done → RunAnswer
 run_from finish.Rest done = run.Rest done
 run_from finish.Budget done = run.Budget done
 run_from (finish.Fault array) done = run.Fault array done
 
-abbrev pub run_of : Finish → Flow → Run
+abbrev pub run_of : Finish → Flow → RunAnswer
 run_of ended flow = run_from ended (done_of flow)

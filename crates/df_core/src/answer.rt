@@ -23,14 +23,14 @@ pub struct Done {
 /// How a run ended: the walk has been run whole, or as many instances have fired as may, or the
 /// first load or store past the end stopped it, with the number of its array from 1.
 #[derive(Debug, Drop)]
-pub enum Run {
+pub enum RunAnswer {
     Rest(Done),
     Budget(Done),
     Fault(u32, Done),
 }
 
 /// The answer of a run that ended so.
-pub fn run_of(alloc: Global, finish: Finish, flow: Flow<'_>) -> Result<Run, NoMemory>
+pub fn run_of(alloc: Global, finish: Finish, flow: Flow<'_>) -> Result<RunAnswer, NoMemory>
     ensures { IfOk result (λ run. run ≡ run_of finish flow.entry) }
 {
     let memory = flow.memory;
@@ -41,9 +41,9 @@ pub fn run_of(alloc: Global, finish: Finish, flow: Flow<'_>) -> Result<Run, NoMe
         fired: flow.fired,
     };
     Ok(match finish {
-        Finish::Rest => Run::Rest(done),
-        Finish::Budget => Run::Budget(done),
-        Finish::Fault { array } => Run::Fault(array, done),
+        Finish::Rest => RunAnswer::Rest(done),
+        Finish::Budget => RunAnswer::Budget(done),
+        Finish::Fault { array } => RunAnswer::Fault(array, done),
     })
 }
 

@@ -18,7 +18,7 @@ ghost use Rattle.ws_isa.specs.Sound.{Sound};
 ghost use Rattle.df_core.specs.Core.{State, Same, Event, Ready, Issue, Enabled, Reach, Step, Rest, HasFired};
 ghost use Rattle.df_core.specs.Core.{Once, core_opening};
 ghost use Rattle.df_core.specs.Fit.{Fit, Grounded};
-ghost use Rattle.df_core.specs.Ends.{Whole, AtFault, Meets, Passed, AfterFired};
+ghost use Rattle.df_core.specs.Ends.{WholeRun, AtFault, Meets, Passed, AfterFired};
 
 /// From the opening state of a formed, sound image every list of events leads to a state that is
 /// fit and grounded. A fit state at rest has fired every instance of the walk and issued every
@@ -41,7 +41,7 @@ pub fn every_list_of_events()
         (event : Event) (old new : State) → Fit image world old → Grounded image world old →
         Step image old event new → Grounded image world new }
     ensures rest { (image : Image) (world : World) → Formed image → Sound image → (state : State) →
-        Fit image world state → Rest image state → Whole image world state
+        Fit image world state → Rest image state → WholeRun image world state
         ⊎ AtFault image world state }
     ensures stopped { (image : Image) (world : World) → Formed image → Sound image →
         (state : State) → Fit image world state → state.stopped ≡ true → AtFault image world state }
@@ -60,7 +60,7 @@ pub fn every_list_of_events()
 /// operation past the end is at most the number of instances that have fired.
 pub fn counts()
     ensures rest { (image : Image) (world : World) → Formed image → Sound image → (state : State) →
-        Fit image world state → Whole image world state → (t : ℕ) →
+        Fit image world state → WholeRun image world state → (t : ℕ) →
         length (walk image world t) ≤ length state.fired }
     ensures fired { (image : Image) (world : World) → Formed image → Sound image → (state : State) →
         Fit image world state → Once state.fired → (t : ℕ)

@@ -52,7 +52,7 @@ pub mod token;
 pub mod way;
 mod whole;
 
-pub use answer::{Done, Run};
+pub use answer::{Done, RunAnswer};
 pub use code::Code;
 pub use drive::Finish;
 pub use engine::{Core, Event, StepFault};

@@ -4,7 +4,7 @@ ghost use Rattle.std.specs.Prelude.{◌≡◌, IfOk};
 ghost use Rattle.ws_words.specs.Plain.{world_of};
 ghost use Rattle.df_core.specs.Answer.{RunSo};
 
-use crate::answer::{Run, run_of};
+use crate::answer::{RunAnswer, run_of};
 use crate::drive::run_on;
 use crate::open::open;
 use crate::program::Program;
@@ -19,7 +19,7 @@ pub fn run_checked(
     image: &Checked,
     world: &World,
     budget: u64,
-) -> Result<Run, NoMemory>
+) -> Result<RunAnswer, NoMemory>
     ensures { IfOk result (RunSo image.now (world_of world.now) budget) }
 {
     let program = Program::of(alloc, image.image())?;

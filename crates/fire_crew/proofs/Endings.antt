@@ -10,7 +10,7 @@ use Rattle.ws_isa.specs.Sound.{Sound}
 use Rattle.df_core.specs.Effect.{effect_at}
 use Rattle.df_core.specs.Core.{State, Issue, Enabled, HasFired, Once, has, operands_in}
 use Rattle.df_core.specs.Fit.{Fit, FiresAt, NoOp, RightToken}
-use Rattle.df_core.specs.Ends.{Whole, AtFault, Passed}
+use Rattle.df_core.specs.Ends.{WholeRun, AtFault, Passed}
 use Rattle.df_core.specs.Shown.{Tables, Buffer, TablesOk, OwesNothing, NoneIssuable, owed, shown, lists}
 use Rattle.df_core.proofs.Facts.{WalkFacts}
 use Rattle.df_core.proofs.FromSound.{facts_of}
@@ -25,7 +25,7 @@ use Rattle.df_core.specs.Rights.{IsRight}
 use Rattle.store_buf.specs.declared.kept.Kept.{Kept}
 use Rattle.store_buf.specs.Requests.{entry_of, operands_if}
 use Rattle.store_buf.specs.Contents.{Content, FaultIs, IsBuffer, buffer_in}
-use Rattle.store_buf.specs.Outdoors.{OutIs}
+use Rattle.store_buf.specs.Outdoors.{HoldsOut}
 use Rattle.store_buf.proofs.Outside.{out_of}
 use Rattle.fire_crew.specs.Owing.{AllKnown, HaveCome, IsMissing}
 use Rattle.fire_crew.specs.Ends.{AllRun, SomeRun, FaultRun}
@@ -67,17 +67,17 @@ module _ (image : Image) (world : World) (formed : Formed image) (sound : Sound 
   requests : AllKnown image t c.kept → (w i : ℕ) → HasFired t.fired w i → is_memory image i ≡ true → (xs : List ℕ) × (b.kept w i ≡ Some xs)
   requests known w i h mm = kept_of image (entry_of c.kept w i) (known w i h mm)
 
-  out_at : (n : ℕ) → effect_at image world n ≡ s.memory → OutIs began (mem image world n) c.outside
-  out_at n e = out_of began (mem image world n) c.outside (subst (λ (o : Outside). OutIs began o c.outside) (sym memory_is ∙ sym e ∙ effect_is image world n) is.outside)
+  out_at : (n : ℕ) → effect_at image world n ≡ s.memory → HoldsOut began (mem image world n) c.outside
+  out_at n e = out_of began (mem image world n) c.outside (subst (λ (o : Outside). HoldsOut began o c.outside) (sym memory_is ∙ sym e ∙ effect_is image world n) is.outside)
 
   pub owes : AllKnown image t c.kept → HaveCome t.held (owed image t b) → OwesNothing image t b
   owes known come = record { tokens = come; requests = requests known }
 
-  whole_only : c.fault ≡ None → Whole image world s ⊎ AtFault image world s → Whole image world s
+  whole_only : c.fault ≡ None → WholeRun image world s ⊎ AtFault image world s → WholeRun image world s
   whole_only e (inl w) = w
   whole_only e (inr f) = absurd (both_ways _ (not_stopped e) f.stopped)
 
-  pub all_run : c.fault ≡ None → Whole image world s ⊎ AtFault image world s → ((w : Whole image world s) (n : ℕ) → length (walk image world n) ≤ length s.fired) → (n : ℕ) × (length s.fired ≤ length (walk image world n)) → AllRun image world began t.fired c.outside
+  pub all_run : c.fault ≡ None → WholeRun image world s ⊎ AtFault image world s → ((w : WholeRun image world s) (n : ℕ) → length (walk image world n) ≤ length s.fired) → (n : ℕ) × (length s.fired ≤ length (walk image world n)) → AllRun image world began t.fired c.outside
   all_run e either counted f =
       let w = whole_only e either in
       let all : (n : ℕ) → length (walk image world n) ≤ length t.fired = λ n. subst (λ ks. length (walk image world n) ≤ length ks) fired_is (counted w n) in

@@ -20,7 +20,7 @@ use Rattle.df_core.specs.Began.{Began}
 use Rattle.df_core.specs.Rights.{operands_of}
 use Rattle.store_buf.specs.Requests.{issued_in, answer_if, operands_if}
 use Rattle.store_buf.specs.Contents.{Content, IsBuffer, PortWaits}
-use Rattle.store_buf.specs.Outdoors.{OutIs, RoseSince, port_of}
+use Rattle.store_buf.specs.Outdoors.{HoldsOut, RoseSince, port_of}
 use Rattle.store_buf.proofs.Outside.{out_of}
 use Rattle.fire_crew.specs.Ends.{FrontRun, PortRun}
 
@@ -34,9 +34,9 @@ module _ (image : Image) (world : World) (began : List (Option Began)) (c : Cont
     | inr mx ↦ plain_within image x.instr x.operands mx
   ]
 
-  out_at : (t : ℕ) → effect_at image world t ≡ m → OutIs began (mem image world t) c.outside
+  out_at : (t : ℕ) → effect_at image world t ≡ m → HoldsOut began (mem image world t) c.outside
   out_at t e = out_of began (mem image world t) c.outside
-      (subst (λ (o : Outside). OutIs began o c.outside) (sym e ∙ effect_is image world t) is.outside)
+      (subst (λ (o : Outside). HoldsOut began o c.outside) (sym e ∙ effect_is image world t) is.outside)
 
   pub front_run : FrontRun image world began c.outside
   front_run = record {

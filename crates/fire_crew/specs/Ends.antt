@@ -9,7 +9,7 @@ use Rattle.df_core.specs.Ends.{FirstWithin}
 use Rattle.df_core.specs.Answer.{FiringSteps, FirstAmong}
 use Rattle.df_core.specs.Began.{Began}
 use Rattle.store_buf.specs.Contents.{Content}
-use Rattle.store_buf.specs.Outdoors.{Holding, OutIs, RoseSince, port_of}
+use Rattle.store_buf.specs.Outdoors.{Holding, HoldsOut, RoseSince, port_of}
 use Rattle.ws_words.specs.Items.{In}
 
 -- the chain isn't stopped, and no port has failed or found no memory
@@ -25,7 +25,7 @@ pub record AllRun (image : Image) (world : World) (began : List (Option Began)) 
   pub steps : ℕ
   pub count : length listed ≡ length (walk image world steps)
   pub all : (t : ℕ) (x : Inst) → fires image world t ≡ Some x → HasFired listed x.wave x.instr
-  pub left : (t : ℕ) → length listed ≤ length (walk image world t) → OutIs began (mem image world t) h
+  pub left : (t : ℕ) → length listed ≤ length (walk image world t) → HoldsOut began (mem image world t) h
 
 -- The walk has more instances than are listed, and the listed ones fire at these steps of it. What is
 -- outside is what the walk leaves with its first operations, none of them past the end, and these are at
@@ -42,7 +42,7 @@ pub record SomeRun (image : Image) (world : World) (began : List (Option Began))
   pub most : (t : ℕ) → FirstAmong image world steps (length (ops image world t)) →
       length (ops image world t) ≤ length (ops image world front)
   pub within : FirstWithin image world front
-  pub left : OutIs began (mem image world front) h
+  pub left : HoldsOut began (mem image world front) h
 
 -- the walk's first load or store past the end is on this array, and what is outside is what the walk leaves
 -- before it
@@ -51,7 +51,7 @@ pub record FaultRun (image : Image) (world : World) (began : List (Option Began)
   pub time : ℕ
   pub fault : FaultsAt image world time
   pub array_is : array ≡ array_at image fault.inst.instr
-  pub left : OutIs began (mem image world time) h
+  pub left : HoldsOut began (mem image world time) h
 
 -- the operation that is next in the walk is on this port, which has failed since the run began; none before
 -- it is past the end, and what is outside is what the walk leaves before it
@@ -62,11 +62,11 @@ pub record PortRun (image : Image) (world : World) (began : List (Option Began))
   pub fires : fires image world time ≡ Some inst
   pub port_is : port_of (instr_at image inst.instr).op ≡ Some port
   pub within : FirstWithin image world time
-  pub left : OutIs began (mem image world time) h
+  pub left : HoldsOut began (mem image world time) h
   pub rose : RoseSince began port h.ports
 
 -- what is outside is what the walk leaves with its first operations, none of them past the end
 pub record FrontRun (image : Image) (world : World) (began : List (Option Began)) (h : Holding) : Type 0 where
   pub front : ℕ
   pub within : FirstWithin image world front
-  pub left : OutIs began (mem image world front) h
+  pub left : HoldsOut began (mem image world front) h

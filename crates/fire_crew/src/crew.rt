@@ -29,7 +29,7 @@ use ws_words::Words;
 
 /// Where a run has ended, and after how many phases.
 #[derive(Drop)]
-pub struct Ended<J: Job, P: Port> {
+pub struct CrewLeft<J: Job, P: Port> {
     pub tables: Tables<J>,
     pub buffer: Buffer<J, P>,
     pub ending: Ending,
@@ -48,7 +48,7 @@ pub fn run_on<J: Job + Send + Sync, P: Port + Send, G: Gate, R: Threads + Wait +
     budget: u64,
     code: &Code<'_, J>,
     gate: &G,
-) -> Ended<J, P>
+) -> CrewLeft<J, P>
     requires serve { AllServe tables }
     requires within { length (part_of tables).fired ≤ budget }
     requires workers { (1 ≤ workers) × (workers ≤ 8) }
@@ -75,7 +75,7 @@ fn run_phases<J: Job + Send + Sync, P: Port + Send, G: Gate, R: Threads + Wait +
     budget: u64,
     code: &Code<'_, J>,
     gate: &G,
-) -> Ended<J, P>
+) -> CrewLeft<J, P>
     requires serve { AllServe tables }
     requires within { length (part_of tables).fired ≤ budget }
     requires workers { (1 ≤ workers) × (workers ≤ 8) }
@@ -93,7 +93,7 @@ fn run_phases<J: Job + Send + Sync, P: Port + Send, G: Gate, R: Threads + Wait +
         let left = budget - fired(&tables);
         match find_course(alloc, code, &tables, &mut buffer, tokens, left) {
             Verdict::Ends(ending) => {
-                return Ended {
+                return CrewLeft {
                     tables,
                     buffer,
                     ending,
@@ -108,7 +108,7 @@ fn run_phases<J: Job + Send + Sync, P: Port + Send, G: Gate, R: Threads + Wait +
                 buffer = after.buffer;
                 tokens = after.let_go;
                 if after.starved {
-                    return Ended {
+                    return CrewLeft {
                         tables,
                         buffer,
                         ending: Ending::Starved,
@@ -120,7 +120,7 @@ fn run_phases<J: Job + Send + Sync, P: Port + Send, G: Gate, R: Threads + Wait +
     }
 
     // So many tokens take more memory than there is.
-    Ended {
+    CrewLeft {
         tables,
         buffer,
         ending: Ending::Starved,

@@ -1,6 +1,6 @@
 //! What a worker does once a table has had a token.
 
-use crate::hand::{Hand, Wrap};
+use crate::hand::{InHand, Wrap};
 use df_core::{Code, Job, Token, TokenList};
 use match_table::{Offer, Took};
 use port_set::Port;
@@ -24,7 +24,7 @@ pub fn carry_on<L: Wrap<Token<J>, T>, J: Job, T: Drop, P: Port, R: Wait>(
     rt: &R,
     offer: Offer,
     token: Token<J>,
-    hand: &mut Hand<'_, J>,
+    hand: &mut InHand<'_, J>,
     seat: &mut Seat<T>,
     let_go: &mut TokenList<J>,
     buffer: &Mutex<Buffer<J, P>>,
@@ -49,7 +49,7 @@ pub fn carry_on<L: Wrap<Token<J>, T>, J: Job, T: Drop, P: Port, R: Wait>(
 #[inline(always)]
 fn ask<L: Wrap<Token<J>, T>, J: Job, T: Drop, P: Port, R: Wait>(
     rt: &R,
-    hand: &mut Hand<'_, J>,
+    hand: &mut InHand<'_, J>,
     seat: &mut Seat<T>,
     let_go: &mut TokenList<J>,
     buffer: &Mutex<Buffer<J, P>>,

@@ -7,7 +7,7 @@ use match_table::Results;
 use ready_pool::Seat;
 use std::alloc::Global;
 use std::sync::Wait;
-use store_buf::Answers;
+use store_buf::BufferAnswers;
 
 /// How a token is an item of seats, which may have other items too.
 pub trait Wrap<X, T> {
@@ -41,19 +41,19 @@ pub const STREAK: u32 = 64;
 /// between two turns; the buffer's answers, while they are put by; and what waits in hand where the worker is
 /// alone.
 #[derive(Drop)]
-pub struct Hand<'i, J: Job> {
+pub struct InHand<'i, J: Job> {
     pub results: Results<'i, J>,
-    pub answers: Answers<J>,
+    pub answers: BufferAnswers<J>,
     waiting: Waiting<J>,
     streak: u32,
 }
 
-impl<'i, J: Job> Hand<'i, J> {
+impl<'i, J: Job> InHand<'i, J> {
     /// Nothing, in the hand of a worker from whose seat others may take.
-    pub fn empty(alloc: Global) -> Hand<'i, J> {
-        Hand {
+    pub fn empty(alloc: Global) -> InHand<'i, J> {
+        InHand {
             results: Results::none(),
-            answers: Answers::none(alloc),
+            answers: BufferAnswers::none(alloc),
             waiting: Waiting::none(alloc),
             streak: 0,
         }

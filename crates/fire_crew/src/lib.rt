@@ -61,7 +61,7 @@ pub mod work;
 pub use finish::{CrewEnd, CrewFinish};
 pub use follow::{Next, carry_on};
 pub use gate::{Free, Gate};
-pub use hand::{Bare, Hand, Wrap};
+pub use hand::{Bare, InHand, Wrap};
 pub use laws::ends_are_told;
 pub use pouring::pour;
 pub use run::{RunEnd, crew_run, run_image};

@@ -1,8 +1,7 @@
 //! The tokens that an instance or an operation owes.
 
-ghost use Rattle.std.specs.Prelude.{◌≡◌, ◌<◌, ℕ, suc, [], All, OnOk, IfSome, length, true, false, cond};
-ghost use Rattle.ws_isa.specs.Image.{is_memory, is_advance_op, sends, result_of, result_of_op, selector_of};
-ghost use Rattle.ws_isa.specs.Image.{tokens_to, ports};
+ghost use Rattle.std.specs.Prelude.{◌≡◌, ◌<◌, ℕ, [], All, OnOk, length, true, false};
+ghost use Rattle.ws_isa.specs.Image.{is_memory, sends, result_of, tokens_to, ports};
 ghost use Rattle.df_core.specs.Core.{IsSent};
 ghost use Rattle.df_core.specs.Fit.{RightToken};
 ghost use Rattle.df_core.specs.Rights.{operands_of};
@@ -14,9 +13,9 @@ ghost use Rattle.fire_crew.specs.Owing.{HasAnswered, ResultsCame, ResultsCameAt,
 use crate::told::has_told;
 use df_core::{Code, Job, Token, TokenList};
 use match_table::together::holds;
-use match_table::{Course, Fired, Operands, Table};
+use match_table::{Course, Fired, Table, ops};
 use store_buf::Kept;
-use ws_isa::{Dest, Op};
+use ws_isa::Dest;
 use ws_words::NoMemory;
 
 // Those of the instance that fired at this place of a table's list.
@@ -65,11 +64,11 @@ fn look_at<J: Job>(
     if op.is_memory() {
         return Ok(());
     }
-    let Some(number) = number_of(op, fired.wave) else {
+    let Some(number) = ops::number_of(op, fired.wave) else {
         return Err(NoMemory);
     };
-    let choice = choice_of(op, fired.operands);
-    let word = word_of(op, fired.operands);
+    let choice = ops::selector(op, fired.operands);
+    let word = ops::result_of(op, fired.operands);
     let dests = code.program().destinations(fired.instr, choice);
     keep_sent(tables, courses, number, dests, word, found)?;
     Ok(())
@@ -97,7 +96,7 @@ pub(crate) fn look_up<J: Job>(
         return Ok(());
     };
     let program = code.program();
-    let Some(number) = number_of(program.op(kept.instr), kept.wave) else {
+    let Some(number) = ops::number_of(program.op(kept.instr), kept.wave) else {
         return Err(NoMemory);
     };
     keep_sent(
@@ -154,36 +153,4 @@ pub(crate) fn keep<J: Job>(
         }
     }
     Ok(())
-}
-
-// The wave number of an instance's results, where there is one.
-#[inline(always)]
-pub(crate) fn number_of(op: Op, wave: u64) -> Option<u64>
-    ensures { IfSome result (λ number. number ≡ cond (is_advance_op op) (suc wave) wave) }
-{
-    if op.is_advance() {
-        wave.checked_add(1)
-    } else {
-        Some(wave)
-    }
-}
-
-// The operand by which an instance chooses where its result goes.
-#[inline(always)]
-pub(crate) fn choice_of(op: Op, operands: Operands) -> u64
-    ensures { result ≡ selector_of op (listed operands) }
-{
-    match op {
-        Op::Steer => operands.second(),
-        Op::Send(_) => operands.first(),
-        _ => 0,
-    }
-}
-
-// The result of an operation that isn't memory's.
-#[inline(always)]
-fn word_of(op: Op, operands: Operands) -> u64
-    ensures { result ≡ result_of_op op (listed operands) }
-{
-    op.result_on(operands.first(), operands.second(), operands.third())
 }

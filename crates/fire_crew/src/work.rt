@@ -2,7 +2,7 @@
 
 use crate::follow::{Next, carry_on};
 use crate::gate::Gate;
-use crate::hand::{Bare, Hand, STREAK};
+use crate::hand::{Bare, InHand, STREAK};
 use df_core::{Code, Job, Token, TokenList};
 use match_table::{Quotas, Row};
 use port_set::Port;
@@ -35,7 +35,7 @@ pub fn work<J: Job, Q: Quotas, P: Port, G: Gate, R: Wait>(
 ) -> Worked<J> {
     let mut seat = seat;
     let mut let_go = TokenList::empty(alloc);
-    let mut hand = Hand::empty(alloc);
+    let mut hand = InHand::empty(alloc);
     let mut starved = false;
     for _ in rt.forever() {
         let token = match hand.waiting() {
@@ -75,7 +75,7 @@ pub fn work<J: Job, Q: Quotas, P: Port, G: Gate, R: Wait>(
 fn run_along<'i, J: Job, Q: Quotas, P: Port, G: Gate, R: Wait>(
     rt: &R,
     mut token: Token<J>,
-    hand: &mut Hand<'i, J>,
+    hand: &mut InHand<'i, J>,
     seat: &mut Seat<Token<J>>,
     let_go: &mut TokenList<J>,
     row: &Row<J, Q>,
@@ -106,7 +106,7 @@ fn run_along<'i, J: Job, Q: Quotas, P: Port, G: Gate, R: Wait>(
 // in theirs.
 fn find<J: Job, R: Wait>(
     rt: &R,
-    hand: &mut Hand<'_, J>,
+    hand: &mut InHand<'_, J>,
     seat: &mut Seat<Token<J>>,
     at_work: &AtomicU64,
 ) -> Option<Token<J>> {

@@ -29,7 +29,7 @@ use Rattle.match_table.specs.declared.table.Accept.TheVariants as accept
 use Rattle.match_table.specs.declared.table.Results.{Results}
 use Rattle.match_table.specs.declared.table.Took.{Took}
 use Rattle.match_table.specs.declared.table.Took.TheVariants as took
-use Rattle.match_table.specs.Matching.{Arrives, Full, Outcome, HandedOn, Accepted, Answered, will_fire}
+use Rattle.match_table.specs.Matching.{Arrives, Full, AcceptIs, HandedOn, Accepted, TookAs, will_fire}
 use Rattle.match_table.proofs.Kept.{port_below, full_with, full_operands, free_port, kept_ok, new_held, new_full, new_operands, same_fired, now_fired, fired_ok}
 use Rattle.ws_isa.proofs.Delivered.{few_ports}
 
@@ -67,7 +67,7 @@ full_from image old mid new t xs f a = record {
 }
 
 module _ {J : Type 0} where
-  pub accepted : (image : Image) (old mid new : TableContent) (t : Token) (xs : List ℕ) (answer : Accept J) → mid.entries ≡ old.entries → mid.fired ≡ old.fired → Arrives mid t new → Full image mid t new xs → Outcome image t xs answer → Accepted image old t new answer
+  pub accepted : (image : Image) (old mid new : TableContent) (t : Token) (xs : List ℕ) (answer : Accept J) → mid.entries ≡ old.entries → mid.fired ≡ old.fired → Arrives mid t new → Full image mid t new xs → AcceptIs image t xs answer → Accepted image old t new answer
   accepted image old mid new t xs accept.Waits e f a b o = absurd o
   accepted image old mid new t xs (accept.Fires tokens) e f a b o = (arrives_from old mid new t e a, (xs, full_from image old mid new t xs f b, o))
   accepted image old mid new t xs (accept.Asks request) e f a b o = (arrives_from old mid new t e a, (xs, full_from image old mid new t xs f b, o))
@@ -84,7 +84,7 @@ module _ (image : Image) (c : TableContent) (t : Token) where
       and_no false = refl
 
 module _ {J : Type 0} where
-  pub answered : (image : Image) (old mid new : TableContent) (t : Token) (xs : List ℕ) (rs : Results J) (did : Took) → mid.entries ≡ old.entries → mid.fired ≡ old.fired → Arrives mid t new → Full image mid t new xs → HandedOn image t xs rs did → Answered image old t new rs did
+  pub answered : (image : Image) (old mid new : TableContent) (t : Token) (xs : List ℕ) (rs : Results J) (did : Took) → mid.entries ≡ old.entries → mid.fired ≡ old.fired → Arrives mid t new → Full image mid t new xs → HandedOn image t xs rs did → TookAs image old t new rs did
   answered image old mid new t xs rs took.Waits e f a b o = absurd o
   answered image old mid new t xs rs took.Fires e f a b o = (accepted {J = J} image old mid new t xs (accept.Fires rs.sent) e f a b o.0, o.1)
   answered image old mid new t xs rs took.Asks e f a b o = (o.0, o.1, o.2, accepted {J = J} image old mid new t xs (accept.Asks o.0) e f a b o.3)

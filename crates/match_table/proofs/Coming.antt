@@ -8,7 +8,7 @@ use Rattle.df_core.proofs.Ports.{has_some, with_at_same}
 use Rattle.match_table.specs.declared.table.Results.{Results}
 use Rattle.match_table.specs.declared.table.Took.{Took}
 use Rattle.match_table.specs.declared.table.Took.TheVariants as took
-use Rattle.match_table.specs.Matching.{Answered, Arrives, FiresSo, will_fire}
+use Rattle.match_table.specs.Matching.{TookAs, Arrives, FiresSo, will_fire}
 use Rattle.match_table.specs.Tables.{held, TableContent}
 use Rattle.match_table.specs.Growth.{AllGrow, Grows, content_at}
 use Rattle.match_table.specs.Limits.{Serves}
@@ -48,7 +48,7 @@ arrives_there : (old new : TableContent) (t : Token) → Arrives old t new → h
 arrives_there old new t a = ap has (a.more t.wave t.instr t.port ∙ with_at_same t.wave t.instr t.port (Some t.value) (held old))
 
 module _ {J : Type 0} where
-  there : (image : Image) (old new : TableContent) (t : Token) (rs : Results J) (answer : Took) → Answered image old t new rs answer → (answer ≡ took.NoMemory → ⊥) → has (held new t.wave t.instr t.port) ≡ true
+  there : (image : Image) (old new : TableContent) (t : Token) (rs : Results J) (answer : Took) → TookAs image old t new rs answer → (answer ≡ took.NoMemory → ⊥) → has (held new t.wave t.instr t.port) ≡ true
   there image old new t rs took.Waits m some = arrives_there old new t m.0.0
   there image old new t rs took.Fires m some = arrives_there old new t m.0.0
   there image old new t rs took.Asks m some = arrives_there old new t m.3.0
@@ -83,9 +83,9 @@ module _ {J : Type 0} where
 
 -- the same said at the number of the table
 module _ {J : Type 0} where
-  pub brought_at : (image : Image) (old new : List TableContent) (t : Token) (rs : Results J) (answer : Took) (n : ℕ) → served t ≡ n → new ≡ slice_set old n (content_at new n) → Answered image (content_at old n) t (content_at new n) rs answer → FiresSo answer (will_fire image (content_at old n) t) → BroughtSo image old t new rs answer
+  pub brought_at : (image : Image) (old new : List TableContent) (t : Token) (rs : Results J) (answer : Took) (n : ℕ) → served t ≡ n → new ≡ slice_set old n (content_at new n) → TookAs image (content_at old n) t (content_at new n) rs answer → FiresSo answer (will_fire image (content_at old n) t) → BroughtSo image old t new rs answer
   brought_at image old new t rs answer n is same a f =
-      subst (λ (k : ℕ). (new ≡ slice_set old k (content_at new k)) × Answered image (content_at old k) t (content_at new k) rs answer × FiresSo answer (will_fire image (content_at old k) t)) (sym is) (same, a, f)
+      subst (λ (k : ℕ). (new ≡ slice_set old k (content_at new k)) × TookAs image (content_at old k) t (content_at new k) rs answer × FiresSo answer (will_fire image (content_at old k) t)) (sym is) (same, a, f)
 
 -- what tables held that have grown they hold
 grow_at : (olds news : List TableContent) (k w i p v : ℕ) → AllGrow olds news → held (content_at olds k) w i p ≡ Some v → held (content_at news k) w i p ≡ Some v

@@ -7,7 +7,7 @@ use Rattle.match_table.specs.declared.entry.Entry.{Entry}
 use Rattle.match_table.specs.declared.table.Results.{Results}
 use Rattle.match_table.specs.declared.table.Took.{Took}
 use Rattle.match_table.specs.declared.table.Took.TheVariants as took
-use Rattle.match_table.specs.Matching.{Arrives, Answered}
+use Rattle.match_table.specs.Matching.{Arrives, TookAs}
 use Rattle.match_table.specs.Tables.{held, held_in, TableContent}
 use Rattle.match_table.specs.Growth.{Grows, AllGrow}
 
@@ -43,7 +43,7 @@ same_keeps : (old new : TableContent) → new.entries ≡ old.entries → (w i p
 same_keeps old new e w i p v h = ap (λ (x : List (Option Entry)). held_in x w i p) e ∙ h
 
 module _ {J : Type 0} where
-  pub all_grows : (image : Image) (old new : TableContent) (t : Token) (rs : Results J) (answer : Took) → Answered image old t new rs answer → Grows old new
+  pub all_grows : (image : Image) (old new : TableContent) (t : Token) (rs : Results J) (answer : Took) → TookAs image old t new rs answer → Grows old new
   all_grows image old new t rs took.Waits m = record { keeps = arrives_keeps old new t m.0.0; goes_on = ([], m.0.2 ∙ sym (append-nil old.fired)) }
   all_grows image old new t rs took.Fires m = record { keeps = arrives_keeps old new t m.0.0; goes_on = (key_of_token t ∷ [], m.0.1.1.fired) }
   all_grows image old new t rs took.Asks m = record { keeps = arrives_keeps old new t m.3.0; goes_on = (key_of_token t ∷ [], m.3.1.1.fired) }

@@ -7,7 +7,7 @@ use Rattle.match_table.specs.declared.entry.Entry.{Entry}
 use Rattle.match_table.specs.declared.table.Results.{Results}
 use Rattle.match_table.specs.declared.table.Took.{Took}
 use Rattle.match_table.specs.declared.table.Took.TheVariants as took
-use Rattle.match_table.specs.Matching.{Arrives, Full, Answered, FiresSo, will_fire}
+use Rattle.match_table.specs.Matching.{Arrives, Full, TookAs, FiresSo, will_fire}
 use Rattle.match_table.specs.Tables.{held, held_in, TableContent}
 use Rattle.match_table.specs.Limits.{Serves}
 
@@ -31,7 +31,7 @@ within : (image : Image) (old new : TableContent) (t : Token) (xs : List ℕ) (f
 within image old new t xs fires most f is less = let l = one_longer image old new t xs f in let m = less (sym is) in omega (arith, l, m)
 
 module _ {J : Type 0} where
-  pub all_ok : (image : Image) (old new : TableContent) (t : Token) (rs : Results J) (answer : Took) (k most : ℕ) → Serves k old → length old.fired ≤ most → (t.wave + t.instr) % 16 ≡ k → (will_fire image old t ≡ true → length old.fired < most) → Answered image old t new rs answer → FiresSo answer (will_fire image old t) → Serves k new × (length new.fired ≤ most)
+  pub all_ok : (image : Image) (old new : TableContent) (t : Token) (rs : Results J) (answer : Took) (k most : ℕ) → Serves k old → length old.fired ≤ most → (t.wave + t.instr) % 16 ≡ k → (will_fire image old t ≡ true → length old.fired < most) → TookAs image old t new rs answer → FiresSo answer (will_fire image old t) → Serves k new × (length new.fired ≤ most)
   all_ok image old new t rs took.Waits k most s le serves less m h = (arrives_serves k old new t s serves m.0.0, subst (λ l. length l ≤ most) (sym m.0.2) le)
   all_ok image old new t rs took.Fires k most s le serves less m h = (arrives_serves k old new t s serves m.0.0, within image old new t m.0.1.0 (will_fire image old t) most m.0.1.1 (sym h) less)
   all_ok image old new t rs took.Asks k most s le serves less m h = (arrives_serves k old new t s serves m.3.0, within image old new t m.3.1.0 (will_fire image old t) most m.3.1.1 (sym h) less)

@@ -5,7 +5,7 @@ use Rattle.ws_isa.specs.Walk.{Ports}
 use Rattle.df_core.specs.Core.{Apart, IsSent}
 use Rattle.match_table.specs.declared.table.Results.{Results}
 use Rattle.match_table.specs.declared.table.Took.{Took}
-use Rattle.match_table.specs.Matching.{Answered, FiresSo, will_fire}
+use Rattle.match_table.specs.Matching.{TookAs, FiresSo, will_fire}
 use Rattle.match_table.specs.Growth.{content_at}
 use Rattle.match_table.specs.Tables.{TableContent}
 
@@ -17,7 +17,7 @@ served t = (t.wave + t.instr) % 16
 abbrev pub BroughtSo : {J : Type 0} → Image → List TableContent → Token → List TableContent → Results J →
     Took → Type 0
 BroughtSo image old t new rs took = (new ≡ slice_set old (served t) (content_at new (served t)))
-    × Answered image (content_at old (served t)) t (content_at new (served t)) rs took
+    × TookAs image (content_at old (served t)) t (content_at new (served t)) rs took
     × FiresSo took (will_fire image (content_at old (served t)) t)
 
 -- so many tokens have come, no two to one port: what is held now has them, and what was held before had none

@@ -42,11 +42,11 @@ IsOldSo c t _ = Unit {0}
 
 module _ {J : Type 0} where
   -- what an instance answers that is full with these operands
-  abbrev pub Outcome : Image → Token → List ℕ → Accept J → Type 0
-  Outcome image t operands Waits = ⊥
-  Outcome image t operands (Fires tokens) = (is_memory image t.instr ≡ false)
+  abbrev pub AcceptIs : Image → Token → List ℕ → Accept J → Type 0
+  AcceptIs image t operands Waits = ⊥
+  AcceptIs image t operands (Fires tokens) = (is_memory image t.instr ≡ false)
       × (tokens ≡ sends image t.wave t.instr operands (result_of image t.instr operands))
-  Outcome image t operands (Asks request) = (is_memory image t.instr ≡ true)
+  AcceptIs image t operands (Asks request) = (is_memory image t.instr ≡ true)
       × (request.wave ≡ t.wave) × (request.instr ≡ t.instr)
       × (request.second ≡ slice_index operands 1)
       × (operands_of (ports image t.instr) request.first request.second ≡ operands)
@@ -57,7 +57,7 @@ module _ {J : Type 0} where
       × (is_full (held new) t.wave t.instr (ports image t.instr) ≡ false)
       × (new.fired ≡ old.fired)
   Accepted image old t new answer = Arrives old t new
-      × ((operands : List ℕ) × Full image old t new operands × Outcome image t operands answer)
+      × ((operands : List ℕ) × Full image old t new operands × AcceptIs image t operands answer)
 
   -- the token is handed back, and nothing that the table holds or lists has changed
   abbrev pub Refused : TableContent → Token → TableContent → AcceptFault J → Type 0
@@ -73,22 +73,22 @@ module _ {J : Type 0} where
 
   -- what an instance hands on that is full with these operands, and nothing else
   abbrev pub HandedOn : Image → Token → List ℕ → Results J → Took → Type 0
-  HandedOn image t operands rs took.Fires = Outcome {J = J} image t operands (Fires rs.sent)
+  HandedOn image t operands rs took.Fires = AcceptIs {J = J} image t operands (Fires rs.sent)
       × (rs.request ≡ None)
   HandedOn image t operands rs took.Asks = (request : Asked) × (rs.request ≡ Some request) × (rs.sent ≡ [])
-      × Outcome {J = J} image t operands (Asks request)
+      × AcceptIs {J = J} image t operands (Asks request)
   HandedOn image t operands rs answer = ⊥
 
   -- what `accept` answers, where the caller keeps the token and lends a place for what is handed on: nothing
   -- else stands there
-  abbrev pub Answered : Image → TableContent → Token → TableContent → Results J → Took → Type 0
-  Answered image old t new rs took.Waits = Accepted {J = J} image old t new Waits × NoResults rs
-  Answered image old t new rs took.Fires = Accepted {J = J} image old t new (Fires rs.sent)
+  abbrev pub TookAs : Image → TableContent → Token → TableContent → Results J → Took → Type 0
+  TookAs image old t new rs took.Waits = Accepted {J = J} image old t new Waits × NoResults rs
+  TookAs image old t new rs took.Fires = Accepted {J = J} image old t new (Fires rs.sent)
       × (rs.request ≡ None)
-  Answered image old t new rs took.Asks = (request : Asked) × (rs.request ≡ Some request)
+  TookAs image old t new rs took.Asks = (request : Asked) × (rs.request ≡ Some request)
       × (rs.sent ≡ []) × Accepted {J = J} image old t new (Asks request)
-  Answered image old t new rs took.Old = Refused {J = J} old t new (fault.Old t) × NoResults rs
-  Answered image old t new rs took.NoMemory = Refused {J = J} old t new (fault.NoMemory t) × NoResults rs
+  TookAs image old t new rs took.Old = Refused {J = J} old t new (fault.Old t) × NoResults rs
+  TookAs image old t new rs took.NoMemory = Refused {J = J} old t new (fault.NoMemory t) × NoResults rs
 
   -- the answer says that the instance has fired
   abbrev pub has_fired : Accept J → Bool

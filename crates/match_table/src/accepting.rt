@@ -10,7 +10,7 @@ ghost use Rattle.df_core.specs.Core.{is_full};
 ghost use Rattle.df_core.specs.Places.{ProgramIs, image_of};
 ghost use Rattle.match_table.specs.declared.meeting.Seen.TheVariants.{Waits, Fills};
 ghost use Rattle.match_table.specs.declared.table.Took.TheVariants as took;
-ghost use Rattle.match_table.specs.Matching.{Accepted, Answered, Arrives, FiresSo, Full, HandedOn};
+ghost use Rattle.match_table.specs.Matching.{Accepted, TookAs, Arrives, FiresSo, Full, HandedOn};
 ghost use Rattle.match_table.specs.Matching.{IfNoMemory, NoResults, Refused, has_fired, will_fire};
 ghost use Rattle.match_table.specs.Pages.{KeyIs, arrived_in};
 ghost use Rattle.match_table.specs.Ports.{listed, is_taken, with_port, alone, SeenSo};
@@ -121,7 +121,7 @@ impl<J: Job> Table<J> {
         token: &Token<J>,
         results: &mut Results<'i, J>,
     ) -> Took
-        ensures answer { Answered J.image self.old token.now self.new results.new result }
+        ensures answer { TookAs J.image self.old token.now self.new results.new result }
         ensures fires { FiresSo result (will_fire J.image self.old token.now) }
         ensures memory { result ≡ took.NoMemory → 0 < self.old.spare → token.now.wave + 1 < 2 ^ 64 → ⊥ }
         ensures spare { self.old.spare ≤ self.new.spare + 1 }
@@ -149,7 +149,7 @@ impl<J: Job> Table<J> {
         results: &mut Results<'i, J>,
     ) -> Took
         requires { instr_at J.image token.now.instr ≡ no_instr }
-        ensures answer { Answered J.image self.old token.now self.new results.new result }
+        ensures answer { TookAs J.image self.old token.now self.new results.new result }
         ensures fires { FiresSo result (will_fire J.image self.old token.now) }
         ensures memory { result ≡ took.NoMemory → 0 < self.old.spare → token.now.wave + 1 < 2 ^ 64 → ⊥ }
         ensures spare { self.old.spare ≤ self.new.spare + 1 }
@@ -180,7 +180,7 @@ impl<J: Job> Table<J> {
         requires sound { Sound J.image }
         requires key { KeyIs self.old.entries key token.now.wave token.now.instr }
         requires arrived { arrived ≡ arrived_in self.old.entries token.now.wave token.now.instr }
-        ensures answer { Answered J.image self.old token.now self.new results.new result }
+        ensures answer { TookAs J.image self.old token.now self.new results.new result }
         ensures fires { FiresSo result (will_fire J.image self.old token.now) }
         ensures memory { result ≡ took.NoMemory → 0 < self.old.spare → token.now.wave + 1 < 2 ^ 64 → ⊥ }
         ensures spare { self.old.spare ≤ self.new.spare + 1 }

@@ -39,7 +39,7 @@ pub mod laws;
 pub mod limit;
 mod looking;
 pub mod meeting;
-mod ops;
+pub mod ops;
 mod pages;
 mod places;
 pub mod rank;

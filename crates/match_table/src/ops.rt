@@ -44,9 +44,9 @@ impl Operands {
     }
 }
 
-// The operand by which an instance chooses where its result goes.
+/// The operand by which an instance chooses where its result goes.
 #[inline(always)]
-pub(crate) fn selector(op: Op, operands: Operands) -> u64
+pub fn selector(op: Op, operands: Operands) -> u64
     ensures { result ≡ selector_of op (listed operands) }
 {
     match op {
@@ -56,9 +56,9 @@ pub(crate) fn selector(op: Op, operands: Operands) -> u64
     }
 }
 
-// The result of an operation that isn't memory's.
+/// The result of an operation that isn't memory's.
 #[inline(always)]
-pub(crate) fn result_of(op: Op, operands: Operands) -> u64
+pub fn result_of(op: Op, operands: Operands) -> u64
     ensures { result ≡ result_of_op op (listed operands) }
 {
     op.result_on(operands.first(), operands.second(), operands.third())
@@ -105,9 +105,9 @@ pub(crate) fn dests_of<'i>(
     }
 }
 
-// The wave number of an instance's results, where there is one.
+/// The wave number of an instance's results, where there is one.
 #[inline(always)]
-pub(crate) fn number_of(op: Op, wave: u64) -> Option<u64>
+pub fn number_of(op: Op, wave: u64) -> Option<u64>
     ensures number { IfSome result (λ number. number ≡ cond (is_advance_op op) (suc wave) wave) }
     ensures some { wave + 1 < 2 ^ 64 → IsSome result }
 {

@@ -10,7 +10,7 @@ use Rattle.df_core.proofs.Ports.{SameKey, with_key_cases}
 use Rattle.df_core.specs.Began.{Began}
 use Rattle.store_buf.specs.declared.kept.Kept.{Kept}
 use Rattle.store_buf.specs.Requests.{entry_of, issued_in}
-use Rattle.store_buf.specs.Outdoors.{Holding, OutIs}
+use Rattle.store_buf.specs.Outdoors.{Holding, HoldsOut}
 use Rattle.store_buf.specs.Contents.{FaultIs}
 use Rattle.store_buf.proofs.Coming.{entry_push, issued_push}
 use Rattle.part_store.specs.declared.entry.Queued.{Queued}
@@ -112,7 +112,7 @@ module _ (image : Image) (world : World) (began : List (Option Began)) (c d : Pa
           ∙ s.partly.before e r j t (front_back e r j h) on;
       rows = ap (λ (x : Holding). length x.cells) come.outside ∙ s.partly.rows;
       shape = λ r. ap (λ (x : Holding). length (row x.cells r)) come.outside ∙ s.partly.shape r;
-      outside = subst (λ (x : Holding). OutIs began (O.with_cells s.memory x.cells) x)
+      outside = subst (λ (x : Holding). HoldsOut began (O.with_cells s.memory x.cells) x)
           (sym come.outside) s.partly.outside;
     };
     fault = subst (FaultIs image world) (sym (come.fault ∙ going)) tt;

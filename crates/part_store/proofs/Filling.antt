@@ -11,7 +11,7 @@ use Rattle.df_core.specs.Began.{Began}
 use Rattle.df_core.specs.Rights.{IsAsked}
 use Rattle.store_buf.specs.declared.kept.Kept.{Kept}
 use Rattle.store_buf.specs.Requests.{entry_of, issued_in}
-use Rattle.store_buf.specs.Outdoors.{Holding, OutIs}
+use Rattle.store_buf.specs.Outdoors.{Holding, HoldsOut}
 use Rattle.store_buf.specs.Contents.{FaultIs}
 use Rattle.store_buf.specs.Stores.{asked_of}
 use Rattle.part_store.specs.declared.entry.Queued.{Queued}
@@ -100,7 +100,7 @@ module _ (image : Image) (world : World) (began : List (Option Began)) (c d : Pa
           ∙ s.partly.before e r j t (front_back e r j h) on;
       rows = ap (λ (x : Holding). length x.cells) f.outside ∙ s.partly.rows;
       shape = λ r. ap (λ (x : Holding). length (row x.cells r)) f.outside ∙ s.partly.shape r;
-      outside = subst (λ (x : Holding). OutIs began (O.with_cells s.memory x.cells) x)
+      outside = subst (λ (x : Holding). HoldsOut began (O.with_cells s.memory x.cells) x)
           (sym f.outside) s.partly.outside;
     };
     fault = subst (FaultIs image world) (sym (f.fault ∙ going)) tt;

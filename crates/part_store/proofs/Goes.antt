@@ -18,7 +18,7 @@ use Rattle.store_buf.specs.Earlies.{early_ops}
 use Rattle.store_buf.specs.declared.kept.Kept.{Kept}
 use Rattle.store_buf.specs.Requests.{entry_of, issued_in, answer_if}
 use Rattle.store_buf.specs.Ordering.{kept_at}
-use Rattle.store_buf.specs.Outdoors.{Holding, OutIs, Performed}
+use Rattle.store_buf.specs.Outdoors.{Holding, HoldsOut, Performed}
 use Rattle.store_buf.specs.Outers.{holding}
 use Rattle.part_store.specs.declared.entry.Queued.{Queued}
 use Rattle.part_store.specs.declared.parts.Parts.{Parts}
@@ -313,7 +313,7 @@ module _ {P : Type 0} (image : Image) (world : World) (formed : Formed image) (s
       (queued : n.queues.entries.items ≡ s.queues.entries.items)
       (whole : is_in s.bare k.wave k.instr ≡ false)
       (held : holds_op s.queues.entries.items (instr_at image k.instr).op k.first ≡ false)
-      (answers : (b : List (Option Began)) (o : Outside) → OutIs b o (holding s.outer) →
+      (answers : (b : List (Option Began)) (o : Outside) → HoldsOut b o (holding s.outer) →
       Performed b (instr_at image k.instr).op (k.first ∷ k.second ∷ 0 ∷ []) o word (holding n.outer))
     where
       pub issues_now : Moves image (content_of s) (sends image k.wave k.instr (operands_at image k) word)
@@ -392,8 +392,8 @@ module _ {P : Type 0} (image : Image) (world : World) (began : List (Option Bega
     (calm : Calm image world began s)
     (order : n.order ≡ s.order) (bare : n.bare ≡ s.bare) (queues : n.queues ≡ s.queues)
     (fault : n.fault ≡ s.fault)
-    (kept : (b : List (Option Began)) (o : Outside) → OutIs b o (holding s.outer) →
-    OutIs b o (holding n.outer)) where
+    (kept : (b : List (Option Began)) (o : Outside) → HoldsOut b o (holding s.outer) →
+    HoldsOut b o (holding n.outer)) where
   cells_same : (holding n.outer).cells ≡ (holding s.outer).cells
   cells_same = sym (kept began (O.with_cells calm.0.parting.memory s.outer.cells)
       calm.0.parting.partly.outside).cells_are
@@ -442,7 +442,7 @@ module _ {P : Type 0} (image : Image) (world : World) (began : List (Option Bega
               rows = ap (λ (cs : List (List ℕ)). length cs) cells_same ∙ p.rows;
               shape = λ r. ap (λ (cs : List (List ℕ)). length (row cs r)) cells_same ∙ p.shape r;
               outside = subst (λ (cs : List (List ℕ)).
-                  OutIs began (O.with_cells q.memory cs) (holding n.outer)) (sym cells_same)
+                  HoldsOut began (O.with_cells q.memory cs) (holding n.outer)) (sym cells_same)
                   (kept began (O.with_cells q.memory s.outer.cells) p.outside);
             };
             fault = q.fault;
@@ -454,7 +454,7 @@ module _ {P : Type 0} (image : Image) (world : World) (began : List (Option Bega
         calm.1,
       )
 
-  told_by : OutIs began (O.with_cells calm.0.parting.memory s.outer.cells) (holding n.outer)
+  told_by : HoldsOut began (O.with_cells calm.0.parting.memory s.outer.cells) (holding n.outer)
   told_by = kept began (O.with_cells calm.0.parting.memory s.outer.cells) calm.0.parting.partly.outside
 
   pub still_calm : Calm image world began n × Alike (content_of s) (content_of n)

@@ -15,7 +15,7 @@ use Rattle.df_core.proofs.Ports.{SameKey, with_key_cases}
 use Rattle.df_core.specs.Began.{Began}
 use Rattle.store_buf.specs.declared.kept.Kept.{Kept}
 use Rattle.store_buf.specs.Requests.{entry_of, issued_in, answer_if}
-use Rattle.store_buf.specs.Outdoors.{Holding, OutIs, Performed}
+use Rattle.store_buf.specs.Outdoors.{Holding, HoldsOut, Performed}
 use Rattle.store_buf.specs.Contents.{RightTokens}
 use Rattle.part_store.specs.declared.entry.Queued.{Queued}
 use Rattle.part_store.specs.Queues.{front, holds, is_queued, open_queues}
@@ -220,9 +220,9 @@ module _ (image : Image) (world : World) (formed : Formed image) (sound : Sound 
     | inr s ↦ ap (λ (cs : List (List ℕ)). length cs) (left_plain s)
   ]
 
-  outside_left : OutIs began (O.with_cells memory' left.cells) left
+  outside_left : HoldsOut began (O.with_cells memory' left.cells) left
   outside_left = O.outside_after began image k.instr (operands_at image k) memory c.outside.cells left
-      (subst (λ (o : Outside). OutIs began o left) (sym (O.operands_alike image k om).1) answers.after)
+      (subst (λ (o : Outside). HoldsOut began o left) (sym (O.operands_alike image k om).1) answers.after)
 
   -- the operation isn't on a held cell
   not_held : (r j u : ℕ) (e : Queued) (w i : ℕ) → SameKey k.wave k.instr w i → front c.queued r j ≡ Some e →
@@ -275,7 +275,7 @@ module _ (image : Image) (world : World) (formed : Formed image) (sound : Sound 
         ∙ sym (C.after_rows image k.instr (operands_at image k) memory);
     shape = λ r. ap (λ (x : Holding). length (row x.cells r)) go.outside_is ∙ left_shape r ∙ p.shape r
         ∙ sym (C.after_shape image k.instr (operands_at image k) memory r);
-    outside = subst (λ (x : Holding). OutIs began (O.with_cells memory' x.cells) x)
+    outside = subst (λ (x : Holding). HoldsOut began (O.with_cells memory' x.cells) x)
         (sym go.outside_is) outside_left;
   }
     where

@@ -14,7 +14,7 @@ use Rattle.df_core.proofs.Ports.{SameKey, with_key_cases}
 use Rattle.df_core.specs.Began.{Began}
 use Rattle.store_buf.specs.declared.kept.Kept.{Kept}
 use Rattle.store_buf.specs.Requests.{entry_of, issued_in, answer_if}
-use Rattle.store_buf.specs.Outdoors.{Holding, OutIs}
+use Rattle.store_buf.specs.Outdoors.{Holding, HoldsOut}
 use Rattle.part_store.specs.declared.entry.Queued.{Queued}
 use Rattle.part_store.specs.Queues.{front, holds, is_queued, joined, open_queues}
 use Rattle.part_store.specs.Contents.{is_bare, cell, is_on_row, PartContent}
@@ -265,7 +265,7 @@ module _ (image : Image) (world : World) (formed : Formed image) (sound : Sound 
             ∙ sym (C.after_rows image k.instr xs memory);
         shape = λ r. ap (λ (x : Holding). length (row x.cells r)) go.outside_is ∙ p.shape r
             ∙ sym (C.after_shape image k.instr xs memory r);
-        outside = subst (λ (x : Holding). OutIs began (O.with_cells memory' x.cells) x) (sym go.outside_is)
+        outside = subst (λ (x : Holding). HoldsOut began (O.with_cells memory' x.cells) x) (sym go.outside_is)
             (O.quiet_out began image k.instr
             (array_at image k.instr - 1) xs memory c.outside.cells c.outside row_is p.outside);
       }

@@ -16,7 +16,7 @@ use Rattle.df_core.proofs.Pauses.{mem_same, no_op_no_write}
 use Rattle.df_core.specs.Began.{Began}
 use Rattle.store_buf.specs.declared.kept.Kept.{Kept}
 use Rattle.store_buf.specs.Requests.{entry_of, issued_in, answer_if, operands_if, kept_in}
-use Rattle.store_buf.specs.Outdoors.{Holding, OutIs, Performed}
+use Rattle.store_buf.specs.Outdoors.{Holding, HoldsOut, Performed}
 use Rattle.store_buf.specs.Contents.{RightTokens, FaultIs}
 use Rattle.part_store.specs.declared.entry.Queued.{Queued}
 use Rattle.part_store.specs.Queues.{front, holds, joined, open_queues}
@@ -372,7 +372,7 @@ module _ (image : Image) (world : World) (formed : Formed image) (sound : Sound 
   -- rule 5
   issued_so : (c d : PartContent) → Parting image world began c → (k : Kept) (word : ℕ) (left : Holding) →
       GoesByChain image c k → holds_op c.queued (instr_at image k.instr).op k.first ≡ false →
-      ((b : List (Option Began)) (o : Outside) → OutIs b o c.outside →
+      ((b : List (Option Began)) (o : Outside) → HoldsOut b o c.outside →
       Performed b (instr_at image k.instr).op (k.first ∷ k.second ∷ 0 ∷ []) o word left) →
       Counted image c k word c.queued left d →
       Parting image world began d × RightTokens image world

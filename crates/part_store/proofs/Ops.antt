@@ -19,7 +19,7 @@ use Rattle.df_core.specs.Rights.{operands_of}
 use Rattle.df_core.proofs.Issuing.{printed_alike, took_alike}
 use Rattle.store_buf.specs.declared.kept.Kept.{Kept}
 use Rattle.store_buf.specs.Requests.{entry_of, answer_if}
-use Rattle.store_buf.specs.Outdoors.{Holding, OutIs, SlotIs}
+use Rattle.store_buf.specs.Outdoors.{Holding, HoldsOut, SlotIs}
 use Rattle.part_store.specs.declared.entry.Queued.{Queued}
 use Rattle.part_store.specs.Queues.{holds}
 use Rattle.part_store.specs.Contents.{cell, is_on_row, holds_op}
@@ -127,8 +127,8 @@ with_cells o cs = record { cells = cs; input = o.input; left = o.left; acts = o.
 
 one_act : (began : List (Option Began)) (o : Outside) (cs : List (List ℕ)) (h : Holding) (act : Act) →
     printed_words (act ∷ []) ≡ [] → ((slot : ℕ) → took_words slot (act ∷ []) ≡ []) →
-    OutIs began (with_cells o cs) h →
-    OutIs began (record {
+    HoldsOut began (with_cells o cs) h →
+    HoldsOut began (record {
       cells = cs;
       input = o.input;
       left = o.left;
@@ -145,8 +145,8 @@ one_act began o cs h act p t is = record {
 }
 
 quiet_op : (began : List (Option Began)) (op : Op) (r : ℕ) (xs : List ℕ) (o : Outside) (cs : List (List ℕ))
-    (h : Holding) → is_on_row op r ≡ true → OutIs began (with_cells o cs) h →
-    OutIs began (with_cells (effect_of (after_op op xs o)) cs) h
+    (h : Holding) → is_on_row op r ≡ true → HoldsOut began (with_cells o cs) h →
+    HoldsOut began (with_cells (effect_of (after_op op xs o)) cs) h
 quiet_op began (Load a) r xs o cs h e is =
     one_act began o cs h (loads a (slice_index xs 0)) refl (λ slot. refl) is
 quiet_op began (Store a) r xs o cs h e is =
@@ -155,7 +155,7 @@ quiet_op began _ r xs o cs h e is = absurd (both_ways false refl e)
 
 pub quiet_out : (began : List (Option Began)) (image : Image) (i r : ℕ) (xs : List ℕ) (o : Outside)
     (cs : List (List ℕ)) (h : Holding) → is_on_row (instr_at image i).op r ≡ true →
-    OutIs began (with_cells o cs) h → OutIs began (with_cells (effect_after image i xs o) cs) h
+    HoldsOut began (with_cells o cs) h → HoldsOut began (with_cells (effect_after image i xs o) cs) h
 unfolding effect_after after
 quiet_out began image i r xs o cs h e is = quiet_op began (instr_at image i).op r xs o cs h e is
 
@@ -265,13 +265,13 @@ apart_op (Take p) xs o cs = refl
 apart_op _ xs o cs = refl
 
 pub outside_after : (began : List (Option Began)) (image : Image) (i : ℕ) (xs : List ℕ) (o : Outside)
-    (cs : List (List ℕ)) (h : Holding) → OutIs began (after_op (instr_at image i).op xs (with_cells o cs)) h →
-    OutIs began (with_cells (effect_after image i xs o) h.cells) h
+    (cs : List (List ℕ)) (h : Holding) → HoldsOut began (after_op (instr_at image i).op xs (with_cells o cs)) h →
+    HoldsOut began (with_cells (effect_after image i xs o) h.cells) h
 unfolding effect_after after
 outside_after began image i xs o cs h is =
-    subst (λ (ds : List (List ℕ)). OutIs began
+    subst (λ (ds : List (List ℕ)). HoldsOut began
     (with_cells (effect_of (after_op (instr_at image i).op xs o)) ds) h) is.cells_are
-    (subst (λ (z : Outside). OutIs began z h) (apart_op (instr_at image i).op xs o cs)
+    (subst (λ (z : Outside). HoldsOut began z h) (apart_op (instr_at image i).op xs o cs)
     (out_effect began (after_op (instr_at image i).op xs (with_cells o cs)) h is))
 
 abbrev pub answer_in : Option Kept → Option ℕ

@@ -18,7 +18,7 @@ use Rattle.store_buf.specs.declared.kept.Kept.{Kept}
 use Rattle.store_buf.specs.Finding.{pair_eq}
 use Rattle.store_buf.specs.Requests.{entry_of, issued_in, kept_in, operands_if}
 use Rattle.store_buf.specs.Holds.{Issues, part, waiting_in}
-use Rattle.store_buf.specs.Outdoors.{OutIs}
+use Rattle.store_buf.specs.Outdoors.{HoldsOut}
 use Rattle.store_buf.specs.Contents as whole
 use Rattle.store_buf.specs.Stores.{asked_of}
 use Rattle.store_buf.proofs.Coming.{entry_push, issued_push, kept_push}
@@ -111,7 +111,7 @@ module _ (image : Image) (world : World) (formed : Formed image) (sound : Sound 
               (ap (λ (ks : List Kept). entry_of ks w i) come.kept ∙ entry_push old.kept k come.fresh w i
               ∙ h.1) ∙ e)
         ];
-        outside = subst (OutIs began m) (sym come.outside) on_old.outside;
+        outside = subst (HoldsOut began m) (sym come.outside) on_old.outside;
       }
 
       way : W.Way image world formed sound began took.1.0 m tokens took.1.2.mid

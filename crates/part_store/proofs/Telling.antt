@@ -25,7 +25,7 @@ use Rattle.df_core.specs.Began.{Began}
 use Rattle.df_core.specs.Rights.{IsRight}
 use Rattle.port_set.specs.Ports.{Told}
 use Rattle.store_buf.specs.Requests.{issued_in, answer_if}
-use Rattle.store_buf.specs.Outdoors.{OutIs, RoseAt, SlotsAre, began_of, port_of}
+use Rattle.store_buf.specs.Outdoors.{HoldsOut, RoseAt, SlotsAre, began_of, port_of}
 use Rattle.store_buf.specs.Contents.{FaultIs, PortWaits}
 use Rattle.store_buf.specs.Ended.{PortFailed, RunWhole, Spent, Starved, Tripped}
 use Rattle.store_buf.proofs.Outside.{out_of}
@@ -114,9 +114,9 @@ module _ (image : Image) (world : World) (began : List (Option Began)) (c : Part
 
   -- what is outside but for the cells is what the walk leaves there
   out_at : (n : ℕ) → effect_at image world n ≡ s.memory →
-      OutIs began (O.with_cells (mem image world n) c.outside.cells) c.outside
+      HoldsOut began (O.with_cells (mem image world n) c.outside.cells) c.outside
   out_at n e = out_of began (O.with_cells (mem image world n) c.outside.cells) c.outside
-      (subst (λ (o : Outside). OutIs began (O.with_cells o c.outside.cells) c.outside)
+      (subst (λ (o : Outside). HoldsOut began (O.with_cells o c.outside.cells) c.outside)
       (sym e ∙ effect_is image world n) s.partly.outside)
 
   cells_at : (n : ℕ) → effect_at image world n ≡ s.memory → c.queued ≡ [] →

@@ -13,7 +13,7 @@ use Rattle.df_core.specs.Began.{Began}
 use Rattle.df_core.specs.Rights.{IsAsked}
 use Rattle.store_buf.specs.declared.kept.Kept.{Kept}
 use Rattle.store_buf.specs.Requests.{entry_of, issued_in}
-use Rattle.store_buf.specs.Outdoors.{OutIs}
+use Rattle.store_buf.specs.Outdoors.{HoldsOut}
 use Rattle.store_buf.specs.Contents.{FaultIs}
 use Rattle.store_buf.specs.Stores.{asked_of}
 use Rattle.part_store.specs.declared.entry.Queued.{Queued}
@@ -94,7 +94,7 @@ pub record Partly (image : Image) (world : World) (began : List (Option Began))
   pub rows : length c.outside.cells ≡ length memory.cells
   pub shape : (r : ℕ) → length (row c.outside.cells r) ≡ length (row memory.cells r)
   -- input, printed words and ports are what the passed operations leave
-  pub outside : OutIs began (record {
+  pub outside : HoldsOut began (record {
     cells = c.outside.cells;
     input = memory.input;
     left = memory.left;

@@ -8,7 +8,7 @@ use Rattle.df_core.specs.Began.{Began}
 use Rattle.df_core.specs.Rights.{operands_of}
 use Rattle.store_buf.specs.declared.kept.Kept.{Kept}
 use Rattle.store_buf.specs.Requests.{entry_of, issued_in}
-use Rattle.store_buf.specs.Outdoors.{Holding, OutIs, Performed}
+use Rattle.store_buf.specs.Outdoors.{Holding, HoldsOut, Performed}
 use Rattle.part_store.specs.declared.entry.Queued.{Queued}
 use Rattle.part_store.specs.Queues.{front, joined, open_queues, without}
 use Rattle.part_store.specs.Contents.{is_bare, cell, holds_op, PartContent}
@@ -132,7 +132,7 @@ pub data Moves (image : Image) : PartContent → List Token → PartContent → 
       Moves image c rest e
   issues : {c d e : PartContent} {rest : List Token} (k : Kept) (word : ℕ) (left : Holding) → Fronts c →
       GoesByChain image c k → holds_op c.queued (instr_at image k.instr).op k.first ≡ false →
-      ((began : List (Option Began)) (o : Outside) → OutIs began o c.outside →
+      ((began : List (Option Began)) (o : Outside) → HoldsOut began o c.outside →
       Performed began (instr_at image k.instr).op (k.first ∷ k.second ∷ 0 ∷ []) o word left) →
       Counted image c k word c.queued left d → Moves image d rest e →
       Moves image c (sends image k.wave k.instr (operands_at image k) word ++ rest) e
@@ -152,7 +152,8 @@ pub record Alike (c d : PartContent) : Type 0 where
   pub cells : d.outside.cells ≡ c.outside.cells
   pub input : d.outside.input ≡ c.outside.input
   pub printed : d.outside.printed ≡ c.outside.printed
-  pub ports : (began : List (Option Began)) (o : Outside) → OutIs began o c.outside → OutIs began o d.outside
+  pub ports : (began : List (Option Began)) (o : Outside) → HoldsOut began o c.outside
+      → HoldsOut began o d.outside
 
 -- moves with these tokens lead from one to the other
 pub record MovesTo (image : Image) (c : PartContent) (tokens : List Token) (d : PartContent) : Type 0 where

@@ -26,12 +26,12 @@ use df_core::program::Program;
 use port_set::Port;
 use store_buf::kept::Kept;
 use store_buf::outer::Outer;
-use store_buf::told::{Told, tell};
+use store_buf::told::{PlainTokens, tell};
 use ws_isa::Op;
 
 impl<P: Port> Parts<P> {
     // The first entries on the cell of a store whose data has come are done.
-    pub(crate) fn drain(&mut self, program: &Program<'_>, kept: Kept, told: &mut Told)
+    pub(crate) fn drain(&mut self, program: &Program<'_>, kept: Kept, told: &mut PlainTokens)
         requires program { ProgramIs program.now }
         requires formed { Formed (image_of program.now) }
         requires ok { PartsOk self.old }
@@ -50,7 +50,7 @@ impl<P: Port> Parts<P> {
     }
 
     // The first entries of a cell's queue are done, up to the next store without data.
-    fn follow(&mut self, program: &Program<'_>, row: usize, index: u64, told: &mut Told)
+    fn follow(&mut self, program: &Program<'_>, row: usize, index: u64, told: &mut PlainTokens)
         requires program { ProgramIs program.now }
         requires formed { Formed (image_of program.now) }
         requires ok { PartsOk self.old }
@@ -96,7 +96,7 @@ impl<P: Port> Parts<P> {
     }
 
     // The first entry of a queue is done, and leaves it.
-    fn finish_front(&mut self, program: &Program<'_>, entry: Queued, told: &mut Told)
+    fn finish_front(&mut self, program: &Program<'_>, entry: Queued, told: &mut PlainTokens)
         requires program { ProgramIs program.now }
         requires formed { Formed (image_of program.now) }
         requires ok { PartsOk self.old }

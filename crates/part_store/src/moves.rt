@@ -28,7 +28,7 @@ use df_core::program::Program;
 use port_set::Port;
 use store_buf::fault::{BufFault, Silent};
 use store_buf::kept::Kept;
-use store_buf::told::{Told, tell};
+use store_buf::told::{PlainTokens, tell};
 use ws_isa::Op;
 use ws_words::NoMemory;
 
@@ -38,7 +38,7 @@ impl<P: Port> Parts<P> {
         &mut self,
         program: &Program<'_>,
         first: Option<usize>,
-        told: &mut Told,
+        told: &mut PlainTokens,
     ) -> Result<(), BufFault>
         requires program { ProgramIs program.now }
         requires formed { Formed (image_of program.now) }
@@ -75,7 +75,7 @@ impl<P: Port> Parts<P> {
         &mut self,
         program: &Program<'_>,
         first: Option<usize>,
-        told: &mut Told,
+        told: &mut PlainTokens,
     ) -> Result<(), Silent>
         requires program { ProgramIs program.now }
         requires formed { Formed (image_of program.now) }
@@ -192,7 +192,12 @@ impl<P: Port> Parts<P> {
 
     /// Lets the request or address at a place go. At one past the end the chain stops. Where a port
     /// doesn't answer, the request still waits.
-    pub fn go(&mut self, program: &Program<'_>, place: usize, told: &mut Told) -> Result<(), Silent>
+    pub fn go(
+        &mut self,
+        program: &Program<'_>,
+        place: usize,
+        told: &mut PlainTokens,
+    ) -> Result<(), Silent>
         requires program { ProgramIs program.now }
         requires formed { Formed (image_of program.now) }
         requires ok { PartsOk self.old }

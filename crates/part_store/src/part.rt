@@ -25,7 +25,7 @@ use std::marker::{Model, PhantomData};
 use store_buf::kept::Kept;
 use store_buf::order::Order;
 use store_buf::outer::{BufferEnd, Outer, empty_cells};
-use store_buf::{Answers, BufFault};
+use store_buf::{BufFault, BufferAnswers};
 use ws_isa::Op;
 use ws_words::Words;
 
@@ -98,7 +98,7 @@ impl<J: Job, P: Port> PartBuffer<J, P> {
         requires port { token.port ≡ 0 }
         ensures { AddressedSo J.image self.old (address_of token) result self.new }
     {
-        let mut answers = Answers::none(self.alloc);
+        let mut answers = BufferAnswers::none(self.alloc);
         match self.address_into(code, token, &mut answers) {
             Ok(()) => Ok(answers.listed()),
             Err(fault) => Err(fault),
@@ -111,7 +111,7 @@ impl<J: Job, P: Port> PartBuffer<J, P> {
         &mut self,
         code: &Code<'_, J>,
         token: Token<J>,
-        answers: &mut Answers<J>,
+        answers: &mut BufferAnswers<J>,
     ) -> Result<(), BufFault>
         requires store { is_store_op (instr_at J.image token.instr).op ≡ true }
         requires port { token.port ≡ 0 }
@@ -131,7 +131,7 @@ impl<J: Job, P: Port> PartBuffer<J, P> {
     ) -> Result<TokenList<J>, BufFault>
         ensures { SubmittedSo J.image self.old (request_of request) result self.new }
     {
-        let mut answers = Answers::none(self.alloc);
+        let mut answers = BufferAnswers::none(self.alloc);
         match self.submit_into(code, request, &mut answers) {
             Ok(()) => Ok(answers.listed()),
             Err(fault) => Err(fault),
@@ -144,7 +144,7 @@ impl<J: Job, P: Port> PartBuffer<J, P> {
         &mut self,
         code: &Code<'_, J>,
         request: Request<J>,
-        answers: &mut Answers<J>,
+        answers: &mut BufferAnswers<J>,
     ) -> Result<(), BufFault>
         ensures { SubmittedSo J.image self.old (request_of request) (with_tokens answers.new result)
             self.new }

@@ -21,7 +21,7 @@ use store_buf::fault::BufFault;
 use store_buf::kept::Kept;
 use store_buf::order::Order;
 use store_buf::outer::Outer;
-use store_buf::told::Told;
+use store_buf::told::PlainTokens;
 use ws_words::NoMemory;
 
 /// Requests, addresses and queues, and what they work on. An operation that is queued counts as issued
@@ -57,7 +57,7 @@ impl<P: Port> Parts<P> {
         &mut self,
         program: &Program<'_>,
         kept: Kept,
-        told: &mut Told,
+        told: &mut PlainTokens,
     ) -> Result<(), BufFault>
         requires program { ProgramIs program.now }
         requires formed { Formed (image_of program.now) }
@@ -132,7 +132,7 @@ impl<P: Port> Parts<P> {
         &mut self,
         program: &Program<'_>,
         kept: Kept,
-        told: &mut Told,
+        told: &mut PlainTokens,
     ) -> Result<(), BufFault>
         requires program { ProgramIs program.now }
         requires formed { Formed (image_of program.now) }
@@ -165,7 +165,7 @@ impl<P: Port> Parts<P> {
         &mut self,
         program: &Program<'_>,
         kept: Kept,
-        told: &mut Told,
+        told: &mut PlainTokens,
     ) -> Result<(), BufFault>
         requires program { ProgramIs program.now }
         requires formed { Formed (image_of program.now) }
@@ -227,7 +227,7 @@ impl<P: Port> Parts<P> {
         &mut self,
         program: &Program<'_>,
         kept: Kept,
-        told: &mut Told,
+        told: &mut PlainTokens,
     ) -> Result<(), BufFault>
         requires program { ProgramIs program.now }
         requires formed { Formed (image_of program.now) }
@@ -259,7 +259,7 @@ impl<P: Port> Parts<P> {
         &mut self,
         program: &Program<'_>,
         kept: Kept,
-        told: &mut Told,
+        told: &mut PlainTokens,
     ) -> Result<(), BufFault>
         requires program { ProgramIs program.now }
         requires formed { Formed (image_of program.now) }

@@ -18,7 +18,7 @@ use crate::parts::Parts;
 use df_core::program::Program;
 use port_set::Port;
 use store_buf::kept::Kept;
-use store_buf::told::Told;
+use store_buf::told::PlainTokens;
 use ws_words::NoMemory;
 
 // For each request that waits there has to be room for eight tokens.
@@ -26,7 +26,7 @@ const MOST_WAITING: usize = usize::MAX / 32;
 
 impl<P: Port> Parts<P> {
     // Makes room for the tokens of all that waits or is queued, and of one more.
-    pub(crate) fn make_room(&self, told: &mut Told) -> Result<(), NoMemory>
+    pub(crate) fn make_room(&self, told: &mut PlainTokens) -> Result<(), NoMemory>
         ensures items { told.new.items ≡ told.old.items }
         ensures room { OnOk result (HasRoomFor told.new
             (8 * (self.now.order.waiting + length self.now.queues.entries.items + 1))) }

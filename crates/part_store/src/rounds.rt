@@ -9,7 +9,7 @@ use std::alloc::Global;
 use std::collections::VecDeque;
 use std::marker::Model;
 use std::mem::swap;
-use store_buf::{Answers, BufFault};
+use store_buf::{BufFault, BufferAnswers};
 use ws_words::NoMemory;
 
 /// Tokens on the way: those of this round, and those that wait for the next one. What comes of a token is
@@ -75,7 +75,7 @@ impl<J: Job> Rounds<J> {
     pub fn offer(
         &mut self,
         answer: Result<(), BufFault>,
-        answers: &mut Answers<J>,
+        answers: &mut BufferAnswers<J>,
     ) -> Result<(), NoMemory>
         ensures { OnOk result (IsOffered (with_tokens answers.old answer) self.old self.new) }
     {
@@ -101,7 +101,7 @@ impl<J: Job> Rounds<J> {
 
     /// Puts all answers of a buffer on the way.
     #[inline(always)]
-    pub fn take_all(&mut self, answers: &mut Answers<J>) -> Result<(), NoMemory>
+    pub fn take_all(&mut self, answers: &mut BufferAnswers<J>) -> Result<(), NoMemory>
         ensures old { OnOk result (Covers self.old self.new) }
         ensures taken { OnOk result (Covers answers.old self.new) }
     {

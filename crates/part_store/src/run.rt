@@ -25,18 +25,18 @@ use match_table::{Results, Table, Took};
 use port_set::{Port, Slots};
 use std::alloc::Global;
 use std::marker::Brand;
-use store_buf::{Answers, told_ports_begin};
+use store_buf::{BufferAnswers, told_ports_begin};
 use ws_isa::{Checked, Op};
 use ws_words::{NoMemory, Words};
 
 // A table, a buffer, and the tokens on the way. The buffer's answers have a place of their own until they
 // are on the way too.
 #[derive(Drop)]
-struct Run<J: Job, P: Port> {
+struct PartRun<J: Job, P: Port> {
     table: Table<J>,
     buffer: PartBuffer<J, P>,
     way: Rounds<J>,
-    answers: Answers<J>,
+    answers: BufferAnswers<J>,
 }
 
 /// Runs an image on one thread, until the whole walk has been run, so many instances have fired, the
@@ -117,11 +117,11 @@ fn run_from<J: Job, P: Port>(
         PartTells J.image J.world handed budget result.finish (contents P.tells result.ports) }
     ensures open { AllOpen (contents P.tells result.ports) }
 {
-    let mut run = Run {
+    let mut run = PartRun {
         table: Table::new(alloc),
         buffer,
         way: Rounds::none(alloc),
-        answers: Answers::none(alloc),
+        answers: BufferAnswers::none(alloc),
     };
     let ending = match begin(alloc, code, &mut run.way) {
         Ok(()) => run_on(code, &mut run, budget),
@@ -149,7 +149,7 @@ fn stays<P: Port>(ports: Slots<P>) -> PartEnd<P>
 }
 
 // Brings tokens to the table until none is on the way, the budget is spent, or the buffer is stopped.
-fn run_on<J: Job, P: Port>(code: &Code<'_, J>, run: &mut Run<J, P>, budget: u64) -> Ending
+fn run_on<J: Job, P: Port>(code: &Code<'_, J>, run: &mut PartRun<J, P>, budget: u64) -> Ending
     requires within { length run.old.table.fired ≤ budget }
     requires paid { PaidWhile J.image (part run.old.table) run.old.buffer run.old.way }
     ensures within { length run.new.table.fired ≤ budget }
@@ -164,7 +164,7 @@ fn run_on<J: Job, P: Port>(code: &Code<'_, J>, run: &mut Run<J, P>, budget: u64)
 }
 
 // Brings a token of the round to the table, if the run goes on.
-fn step<J: Job, P: Port>(code: &Code<'_, J>, run: &mut Run<J, P>, budget: u64) -> Option<Ending>
+fn step<J: Job, P: Port>(code: &Code<'_, J>, run: &mut PartRun<J, P>, budget: u64) -> Option<Ending>
     requires within { length run.old.table.fired ≤ budget }
     requires paid { PaidWhile J.image (part run.old.table) run.old.buffer run.old.way }
     ensures within { length run.new.table.fired ≤ budget }
@@ -193,7 +193,7 @@ fn step<J: Job, P: Port>(code: &Code<'_, J>, run: &mut Run<J, P>, budget: u64) -
 // Brings a token to the table, and what comes of it to the buffer. One that has come before is let go.
 fn bring<J: Job, P: Port>(
     code: &Code<'_, J>,
-    run: &mut Run<J, P>,
+    run: &mut PartRun<J, P>,
     token: Token<J>,
 ) -> Result<(), NoMemory>
     requires paid { Paid J.image (part run.old.table) run.old.buffer (token ∷ run.old.way) }
@@ -238,7 +238,7 @@ fn bring<J: Job, P: Port>(
 fn tell<J: Job, P: Port>(
     code: &Code<'_, J>,
     buffer: &mut PartBuffer<J, P>,
-    answers: &mut Answers<J>,
+    answers: &mut BufferAnswers<J>,
     way: &mut Rounds<J>,
     token: Token<J>,
 ) -> Result<(), NoMemory>
@@ -255,7 +255,7 @@ fn tell<J: Job, P: Port>(
 fn ask<J: Job, P: Port>(
     code: &Code<'_, J>,
     buffer: &mut PartBuffer<J, P>,
-    answers: &mut Answers<J>,
+    answers: &mut BufferAnswers<J>,
     way: &mut Rounds<J>,
     request: Request<J>,
 ) -> Result<(), NoMemory>

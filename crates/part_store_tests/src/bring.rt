@@ -4,7 +4,7 @@ ghost use Rattle.std.specs.Prelude.{◌≡◌, true, MatchOption};
 ghost use Rattle.ws_isa.specs.Image.{instr_at};
 ghost use Rattle.part_store.specs.Parted.{is_store_op};
 
-use crate::runs::{Order, Said};
+use crate::runs::{BufferOrder, Said};
 use df_core::{Code, Job, Request, Token, TokenList};
 use match_table::{Accept, Table};
 use part_store::PartBuffer;
@@ -15,7 +15,7 @@ use ws_isa::Op;
 use ws_words::NoMemory;
 
 #[derive(Drop)]
-pub struct Run<J: Job, P: Port> {
+pub struct BroughtRun<J: Job, P: Port> {
     pub table: Table<J>,
     pub buffer: PartBuffer<J, P>,
     pub bag: Vec<Token<J>>,
@@ -42,8 +42,8 @@ pub fn take_all<J: Job>(
 // Notes what the buffer answered to a call on an instruction, and to the same call once more.
 fn note<J: Job, P: Port>(
     code: &Code<'_, J>,
-    run: &mut Run<J, P>,
-    order: &Order,
+    run: &mut BroughtRun<J, P>,
+    order: &BufferOrder,
     instr: u32,
     answer: Result<TokenList<J>, BufFault>,
     again: Option<BufFault>,
@@ -67,8 +67,8 @@ fn note<J: Job, P: Port>(
 // Brings an address to the buffer, twice.
 fn tell<J: Job, P: Port>(
     code: &Code<'_, J>,
-    run: &mut Run<J, P>,
-    order: &Order,
+    run: &mut BroughtRun<J, P>,
+    order: &BufferOrder,
     token: Token<J>,
 ) -> Result<(), NoMemory>
     requires store { is_store_op (instr_at J.image token.instr).op ≡ true }
@@ -84,8 +84,8 @@ fn tell<J: Job, P: Port>(
 // Brings a request to the buffer, twice.
 fn ask<J: Job, P: Port>(
     code: &Code<'_, J>,
-    run: &mut Run<J, P>,
-    order: &Order,
+    run: &mut BroughtRun<J, P>,
+    order: &BufferOrder,
     request: Request<J>,
 ) -> Result<(), NoMemory> {
     let instr = request.instr();
@@ -124,8 +124,8 @@ pub fn is_data<J: Job>(code: &Code<'_, J>, token: &Token<J>) -> bool {
 pub fn bring<J: Job, P: Port>(
     alloc: Global,
     code: &Code<'_, J>,
-    run: &mut Run<J, P>,
-    order: &Order,
+    run: &mut BroughtRun<J, P>,
+    order: &BufferOrder,
     token: Token<J>,
 ) -> Result<(), NoMemory> {
     let address = address_of(code, &token);

@@ -1,7 +1,7 @@
 //! Calls on a buffer, one by one.
 
 use crate::images::{BEYOND, CELLS, PAST, SEVENTEEN, TWICE, image_of};
-use crate::runs::{Order, Past, Said, let_go};
+use crate::runs::{BufferOrder, Past, Said, let_go};
 use crate::tapes::past_with;
 use port_set::TapePort;
 use std::alloc::Global;
@@ -35,8 +35,8 @@ fn failed(instr: u32, fault: BufFault, array: u32, answer: Option<u64>) -> Said 
 }
 
 // Tokens that come to these ports, with addresses apart, and the instruction of which the answer is asked.
-fn script(script: &'static [(u32, u8)], watched: u32) -> Order {
-    Order {
+fn script(script: &'static [(u32, u8)], watched: u32) -> BufferOrder {
+    BufferOrder {
         script,
         seed: None,
         late: false,
@@ -51,7 +51,7 @@ fn ends_so(past: &Past<TapePort>, wanted: &[Said]) -> bool {
 }
 
 // Whether the last calls of a script on an image were answered so.
-fn says(alloc: Global, text: &str, order: &Order, wanted: &[Said]) -> Result<bool, NoMemory> {
+fn says(alloc: Global, text: &str, order: &BufferOrder, wanted: &[Said]) -> Result<bool, NoMemory> {
     let image = image_of(alloc, text)?;
     let past = past_with(alloc, &image, &[1], 0, order)?;
     let so = ends_so(&past, wanted);

@@ -9,7 +9,7 @@ use ws_words::{NoMemory, Words};
 
 // How a run ended: how many words were printed, the first of them, and the firings, or the array or the port.
 #[derive(Clone, Copy, Debug, PartialEq, Eq)]
-enum Ended {
+enum PartEnding {
     Done(usize, u64, u64),
     Budget(u64),
     Fault(u32, u64),
@@ -17,20 +17,26 @@ enum Ended {
     NoMemory,
 }
 
-fn end_of(finish: &PartFinish) -> Ended {
+fn end_of(finish: &PartFinish) -> PartEnding {
     match finish {
         PartFinish::Done { printed, fired, .. } => {
-            Ended::Done(printed.len(), printed.word(0), *fired)
+            PartEnding::Done(printed.len(), printed.word(0), *fired)
         }
-        PartFinish::Budget { fired, .. } => Ended::Budget(*fired),
-        PartFinish::Fault { array, arrays, .. } => Ended::Fault(*array, arrays.word(0, 0)),
-        PartFinish::Port { port, .. } => Ended::Port(*port),
-        PartFinish::NoMemory => Ended::NoMemory,
+        PartFinish::Budget { fired, .. } => PartEnding::Budget(*fired),
+        PartFinish::Fault { array, arrays, .. } => PartEnding::Fault(*array, arrays.word(0, 0)),
+        PartFinish::Port { port, .. } => PartEnding::Port(*port),
+        PartFinish::NoMemory => PartEnding::NoMemory,
     }
 }
 
 // How an image runs with a word of input and tapes, of which this call of the second fails.
-fn run(alloc: Global, text: &str, word: u64, fails: u64, budget: u64) -> Result<Ended, NoMemory> {
+fn run(
+    alloc: Global,
+    text: &str,
+    word: u64,
+    fails: u64,
+    budget: u64,
+) -> Result<PartEnding, NoMemory> {
     let image = image_of(alloc, text)?;
     let input = Words::from_slice(alloc, &[word])?;
     let slots = tapes(alloc, fails)?;
@@ -38,12 +44,12 @@ fn run(alloc: Global, text: &str, word: u64, fails: u64, budget: u64) -> Result<
 }
 
 // Texts, words of input, calls that fail and budgets, and how runs end.
-const ROWS: &[(&str, u64, u64, u64, Ended)] = &[
-    (CELLS, 1, 0, 1_000, Ended::Done(2, 5, 14)),
-    (CELLS, 0, 0, 1_000, Ended::Done(2, 0, 12)),
-    (CELLS, 1, 0, 13, Ended::Budget(13)),
-    (PAST, 1, 0, 1_000, Ended::Fault(1, 5)),
-    (PORTS, 0, 1, 1_000, Ended::Port(2)),
+const ROWS: &[(&str, u64, u64, u64, PartEnding)] = &[
+    (CELLS, 1, 0, 1_000, PartEnding::Done(2, 5, 14)),
+    (CELLS, 0, 0, 1_000, PartEnding::Done(2, 0, 12)),
+    (CELLS, 1, 0, 13, PartEnding::Budget(13)),
+    (PAST, 1, 0, 1_000, PartEnding::Fault(1, 5)),
+    (PORTS, 0, 1, 1_000, PartEnding::Port(2)),
 ];
 
 #[test]

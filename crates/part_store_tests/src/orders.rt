@@ -4,7 +4,7 @@ ghost use Rattle.std.specs.Prelude.{◌≤◌};
 ghost use Rattle.df_core.specs.Cores.{IsRunning};
 
 use crate::images::{CELLS, MIXED, PAST, PORTS, SEVENTEEN, image_of};
-use crate::runs::{Order, Past, let_go};
+use crate::runs::{BufferOrder, Past, let_go};
 use crate::tapes::{LEFT, past_with};
 use df_core::Core;
 use port_set::TapePort;
@@ -25,8 +25,8 @@ const TEXTS: &[&str] = &[CELLS, PAST, MIXED, PORTS, SEVENTEEN];
 const INPUT: &[u64] = &[9, 2, 7, 5];
 
 // An order by a seed. In every second one the data of stores comes late.
-fn by_seed(seed: u64, apart: bool) -> Order {
-    Order {
+fn by_seed(seed: u64, apart: bool) -> BufferOrder {
+    BufferOrder {
         script: &[],
         seed: Some(seed),
         late: apart && seed.is_multiple_of(2),

@@ -4,7 +4,7 @@ ghost use Rattle.std.specs.Prelude.{◌≡◌};
 ghost use Rattle.port_set.specs.Slots.{AllOpen, contents};
 ghost use Rattle.store_buf.specs.Outdoors.{AllTell, began_of, world_with};
 
-use crate::bring::{Run, bring, is_data, take_all};
+use crate::bring::{BroughtRun, bring, is_data, take_all};
 use df_core::{Code, Job, Token, start};
 use match_table::Table;
 use part_store::PartBuffer;
@@ -23,7 +23,7 @@ const TOKENS: u32 = 1_000;
 /// is set, an address that comes before its data goes to the buffer alone. `watched` is an instruction of
 /// wave 1 whose answer is asked for after each call.
 #[derive(Clone, Copy)]
-pub struct Order {
+pub struct BufferOrder {
     pub script: &'static [(u32, u8)],
     pub seed: Option<u64>,
     pub late: bool,
@@ -82,8 +82,8 @@ fn place_before<J: Job>(code: &Code<'_, J>, bag: &[Token<J>], from: usize) -> us
 fn bring_script<J: Job, P: Port>(
     alloc: Global,
     code: &Code<'_, J>,
-    run: &mut Run<J, P>,
-    order: &Order,
+    run: &mut BroughtRun<J, P>,
+    order: &BufferOrder,
 ) -> Result<(), NoMemory> {
     for (instr, port) in order.script {
         let Some(place) = place_of(&run.bag, *instr, *port) else {
@@ -101,8 +101,8 @@ fn bring_script<J: Job, P: Port>(
 fn bring_all<J: Job, P: Port>(
     alloc: Global,
     code: &Code<'_, J>,
-    run: &mut Run<J, P>,
-    order: &Order,
+    run: &mut BroughtRun<J, P>,
+    order: &BufferOrder,
     seed: u64,
 ) -> Result<(), NoMemory> {
     let mut number = seed;
@@ -140,8 +140,8 @@ fn answers<J: Job, P: Port>(
 }
 
 // A run with no tokens.
-fn begun<J: Job, P: Port>(alloc: Global, buffer: PartBuffer<J, P>) -> Run<J, P> {
-    Run {
+fn begun<J: Job, P: Port>(alloc: Global, buffer: PartBuffer<J, P>) -> BroughtRun<J, P> {
+    BroughtRun {
         table: Table::new(alloc),
         buffer,
         bag: Vec::new(alloc),
@@ -153,8 +153,8 @@ fn begun<J: Job, P: Port>(alloc: Global, buffer: PartBuffer<J, P>) -> Run<J, P> 
 fn carry_out<J: Job, P: Port>(
     alloc: Global,
     code: &Code<'_, J>,
-    run: &mut Run<J, P>,
-    order: &Order,
+    run: &mut BroughtRun<J, P>,
+    order: &BufferOrder,
 ) -> Result<Vec<(u64, u32, Option<u64>)>, NoMemory> {
     let tokens = start(alloc, code)?;
     let _ = take_all(tokens, &mut run.bag)?;
@@ -166,7 +166,10 @@ fn carry_out<J: Job, P: Port>(
 }
 
 // What has come of a run.
-fn what_came<J: Job, P: Port>(run: Run<J, P>, answers: Vec<(u64, u32, Option<u64>)>) -> Past<P> {
+fn what_came<J: Job, P: Port>(
+    run: BroughtRun<J, P>,
+    answers: Vec<(u64, u32, Option<u64>)>,
+) -> Past<P> {
     Past {
         said: run.said,
         answers,
@@ -181,7 +184,7 @@ fn run_on<J: Job, P: Port>(
     alloc: Global,
     code: &Code<'_, J>,
     buffer: PartBuffer<J, P>,
-    order: &Order,
+    order: &BufferOrder,
 ) -> Result<Past<P>, NoMemory> {
     let mut run = begun(alloc, buffer);
     match carry_out(alloc, code, &mut run, order) {
@@ -196,7 +199,7 @@ fn run_as<J: Job, P: Port>(
     image: &Checked,
     input: Words,
     ports: Slots<P>,
-    order: &Order,
+    order: &BufferOrder,
 ) -> Result<Past<P>, NoMemory>
     requires image { image.now ≡ J.image }
     requires world { J.world ≡ world_with input (contents P.tells ports) }
@@ -220,7 +223,7 @@ pub fn past_of<P: Port>(
     image: &Checked,
     input: Words,
     ports: Slots<P>,
-    order: &Order,
+    order: &BufferOrder,
 ) -> Result<Past<P>, NoMemory>
     requires told { AllTell (contents P.tells ports) }
     requires open { AllOpen (contents P.tells ports) }

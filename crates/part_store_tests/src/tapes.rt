@@ -5,7 +5,7 @@ ghost use Rattle.port_set.specs.Slots.{AllOpen, contents};
 ghost use Rattle.port_set.specs.Tape.{tape_tells};
 ghost use Rattle.store_buf.specs.Outdoors.{AllTell};
 
-use crate::runs::{Order, Past, past_of};
+use crate::runs::{BufferOrder, Past, past_of};
 use port_set::{Slots, TapePort};
 use std::alloc::Global;
 use ws_isa::Checked;
@@ -58,7 +58,7 @@ pub fn past_with(
     image: &Checked,
     input: &[u64],
     fails: u64,
-    order: &Order,
+    order: &BufferOrder,
 ) -> Result<Past<TapePort>, NoMemory> {
     let input = Words::from_slice(alloc, input)?;
     let slots = tapes(alloc, fails)?;

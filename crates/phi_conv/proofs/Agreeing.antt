@@ -5,23 +5,23 @@ use Rattle.std.proofs.lemmas.Bool.{cases_eq}
 use Rattle.std.proofs.lemmas.List.{get_or-set_same, get_or-set_other, length-set}
 use Rattle.ws_words.specs.declared.alu.Alu.TheVariants.{Sub}
 use Rattle.ws_words.specs.Operators.{applied, flag}
-use Rattle.ws_words.specs.Outside.{Act, loads, Outside, State, row, write, stored, printed, taken, has_read, given, head_or_zero}
+use Rattle.ws_words.specs.Outside.{Act, loads, Outside, ProcState, row, write, stored, printed, taken, has_read, given, head_or_zero}
 use Rattle.cfg_core.specs.Graph.{Term, Number, Var, Cell, Flip, Not, Neg, Binary, Op, Assign, Store, Print, Read, Give, Take, Choose, Tick, TickBy, Graph}
 use Rattle.cfg_core.specs.Rules.{TermIn, OpIn}
-use Rattle.cfg_core.specs.Walk.{value, loads_of, values, all_loads, value_of, values_of, Outcome, Done, Out, and_then, spend, run_op, run_ops}
+use Rattle.cfg_core.specs.Walk.{value, loads_of, values, all_loads, value_of, values_of, OpsOutcome, Done, Out, and_then, spend, run_op, run_ops}
 use Rattle.live_vars.specs.Live.{Mentions, OneMentions}
 use Rattle.phi_conv.specs.Joined.{more_vars}
 use Rattle.live_vars.proofs.Needed.{Agree, Before, Needs}
 
 -- two states: the second has the variables of the joined graph
-pub record States (v : ℕ) (P : ℕ → Type 0) (s t : State) : Type 0 where
+pub record States (v : ℕ) (P : ℕ → Type 0) (s t : ProcState) : Type 0 where
   pub vars : Agree v P s.vars t.vars
   pub long : length s.vars ≡ v
   pub longer : length t.vars ≡ more_vars v
   pub out : s.out ≡ t.out
 
 -- both done, with as many turns left and states that agree, or both out of turns with the same outside
-abbrev pub Outcomes : ℕ → (ℕ → Type 0) → Outcome → Outcome → Type 0
+abbrev pub Outcomes : ℕ → (ℕ → Type 0) → OpsOutcome → OpsOutcome → Type 0
 Outcomes v P (Done s k) (Done t j) = (k ≡ j) × States v P s t
 Outcomes v P (Out o) (Out p) = o ≡ p
 Outcomes v P _ _ = ⊥
@@ -29,7 +29,7 @@ Outcomes v P _ _ = ⊥
 module _ (g : Graph) (v : ℕ) where
   module _ (vs ws : List ℕ) (cells : List (List ℕ)) where
     -- a term has the same value on variables that agree on what it mentions
-    pub value_same : (t : Term) → TermIn g v t → Agree v (Mentions t) vs ws → value t vs cells ≡ value t ws cells
+    pub value_same : (t : Term) → TermIn (length g.arrays) v t → Agree v (Mentions t) vs ws → value t vs cells ≡ value t ws cells
     value_same (Number n) i h = refl
     value_same (Var x) i h = h x i refl
     value_same (Cell a t) i h = ap (λ n. get_or (row cells (a - 1)) n 0) (value_same t i.1 h)
@@ -39,7 +39,7 @@ module _ (g : Graph) (v : ℕ) where
     value_same (Binary op a b) i h = ap (λ n. applied op n (value b vs cells)) (value_same a i.0 (λ x lt m. h x lt (inl m))) ∙ ap (λ n. applied op (value a ws cells) n) (value_same b i.1 (λ x lt m. h x lt (inr m)))
 
     -- it loads the same
-    pub loads_same : (t : Term) → TermIn g v t → Agree v (Mentions t) vs ws → loads_of t vs cells ≡ loads_of t ws cells
+    pub loads_same : (t : Term) → TermIn (length g.arrays) v t → Agree v (Mentions t) vs ws → loads_of t vs cells ≡ loads_of t ws cells
     loads_same (Number n) i h = refl
     loads_same (Var x) i h = refl
     loads_same (Cell a t) i h = ap (λ (zs : List Act). zs ++ loads a (value t vs cells) ∷ []) (loads_same t i.1 h) ∙ ap (λ n. loads_of t ws cells ++ loads a n ∷ []) (value_same t i.1 h)
@@ -49,12 +49,12 @@ module _ (g : Graph) (v : ℕ) where
     loads_same (Binary op a b) i h = ap (λ (zs : List Act). zs ++ loads_of b vs cells) (loads_same a i.0 (λ x lt m. h x lt (inl m))) ∙ ap (λ (zs : List Act). loads_of a ws cells ++ zs) (loads_same b i.1 (λ x lt m. h x lt (inr m)))
 
     -- so do terms
-    pub values_same : (ts : List Term) → AllByRecursion (TermIn g v) ts → Agree v (OneMentions ts) vs ws → values ts vs cells ≡ values ts ws cells
+    pub values_same : (ts : List Term) → AllByRecursion (TermIn (length g.arrays) v) ts → Agree v (OneMentions ts) vs ws → values ts vs cells ≡ values ts ws cells
     values_same [] i h = refl
     values_same (t ∷ ts) i h = ap (λ n. n ∷ values ts vs cells) (value_same t i.0 (λ x lt m. h x lt (inl m))) ∙ ap (λ (ns : List ℕ). value t ws cells ∷ ns) (values_same ts i.1 (λ x lt m. h x lt (inr m)))
 
     -- and they load the same
-    pub all_loads_same : (ts : List Term) → AllByRecursion (TermIn g v) ts → Agree v (OneMentions ts) vs ws → all_loads ts vs cells ≡ all_loads ts ws cells
+    pub all_loads_same : (ts : List Term) → AllByRecursion (TermIn (length g.arrays) v) ts → Agree v (OneMentions ts) vs ws → all_loads ts vs cells ≡ all_loads ts ws cells
     all_loads_same [] i h = refl
     all_loads_same (t ∷ ts) i h = ap (λ (zs : List Act). zs ++ all_loads ts vs cells) (loads_same t i.0 (λ x lt m. h x lt (inl m))) ∙ ap (λ (zs : List Act). loads_of t ws cells ++ zs) (all_loads_same ts i.1 (λ x lt m. h x lt (inr m)))
 
@@ -62,11 +62,11 @@ module _ (g : Graph) (v : ℕ) where
   loaded o l = record { cells = o.cells; input = o.input; left = o.left; acts = o.acts ++ l }
 
   -- states that agree on more agree on less
-  pub weaker : (P Q : ℕ → Type 0) (s t : State) → ((x : ℕ) → Q x → P x) → States v P s t → States v Q s t
+  pub weaker : (P Q : ℕ → Type 0) (s t : ProcState) → ((x : ℕ) → Q x → P x) → States v P s t → States v Q s t
   weaker P Q s t to h = record { vars = λ x lt q. h.vars x lt (to x q); long = h.long; longer = h.longer; out = h.out }
 
   -- the value of a term, and the states after its loads
-  module _ (P : ℕ → Type 0) (s t : State) (h : States v P s t) (term : Term) (i : TermIn g v term) (known : (x : ℕ) → Mentions term x → P x) where
+  module _ (P : ℕ → Type 0) (s t : ProcState) (h : States v P s t) (term : Term) (i : TermIn (length g.arrays) v term) (known : (x : ℕ) → Mentions term x → P x) where
     agreed : Agree v (Mentions term) s.vars t.vars
     agreed x lt m = h.vars x lt (known x m)
 
@@ -83,7 +83,7 @@ module _ (g : Graph) (v : ℕ) where
       out = ap (λ (l : List Act). loaded s.out l) (loads_same s.vars t.vars s.out.cells term i agreed) ∙ ap (λ (o : Outside). loaded o (loads_of term t.vars o.cells)) h.out;
     }
 
-  module _ (P : ℕ → Type 0) (s t : State) (h : States v P s t) (terms : List Term) (i : AllByRecursion (TermIn g v) terms) (known : (x : ℕ) → OneMentions terms x → P x) where
+  module _ (P : ℕ → Type 0) (s t : ProcState) (h : States v P s t) (terms : List Term) (i : AllByRecursion (TermIn (length g.arrays) v) terms) (known : (x : ℕ) → OneMentions terms x → P x) where
     all_agreed : Agree v (OneMentions terms) s.vars t.vars
     all_agreed x lt m = h.vars x lt (known x m)
 
@@ -101,7 +101,7 @@ module _ (g : Graph) (v : ℕ) where
     }
 
   -- a variable is written
-  pub written : (P : ℕ → Type 0) (s t : State) (x a b : ℕ) → x < v → a ≡ b → ((y : ℕ) → y < v → (y ≡ x → ⊥) → P y → get_or s.vars y 0 ≡ get_or t.vars y 0) → length s.vars ≡ v → length t.vars ≡ more_vars v → s.out ≡ t.out → States v P (write s x a) (write t x b)
+  pub written : (P : ℕ → Type 0) (s t : ProcState) (x a b : ℕ) → x < v → a ≡ b → ((y : ℕ) → y < v → (y ≡ x → ⊥) → P y → get_or s.vars y 0 ≡ get_or t.vars y 0) → length s.vars ≡ v → length t.vars ≡ more_vars v → s.out ≡ t.out → States v P (write s x a) (write t x b)
   written P s t x a b lt e others ls lt' out = record {
     vars = λ y ly p. elim (cases_eq y x) [
       | inl same ↦ subst (λ n. get_or (set s.vars x a) n 0 ≡ get_or (set t.vars x b) n 0) (sym same)
@@ -113,21 +113,21 @@ module _ (g : Graph) (v : ℕ) where
     out = out;
   }
 
-  if_same : (P : ℕ → Type 0) (b c : Bool) (o o' q q' : Outcome) → b ≡ c → Outcomes v P o o' → Outcomes v P q q' → Outcomes v P (if b then o else q) (if c then o' else q')
+  if_same : (P : ℕ → Type 0) (b c : Bool) (o o' q q' : OpsOutcome) → b ≡ c → Outcomes v P o o' → Outcomes v P q q' → Outcomes v P (if b then o else q) (if c then o' else q')
   if_same P true true o o' q q' e h i = h
   if_same P false false o o' q q' e h i = i
   if_same P true false o o' q q' e h i = absurd (cc)
   if_same P false true o o' q q' e h i = absurd (cc)
 
-  spend_same : (P : ℕ → Type 0) (n k : ℕ) (s t : State) → States v P s t → Outcomes v P (spend n s k) (spend n t k)
+  spend_same : (P : ℕ → Type 0) (n k : ℕ) (s t : ProcState) → States v P s t → Outcomes v P (spend n s k) (spend n t k)
   spend_same P zero k s t h = (refl, h)
   spend_same P (suc n) zero s t h = h.out
   spend_same P (suc n) (suc k) s t h = spend_same P n k s t h
 
-  abbrev on : Outside → State
+  abbrev on : Outside → ProcState
   on o = record { vars = []; out = o }
 
-  op_same : (op : Op) (P : ℕ → Type 0) → OpIn g v op → (s t : State) (k : ℕ) → States v (Before op P) s t → Outcomes v P (run_op op s k) (run_op op t k)
+  op_same : (op : Op) (P : ℕ → Type 0) → OpIn (length g.arrays) v op → (s t : ProcState) (k : ℕ) → States v (Before op P) s t → Outcomes v P (run_op op s k) (run_op op t k)
   op_same (Assign x t) P i s s' k h =
       let st = term_states (Before (Assign x t) P) s s' h t i.1 (λ y m. inl m) in
       (refl, written P _ _ x _ _ i.0 (term_value (Before (Assign x t) P) s s' h t i.1 (λ y m. inl m)) (λ y lt ne p. st.vars y lt (inr (ne, p))) st.long st.longer st.out)
@@ -189,13 +189,13 @@ module _ (g : Graph) (v : ℕ) where
       if_same P _ _ _ _ _ _ (ap (λ n. n == 0) (term_value B s s' h t i (λ y q. inl q))) (spend_same P m k _ _ st) (spend_same P n k _ _ st)
 
   -- what follows may be compared from states that agree
-  pub then_same : (P Q : ℕ → Type 0) (o p : Outcome) (go to : State → ℕ → Outcome) → Outcomes v P o p → ((s t : State) (k : ℕ) → States v P s t → Outcomes v Q (go s k) (to t k)) → Outcomes v Q (and_then o go) (and_then p to)
+  pub then_same : (P Q : ℕ → Type 0) (o p : OpsOutcome) (go to : ProcState → ℕ → OpsOutcome) → Outcomes v P o p → ((s t : ProcState) (k : ℕ) → States v P s t → Outcomes v Q (go s k) (to t k)) → Outcomes v Q (and_then o go) (and_then p to)
   then_same P Q (Done s k) (Done t j) go to h f = subst (λ n. Outcomes v Q (go s k) (to t n)) h.0 (f s t k h.1)
   then_same P Q (Out o) (Out p) go to h f = h
   then_same P Q (Done s k) (Out p) go to h f = absurd h
   then_same P Q (Out o) (Done t j) go to h f = absurd h
 
   -- operations do the same from states that agree on what they need
-  pub ops_same : (ops : List Op) (P : ℕ → Type 0) → AllByRecursion (OpIn g v) ops → (s t : State) (k : ℕ) → States v (Needs ops P) s t → Outcomes v P (run_ops ops s k) (run_ops ops t k)
+  pub ops_same : (ops : List Op) (P : ℕ → Type 0) → AllByRecursion (OpIn (length g.arrays) v) ops → (s t : ProcState) (k : ℕ) → States v (Needs ops P) s t → Outcomes v P (run_ops ops s k) (run_ops ops t k)
   ops_same [] P i s t k h = (refl, h)
   ops_same (op ∷ ops) P i s t k h = then_same (Needs ops P) P (run_op op s k) (run_op op t k) (run_ops ops) (run_ops ops) (op_same op (Needs ops P) i.0 s t k h) (λ s t k h. ops_same ops P i.1 s t k h)

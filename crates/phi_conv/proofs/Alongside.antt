@@ -1,9 +1,9 @@
 -- The walk of the joined graph goes along with that of the given graph, which takes a block more where an arm is one.
 use Rattle.std.proofs.Common.{ℕ, zero, suc, ◌-◌, ◌≡◌, ◌<◌, ◌≤◌, ◌⊎◌, ◌==◌, Bool, true, false, if◌then◌else◌, List, [], ◌++◌, length, Option, Some, None, refl, sym, ap, ◌∙◌, subst, inl, inr, arith}
-use Rattle.ws_words.specs.Outside.{Outside, State, World, zeros, opening_out}
+use Rattle.ws_words.specs.Outside.{Outside, ProcState, World, zeros, opening_out}
 use Rattle.cfg_core.specs.Graph.{Term, Op, Exit, Goto, Branch, Call, Return, Send, Stop, Block, Graph, GraphProc, spots, spot_at, block_at, proc_at, entry_of}
 use Rattle.cfg_core.specs.Rules.{ExitIn, Lands, IsGraph}
-use Rattle.cfg_core.specs.Walk.{value_of, Outcome, Done, Out, and_then, run_ops, Frame, Config, At, Over, Going, leave, passed, step, walk, cells_of, opening, IsOver}
+use Rattle.cfg_core.specs.Walk.{value_of, OpsOutcome, Done, Out, and_then, run_ops, Frame, Config, At, Over, Going, leave, passed, step, walk, cells_of, opening, IsOver}
 use Rattle.cfg_core.proofs.Paired.{Match}
 use Rattle.cfg_core.proofs.Total.{lands_at}
 use Rattle.live_vars.specs.Live.{Live}
@@ -41,7 +41,7 @@ module _ (g : Graph) (rules : IsGraph g) (live : List (List ℕ)) (is : AreLive 
 
   module _ (b : ℕ) (there : b < length (spots g)) (fs es : List Frame) (stack : Stack g rules fs es) where
     -- an exit that both graphs have
-    same_exit : (x : Exit) → ExitIn g (spot_at g b).home (V b) x → Lands g x → (s r : State) (k : ℕ) → States (V b) (After g x) s r → Along g rules (leave g x s fs k) (leave h x r es k)
+    same_exit : (x : Exit) → ExitIn g (spot_at g b).home (V b) x → Lands g x → (s r : ProcState) (k : ℕ) → States (V b) (After g x) s r → Along g rules (leave g x s fs k) (leave h x r es k)
     same_exit (Goto c) i l s r k st = jumps g rules h b there c i s r fs es k st stack
     same_exit (Branch t c d) i l s r k st = branches g rules h b there t c d i s r fs es k st stack
     same_exit (Call x f ts back) i l s r k st = calls g rules live b there x f ts back i s r fs es k st stack
@@ -49,21 +49,21 @@ module _ (g : Graph) (rules : IsGraph g) (live : List (List ℕ)) (is : AreLive 
     same_exit (Send t ts ls) i l s r k st = sends g rules live b there t ts ls i l s r fs es k st stack
     same_exit Stop i l s r k st = stops g rules h b there s r fs es k st
 
-    same_passed : (x : Exit) → ExitIn g (spot_at g b).home (V b) x → Lands g x → (o p : Outcome) → Outcomes (V b) (After g x) o p → Along g rules (passed g o x fs) (passed h p x es)
+    same_passed : (x : Exit) → ExitIn g (spot_at g b).home (V b) x → Lands g x → (o p : OpsOutcome) → Outcomes (V b) (After g x) o p → Along g rules (passed g o x fs) (passed h p x es)
     same_passed x i l (Done s k) (Done r j) e = subst (λ n. Along g rules (leave g x s fs k) (leave h x r es n)) e.0 (same_exit x i l s r k e.1)
     same_passed x i l (Out o) (Out p) e = e
     same_passed x i l (Done s k) (Out p) e = absurd e
     same_passed x i l (Out o) (Done r j) e = absurd e
 
     -- on to the join of a short branch
-    at_join : (j : ℕ) → j < length (spots g) → (spot_at g j).home ≡ (spot_at g b).home → (o p : Outcome) → Outcomes (V b) (Live g j) o p → Along g rules (passed g o (Goto j) fs) (passed h p (Goto j) es)
+    at_join : (j : ℕ) → j < length (spots g) → (spot_at g j).home ≡ (spot_at g b).home → (o p : OpsOutcome) → Outcomes (V b) (Live g j) o p → Along g rules (passed g o (Goto j) fs) (passed h p (Goto j) es)
     at_join j lt home (Done s k) (Done r i) e = subst (λ n. Along g rules (At j s fs k) (At j r es n)) e.0 (goes_to g rules b j there (lt, home) s r fs es k e.1 stack)
     at_join j lt home (Out o) (Out p) e = e
     at_join j lt home (Done s k) (Out p) e = absurd e
     at_join j lt home (Out o) (Done r i) e = absurd e
 
     -- from the start of a way of a short branch
-    by_way : (c j : ℕ) (ops : List Op) → j < length (spots g) → (spot_at g j).home ≡ (spot_at g b).home → Way g c j ops → (a : State) (k : ℕ) (p : Outcome) → Outcomes (V b) (Live g j) (arm_run ops a k) p → Follows (At c a fs k) (passed h p (Goto j) es)
+    by_way : (c j : ℕ) (ops : List Op) → j < length (spots g) → (spot_at g j).home ≡ (spot_at g b).home → Way g c j ops → (a : ProcState) (k : ℕ) (p : OpsOutcome) → Outcomes (V b) (Live g j) (arm_run ops a k) p → Follows (At c a fs k) (passed h p (Goto j) es)
     by_way c j ops lt home (direct e empty) a k p near =
         let done : Outcomes (V b) (Live g j) (Done a k) p = subst (λ (o : List Op). Outcomes (V b) (Live g j) (arm_run o a k) p) empty near in
         inl (subst (λ n. Along g rules (At n a fs k) (passed h p (Goto j) es)) (sym e) (at_join j lt home (Done a k) p done))
@@ -71,7 +71,7 @@ module _ (g : Graph) (rules : IsGraph g) (live : List (List ℕ)) (is : AreLive 
         let along = at_join j lt home (arm_run ops a k) p near in
         let ran : run_ops (block_at g c).ops a k ≡ arm_run ops a k = ap (λ (o : List Op). run_ops o a k) (sym same) ∙ light_run ops a k light in
         inr (subst (λ (x : Exit). Along g rules (passed g (run_ops (block_at g c).ops a k) x fs) (passed h p (Goto j) es)) (sym exit)
-        (subst (λ (o : Outcome). Along g rules (passed g o (Goto j) fs) (passed h p (Goto j) es)) (sym ran) along))
+        (subst (λ (o : OpsOutcome). Along g rules (passed g o (Goto j) fs) (passed h p (Goto j) es)) (sym ran) along))
 
     module _ (t : Term) (c d : ℕ) (s : Short) (exit : ExitIn g (spot_at g b).home (V b) (Branch t c d)) (short : short_to g t c d ≡ Some s) where
       join_there : (s.join < length (spots g)) × ((spot_at g s.join).home ≡ (spot_at g b).home)
@@ -83,7 +83,7 @@ module _ (g : Graph) (rules : IsGraph g) (live : List (List ℕ)) (is : AreLive 
               let i = subst (λ (x : Exit). ExitIn g (spot_at g c).home (V c) x) goes (numbers_at g rules c).exit in
               (i.0, i.1 ∙ exit.1.1)
 
-      after_branch : (a r : State) (k : ℕ) → States (V b) (After g (Branch t c d)) a r → Follows (leave g (Branch t c d) a fs k) (passed h (run_ops (joining live (V b) s) r k) (Goto s.join) es)
+      after_branch : (a r : ProcState) (k : ℕ) → States (V b) (After g (Branch t c d)) a r → Follows (leave g (Branch t c d) a fs k) (passed h (run_ops (joining live (V b) s) r k) (Goto s.join) es)
       after_branch a r k st = by_test ((value_of t a).0 == 0) refl
         where
           to_join : (z : Bool) → ((value_of t a).0 == 0) ≡ z → Outcomes (V b) (Live g s.join) (arm_run (by_zero z s.first s.second) (value_of t a).1 k) (run_ops (joining live (V b) s) r k)
@@ -93,25 +93,25 @@ module _ (g : Graph) (rules : IsGraph g) (live : List (List ℕ)) (is : AreLive 
           by_test true e = by_way d s.join s.second join_there.0 join_there.1 (ways g t c d s short).second (value_of t a).1 k _ (to_join true e)
           by_test false e = by_way c s.join s.first join_there.0 join_there.1 (ways g t c d s short).first (value_of t a).1 k _ (to_join false e)
 
-      after_ops : (o p : Outcome) → Outcomes (V b) (After g (Branch t c d)) o p → Follows (passed g o (Branch t c d) fs) (passed h (and_then p (run_ops (joining live (V b) s))) (Goto s.join) es)
+      after_ops : (o p : OpsOutcome) → Outcomes (V b) (After g (Branch t c d)) o p → Follows (passed g o (Branch t c d) fs) (passed h (and_then p (run_ops (joining live (V b) s))) (Goto s.join) es)
       after_ops (Done a k) (Done r j) e = subst (λ n. Follows (leave g (Branch t c d) a fs k) (passed h (run_ops (joining live (V b) s) r n) (Goto s.join) es)) e.0 (after_branch a r k e.1)
       after_ops (Out o) (Out p) e = inl e
       after_ops (Done a k) (Out p) e = absurd e
       after_ops (Out o) (Done r j) e = absurd e
 
-    by_short : (x : Exit) (found : Option Short) → short g x ≡ found → ExitIn g (spot_at g b).home (V b) x → Lands g x → (o p : Outcome) (ops : List Op) (r : State) (k : ℕ) → p ≡ run_ops ops r k → Outcomes (V b) (After g x) o p
+    by_short : (x : Exit) (found : Option Short) → short g x ≡ found → ExitIn g (spot_at g b).home (V b) x → Lands g x → (o p : OpsOutcome) (ops : List Op) (r : ProcState) (k : ℕ) → p ≡ run_ops ops r k → Outcomes (V b) (After g x) o p
         → Follows (passed g o x fs) (passed h (run_ops (joined_if live (V b) (record { named = []; ops = ops; exit = x }) found).ops r k) (joined_if live (V b) (record { named = []; ops = ops; exit = x }) found).exit es)
-    by_short x None e i l o p ops r k ran near = inl (subst (λ (q : Outcome). Along g rules (passed g o x fs) (passed h q x es)) ran (same_passed x i l o p near))
+    by_short x None e i l o p ops r k ran near = inl (subst (λ (q : OpsOutcome). Along g rules (passed g o x fs) (passed h q x es)) ran (same_passed x i l o p near))
     by_short (Branch t c d) (Some s) e i l o p ops r k ran near =
-        let both : run_ops (ops ++ joining live (V b) s) r k ≡ and_then p (run_ops (joining live (V b) s)) = run_append ops (joining live (V b) s) r k ∙ ap (λ (q : Outcome). and_then q (run_ops (joining live (V b) s))) (sym ran) in
-        subst (λ (q : Outcome). Follows (passed g o (Branch t c d) fs) (passed h q (Goto s.join) es)) (sym both) (after_ops t c d s i e o p near)
+        let both : run_ops (ops ++ joining live (V b) s) r k ≡ and_then p (run_ops (joining live (V b) s)) = run_append ops (joining live (V b) s) r k ∙ ap (λ (q : OpsOutcome). and_then q (run_ops (joining live (V b) s))) (sym ran) in
+        subst (λ (q : OpsOutcome). Follows (passed g o (Branch t c d) fs) (passed h q (Goto s.join) es)) (sym both) (after_ops t c d s i e o p near)
     by_short (Goto c) (Some s) e i l o p ops r k ran near = absurd (cc)
     by_short (Call x f ts back) (Some s) e i l o p ops r k ran near = absurd (cc)
     by_short (Return t) (Some s) e i l o p ops r k ran near = absurd (cc)
     by_short (Send t ts ls) (Some s) e i l o p ops r k ran near = absurd (cc)
     by_short Stop (Some s) e i l o p ops r k ran near = absurd (cc)
 
-    at_block : (s r : State) (k : ℕ) → States (V b) (Live g b) s r → Follows (step g (At b s fs k)) (step h (At b r es k))
+    at_block : (s r : ProcState) (k : ℕ) → States (V b) (Live g b) s r → Follows (step g (At b s fs k)) (step h (At b r es k))
     at_block s r k st =
         let block : Block = block_at g b in
         let near = ops_same g (V b) block.ops (After g block.exit) (numbers_at g rules b).ops s r k (weaker g (V b) (Live g b) _ s r (λ x n. needed_is_live g b x n) st) in
@@ -123,7 +123,7 @@ module _ (g : Graph) (rules : IsGraph g) (live : List (List ℕ)) (is : AreLive 
         by_found block None e near = by_short (block_at g b).exit None e (numbers_at g rules b).exit (lands_at g rules b) _ _ (block_at g b).ops r k refl near
         by_found block (Some s) e near = by_short (block_at g b).exit (Some s) e (numbers_at g rules b).exit (lands_at g rules b) _ _ (block_at g b).ops r k refl near
 
-  one_block : (b : ℕ) (s : State) (fs : List Frame) (k : ℕ) (d : Config) → Along g rules (At b s fs k) d → Follows (step g (At b s fs k)) (step h d)
+  one_block : (b : ℕ) (s : ProcState) (fs : List Frame) (k : ℕ) (d : Config) → Along g rules (At b s fs k) d → Follows (step g (At b s fs k)) (step h d)
   one_block b s fs k (At c r es j) a =
       subst (λ n. Follows (step g (At b s fs k)) (step h (At n r es j))) a.0
       (subst (λ n. Follows (step g (At b s fs k)) (step h (At b r es n))) a.1 (at_block b a.2 fs es a.4 s r k a.3))

@@ -1,7 +1,7 @@
 -- A short branch of the graph, after the operations of its block: what stands for it goes along.
 use Rattle.std.proofs.Common.{ℕ, ◌≡◌, ◌<◌, ◌==◌, Bool, true, false, List, [], ◌∷◌, length, Some, refl, sym, ap, ◌∙◌, subst, inl, inr}
 use Rattle.std.specs.List.{AllByRecursion}
-use Rattle.ws_words.specs.Outside.{State}
+use Rattle.ws_words.specs.Outside.{ProcState}
 use Rattle.cfg_core.specs.Graph.{Term, Op, Exit, Goto, Branch, Graph, spots, spot_at, block_at}
 use Rattle.cfg_core.specs.Rules.{TermIn, OpIn, ExitIn, IsGraph}
 use Rattle.cfg_core.specs.Walk.{value_of, run_ops}
@@ -38,21 +38,21 @@ module _ (g : Graph) (rules : IsGraph g) (live : List (List ℕ)) (is : AreLive 
   abbrev v : ℕ
   v = vars_at g rules b
 
-  way_in : (c j : ℕ) (ops : List Op) → c < length (spots g) → (spot_at g c).home ≡ (spot_at g b).home → Way g c j ops → AllByRecursion (OpIn g v) ops
-  way_in c j ops lt home (direct e empty) = subst (λ (o : List Op). AllByRecursion (OpIn g v) o) (sym empty) tt
+  way_in : (c j : ℕ) (ops : List Op) → c < length (spots g) → (spot_at g c).home ≡ (spot_at g b).home → Way g c j ops → AllByRecursion (OpIn (length g.arrays) v) ops
+  way_in c j ops lt home (direct e empty) = subst (λ (o : List Op). AllByRecursion (OpIn (length g.arrays) v) o) (sym empty) tt
   way_in c j ops lt home (through same exit light) =
-      subst (λ (o : List Op). AllByRecursion (OpIn g v) o) (sym same) (subst (λ n. AllByRecursion (OpIn g n) (block_at g c).ops) (same_vars g rules b c there lt home) (numbers_at g rules c).ops)
+      subst (λ (o : List Op). AllByRecursion (OpIn (length g.arrays) v) o) (sym same) (subst (λ n. AllByRecursion (OpIn (length g.arrays) n) (block_at g c).ops) (same_vars g rules b c there lt home) (numbers_at g rules c).ops)
 
   module _ (t : Term) (c d : ℕ) (s : Short) (exit : ExitIn g (spot_at g b).home v (Branch t c d)) (short : short_to g t c d ≡ Some s) (joins : s.join < length (spots g)) (home : (spot_at g s.join).home ≡ (spot_at g b).home) where
     -- the branch and the arm that it takes, beside what stands for them
-    pub beside : (a r : State) (k : ℕ) (z : Bool) → ((value_of t a).0 == 0) ≡ z → States v (After g (Branch t c d)) a r →
+    pub beside : (a r : ProcState) (k : ℕ) (z : Bool) → ((value_of t a).0 == 0) ≡ z → States v (After g (Branch t c d)) a r →
         Outcomes v (Live g s.join) (arm_run (by_zero z s.first s.second) (value_of t a).1 k) (run_ops (joining live v s) r k)
     beside a r k z e st =
         let w = ways g t c d s short in
         let A : ℕ → Type 0 = After g (Branch t c d) in
         let to_live : (y : Bool) (x : ℕ) → Needs (by_zero y s.first s.second) (Live g s.join) x → A x = λ y. at y w.first w.second in
         subst (λ (u : Term). Outcomes v (Live g s.join) (arm_run (by_zero z s.first s.second) (value_of u a).1 k) (run_ops (joining live v s) r k)) w.test (
-        join_same g live v s (Live g s.join) A (subst (λ (u : Term). TermIn g v u) (sym w.test) exit.0)
+        join_same g live v s (Live g s.join) A (subst (λ (u : Term). TermIn (length g.arrays) v u) (sym w.test) exit.0)
         (way_in c s.join s.first exit.1.0 exit.1.1 w.first) (way_in d s.join s.second exit.2.0 exit.2.1 w.second)
         (way_light g c s.join s.first w.first) (way_light g d s.join s.second w.second)
         (λ x lt l. (is s.join x joins (subst (λ n. x < n) (sym (same_vars g rules b s.join there joins home)) lt)).1 l)

@@ -3,7 +3,7 @@ use Rattle.std.proofs.Common.{ℕ, ◌+◌, ◌≡◌, ◌<◌, ◌≤◌, ◌==
 use Rattle.std.specs.List.{AllByRecursion}
 use Rattle.std.proofs.lemmas.Bool.{cases_eq}
 use Rattle.std.proofs.lemmas.List.{get_or-set_same, get_or-set_other, length-set}
-use Rattle.ws_words.specs.Outside.{State, write, with_acts}
+use Rattle.ws_words.specs.Outside.{ProcState, write, with_acts}
 use Rattle.cfg_core.specs.Graph.{Term, Var, Op, Choose}
 use Rattle.cfg_core.specs.Walk.{value, Done, and_then, run_op, run_ops}
 use Rattle.phi_conv.specs.Short.{is_bare}
@@ -30,10 +30,10 @@ abbrev pub by_zero : {A : Type 0} → Bool → A → A → A
 by_zero true a b = b
 by_zero false a b = a
 
-one_choice : (test : Term) (x a b : ℕ) (r : State) (k : ℕ) (z : Bool) → is_bare test ≡ true → (value test r.vars r.out.cells == 0) ≡ z → run_op (Choose x test (Var a) (Var b)) r k ≡ Done (write r x (get_or r.vars (by_zero z a b) 0)) k
+one_choice : (test : Term) (x a b : ℕ) (r : ProcState) (k : ℕ) (z : Bool) → is_bare test ≡ true → (value test r.vars r.out.cells == 0) ≡ z → run_op (Choose x test (Var a) (Var b)) r k ≡ Done (write r x (get_or r.vars (by_zero z a b) 0)) k
 one_choice test x a b r k z bare e =
-    ap (λ (q : State). if value test r.vars r.out.cells == 0 then Done (write (with_acts q []) x (get_or q.vars b 0)) k else Done (write (with_acts q []) x (get_or q.vars a 0)) k) (bare_state test r bare)
-    ∙ ap (λ (q : State). if value test r.vars r.out.cells == 0 then Done (write q x (get_or r.vars b 0)) k else Done (write q x (get_or r.vars a 0)) k) (no_acts r)
+    ap (λ (q : ProcState). if value test r.vars r.out.cells == 0 then Done (write (with_acts q []) x (get_or q.vars b 0)) k else Done (write (with_acts q []) x (get_or q.vars a 0)) k) (bare_state test r bare)
+    ∙ ap (λ (q : ProcState). if value test r.vars r.out.cells == 0 then Done (write q x (get_or r.vars b 0)) k else Done (write q x (get_or r.vars a 0)) k) (no_acts r)
     ∙ ap (λ c. if c then Done (write r x (get_or r.vars b 0)) k else Done (write r x (get_or r.vars a 0)) k) e
     ∙ decided z
   where
@@ -46,12 +46,12 @@ zero_copied true base base' done done' x = refl
 zero_copied false base base' done done' x = refl
 
 -- a state with other variables
-abbrev pub with_vars : State → List ℕ → State
+abbrev pub with_vars : ProcState → List ℕ → ProcState
 with_vars r ws = record { vars = ws; out = r.out }
 
 module _ (test : Term) (base base' : ℕ) (done done' : List ℕ) (bare : is_bare test ≡ true) where
   -- a row of choices gives what the arm of the test has
-  pub choices_run : (xs : List ℕ) (r : State) (k : ℕ) (z : Bool) → AllByRecursion (Steady test r.out.cells) xs → (value test r.vars r.out.cells == 0) ≡ z →
+  pub choices_run : (xs : List ℕ) (r : ProcState) (k : ℕ) (z : Bool) → AllByRecursion (Steady test r.out.cells) xs → (value test r.vars r.out.cells == 0) ≡ z →
       run_ops (map (choice_of test base done base' done') xs) r k ≡ Done (with_vars r (chosen (by_zero z base base') (by_zero z done done') xs r.vars)) k
   choices_run [] r k z h e = refl
   choices_run (x ∷ xs) r k z h e =

@@ -5,7 +5,7 @@ use Rattle.std.proofs.lemmas.Bool.{cases_eq}
 use Rattle.std.proofs.lemmas.List.{get_or-set_same, get_or-set_other, length-set}
 use Rattle.ws_words.specs.declared.alu.Alu.TheVariants.{Sub}
 use Rattle.ws_words.specs.Operators.{applied, flag}
-use Rattle.ws_words.specs.Outside.{State, Outside, row, write}
+use Rattle.ws_words.specs.Outside.{ProcState, Outside, row, write}
 use Rattle.cfg_core.specs.Graph.{Term, Number, Var, Cell, Flip, Not, Neg, Binary, Op, Assign, Store, Print, Read, Give, Take, Choose, Tick, TickBy, Graph}
 use Rattle.cfg_core.specs.Rules.{TermIn, OpIn}
 use Rattle.cfg_core.specs.Walk.{value}
@@ -40,7 +40,7 @@ module _ (g : Graph) (v base : ℕ) (past : v ≤ base) where
   copied_apart x y done lt ne = if_apart (is_among done y) (base + y) y (base + x) (λ e. ne (omega (arith, e))) (λ e. omega (arith, e, lt, past))
 
   -- a renamed term has the value that the term has
-  pub value_copied : (done vs ws : List ℕ) (cells : List (List ℕ)) (t : Term) → TermIn g v t → Copies v base done (Mentions t) vs ws → value t vs cells ≡ value (renamed base done t) ws cells
+  pub value_copied : (done vs ws : List ℕ) (cells : List (List ℕ)) (t : Term) → TermIn (length g.arrays) v t → Copies v base done (Mentions t) vs ws → value t vs cells ≡ value (renamed base done t) ws cells
   value_copied done vs ws cells (Number n) i h = refl
   value_copied done vs ws cells (Var x) i h = h x i refl
   value_copied done vs ws cells (Cell a t) i h = ap (λ n. get_or (row cells (a - 1)) n 0) (value_copied done vs ws cells t i.1 h)
@@ -61,7 +61,7 @@ module _ (g : Graph) (v base : ℕ) (past : v ≤ base) where
   ]
 
   -- after an arm on copies the copies have what the variables would have
-  pub arm_copies : (ops : List Op) (done : List ℕ) (P : ℕ → Type 0) (s r : State) → AllByRecursion (OpIn g v) ops → all_light ops ≡ true → s.out ≡ r.out → length s.vars ≡ v → base + v ≤ length r.vars → Copies v base done (Needs ops P) s.vars r.vars → Copies v base (written done ops) P (after ops s).vars (after (arm base done ops) r).vars
+  pub arm_copies : (ops : List Op) (done : List ℕ) (P : ℕ → Type 0) (s r : ProcState) → AllByRecursion (OpIn (length g.arrays) v) ops → all_light ops ≡ true → s.out ≡ r.out → length s.vars ≡ v → base + v ≤ length r.vars → Copies v base done (Needs ops P) s.vars r.vars → Copies v base (written done ops) P (after ops s).vars (after (arm base done ops) r).vars
   arm_copies [] done P s r i l o ls lr h = h
   arm_copies (Assign x t ∷ ops) done P s r i l o ls lr h =
       let e = value_copied done s.vars r.vars s.out.cells t i.0.1 (λ y lt m. h y lt (inl m)) ∙ ap (λ (p : Outside). value (renamed base done t) r.vars p.cells) o in
@@ -78,7 +78,7 @@ module _ (g : Graph) (v base : ℕ) (past : v ≤ base) where
   arm_copies (TickBy t n m ∷ ops) done P s r i l o ls lr h = absurd (cc)
 
   -- a variable that is no copy of this arm's keeps its value
-  pub arm_keeps : (ops : List Op) (done : List ℕ) (r : State) (y : ℕ) → AllByRecursion (OpIn g v) ops → ((x : ℕ) → x < v → y ≡ base + x → ⊥) → get_or (after (arm base done ops) r).vars y 0 ≡ get_or r.vars y 0
+  pub arm_keeps : (ops : List Op) (done : List ℕ) (r : ProcState) (y : ℕ) → AllByRecursion (OpIn (length g.arrays) v) ops → ((x : ℕ) → x < v → y ≡ base + x → ⊥) → get_or (after (arm base done ops) r).vars y 0 ≡ get_or r.vars y 0
   arm_keeps [] done r y i far = refl
   arm_keeps (Assign x t ∷ ops) done r y i far = arm_keeps ops (added done x) (write r (base + x) _) y i.1 far ∙ get_or-set_other r.vars (base + x) y _ 0 (far x i.0.0)
   arm_keeps (Tick n ∷ ops) done r y i far = arm_keeps ops done r y i.1 far
@@ -91,7 +91,7 @@ module _ (g : Graph) (v base : ℕ) (past : v ≤ base) where
   arm_keeps (TickBy t n m ∷ ops) done r y i far = arm_keeps ops done r y i.1 far
 
 -- assignments leave what is outside
-pub after_out : (ops : List Op) (s : State) → (after ops s).out ≡ s.out
+pub after_out : (ops : List Op) (s : ProcState) → (after ops s).out ≡ s.out
 after_out [] s = refl
 after_out (Assign x t ∷ ops) s = after_out ops (write s x (value t s.vars s.out.cells))
 after_out (Tick n ∷ ops) s = after_out ops s
@@ -104,7 +104,7 @@ after_out (Choose x t a b ∷ ops) s = after_out ops s
 after_out (TickBy t n m ∷ ops) s = after_out ops s
 
 -- there are as many variables as before
-pub after_length : (ops : List Op) (s : State) → length (after ops s).vars ≡ length s.vars
+pub after_length : (ops : List Op) (s : ProcState) → length (after ops s).vars ≡ length s.vars
 after_length [] s = refl
 after_length (Assign x t ∷ ops) s = after_length ops (write s x (value t s.vars s.out.cells)) ∙ length-set s.vars x (value t s.vars s.out.cells)
 after_length (Tick n ∷ ops) s = after_length ops s

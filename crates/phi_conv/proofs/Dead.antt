@@ -19,7 +19,7 @@ use Rattle.ws_words.specs.Items.{In}
 use Rattle.live_vars.proofs.Below.{low, op_low, reads_below, carries_stays}
 
 module _ (g : Graph) (v : ℕ) where
-  after : (ops more : List Op) (exit : Exit) (x : ℕ) → AllByRecursion (OpIn g v) ops → ReadsFirst (ops ++ more) exit x → (x < v) ⊎ ReadsFirst more exit x
+  after : (ops more : List Op) (exit : Exit) (x : ℕ) → AllByRecursion (OpIn (length g.arrays) v) ops → ReadsFirst (ops ++ more) exit x → (x < v) ⊎ ReadsFirst more exit x
   after [] more exit x i h = inr h
   after (op ∷ ops) more exit x i (inl r) = inl (op_low g v op x i.0 r)
   after (op ∷ ops) more exit x i (inr n) = after ops more exit x i.1 n.1
@@ -36,7 +36,7 @@ module _ (g : Graph) (v : ℕ) where
         by_test true h q = absurd (n y h q)
         by_test false h q = omega (arith, q, lt)
 
-    renamed_low : (done : List ℕ) (t : Term) (x : ℕ) → NotCopy done x → TermIn g v t → Mentions (renamed base done t) x → x < v
+    renamed_low : (done : List ℕ) (t : Term) (x : ℕ) → NotCopy done x → TermIn (length g.arrays) v t → Mentions (renamed base done t) x → x < v
     renamed_low done (Number k) x n i m = absurd m
     renamed_low done (Var y) x n i m = copied_low done y x n i m
     renamed_low done (Cell a t) x n i m = renamed_low done t x n i.1 m
@@ -52,7 +52,7 @@ module _ (g : Graph) (v : ℕ) where
       | inr other ↦ n z (sym (added_other done y z other) ∙ among) e
     ]
 
-    arm_after : (done : List ℕ) (ops more : List Op) (exit : Exit) (x : ℕ) → NotCopy done x → AllByRecursion (OpIn g v) ops → ReadsFirst (arm base done ops ++ more) exit x → (x < v) ⊎ (NotCopy (written done ops) x × ReadsFirst more exit x)
+    arm_after : (done : List ℕ) (ops more : List Op) (exit : Exit) (x : ℕ) → NotCopy done x → AllByRecursion (OpIn (length g.arrays) v) ops → ReadsFirst (arm base done ops ++ more) exit x → (x < v) ⊎ (NotCopy (written done ops) x × ReadsFirst more exit x)
     arm_after done [] more exit x n i h = inr (n, h)
     arm_after done (Assign y t ∷ ops) more exit x n i (inl m) = inl (renamed_low done t x n i.0.1 m)
     arm_after done (Assign y t ∷ ops) more exit x n i (inr h) = arm_after (added done y) ops more exit x (one_more done y x n h.0) i.1 h.1
@@ -66,7 +66,7 @@ module _ (g : Graph) (v : ℕ) where
     arm_after done (TickBy t k m ∷ ops) more exit x n i h = arm_after done ops more exit x n i.1 h
 
   -- what stands for a short branch
-  module _ (live : List (List ℕ)) (s : Short) (test : TermIn g v s.test) (first : AllByRecursion (OpIn g v) s.first) (second : AllByRecursion (OpIn g v) s.second) (j x : ℕ) where
+  module _ (live : List (List ℕ)) (s : Short) (test : TermIn (length g.arrays) v s.test) (first : AllByRecursion (OpIn (length g.arrays) v) s.first) (second : AllByRecursion (OpIn (length g.arrays) v) s.second) (j x : ℕ) where
     abbrev still : Bool
     still = is_still (written_by s) s.test
 

@@ -1,9 +1,9 @@
 -- A Call and a Send lead both walks to configurations that go together.
 use Rattle.std.proofs.Common.{ℕ, zero, suc, ◌+◌, ◌-◌, ◌≡◌, ◌<◌, ◌≤◌, min, List, [], ◌∷◌, ◌++◌, length, get_or, slice_index, Option, Some, None, refl, sym, ap, ◌∙◌, subst, inl, inr, arith, append_assoc, length-append}
 use Rattle.std.specs.List.{AllByRecursion}
-use Rattle.ws_words.specs.Outside.{Outside, State, zeros}
+use Rattle.ws_words.specs.Outside.{Outside, ProcState, zeros}
 use Rattle.cfg_core.specs.Graph.{Term, Call, Send, Block, GraphProc, Graph, Spot, spots_in, spots_from, spots, no_spot, no_proc, spot_at, block_at, proc_at, entry_from, entry_of}
-use Rattle.cfg_core.specs.Rules.{ProcNumbers, ResultIn, ExitIn, Lands, IsGraph}
+use Rattle.cfg_core.specs.Rules.{ProcNumbers, TargetIn, ExitIn, Lands, IsGraph}
 use Rattle.cfg_core.specs.Walk.{value_of, values_of, Frame, Config, At, landing, landed, leave}
 use Rattle.live_vars.specs.Live.{ExitWrites, Live}
 use Rattle.phi_conv.specs.Short.{Short, short}
@@ -104,7 +104,7 @@ module _ (g : Graph) (rules : IsGraph g) (live : List (List ℕ)) where
 
   module _ (b : ℕ) (there : b < length (spots g)) where
     -- a Call leads to configurations that go along
-    pub calls : (x : Option ℕ) (f : ℕ) (ts : List Term) (back : ℕ) → ExitIn g (spot_at g b).home (V b) (Call x f ts back) → (s r : State) (fs es : List Frame) (k : ℕ) → States (V b) (After g (Call x f ts back)) s r → Stack g rules fs es → Along g rules (leave g (Call x f ts back) s fs k) (leave h (Call x f ts back) r es k)
+    pub calls : (x : Option ℕ) (f : ℕ) (ts : List Term) (back : ℕ) → ExitIn g (spot_at g b).home (V b) (Call x f ts back) → (s r : ProcState) (fs es : List Frame) (k : ℕ) → States (V b) (After g (Call x f ts back)) s r → Stack g rules fs es → Along g rules (leave g (Call x f ts back) s fs k) (leave h (Call x f ts back) r es k)
     calls x f ts back i s r fs es k st stack =
         let A : ℕ → Type 0 = After g (Call x f ts back) in
         let on = terms_states g (V b) A s r st ts i.3 (λ y m. inl m) in
@@ -117,7 +117,7 @@ module _ (g : Graph) (rules : IsGraph g) (live : List (List ℕ)) where
           back = refl;
           result = refl;
           there = i.4.0;
-          inside = subst (λ n. ResultIn n x) (sym sv) i.0;
+          inside = subst (λ n. TargetIn n x) (sym sv) i.0;
           vars = λ y lt q. on.vars y (subst (λ n. y < n) sv lt) (inr (writes_result x f ts back y q.0, (back, refl, q.1)));
           long = on.long ∙ sym sv;
           longer = on.longer ∙ ap more_vars (sym sv);
@@ -157,7 +157,7 @@ module _ (g : Graph) (rules : IsGraph g) (live : List (List ℕ)) where
             by_short (Some s) = refl
 
     -- so does a Send
-    pub sends : (t : Term) (ts : List Term) (ls : List ℕ) → ExitIn g (spot_at g b).home (V b) (Send t ts ls) → Lands g (Send t ts ls) → (s r : State) (fs es : List Frame) (k : ℕ) → States (V b) (After g (Send t ts ls)) s r → Stack g rules fs es → Along g rules (leave g (Send t ts ls) s fs k) (leave h (Send t ts ls) r es k)
+    pub sends : (t : Term) (ts : List Term) (ls : List ℕ) → ExitIn g (spot_at g b).home (V b) (Send t ts ls) → Lands g (Send t ts ls) → (s r : ProcState) (fs es : List Frame) (k : ℕ) → States (V b) (After g (Send t ts ls)) s r → Stack g rules fs es → Along g rules (leave g (Send t ts ls) s fs k) (leave h (Send t ts ls) r es k)
     sends t ts ls i l s r fs es k st stack =
         let A : ℕ → Type 0 = After g (Send t ts ls) in
         let on = term_states g (V b) A s r st t i.0 (λ y m. inl (inl m)) in

@@ -4,10 +4,10 @@ use Rattle.std.specs.List.{AllByRecursion, filter}
 use Rattle.std.proofs.lemmas.List.{get_or-set_other}
 use Rattle.ws_words.specs.declared.alu.Alu.TheVariants.{Sub}
 use Rattle.ws_words.specs.Operators.{applied, flag}
-use Rattle.ws_words.specs.Outside.{Outside, State, row}
+use Rattle.ws_words.specs.Outside.{Outside, ProcState, row}
 use Rattle.cfg_core.specs.Graph.{Term, Number, Var, Cell, Flip, Not, Neg, Binary, Op, Graph}
 use Rattle.cfg_core.specs.Rules.{TermIn, OpIn}
-use Rattle.cfg_core.specs.Walk.{value, Outcome, Done, and_then, spend, run_ops}
+use Rattle.cfg_core.specs.Walk.{value, OpsOutcome, Done, and_then, spend, run_ops}
 use Rattle.live_vars.specs.Live.{Mentions}
 use Rattle.live_vars.specs.Marks.{has}
 use Rattle.phi_conv.specs.Short.{Short, is_bare, all_light}
@@ -23,11 +23,11 @@ use Rattle.ws_words.specs.Items.{In}
 use Rattle.cfg_core.proofs.Outcomes.{run_append}
 use Rattle.live_vars.proofs.Needed.{Needs}
 
-pure_run : (ops : List Op) (r : State) (k : ℕ) → all_light ops ≡ true → turns_of ops ≡ 0 → run_ops ops r k ≡ Done (after ops r) k
+pure_run : (ops : List Op) (r : ProcState) (k : ℕ) → all_light ops ≡ true → turns_of ops ≡ 0 → run_ops ops r k ≡ Done (after ops r) k
 pure_run ops r k l e = light_run ops r k l ∙ ap (λ n. and_then (spend n r k) (λ q i. Done (after ops q) i)) e
 
 -- the same turns, before what is alike
-pub spend_rel : (v : ℕ) (P : ℕ → Type 0) (n k : ℕ) (s r : State) (go to : State → ℕ → Outcome) → s.out ≡ r.out → ((j : ℕ) → Outcomes v P (go s j) (to r j)) → Outcomes v P (and_then (spend n s k) go) (and_then (spend n r k) to)
+pub spend_rel : (v : ℕ) (P : ℕ → Type 0) (n k : ℕ) (s r : ProcState) (go to : ProcState → ℕ → OpsOutcome) → s.out ≡ r.out → ((j : ℕ) → Outcomes v P (go s j) (to r j)) → Outcomes v P (and_then (spend n s k) go) (and_then (spend n r k) to)
 spend_rel v P zero k s r go to e f = f k
 spend_rel v P (suc n) zero s r go to e f = e
 spend_rel v P (suc n) (suc k) s r go to e f = spend_rel v P n k s r go to e f
@@ -67,24 +67,24 @@ module _ (g : Graph) (live : List (List ℕ)) (v : ℕ) (s : Short) (P : ℕ →
   picked = filter (has live s.join) (written_by s)
 
   -- after the first arm, and after both
-  abbrev pub once : State → State
+  abbrev pub once : ProcState → ProcState
   once r = after (arm base_first [] s.first) r
 
   -- after both arms
-  abbrev pub twice : State → State
+  abbrev pub twice : ProcState → ProcState
   twice r = after (arm base_second [] s.second) (once r)
 
   -- after the choices, where the test takes this arm
-  abbrev pub settled : Bool → State → State
+  abbrev pub settled : Bool → ProcState → ProcState
   settled z r = with_vars (twice r) (chosen (by_zero z base_first base_second) (by_zero z done_first done_second) picked (twice r).vars)
 
   -- the arms and the choices
   abbrev pub tail : List Op
   tail = arm base_first [] s.first ++ (arm base_second [] s.second ++ choices live v s)
 
-  module _ (reads_in : TermIn g v s.test) (in_first : AllByRecursion (OpIn g v) s.first) (in_second : AllByRecursion (OpIn g v) s.second) (light_first : all_light s.first ≡ true) (light_second : all_light s.second ≡ true) (marked : (x : ℕ) → x < v → P x → has live s.join x ≡ true) where
+  module _ (reads_in : TermIn (length g.arrays) v s.test) (in_first : AllByRecursion (OpIn (length g.arrays) v) s.first) (in_second : AllByRecursion (OpIn (length g.arrays) v) s.second) (light_first : all_light s.first ≡ true) (light_second : all_light s.second ≡ true) (marked : (x : ℕ) → x < v → P x → has live s.join x ≡ true) where
     -- the test reads its own variable, or one that no arm writes
-    held : (c : Bool) (t : Term) (y : ℕ) → is_still (written_by s) t ≡ c → TermIn g v t → Mentions (test_if c v t) y → (y ≡ v) ⊎ ((y < v) × (is_among (written_by s) y ≡ false))
+    held : (c : Bool) (t : Term) (y : ℕ) → is_still (written_by s) t ≡ c → TermIn (length g.arrays) v t → Mentions (test_if c v t) y → (y ≡ v) ⊎ ((y < v) × (is_among (written_by s) y ≡ false))
     held false t y e i m = inl m
     held true (Number n) y e i m = absurd m
     held true (Var x) y e i m = inr (omega (arith, m, i), ap (λ n. is_among (written_by s) n) m ∙ not_true (is_among (written_by s) x) e)
@@ -126,18 +126,18 @@ module _ (g : Graph) (live : List (List ℕ)) (v : ℕ) (s : Short) (P : ℕ →
     steady : (cells : List (List ℕ)) → AllByRecursion (Steady test cells) picked
     steady cells = all_from (Steady test cells) picked (λ x i ws w. value_agree test (set ws x w) ws cells (λ y m. get_or-set_other ws x y w 0 (apart x y i m)))
 
-    kept : (r : State) (y : ℕ) → y < base_first → get_or (twice r).vars y 0 ≡ get_or r.vars y 0
+    kept : (r : ProcState) (y : ℕ) → y < base_first → get_or (twice r).vars y 0 ≡ get_or r.vars y 0
     kept r y lt = arm_keeps g v base_second (omega arith) s.second [] (once r) y in_second (λ x lx e. omega (arith, e, lt)) ∙ arm_keeps g v base_first (omega arith) s.first [] r y in_first (λ x lx e. omega (arith, e, lt))
 
-    twice_out : (r : State) → (twice r).out ≡ r.out
+    twice_out : (r : ProcState) → (twice r).out ≡ r.out
     twice_out r = after_out (arm base_second [] s.second) (once r) ∙ after_out (arm base_first [] s.first) r
 
-    test_twice : (r : State) → value test (twice r).vars (twice r).out.cells ≡ value test r.vars r.out.cells
+    test_twice : (r : ProcState) → value test (twice r).vars (twice r).out.cells ≡ value test r.vars r.out.cells
     test_twice r = ap (λ (o : Outside). value test (twice r).vars o.cells) (twice_out r)
         ∙ value_agree test (twice r).vars r.vars r.out.cells (λ y m. kept r y (elim (test_reads y m) [ inl e ↦ omega (arith, e) | inr h ↦ omega (arith, h.0) ]))
 
     -- the arms and the choices run to their end and take no turn
-    pub tail_run : (r : State) (k : ℕ) (z : Bool) → (value test r.vars r.out.cells == 0) ≡ z → run_ops tail r k ≡ Done (settled z r) k
+    pub tail_run : (r : ProcState) (k : ℕ) (z : Bool) → (value test r.vars r.out.cells == 0) ≡ z → run_ops tail r k ≡ Done (settled z r) k
     tail_run r k z e =
         run_append (arm base_first [] s.first) (arm base_second [] s.second ++ choices live v s) r k
         ∙ ap (λ o. and_then o (run_ops (arm base_second [] s.second ++ choices live v s))) (pure_run (arm base_first [] s.first) r k (arm_light base_first [] s.first light_first) (arm_no_turns base_first [] s.first))
@@ -159,11 +159,11 @@ module _ (g : Graph) (live : List (List ℕ)) (v : ℕ) (s : Short) (P : ℕ →
       | inr e ↦ c x lt p ∙ sym (stays v base past done picked ws x (all_from (λ y. y < v) picked picked_low) lt lw (ap (λ n. get_or ws n 0) (sym e)))
     ]
 
-    twice_length : (r : State) → length (twice r).vars ≡ length r.vars
+    twice_length : (r : ProcState) → length (twice r).vars ≡ length r.vars
     twice_length r = after_length (arm base_second [] s.second) (once r) ∙ after_length (arm base_first [] s.first) r
 
     -- after them the variables that matter have what the arm of the test gives them
-    pub settled_states : (z : Bool) (a r : State) → States v (Needs (by_zero z s.first s.second) P) a r → States v P (after (by_zero z s.first s.second) a) (settled z r)
+    pub settled_states : (z : Bool) (a r : ProcState) → States v (Needs (by_zero z s.first s.second) P) a r → States v P (after (by_zero z s.first s.second) a) (settled z r)
     settled_states false a r h = record {
       vars = settles base_first done_first (omega arith) (after s.first a).vars (twice r).vars (omega (arith, twice_length r, h.longer)) (λ x. less_among done_first (written_by s) x (written_stays done_first s.second x)) (
           λ x lt p. arm_copies g v base_first (omega arith) s.first [] P a r in_first light_first h.out h.long (omega (arith, h.longer)) h.vars x lt p

@@ -3,7 +3,7 @@ use Rattle.std.proofs.Common.{ℕ, ◌≡◌, ◌<◌, ◌≤◌, ◌==◌, List
 use Rattle.std.specs.List.{AllByRecursion}
 use Rattle.std.proofs.lemmas.Bool.{cases_eq}
 use Rattle.std.proofs.lemmas.List.{get_or-set_same, get_or-set_other, length-set}
-use Rattle.ws_words.specs.Outside.{State}
+use Rattle.ws_words.specs.Outside.{ProcState}
 use Rattle.cfg_core.specs.Graph.{Term, Goto, Branch, Return, Stop, Graph, spots, spot_at}
 use Rattle.cfg_core.specs.Rules.{ExitIn, StaysIn, IsGraph}
 use Rattle.cfg_core.specs.Walk.{Frame, leave, landed}
@@ -29,11 +29,11 @@ module _ (g : Graph) (rules : IsGraph g) (h : Graph) (b : ℕ) (there : b < leng
   v = vars_at g rules b
 
   -- a Goto leads to configurations that go along
-  pub jumps : (c : ℕ) → StaysIn g (spot_at g b).home c → (s r : State) (fs es : List Frame) (k : ℕ) → States v (After g (Goto c)) s r → Stack g rules fs es → Along g rules (leave g (Goto c) s fs k) (leave h (Goto c) r es k)
+  pub jumps : (c : ℕ) → StaysIn g (spot_at g b).home c → (s r : ProcState) (fs es : List Frame) (k : ℕ) → States v (After g (Goto c)) s r → Stack g rules fs es → Along g rules (leave g (Goto c) s fs k) (leave h (Goto c) r es k)
   jumps c stays s r fs es k st stack = goes_to g rules b c there stays s r fs es k (weaker g v (After g (Goto c)) (Live g c) s r (λ x l. inr ((λ w. w), (c, refl, l))) st) stack
 
   -- so does a Branch that both graphs have
-  pub branches : (t : Term) (c d : ℕ) → ExitIn g (spot_at g b).home v (Branch t c d) → (s r : State) (fs es : List Frame) (k : ℕ) → States v (After g (Branch t c d)) s r → Stack g rules fs es → Along g rules (leave g (Branch t c d) s fs k) (leave h (Branch t c d) r es k)
+  pub branches : (t : Term) (c d : ℕ) → ExitIn g (spot_at g b).home v (Branch t c d) → (s r : ProcState) (fs es : List Frame) (k : ℕ) → States v (After g (Branch t c d)) s r → Stack g rules fs es → Along g rules (leave g (Branch t c d) s fs k) (leave h (Branch t c d) r es k)
   branches t c d i s r fs es k st stack =
       let A : ℕ → Type 0 = After g (Branch t c d) in
       let sa = term_states g v A s r st t i.0 (λ x m. inl m) in
@@ -42,11 +42,11 @@ module _ (g : Graph) (rules : IsGraph g) (h : Graph) (b : ℕ) (there : b < leng
       (goes_to g rules b c there i.1 _ _ fs es k (weaker g v A (Live g c) _ _ (λ x l. inr ((λ w. w), (c, inl refl, l))) sa) stack)
 
   -- so does a Return
-  pub gives_back : (t : Term) → ExitIn g (spot_at g b).home v (Return t) → (s r : State) (fs es : List Frame) (k : ℕ) → States v (After g (Return t)) s r → Stack g rules fs es → Along g rules (leave g (Return t) s fs k) (leave h (Return t) r es k)
+  pub gives_back : (t : Term) → ExitIn g (spot_at g b).home v (Return t) → (s r : ProcState) (fs es : List Frame) (k : ℕ) → States v (After g (Return t)) s r → Stack g rules fs es → Along g rules (leave g (Return t) s fs k) (leave h (Return t) r es k)
   gives_back t i s r fs es k st stack =
       let A : ℕ → Type 0 = After g (Return t) in
       returns g rules _ _ _ _ fs es k (term_value g v A s r st t i (λ x m. inl m)) (term_states g v A s r st t i (λ x m. inl m)).out stack
 
   -- so does Stop
-  pub stops : (s r : State) (fs es : List Frame) (k : ℕ) → States v (After g Stop) s r → Along g rules (leave g Stop s fs k) (leave h Stop r es k)
+  pub stops : (s r : ProcState) (fs es : List Frame) (k : ℕ) → States v (After g Stop) s r → Along g rules (leave g Stop s fs k) (leave h Stop r es k)
   stops s r fs es k st = (refl, st.out)

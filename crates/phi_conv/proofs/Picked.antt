@@ -1,5 +1,5 @@
 -- Numbers of a list: those that were added, and those that pass a test.
-use Rattle.std.proofs.Common.{ℕ, ◌≡◌, ◌<◌, ◌==◌, ◌||◌, Bool, true, false, if◌then◌else◌, List, [], ◌∷◌, ◌++◌, refl, sym, ap, ◌∙◌, inl, inr, arith}
+use Rattle.std.proofs.Common.{ℕ, ◌≡◌, ◌<◌, ◌==◌, ◌||◌, Bool, true, false, if◌then◌else◌, List, [], ◌∷◌, ◌++◌, length, refl, sym, ap, ◌∙◌, inl, inr, arith}
 use Rattle.std.specs.List.{AllByRecursion}
 use Rattle.std.proofs.lemmas.Bool.{cases_eq}
 use Rattle.std.proofs.lemmas.Bool.Decides.{nat_tests}
@@ -113,7 +113,7 @@ module _ (g : Graph) (v : ℕ) where
       ]
 
   -- the variables that operations write exist
-  pub written_low : (done : List ℕ) (ops : List Op) → AllByRecursion (OpIn g v) ops → ((y : ℕ) → In y done → y < v) → (y : ℕ) → In y (written done ops) → y < v
+  pub written_low : (done : List ℕ) (ops : List Op) → AllByRecursion (OpIn (length g.arrays) v) ops → ((y : ℕ) → In y done → y < v) → (y : ℕ) → In y (written done ops) → y < v
   written_low done [] h f y i = f y i
   written_low done (Assign x t ∷ ops) h f y i = written_low (added done x) ops h.1 (added_low done x h.0.0 f) y i
   written_low done (Store a t u ∷ ops) h f y i = written_low done ops h.1 f y i

@@ -73,14 +73,14 @@ module _ (g : Graph) (live : List (List ℕ)) (rules : IsGraph g) where
       by_short : (x : Exit) (found : Option Short) → short g x ≡ found → BlockNumbers g (record { home = (spot_at g b).home; vars = V b; block = record { named = (block_at g b).named; ops = (block_at g b).ops; exit = x } })
           → BlockNumbers h (record { home = (spot_at g b).home; vars = more_vars (V b); block = joined_if live (V b) (record { named = (block_at g b).named; ops = (block_at g b).ops; exit = x }) found })
       by_short x None e n = record {
-        ops = all_so (OpIn g (V b)) (OpIn h (more_vars (V b))) (op_more g live (V b) (more_vars (V b)) (omega arith)) (block_at g b).ops n.ops;
+        ops = all_so (OpIn (length g.arrays) (V b)) (OpIn (length h.arrays) (more_vars (V b))) (op_more g live (V b) (more_vars (V b)) (omega arith)) (block_at g b).ops n.ops;
         exit = exit_more g live (V b) (more_vars (V b)) (omega arith) (spot_at g b).home x n.exit;
         named = all_so (λ y. y < V b) (λ y. y < more_vars (V b)) (λ y lt. omega (arith, lt)) (block_at g b).named n.named;
         once = n.once;
       }
       by_short (Branch t c d) (Some s) e n = record {
-        ops = all_both (OpIn h (more_vars (V b))) (block_at g b).ops (joining live (V b) s)
-            (all_so (OpIn g (V b)) (OpIn h (more_vars (V b))) (op_more g live (V b) (more_vars (V b)) (omega arith)) (block_at g b).ops n.ops)
+        ops = all_both (OpIn (length h.arrays) (more_vars (V b))) (block_at g b).ops (joining live (V b) s)
+            (all_so (OpIn (length g.arrays) (V b)) (OpIn (length h.arrays) (more_vars (V b))) (op_more g live (V b) (more_vars (V b)) (omega arith)) (block_at g b).ops n.ops)
             (joining_in g live (V b) s (test_in g rules b there t c d s n.exit e) (first_in g rules b there t c d s n.exit e) (second_in g rules b there t c d s n.exit e));
         exit = stays_too g live (V b) (more_vars (V b)) (omega arith) (spot_at g b).home s.join (join_stays g rules b there t c d s n.exit e);
         named = all_so (λ y. y < V b) (λ y. y < more_vars (V b)) (λ y lt. omega (arith, lt)) (block_at g b).named n.named;

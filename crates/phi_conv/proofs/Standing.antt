@@ -2,9 +2,9 @@
 use Rattle.std.proofs.Common.{ℕ, zero, suc, ◌+◌, ◌-◌, ◌≡◌, ◌<◌, Bool, true, false, if◌then◌else◌, List, [], ◌∷◌, length, get_or, set, Option, Some, None, refl, sym, ap, ◌∙◌, subst, inl, inr, arith}
 use Rattle.std.proofs.lemmas.Bool.{cases_eq, cases_lt}
 use Rattle.std.proofs.lemmas.List.{get_or-set_same, get_or-set_other, length-set}
-use Rattle.ws_words.specs.Outside.{Outside, State}
+use Rattle.ws_words.specs.Outside.{Outside, ProcState}
 use Rattle.cfg_core.specs.Graph.{Block, GraphProc, Graph, Spot, spots_in, spots_from, spots, no_spot, no_proc, spot_at}
-use Rattle.cfg_core.specs.Rules.{StaysIn, ResultIn, IsGraph}
+use Rattle.cfg_core.specs.Rules.{StaysIn, TargetIn, IsGraph}
 use Rattle.cfg_core.specs.Walk.{Frame, Config, At, Over, Going, with_result, returned}
 use Rattle.live_vars.specs.Live.{Live}
 use Rattle.phi_conv.specs.Joined.{more_vars}
@@ -62,7 +62,7 @@ module _ (g : Graph) (rules : IsGraph g) where
     pub back : f.back ≡ e.back
     pub result : f.result ≡ e.result
     pub there : f.back < length (spots g)
-    pub inside : ResultIn (vars_at f.back) f.result
+    pub inside : TargetIn (vars_at f.back) f.result
     pub vars : Agree (vars_at f.back) (λ x. (ResultIs f.result x → ⊥) × Live g f.back x) f.vars e.vars
     pub long : length f.vars ≡ vars_at f.back
     pub longer : length e.vars ≡ more_vars (vars_at f.back)
@@ -81,7 +81,7 @@ module _ (g : Graph) (rules : IsGraph g) where
   Along _ _ = ⊥
 
   -- on to a block of the same procedure
-  pub goes_to : (b c : ℕ) → b < length (spots g) → StaysIn g (spot_at g b).home c → (s r : State) (fs es : List Frame) (k : ℕ) → States (vars_at b) (Live g c) s r → Stack fs es → Along (At c s fs k) (At c r es k)
+  pub goes_to : (b c : ℕ) → b < length (spots g) → StaysIn g (spot_at g b).home c → (s r : ProcState) (fs es : List Frame) (k : ℕ) → States (vars_at b) (Live g c) s r → Stack fs es → Along (At c s fs k) (At c r es k)
   goes_to b c lb stays s r fs es k st stack = (refl, refl, stays.0, subst (λ n. States n (Live g c) s r) (sym (same_vars b c lb stays.0 stays.1)) st, stack)
 
   -- the same test leads to configurations that go along
@@ -92,7 +92,7 @@ module _ (g : Graph) (rules : IsGraph g) where
   if_along false true c c' d d' e h i = absurd (cc)
 
   -- the variable that takes the result has it, and the others what they had
-  result_states : (v : ℕ) (P : ℕ → Type 0) (x : Option ℕ) (w u : ℕ) (vs ws : List ℕ) (o p : Outside) → w ≡ u → ResultIn v x → Agree v (λ y. (ResultIs x y → ⊥) × P y) vs ws → length vs ≡ v → length ws ≡ more_vars v → o ≡ p → States v P (record { vars = with_result x w vs; out = o }) (record { vars = with_result x u ws; out = p })
+  result_states : (v : ℕ) (P : ℕ → Type 0) (x : Option ℕ) (w u : ℕ) (vs ws : List ℕ) (o p : Outside) → w ≡ u → TargetIn v x → Agree v (λ y. (ResultIs x y → ⊥) × P y) vs ws → length vs ≡ v → length ws ≡ more_vars v → o ≡ p → States v P (record { vars = with_result x w vs; out = o }) (record { vars = with_result x u ws; out = p })
   result_states v P None w u vs ws o p e i h lv lw eo = record { vars = λ y lt q. h y lt ((λ z. z), q); long = lv; longer = lw; out = eo }
   result_states v P (Some x) w u vs ws o p e i h lv lw eo = record {
     vars = λ y lt q. elim (cases_eq y x) [

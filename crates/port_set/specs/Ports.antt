@@ -20,9 +20,9 @@ Gives (Some []) word after = (word ≡ 0) × (after ≡ Some [])
 Gives (Some (x ∷ xs)) word after = (word ≡ x) × (after ≡ Some xs)
 
 -- where the words taken are told, this is one more
-abbrev pub Takes : Option (List ℕ) → ℕ → Option (List ℕ) → Type 0
-Takes None word after = after ≡ None
-Takes (Some words) word after = after ≡ Some (words ++ word ∷ [])
+abbrev pub TakesWord : Option (List ℕ) → ℕ → Option (List ℕ) → Type 0
+TakesWord None word after = after ≡ None
+TakesWord (Some words) word after = after ≡ Some (words ++ word ∷ [])
 
 -- this holds where a port has failed
 abbrev pub IfFailed : PortError → Type 0 → Type 0
@@ -42,7 +42,7 @@ pub record Gave (old : Told) (answer : Result ℕ PortError) (new : Told) : Type
 
 -- the same of a word that it was to take
 abbrev pub TookSo : Told → ℕ → Result (Unit {0}) PortError → Told → Type 0
-TookSo old word (Ok _) new = Takes old.took word new.took
+TookSo old word (Ok _) new = TakesWord old.took word new.took
 TookSo old word (Err why) new = (new.took ≡ old.took) × IfFailed why (Rose old.faults new.faults)
 
 pub record Took (old : Told) (word : ℕ) (answer : Result (Unit {0}) PortError) (new : Told) : Type 0 where

@@ -7,7 +7,7 @@ use Rattle.port_set.specs.declared.port.PortError.TheVariants.{Failed, NoMemory}
 
 -- The words left, the words taken, the calls so far, the numbers of the calls that fail, how many have
 -- failed, and whether it is closed. Calls are numbered from 1, gives and takes together.
-pub record Tape : Type 0 where
+pub record TapeState : Type 0 where
   pub left : List ℕ
   pub took : List ℕ
   pub calls : ℕ
@@ -15,7 +15,7 @@ pub record Tape : Type 0 where
   pub faults : ℕ
   pub closed : Bool
 
-abbrev pub tape_tells : Tape → Told
+abbrev pub tape_tells : TapeState → Told
 tape_tells t = record { left = Some t.left; took = Some t.took; faults = t.faults; closed = t.closed }
 
 -- the count of faults before and after a call that answered so: one more where it failed, and else the same

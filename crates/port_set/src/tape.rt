@@ -5,7 +5,7 @@ ghost use Rattle.std.specs.Prelude.{OnOk, OnErr};
 ghost use Rattle.ws_io.specs.Memory.{one_more};
 ghost use Rattle.ws_io.specs.Streams.{Rose};
 ghost use Rattle.port_set.specs.declared.port.PortError.TheVariants.{Failed};
-ghost use Rattle.port_set.specs.Ports.{Gives, Takes, IfFailed};
+ghost use Rattle.port_set.specs.Ports.{Gives, TakesWord, IfFailed};
 ghost use Rattle.port_set.specs.Tape.{CountsFault, tape_tells};
 
 use crate::port::{Port, PortError};
@@ -28,9 +28,9 @@ pub struct TapePort {
 
 impl Model for TapePort {
     ghost use Rattle.std.specs.Prelude.{◌≤◌, drop, length};
-    ghost use Rattle.port_set.specs.Tape.{Tape};
+    ghost use Rattle.port_set.specs.Tape.{TapeState};
 
-    ghost Value = { Tape };
+    ghost Value = { TapeState };
 
     ghost view = { λ p. record {
       left = drop p.given p.words;
@@ -146,7 +146,7 @@ impl Port for TapePort {
 
     fn take(&mut self, word: u64) -> Result<(), PortError>
         requires { self.old.closed ≡ false }
-        ensures taken { OnOk result (Takes (Some self.old.took) word (Some self.new.took)) }
+        ensures taken { OnOk result (TakesWord (Some self.old.took) word (Some self.new.took)) }
         ensures kept { OnErr result (Some self.new.took ≡ Some self.old.took) }
         ensures failed { IfErr result (λ why.
             IfFailed why (Rose self.old.faults self.new.faults)) }

@@ -2,7 +2,7 @@
 use Rattle.std.specs.Option.{is_some}
 use Rattle.std.proofs.Common.{◌≡◌, ℕ, ◌-◌, ◌<◌, ◌≤◌, true, false, List, Option, Some, None, slice_set, refl, sym, ap, ◌∙◌, subst}
 use Rattle.ws_words.specs.Memory.{OutIs, Does, lengths_of}
-use Rattle.ws_words.specs.Outside.{loads, stores, reads, prints, gives, takes, Outside, State, row, head_or_zero}
+use Rattle.ws_words.specs.Outside.{loads, stores, reads, prints, gives, takes, Outside, ProcState, row, head_or_zero}
 use Rattle.ws_words.specs.Past.{length_of, after_act}
 use Rattle.ws_words.specs.declared.memory.Memory.{Memory}
 use Rattle.cfg_core.specs.Graph.{Term}
@@ -10,16 +10,16 @@ use Rattle.cfg_core.specs.Walk.{value, loads_of, value_of}
 use Rattle.seq_run.specs.Resolved as resolved
 use Rattle.seq_run.specs.Resolved.{done}
 use Rattle.seq_run.specs.Firsts.{past_array, first_past}
-use Rattle.seq_run.specs.Shows.{Shows, Holds, Stops, IsDone}
+use Rattle.seq_run.specs.Shows.{ShowsMemory, Holds, Stops, IsDone}
 use Rattle.seq_run.specs.View as view
 use Rattle.seq_run.specs.declared.tree.Action.{Action as CodeAction}
+use Rattle.ws_words.proofs.Acts.{begins_all, begins_then}
 use Rattle.seq_run.proofs.FirstPasts.{some_past, none_within}
-use Rattle.seq_run.proofs.Fronts.{begins_all, begins_then}
 use Rattle.seq_run.proofs.Effects.{lengths_held, act_shows, value_is, value_holds, value_stops, one_more}
 use Rattle.ws_words.specs.Items.{first_some}
 
 -- the array that the code notes in an action of one term
-module _ (start : Outside) (s : State) (m : Memory) (vars : List ℕ) (h : Holds start s m vars) where
+module _ (start : Outside) (s : ProcState) (m : Memory) (vars : List ℕ) (h : Holds start s m vars) where
   -- an assignment without a load that is past is done
   pub assign_holds : (x v : ℕ) (t : Term) (now : List ℕ) → first_past (lengths_of m.cells) (loads_of t vars m.cells) ≡ None → v ≡ value t vars m.cells → now ≡ slice_set vars x v → Holds start (done (resolved.Assign x t) s) m now
   assign_holds x v t now none ev en = record {
@@ -77,14 +77,14 @@ module _ (start : Outside) (s : State) (m : Memory) (vars : List ℕ) (h : Holds
         let x = act_shows start (value_of u (value_of t s).1).1.out m n (stores a i v) hu.out d w in
         record {
           out =
-              subst (λ (j : ℕ). Shows start (after_act (value_of u (value_of t s).1).1.out (stores a j (value_of u (value_of t s).1).0)) n) (ei ∙ value_is start s m vars h t)
-              (subst (λ (j : ℕ). Shows start (after_act (value_of u (value_of t s).1).1.out (stores a i j)) n) (ev ∙ value_is start (value_of t s).1 m vars ht u) x);
+              subst (λ (j : ℕ). ShowsMemory start (after_act (value_of u (value_of t s).1).1.out (stores a j (value_of u (value_of t s).1).0)) n) (ei ∙ value_is start s m vars h t)
+              (subst (λ (j : ℕ). ShowsMemory start (after_act (value_of u (value_of t s).1).1.out (stores a i j)) n) (ev ∙ value_is start (value_of t s).1 m vars ht u) x);
           same_vars = h.same_vars;
         }
 
     -- the index has a load that is past
     pub index_stops : (c : ℕ) → first_past (lengths_of m.cells) (loads_of t vars m.cells) ≡ Some c → Stops start (done (resolved.Store a t u) s).out.acts c m
-    index_stops c e = value_stops start s m vars h t c _ e (begins_then _ (value_of u (value_of t s).1).1.out.acts _ (record { more = loads_of u s.vars s.out.cells; rest = refl }) (one_more _ _))
+    index_stops c e = value_stops start s m vars h t c _ e (begins_then _ (value_of u (value_of t s).1).1.out.acts _ (loads_of u s.vars s.out.cells, refl) (one_more _ _))
 
     -- so has the value
     pub word_stops : (c : ℕ) → first_past (lengths_of m.cells) (loads_of t vars m.cells) ≡ None → first_past (lengths_of m.cells) (loads_of u vars m.cells) ≡ Some c → Stops start (done (resolved.Store a t u) s).out.acts c m
@@ -119,12 +119,12 @@ module _ (start : Outside) (s : State) (m : Memory) (vars : List ℕ) (h : Holds
     none_noted n None None own e f g is d = store_holds n e f (g ∙ is) d
 
 -- what the code noted decides
-pub some_done : (start : Outside) (a b : CodeAction) (s : State) (past : Option ℕ) (m : Memory) (vars : List ℕ) → b ≡ a → ((c : ℕ) → past ≡ Some c → Stops start (done (view.action a) s).out.acts c m) → (past ≡ None → ⊥) → IsDone start (view.action b) s past m vars
+pub some_done : (start : Outside) (a b : CodeAction) (s : ProcState) (past : Option ℕ) (m : Memory) (vars : List ℕ) → b ≡ a → ((c : ℕ) → past ≡ Some c → Stops start (done (view.action a) s).out.acts c m) → (past ≡ None → ⊥) → IsDone start (view.action b) s past m vars
 some_done start a b s None m vars e f g = absurd (g refl)
 some_done start a b s (Some c) m vars e f g = subst (λ (x : CodeAction). Stops start (done (view.action x) s).out.acts c m) (sym e) (f c refl)
 
 -- where nothing was noted the action is done
-pub none_done : (start : Outside) (a b : CodeAction) (s : State) (past : Option ℕ) (m : Memory) (vars : List ℕ) → b ≡ a → past ≡ None → Holds start (done (view.action a) s) m vars → IsDone start (view.action b) s past m vars
+pub none_done : (start : Outside) (a b : CodeAction) (s : ProcState) (past : Option ℕ) (m : Memory) (vars : List ℕ) → b ≡ a → past ≡ None → Holds start (done (view.action a) s) m vars → IsDone start (view.action b) s past m vars
 none_done start a b s None m vars e n h = subst (λ (x : CodeAction). Holds start (done (view.action x) s) m vars) (sym e) h
 none_done start a b s (Some c) m vars e n h = absurd (cc)
 
@@ -139,5 +139,5 @@ none_there None e = refl
 none_there (Some c) e = absurd (cc)
 
 -- an action that can't be past
-pub from_action : (start : Outside) (a b : CodeAction) (s : State) (m : Memory) (vars : List ℕ) → b ≡ a → Holds start (done (view.action a) s) m vars → Holds start (done (view.action b) s) m vars
+pub from_action : (start : Outside) (a b : CodeAction) (s : ProcState) (m : Memory) (vars : List ℕ) → b ≡ a → Holds start (done (view.action a) s) m vars → Holds start (done (view.action b) s) m vars
 from_action start a b s m vars e h = subst (λ (x : CodeAction). Holds start (done (view.action x) s) m vars) (sym e) h

@@ -4,9 +4,8 @@ use Rattle.std.specs.Prelude.{nat_lt}
 use Rattle.std.proofs.lemmas.Bool.{ltb-true, lt-ltb}
 use Rattle.std.proofs.lemmas.Bool.Decides.{nat_tests}
 use Rattle.ws_words.specs.Outside.{Act, loads, stores, reads, prints, gives, takes}
-use Rattle.ws_words.specs.Past.{length_of, IsPast, IsWithin, AreWithin, FirstPast}
+use Rattle.ws_words.specs.Past.{ActsBegin, length_of, IsPast, IsWithin, AreWithin, FirstPast}
 use Rattle.seq_run.specs.Firsts.{past_array, first_past}
-use Rattle.seq_run.specs.Laws.{Begins}
 use Rattle.ws_words.specs.Items.{first_some}
 
 -- one index against one length
@@ -138,8 +137,8 @@ within_both lengths [] ys h i = i
 within_both lengths (x ∷ xs) ys h i = (h.0, within_both lengths xs ys h.1 i)
 
 -- what stands first among acts that are within is within
-pub within_front : (lengths : List ℕ) (xs ys : List Act) → Begins xs ys → AreWithin lengths ys → AreWithin lengths xs
-within_front lengths xs ys b h = within_take lengths xs b.more (subst (AreWithin lengths) b.rest h)
+pub within_front : (lengths : List ℕ) (xs ys : List Act) → ActsBegin xs ys → AreWithin lengths ys → AreWithin lengths xs
+within_front lengths xs ys b h = within_take lengths xs b.0 (subst (AreWithin lengths) b.1 h)
 
 or_assoc : (a b c : Option ℕ) → first_some (first_some a b) c ≡ first_some a (first_some b c)
 or_assoc (Some x) b c = refl

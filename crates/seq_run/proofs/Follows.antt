@@ -7,8 +7,8 @@ use Rattle.std.proofs.lemmas.Bool.Decides.{nat_tests}
 use Rattle.std.specs.Prelude.{Vec}
 use Rattle.std.specs.declared.alloc.Global.{Global}
 use Rattle.ws_words.specs.Memory.{lengths_of}
-use Rattle.ws_words.specs.Outside.{Act, Outside, State, zeros}
-use Rattle.ws_words.specs.Past.{AreWithin}
+use Rattle.ws_words.specs.Outside.{Act, Outside, ProcState, zeros}
+use Rattle.ws_words.specs.Past.{ActsBegin, AreWithin}
 use Rattle.ws_words.specs.declared.memory.Memory.{Memory}
 use Rattle.src_ast.specs.Turns.{PartEnd, Ended, Out, and_then, CallEnd, Returned, Stopped, with_result, back_in, ending, loop}
 use Rattle.src_ast.specs.Meaning.{Calls}
@@ -20,9 +20,8 @@ use Rattle.cfg_core.specs.declared.blocks.Term.{Term as CodeTerm}
 use Rattle.seq_run.specs.Resolved as resolved
 use Rattle.seq_run.specs.Resolved.{Steps, Nothing, Then, Proc, run_one, run_all, run_proc, finish, calls_below, nth_proc}
 use Rattle.seq_run.specs.Firsts.{first_past}
-use Rattle.seq_run.specs.Laws.{Begins}
 use Rattle.seq_run.specs.Seen.{seen, call_seen}
-use Rattle.seq_run.specs.Shows.{Shows, Holds, Stops, Faulted, PartEnded, PartOut, FlowIs, CallReturned, CallOut, ReplyIs, Upto, stop_flag}
+use Rattle.seq_run.specs.Shows.{ShowsMemory, Holds, Stops, Faulted, PartEnded, PartOut, FlowIs, CallReturned, CallOut, ReplyIs, Upto, stop_flag}
 use Rattle.seq_run.specs.TurnsLeft.{AtMost}
 use Rattle.seq_run.specs.View as view
 use Rattle.seq_run.specs.View.{row_list}
@@ -38,16 +37,17 @@ use Rattle.seq_run.specs.declared.flow.Reply.TheVariants as replies
 use Rattle.seq_run.proofs.TurnsLeft.{calls_most, CallsAtMost}
 use Rattle.seq_run.proofs.Cost.{Cost, one_cost, all_cost, calls_cost, CallsCost}
 use Rattle.seq_run.proofs.Grows.{OutcomeTells, CallTells, CallsTell, all_tells, finish_tells, loop_tells}
-use Rattle.seq_run.proofs.Fronts.{begins_all, outcome_begins, call_begins, then_begins, back_begins}
+use Rattle.ws_words.proofs.Acts.{begins_all}
+use Rattle.seq_run.proofs.Fronts.{outcome_begins, call_begins, then_begins, back_begins}
 use Rattle.seq_run.proofs.Effects.{value_is, values_are, value_holds, value_stops, values_stop, stops_more}
 use Rattle.ws_words.proofs.Bools.{by_bool}
 
 -- the same where a turn is wanted, and else acts that begin with the same
 abbrev Extends : List Act × Bool → List Act × Bool → Type 0
-Extends x y = (x.1 ≡ true → y ≡ x) × Begins x.0 y.0
+Extends x y = (x.1 ≡ true → y ≡ x) × ActsBegin x.0 y.0
 
 extends_same : (x y : List Act × Bool) → y ≡ x → Extends x y
-extends_same x y e = (λ h. e, subst (λ (z : List Act × Bool). Begins x.0 z.0) (sym e) (begins_all x.0))
+extends_same x y e = (λ h. e, subst (λ (z : List Act × Bool). ActsBegin x.0 z.0) (sym e) (begins_all x.0))
 
 -- a fault in a part is one in what goes on as the part does, some turns later
 shifted : (start : Outside) (p q : ℕ → List Act × Bool) (cost turns k c : ℕ) (m : Memory) (left : ℕ) → turns ≡ k + cost → ((n : ℕ) → Extends (p n) (q (n + cost))) → Faulted start p k c m left → Faulted start q turns c m left
@@ -78,7 +78,7 @@ pub after_turn : (start : Outside) (p q : ℕ → PartEnd) (turns : ℕ) (f : Fl
 after_turn start p q turns f m vars left lt x h = flow_shift start p q 1 turns (turns - 1) f m vars left (omega arith) (λ n. let z : n + 1 ≡ suc n = omega arith in ap q z ∙ x n) h
 
 -- what stops first stops the whole
-pub then_stops : (start : Outside) (p : ℕ → PartEnd) (go : ℕ → State → ℕ → PartEnd) (turns : ℕ) (f : Flow) (m : Memory) (vars now : List ℕ) (left : ℕ) → stop_flag f ≡ true → ((n : ℕ) (s : State) (k : ℕ) → OutcomeTells s.out (go n s k)) → FlowIs start p turns f m vars left → FlowIs start (λ n. and_then (p n) (go n)) turns f m now left
+pub then_stops : (start : Outside) (p : ℕ → PartEnd) (go : ℕ → ProcState → ℕ → PartEnd) (turns : ℕ) (f : Flow) (m : Memory) (vars now : List ℕ) (left : ℕ) → stop_flag f ≡ true → ((n : ℕ) (s : ProcState) (k : ℕ) → OutcomeTells s.out (go n s k)) → FlowIs start p turns f m vars left → FlowIs start (λ n. and_then (p n) (go n)) turns f m now left
 then_stops start p go turns flows.Ended m vars now left e t h = absurd (cc)
 then_stops start p go turns flows.Out m vars now left e t h = at (p turns) h
   where
@@ -94,7 +94,7 @@ then_stops start p go turns (flows.Fault c) m vars now left e t h =
     at n (Out o) = (λ h. refl, begins_all o.acts)
 
 -- before its first turn a part wants it; with one it stops
-pub stops_at_once : (start : Outside) (part : ℕ → PartEnd) (s : State) (turns c : ℕ) (m held : Memory) (vars : List ℕ) → 0 < turns → part 0 ≡ Out s.out → Holds start s held vars → Stops start (seen (part 1)).0 c m → Faulted start (λ n. seen (part n)) turns c m (turns - 1)
+pub stops_at_once : (start : Outside) (part : ℕ → PartEnd) (s : ProcState) (turns c : ℕ) (m held : Memory) (vars : List ℕ) → 0 < turns → part 0 ≡ Out s.out → Holds start s held vars → Stops start (seen (part 1)).0 c m → Faulted start (λ n. seen (part n)) turns c m (turns - 1)
 stops_at_once start part s turns c m held vars lt e h st = record {
   earlier = 0;
   sum = omega arith;
@@ -104,7 +104,7 @@ stops_at_once start part s turns c m held vars lt e h st = record {
 }
 
 -- where no turn is left
-pub no_turn : (start : Outside) (part : ℕ → PartEnd) (s : State) (turns : ℕ) (m : Memory) (vars : List ℕ) → turns ≡ 0 → part 0 ≡ Out s.out → Holds start s m vars → PartOut start (part turns) m
+pub no_turn : (start : Outside) (part : ℕ → PartEnd) (s : ProcState) (turns : ℕ) (m : Memory) (vars : List ℕ) → turns ≡ 0 → part 0 ≡ Out s.out → Holds start s m vars → PartOut start (part turns) m
 no_turn start part s turns m vars z e h = subst (λ (o : PartEnd). PartOut start o m) (sym (ap part z ∙ e)) h.out
 
 -- the value of one term more
@@ -128,7 +128,7 @@ loads_more ts vars cells i t lt e = ap (λ (n : ℕ). all_loads (map graph.term 
     at (x ∷ ts) (suc i) lt e = ap (λ (acts : List Act). loads_of (graph.term x) vars cells ++ acts) (at ts i (omega arith) e) ∙ sym (append_assoc (loads_of (graph.term x) vars cells) _ _)
 
 -- a choice
-module _ (calls : Calls) (tell : CallsTell calls) (start : Outside) (s : State) (m : Memory) (vars : List ℕ) (h : Holds start s m vars) (turns : ℕ) (lt : 0 < turns) (t : Term) (a b : Steps) where
+module _ (calls : Calls) (tell : CallsTell calls) (start : Outside) (s : ProcState) (m : Memory) (vars : List ℕ) (h : Holds start s m vars) (turns : ℕ) (lt : 0 < turns) (t : Term) (a b : Steps) where
   second_arm : (b0 : Bool) (n : ℕ) → b0 ≡ true → (if b0 then run_all calls b (value_of t s).1 n else run_all calls a (value_of t s).1 n) ≡ run_all calls b (value_of t s).1 n
   second_arm b0 n e = ap (λ (v : Bool). if v then run_all calls b (value_of t s).1 n else run_all calls a (value_of t s).1 n) e
 
@@ -151,7 +151,7 @@ module _ (calls : Calls) (tell : CallsTell calls) (start : Outside) (s : State) 
   if_stops c now e = stops_at_once start (run_one calls (resolved.If t a b) s) s turns c m m vars lt refl h
       (value_stops start s m vars h t c _ e (arm ((value_of t s).0 == 0)))
     where
-      arm : (f : Bool) → Begins (value_of t s).1.out.acts (seen (if f then run_all calls b (value_of t s).1 0 else run_all calls a (value_of t s).1 0)).0
+      arm : (f : Bool) → ActsBegin (value_of t s).1.out.acts (seen (if f then run_all calls b (value_of t s).1 0 else run_all calls a (value_of t s).1 0)).0
       arm true = outcome_begins (value_of t s).1.out _ (all_tells calls tell b (value_of t s).1 0)
       arm false = outcome_begins (value_of t s).1.out _ (all_tells calls tell a (value_of t s).1 0)
 
@@ -172,18 +172,18 @@ weight_lt (y ∷ ss) zero x lt e = let h : weight (view.step x) ≡ weight (view
 weight_lt (y ∷ ss) (suc i) x lt e = let h = weight_lt ss i x (omega arith) e in omega arith
 
 -- what is left goes as the whole does
-pub upto_is : (start : Outside) (now : State → ℕ → PartEnd) (whole : ℕ → PartEnd) (turns left k : ℕ) (m n : Memory) (vars later : List ℕ) (f : Flow) → (u : Upto start now whole turns m vars left) → FlowIs start (now u.at) left f n later k → FlowIs start whole turns f n later k
+pub upto_is : (start : Outside) (now : ProcState → ℕ → PartEnd) (whole : ℕ → PartEnd) (turns left k : ℕ) (m n : Memory) (vars later : List ℕ) (f : Flow) → (u : Upto start now whole turns m vars left) → FlowIs start (now u.at) left f n later k → FlowIs start whole turns f n later k
 upto_is start now whole turns left k m n vars later f u g = flow_shift start (now u.at) whole u.spent turns left f n later k u.sum u.same g
 
 -- the state at the end of a part, and what the part took
 record Ends (start : Outside) (p : ℕ → PartEnd) (k : ℕ) (m : Memory) (vars : List ℕ) (left : ℕ) : Type 0 where
-  at : State
+  at : ProcState
   holds : Holds start at m vars
   cost : ℕ
   sum : k ≡ left + cost
   again : (i : ℕ) → p (i + cost) ≡ Ended at i
 
-ends : (start : Outside) (p : ℕ → PartEnd) (k : ℕ) (m : Memory) (vars : List ℕ) (left : ℕ) → ((s : State) (i : ℕ) → p k ≡ Ended s i → Cost p s i k) → FlowIs start p k flows.Ended m vars left → Ends start p k m vars left
+ends : (start : Outside) (p : ℕ → PartEnd) (k : ℕ) (m : Memory) (vars : List ℕ) (left : ℕ) → ((s : ProcState) (i : ℕ) → p k ≡ Ended s i → Cost p s i k) → FlowIs start p k flows.Ended m vars left → Ends start p k m vars left
 ends start p k m vars left f h = at (p k) refl h
   where
     at : (o : PartEnd) → p k ≡ o → PartEnded start o m vars left → Ends start p k m vars left
@@ -222,7 +222,7 @@ is_ended start p turns flows.Out m vars k e h = absurd (cc)
 is_ended start p turns (flows.Fault c) m vars k e h = absurd (cc)
 
 -- calls
-module _ (calls : Calls) (tell : CallsTell calls) (start : Outside) (s : State) (m : Memory) (vars : List ℕ) (h : Holds start s m vars) (turns : ℕ) (lt : 0 < turns) (x : Option ℕ) (f : ℕ) (ts : List Term) where
+module _ (calls : Calls) (tell : CallsTell calls) (start : Outside) (s : ProcState) (m : Memory) (vars : List ℕ) (h : Holds start s m vars) (turns : ℕ) (lt : 0 < turns) (x : Option ℕ) (f : ℕ) (ts : List Term) where
   back_seen : (e : CallEnd) → seen (back_in s.vars x e) ≡ call_seen e
   back_seen (Returned v o k) = refl
   back_seen (Stopped o) = refl
@@ -260,25 +260,25 @@ module _ (calls : Calls) (tell : CallsTell calls) (start : Outside) (s : State) 
   arguments_stop c now e = stops_at_once start (run_one calls (resolved.Call x f ts) s) s turns c m m vars lt refl h
       (values_stop start s m vars h ts c _ e (at (calls f (values_of ts s).0 (values_of ts s).1.out 0) (tell f (values_of ts s).0 (values_of ts s).1.out 0)))
     where
-      at : (r : CallEnd) → CallTells (values_of ts s).1.out r → Begins (values_of ts s).1.out.acts (seen (back_in s.vars x r)).0
+      at : (r : CallEnd) → CallTells (values_of ts s).1.out r → ActsBegin (values_of ts s).1.out.acts (seen (back_in s.vars x r)).0
       at r t = back_begins (values_of ts s).1.out.acts s.vars x r (call_begins (values_of ts s).1.out r t)
 
 -- a loop's fuel, of which there is enough, makes no difference
-loop_fuel : (test : State → ℕ × State) (body : State → ℕ → PartEnd) → ((s : State) (k : ℕ) → AtMost k (body s k)) → (f g : ℕ) (s : State) (k : ℕ) → k < f → k < g → loop f test body s k ≡ loop g test body s k
+loop_fuel : (test : ProcState → ℕ × ProcState) (body : ProcState → ℕ → PartEnd) → ((s : ProcState) (k : ℕ) → AtMost k (body s k)) → (f g : ℕ) (s : ProcState) (k : ℕ) → k < f → k < g → loop f test body s k ≡ loop g test body s k
 loop_fuel test body most zero g s k lf lg = absurd (omega arith)
 loop_fuel test body most (suc f) zero s k lf lg = absurd (omega arith)
 loop_fuel test body most (suc f) (suc g) s zero lf lg = refl
 loop_fuel test body most (suc f) (suc g) s (suc j) lf lg =
     ap (λ (o : PartEnd). if (test s).0 == 0 then Ended (test s).1 j else o) (after (body (test s).1 j) (loop f test body) (loop g test body) (most (test s).1 j) (λ u i le. loop_fuel test body most f g u i (omega arith) (omega arith)))
   where
-    after : (o : PartEnd) (go went : State → ℕ → PartEnd) → AtMost j o → ((u : State) (i : ℕ) → i ≤ j → go u i ≡ went u i) → and_then o go ≡ and_then o went
+    after : (o : PartEnd) (go went : ProcState → ℕ → PartEnd) → AtMost j o → ((u : ProcState) (i : ℕ) → i ≤ j → go u i ≡ went u i) → and_then o go ≡ and_then o went
     after (Ended u i) go went le h = h u i le
     after (Out o) go went le h = refl
 
 -- a loop, some of whose turns are spent
-module _ (t : Term) (body : State → ℕ → PartEnd) (most : (s : State) (k : ℕ) → AtMost k (body s k)) (tells : (s : State) (k : ℕ) → OutcomeTells s.out (body s k)) (costs : (s : State) (k : ℕ) (u : State) (j : ℕ) → body s k ≡ Ended u j → Cost (body s) u j k) where
+module _ (t : Term) (body : ProcState → ℕ → PartEnd) (most : (s : ProcState) (k : ℕ) → AtMost k (body s k)) (tells : (s : ProcState) (k : ℕ) → OutcomeTells s.out (body s k)) (costs : (s : ProcState) (k : ℕ) (u : ProcState) (j : ℕ) → body s k ≡ Ended u j → Cost (body s) u j k) where
   -- the loop with fuel enough
-  abbrev pub looped : State → ℕ → PartEnd
+  abbrev pub looped : ProcState → ℕ → PartEnd
   looped s k = loop (suc k) (value_of t) body s k
 
   module _ (start : Outside) (whole : ℕ → PartEnd) (turns left : ℕ) (m : Memory) (vars : List ℕ) (u : Upto start looped whole turns m vars left) where
@@ -288,7 +288,7 @@ module _ (t : Term) (body : State → ℕ → PartEnd) (most : (s : State) (k : 
         upto_is start looped whole turns left (left - 1) m m vars vars (flows.Fault c) u
         (stops_at_once start (looped u.at) u.at left c m m vars lt refl u.holds (value_stops start u.at m vars u.holds t c _ e (arm ((value_of t u.at).0 == 0))))
       where
-        arm : (f : Bool) → Begins (value_of t u.at).1.out.acts (seen (if f then Ended (value_of t u.at).1 0 else and_then (body (value_of t u.at).1 0) (loop 1 (value_of t) body))).0
+        arm : (f : Bool) → ActsBegin (value_of t u.at).1.out.acts (seen (if f then Ended (value_of t u.at).1 0 else and_then (body (value_of t u.at).1 0) (loop 1 (value_of t) body))).0
         arm true = begins_all _
         arm false = then_begins (value_of t u.at).1.out.acts (body (value_of t u.at).1 0) (loop 1 (value_of t) body) (outcome_begins (value_of t u.at).1.out _ (tells (value_of t u.at).1 0)) (loop_tells 1 t body tells)
 
@@ -362,17 +362,17 @@ weight_call (suc n) f procs lt = by_bool (f == n) (weight_below f procs + heft (
     (λ e. let h = weight_call n f procs (grind (arith, nat_tests)) in omega arith)
 
 -- the result of a procedure
-pub result_is : (start : Outside) (t : Term) (s : State) (m : Memory) (vars : List ℕ) (v j : ℕ) → Holds start s m vars → 0 < j → first_past (lengths_of m.cells) (loads_of t vars m.cells) ≡ None → v ≡ value t vars m.cells → ReplyIs start (finish (Some t) s) j (replies.Value v) m (j - 1)
+pub result_is : (start : Outside) (t : Term) (s : ProcState) (m : Memory) (vars : List ℕ) (v j : ℕ) → Holds start s m vars → 0 < j → first_past (lengths_of m.cells) (loads_of t vars m.cells) ≡ None → v ≡ value t vars m.cells → ReplyIs start (finish (Some t) s) j (replies.Value v) m (j - 1)
 result_is start t s m vars v zero h lt none ev = absurd (omega arith)
 result_is start t s m vars v (suc j) h lt none ev = ((value_holds start s m vars h t none).out, sym (value_is start s m vars h t) ∙ sym ev, omega arith)
 
 -- it wants a turn
-pub result_wants : (start : Outside) (t : Term) (s : State) (m : Memory) (vars : List ℕ) (j k : ℕ) → Holds start s m vars → j ≡ 0 → ReplyIs start (finish (Some t) s) j replies.Out m k
+pub result_wants : (start : Outside) (t : Term) (s : ProcState) (m : Memory) (vars : List ℕ) (j k : ℕ) → Holds start s m vars → j ≡ 0 → ReplyIs start (finish (Some t) s) j replies.Out m k
 result_wants start t s m vars zero k h e = h.out
 result_wants start t s m vars (suc j) k h e = absurd (omega (arith, e))
 
 -- it has a load that is past
-pub result_stops : (start : Outside) (t : Term) (s : State) (m : Memory) (vars : List ℕ) (c j : ℕ) → Holds start s m vars → 0 < j → first_past (lengths_of m.cells) (loads_of t vars m.cells) ≡ Some c → ReplyIs start (finish (Some t) s) j (replies.Fault c) m (j - 1)
+pub result_stops : (start : Outside) (t : Term) (s : ProcState) (m : Memory) (vars : List ℕ) (c j : ℕ) → Holds start s m vars → 0 < j → first_past (lengths_of m.cells) (loads_of t vars m.cells) ≡ Some c → ReplyIs start (finish (Some t) s) j (replies.Fault c) m (j - 1)
 result_stops start t s m vars c j h lt e = record {
   earlier = 0;
   sum = omega arith;
@@ -386,8 +386,8 @@ module _ (below f : ℕ) (ps : List CodeProc) (p : CodeProc) (lt : f < below) (i
   callee : (o : Outside) (k : ℕ) → calls_below below (view.procs ps) f args o k ≡ run_proc (calls_below f (view.procs ps)) (view.proc p) args o k
   callee o k = calls_at below f (view.procs ps) lt args o k ∙ ap (λ (q : Proc). run_proc (calls_below f (view.procs ps)) q args o k) (nth_procs ps f p in_ps is)
 
-  module _ (vars : List ℕ) (starts : vars ≡ args ++ zeros p.locals) (o : Outside) (sh : Shows start o m) where
-    abbrev first : State
+  module _ (vars : List ℕ) (starts : vars ≡ args ++ zeros p.locals) (o : Outside) (sh : ShowsMemory start o m) where
+    abbrev first : ProcState
     first = record { vars = args ++ zeros p.locals; out = o }
 
     first_holds : Holds start first m vars
@@ -400,13 +400,13 @@ module _ (below f : ℕ) (ps : List CodeProc) (p : CodeProc) (lt : f < below) (i
     as_call r n k h = reply_shift start (λ j. ending (steps j) (finish (view.result p.result))) (calls_below below (view.procs ps) f args o) 0 turns turns r n k (omega arith) (λ j. let z : j + 0 ≡ j = omega arith in ap (calls_below below (view.procs ps) f args o) z ∙ callee o j) h
 
     -- they ended, and then the result was made
-    pub call_ended : (n e : Memory) (now : List ℕ) (r : Reply) (j k : ℕ) → ((s : State) → Holds start s m vars → FlowIs start (run_all (calls_below f (view.procs ps)) (view.steps p.body.items) s) turns flows.Ended n now j) → ((s : State) → Holds start s n now → ReplyIs start (finish (view.result p.result) s) j r e k) → ReplyIs start (calls_below below (view.procs ps) f args o) turns r e k
+    pub call_ended : (n e : Memory) (now : List ℕ) (r : Reply) (j k : ℕ) → ((s : ProcState) → Holds start s m vars → FlowIs start (run_all (calls_below f (view.procs ps)) (view.steps p.body.items) s) turns flows.Ended n now j) → ((s : ProcState) → Holds start s n now → ReplyIs start (finish (view.result p.result) s) j r e k) → ReplyIs start (calls_below below (view.procs ps) f args o) turns r e k
     call_ended n e now r j k h g =
         let u = ends start steps turns n now j (λ s i d. all_cost (calls_below f (view.procs ps)) (calls_most f (view.procs ps)) (calls_cost f (view.procs ps)) (view.steps p.body.items) first turns s i d) (h first first_holds) in
         as_call r e k (reply_shift start (finish (view.result p.result) u.at) (λ i. ending (steps i) (finish (view.result p.result))) u.cost turns j r e k u.sum (λ i. ap (λ (x : PartEnd). ending x (finish (view.result p.result))) (u.again i)) (g u.at u.holds))
 
     -- they want a turn
-    pub call_wants : (n : Memory) (now : List ℕ) (k : ℕ) → ((s : State) → Holds start s m vars → FlowIs start (run_all (calls_below f (view.procs ps)) (view.steps p.body.items) s) turns flows.Out n now k) → ReplyIs start (calls_below below (view.procs ps) f args o) turns replies.Out n k
+    pub call_wants : (n : Memory) (now : List ℕ) (k : ℕ) → ((s : ProcState) → Holds start s m vars → FlowIs start (run_all (calls_below f (view.procs ps)) (view.steps p.body.items) s) turns flows.Out n now k) → ReplyIs start (calls_below below (view.procs ps) f args o) turns replies.Out n k
     call_wants n now k h = as_call replies.Out n k (at (steps turns) (h first first_holds))
       where
         at : (x : PartEnd) → PartOut start x n → CallOut start (ending x (finish (view.result p.result))) n
@@ -414,12 +414,12 @@ module _ (below f : ℕ) (ps : List CodeProc) (p : CodeProc) (lt : f < below) (i
         at (Out q) g = g
 
     -- they stopped
-    pub call_stops : (n : Memory) (now : List ℕ) (c k : ℕ) → ((s : State) → Holds start s m vars → FlowIs start (run_all (calls_below f (view.procs ps)) (view.steps p.body.items) s) turns (flows.Fault c) n now k) → ReplyIs start (calls_below below (view.procs ps) f args o) turns (replies.Fault c) n k
+    pub call_stops : (n : Memory) (now : List ℕ) (c k : ℕ) → ((s : ProcState) → Holds start s m vars → FlowIs start (run_all (calls_below f (view.procs ps)) (view.steps p.body.items) s) turns (flows.Fault c) n now k) → ReplyIs start (calls_below below (view.procs ps) f args o) turns (replies.Fault c) n k
     call_stops n now c k h = as_call (replies.Fault c) n k
         (shifted start (λ j. seen (steps j)) (λ j. call_seen (ending (steps j) (finish (view.result p.result)))) 0 turns turns c n k (omega arith)
         (λ j. let z : j + 0 ≡ j = omega arith in subst (λ (i : ℕ). Extends (seen (steps j)) (call_seen (ending (steps i) (finish (view.result p.result))))) (sym z) (at (steps j))) (h first first_holds))
       where
-        same_acts : (acts : List Act) (e : CallEnd) → Begins acts (outside_of e).acts → Begins acts (call_seen e).0
+        same_acts : (acts : List Act) (e : CallEnd) → ActsBegin acts (outside_of e).acts → ActsBegin acts (call_seen e).0
         same_acts acts (Returned v q j) b = b
         same_acts acts (Stopped q) b = b
 
@@ -436,7 +436,7 @@ pub while_view : (t : CodeTerm) (a : Vec Step Global) → view.step (code.While 
 while_view t a = search (rules, the_lemmas, row_list)
 
 -- steps of the code as steps of the run
-pub from_step : (calls : Calls) (start : Outside) (a b : Step) (s : State) (turns : ℕ) (f : Flow) (m : Memory) (vars : List ℕ) (k : ℕ) → b ≡ a → FlowIs start (run_one calls (view.step a) s) turns f m vars k → FlowIs start (run_one calls (view.step b) s) turns f m vars k
+pub from_step : (calls : Calls) (start : Outside) (a b : Step) (s : ProcState) (turns : ℕ) (f : Flow) (m : Memory) (vars : List ℕ) (k : ℕ) → b ≡ a → FlowIs start (run_one calls (view.step a) s) turns f m vars k → FlowIs start (run_one calls (view.step b) s) turns f m vars k
 from_step calls start a b s turns f m vars k e h = subst (λ (st : Step). FlowIs start (run_one calls (view.step st) s) turns f m vars k) (sym e) h
 
 -- a reply that is known
@@ -448,26 +448,26 @@ pub as_flow : (start : Outside) (p : ℕ → PartEnd) (turns : ℕ) (f g : Flow)
 as_flow start p turns f g m vars k e h = subst (λ (x : Flow). FlowIs start p turns x m vars k) e h
 
 -- a result that is known
-pub as_result : (start : Outside) (r q : Option CodeTerm) (s : State) (j : ℕ) (reply : Reply) (m : Memory) (k : ℕ) → r ≡ q → ReplyIs start (finish (view.result q) s) j reply m k → ReplyIs start (finish (view.result r) s) j reply m k
+pub as_result : (start : Outside) (r q : Option CodeTerm) (s : ProcState) (j : ℕ) (reply : Reply) (m : Memory) (k : ℕ) → r ≡ q → ReplyIs start (finish (view.result q) s) j reply m k → ReplyIs start (finish (view.result r) s) j reply m k
 as_result start r q s j reply m k e h = subst (λ (x : Option CodeTerm). ReplyIs start (finish (view.result x) s) j reply m k) (sym e) h
 
 -- steps that are known
-pub as_steps : (calls : Calls) (start : Outside) (x y : List Step) (u : State) (k : ℕ) (f : Flow) (m : Memory) (vars : List ℕ) (j : ℕ) → x ≡ y → FlowIs start (run_all calls (view.steps x) u) k f m vars j → FlowIs start (run_all calls (view.steps y) u) k f m vars j
+pub as_steps : (calls : Calls) (start : Outside) (x y : List Step) (u : ProcState) (k : ℕ) (f : Flow) (m : Memory) (vars : List ℕ) (j : ℕ) → x ≡ y → FlowIs start (run_all calls (view.steps x) u) k f m vars j → FlowIs start (run_all calls (view.steps y) u) k f m vars j
 as_steps calls start x y u k f m vars j e h = subst (λ (ss : List Step). FlowIs start (run_all calls (view.steps ss) u) k f m vars j) e h
 
 -- a choice of the code
-pub if_step : (calls : Calls) (start : Outside) (s : State) (turns : ℕ) (t : CodeTerm) (a b : Vec Step Global) (st : Step) (xs ys : List Step) → st ≡ code.If t a b → xs ≡ a.items → ys ≡ b.items → (f : Flow) (n : Memory) (now : List ℕ) (k : ℕ) → FlowIs start (run_one calls (resolved.If (graph.term t) (view.steps xs) (view.steps ys)) s) turns f n now k → FlowIs start (run_one calls (view.step st) s) turns f n now k
+pub if_step : (calls : Calls) (start : Outside) (s : ProcState) (turns : ℕ) (t : CodeTerm) (a b : Vec Step Global) (st : Step) (xs ys : List Step) → st ≡ code.If t a b → xs ≡ a.items → ys ≡ b.items → (f : Flow) (n : Memory) (now : List ℕ) (k : ℕ) → FlowIs start (run_one calls (resolved.If (graph.term t) (view.steps xs) (view.steps ys)) s) turns f n now k → FlowIs start (run_one calls (view.step st) s) turns f n now k
 if_step calls start s turns t a b st xs ys is ea eb f n now k h =
     subst (λ (x : resolved.Step). FlowIs start (run_one calls x s) turns f n now k)
     (ap (λ (zs : List Step). resolved.If (graph.term t) (view.steps zs) (view.steps ys)) ea ∙ ap (λ (zs : List Step). resolved.If (graph.term t) (view.steps a.items) (view.steps zs)) eb ∙ sym (ap (λ (x : Step). view.step x) is ∙ if_view t a b)) h
 
 -- a call of the code
-pub call_step : (calls : Calls) (start : Outside) (s : State) (turns : ℕ) (x : Option ℕ) (c : ℕ) (a : Vec CodeTerm Global) (st : Step) (ts : List CodeTerm) → st ≡ code.Call x c a → ts ≡ a.items → (f : Flow) (n : Memory) (now : List ℕ) (k : ℕ) → FlowIs start (run_one calls (resolved.Call x c (map graph.term ts)) s) turns f n now k → FlowIs start (run_one calls (view.step st) s) turns f n now k
+pub call_step : (calls : Calls) (start : Outside) (s : ProcState) (turns : ℕ) (x : Option ℕ) (c : ℕ) (a : Vec CodeTerm Global) (st : Step) (ts : List CodeTerm) → st ≡ code.Call x c a → ts ≡ a.items → (f : Flow) (n : Memory) (now : List ℕ) (k : ℕ) → FlowIs start (run_one calls (resolved.Call x c (map graph.term ts)) s) turns f n now k → FlowIs start (run_one calls (view.step st) s) turns f n now k
 call_step calls start s turns x c a st ts is e f n now k h =
     subst (λ (z : resolved.Step). FlowIs start (run_one calls z s) turns f n now k) (ap (λ (us : List CodeTerm). resolved.Call x c (map graph.term us)) e ∙ sym (ap (λ (z : Step). view.step z) is)) h
 
 -- a loop of the code
-pub while_step : (calls : Calls) (start : Outside) (s : State) (turns : ℕ) (t : CodeTerm) (a : Vec Step Global) (st : Step) (ss : List Step) → st ≡ code.While t a → ss ≡ a.items → (f : Flow) (n : Memory) (now : List ℕ) (k : ℕ) → FlowIs start (run_one calls (resolved.While (graph.term t) (view.steps ss)) s) turns f n now k → FlowIs start (run_one calls (view.step st) s) turns f n now k
+pub while_step : (calls : Calls) (start : Outside) (s : ProcState) (turns : ℕ) (t : CodeTerm) (a : Vec Step Global) (st : Step) (ss : List Step) → st ≡ code.While t a → ss ≡ a.items → (f : Flow) (n : Memory) (now : List ℕ) (k : ℕ) → FlowIs start (run_one calls (resolved.While (graph.term t) (view.steps ss)) s) turns f n now k → FlowIs start (run_one calls (view.step st) s) turns f n now k
 while_step calls start s turns t a st ss is e f n now k h =
     subst (λ (x : resolved.Step). FlowIs start (run_one calls x s) turns f n now k) (ap (λ (xs : List Step). resolved.While (graph.term t) (view.steps xs)) e ∙ sym (ap (λ (x : Step). view.step x) is ∙ while_view t a)) h
 

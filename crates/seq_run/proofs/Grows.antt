@@ -2,7 +2,7 @@
 use Rattle.std.proofs.Common.{ℕ, zero, suc, ◌≡◌, ◌==◌, Bool, true, false, List, [], ◌∷◌, ◌++◌, Option, Some, None, if◌then◌else◌, refl, sym, ap, ◌∙◌, append_assoc}
 use Rattle.std.proofs.lemmas.List.{append-nil}
 use Rattle.std.specs.List.{AllByRecursion}
-use Rattle.ws_words.specs.Outside.{Act, loads, stores, reads, prints, gives, takes, Outside, State, zeros, World, opening_out}
+use Rattle.ws_words.specs.Outside.{Act, loads, stores, reads, prints, gives, takes, Outside, ProcState, zeros, World, opening_out}
 use Rattle.ws_words.specs.Past.{after_act, after_acts}
 use Rattle.ws_words.proofs.Acts.{after_append, with_more}
 use Rattle.src_ast.specs.Turns.{PartEnd, Ended, Out, and_then, turn, CallEnd, Returned, Stopped, back_in, ending, loop}
@@ -72,18 +72,18 @@ loads_leave o (gives p ∷ acts) h = absurd h.0
 loads_leave o (takes p w ∷ acts) h = absurd h.0
 
 -- evaluation leaves what its loads leave
-pub value_tells : (t : Term) (s : State) → Tells s.out (value_of t s).1.out
+pub value_tells : (t : Term) (s : ProcState) → Tells s.out (value_of t s).1.out
 value_tells t s = record { more = loads_of t s.vars s.out.cells; after = sym (loads_leave s.out _ (only_loads t s.vars s.out.cells)) }
 
 -- so with arguments
-pub values_tell : (ts : List Term) (s : State) → Tells s.out (values_of ts s).1.out
+pub values_tell : (ts : List Term) (s : ProcState) → Tells s.out (values_of ts s).1.out
 values_tell ts s = record { more = all_loads ts s.vars s.out.cells; after = sym (loads_leave s.out _ (only_all_loads ts s.vars s.out.cells)) }
 
 pub act_tells : (o : Outside) (a : Act) → Tells o (after_act o a)
 act_tells o a = record { more = a ∷ []; after = refl }
 
 -- so with an action
-pub done_tells : (a : Action) (s : State) → Tells s.out (done a s).out
+pub done_tells : (a : Action) (s : ProcState) → Tells s.out (done a s).out
 done_tells (Assign x t) s = value_tells t s
 done_tells (Store a t u) s =
     let i = value_of t s in let v = value_of u i.1 in
@@ -115,11 +115,11 @@ call_from : (o p : Outside) (e : CallEnd) → Tells o p → CallTells p e → Ca
 call_from o p (Returned v q k) h i = tells_then o p q h i
 call_from o p (Stopped q) h i = tells_then o p q h i
 
-then_tells : (o : Outside) (x : PartEnd) (go : State → ℕ → PartEnd) → OutcomeTells o x → ((s : State) (k : ℕ) → OutcomeTells s.out (go s k)) → OutcomeTells o (and_then x go)
+then_tells : (o : Outside) (x : PartEnd) (go : ProcState → ℕ → PartEnd) → OutcomeTells o x → ((s : ProcState) (k : ℕ) → OutcomeTells s.out (go s k)) → OutcomeTells o (and_then x go)
 then_tells o (Ended s k) go h f = outcome_from o s.out (go s k) h (f s k)
 then_tells o (Out p) go h f = h
 
-turn_tells : (k : ℕ) (s : State) (go : ℕ → PartEnd) → ((j : ℕ) → OutcomeTells s.out (go j)) → OutcomeTells s.out (turn k s go)
+turn_tells : (k : ℕ) (s : ProcState) (go : ℕ → PartEnd) → ((j : ℕ) → OutcomeTells s.out (go j)) → OutcomeTells s.out (turn k s go)
 turn_tells zero s go f = tells_none s.out
 turn_tells (suc k) s go f = f k
 
@@ -132,7 +132,7 @@ back_tells o vars x (Returned v p k) h = h
 back_tells o vars x (Stopped p) h = h
 
 -- so a loop
-pub loop_tells : (fuel : ℕ) (t : Term) (body : State → ℕ → PartEnd) → ((s : State) (k : ℕ) → OutcomeTells s.out (body s k)) → (s : State) (k : ℕ) → OutcomeTells s.out (loop fuel (value_of t) body s k)
+pub loop_tells : (fuel : ℕ) (t : Term) (body : ProcState → ℕ → PartEnd) → ((s : ProcState) (k : ℕ) → OutcomeTells s.out (body s k)) → (s : ProcState) (k : ℕ) → OutcomeTells s.out (loop fuel (value_of t) body s k)
 loop_tells zero t body f s k = tells_none s.out
 loop_tells (suc fuel) t body f s k =
     let v = value_of t s in
@@ -141,7 +141,7 @@ loop_tells (suc fuel) t body f s k =
 
 mutual
   -- so a step
-  pub one_tells : (calls : Calls) → CallsTell calls → (st : Step) (s : State) (k : ℕ) → OutcomeTells s.out (run_one calls st s k)
+  pub one_tells : (calls : Calls) → CallsTell calls → (st : Step) (s : ProcState) (k : ℕ) → OutcomeTells s.out (run_one calls st s k)
   one_tells calls c (Do a) s k = turn_tells k s _ (λ j. done_tells a s)
   one_tells calls c (Call x f ts) s k =
       let vs = values_of ts s in
@@ -153,12 +153,12 @@ mutual
   one_tells calls c (While t body) s k = loop_tells (suc k) t (run_all calls body) (all_tells calls c body) s k
 
   -- so steps
-  pub all_tells : (calls : Calls) → CallsTell calls → (st : Steps) (s : State) (k : ℕ) → OutcomeTells s.out (run_all calls st s k)
+  pub all_tells : (calls : Calls) → CallsTell calls → (st : Steps) (s : ProcState) (k : ℕ) → OutcomeTells s.out (run_all calls st s k)
   all_tells calls c Nothing s k = tells_none s.out
   all_tells calls c (Then st rest) s k = then_tells s.out (run_one calls st s k) (run_all calls rest) (one_tells calls c st s k) (all_tells calls c rest)
 
 -- so the result of a procedure
-pub finish_tells : (r : Option Term) (s : State) (k : ℕ) → CallTells s.out (finish r s k)
+pub finish_tells : (r : Option Term) (s : ProcState) (k : ℕ) → CallTells s.out (finish r s k)
 finish_tells None s k = tells_none s.out
 finish_tells (Some t) s zero = tells_none s.out
 finish_tells (Some t) s (suc j) = value_tells t s

@@ -12,7 +12,8 @@ use Rattle.cfg_core.specs.Graph.{Term}
 use Rattle.src_ast.specs.declared.tree.Unary.{Unary}
 use Rattle.src_ast.specs.declared.tree.Unary.TheVariants.{Flip, Not, Neg}
 use Rattle.seq_run.specs.Resolving.{signed, term, terms, one, all, result}
-use Rattle.seq_run.specs.InRange.{IsArray, IsPort, TermIn, ResultIn, StepIn, StepsIn, size, size_all}
+use Rattle.cfg_core.specs.Rules.{IsArray, IsPort, TermIn}
+use Rattle.seq_run.specs.InRange.{ResultIn, StepIn, StepsIn, size, size_all}
 use Rattle.ws_words.proofs.Bools.{and_left as first_holds, and_right as second_holds}
 
 -- all of these rules are kept

@@ -1,7 +1,7 @@
 -- Each run has one answer, and what it leaves is what its acts leave.
 use Rattle.std.proofs.Common.{ℕ, zero, suc, ◌≡◌, ◌+◌, ◌-◌, ◌<◌, ◌≤◌, ◌⊎◌, inl, inr, List, [], ◌++◌, Option, Some, None, length, refl, sym, ap, ◌∙◌, subst, arith}
 use Rattle.ws_words.specs.Outside.{Act, Outside, World}
-use Rattle.ws_words.specs.Past.{AreWithin, FirstPast, after_acts}
+use Rattle.ws_words.specs.Past.{ActsBegin, AreWithin, FirstPast, after_acts}
 use Rattle.src_ast.specs.Syntax.{Part}
 use Rattle.src_ast.specs.Turns.{CallEnd, Returned, Stopped}
 use Rattle.src_ast.specs.Meaning.{run, Passes, lengths_of}
@@ -9,12 +9,12 @@ use Rattle.src_ast.specs.Runs.{outside_of, acts_in, opened, Runs, Goes, Faults}
 use Rattle.seq_run.specs.Resolved as resolved
 use Rattle.seq_run.specs.Resolving.{program}
 use Rattle.seq_run.specs.Firsts.{first_past}
-use Rattle.seq_run.specs.Laws.{Begins, FaultsWithin, HasAnswer}
+use Rattle.seq_run.specs.Laws.{FaultsWithin, HasAnswer}
 use Rattle.seq_run.proofs.Places.{run_same}
 use Rattle.seq_run.proofs.Cost.{exactly, more_turns}
-use Rattle.ws_words.proofs.Acts.{acts_of as acts_after}
+use Rattle.ws_words.proofs.Acts.{acts_of as acts_after, begins_all}
 use Rattle.seq_run.proofs.Grows.{CallTells, run_tells}
-use Rattle.seq_run.proofs.Fronts.{CallLonger, begins_all, run_longer}
+use Rattle.seq_run.proofs.Fronts.{CallLonger, run_longer}
 use Rattle.seq_run.proofs.FirstPasts.{all_within, found, not_within, within_front, one_array, one_before}
 
 lt_or_le : (n m : ℕ) → (n < m) ⊎ (m ≤ n)
@@ -34,8 +34,8 @@ call_told : (o : Outside) (e : CallEnd) → o.acts ≡ [] → CallTells o e → 
 call_told o (Returned v p k) n h = told o p h.more n h.after
 call_told o (Stopped p) n h = told o p h.more n h.after
 
-longer_begins : (j : ℕ) (e f : CallEnd) → CallLonger j e f → Begins (outside_of e).acts (outside_of f).acts
-longer_begins j (Returned v p k) f h = subst (λ (x : CallEnd). Begins p.acts (outside_of x).acts) (sym h) (begins_all p.acts)
+longer_begins : (j : ℕ) (e f : CallEnd) → CallLonger j e f → ActsBegin (outside_of e).acts (outside_of f).acts
+longer_begins j (Returned v p k) f h = subst (λ (x : CallEnd). ActsBegin p.acts (outside_of x).acts) (sym h) (begins_all p.acts)
 longer_begins j (Stopped p) f h = h
 
 module _ (parts : List Part) (world : World) where
@@ -45,7 +45,7 @@ module _ (parts : List Part) (world : World) where
       (subst (CallTells (opened parts world)) (sym (run_same parts world n)) (run_tells (length (program parts).procs - 1) (program parts) world n))
 
   -- more turns, more acts
-  pub fronts : (m n : ℕ) → m ≤ n → Begins (acts_in parts world m) (acts_in parts world n)
+  pub fronts : (m n : ℕ) → m ≤ n → ActsBegin (acts_in parts world m) (acts_in parts world n)
   fronts m n le =
       let e : m + (n - m) ≡ n = omega (arith, le) in
       longer_begins (n - m) (run parts world m) (run parts world n)

@@ -2,7 +2,7 @@
 use mathlib.Core.Path.{fun_ext}
 use Rattle.std.proofs.Common.{ℕ, zero, suc, ◌-◌, ◌≡◌, ◌==◌, Bool, true, false, List, [], ◌∷◌, ◌++◌, length, Option, Some, None, if◌then◌else◌, refl, sym, ap, ◌∙◌, slice_index}
 use Rattle.ws_words.specs.Operators.{applied}
-use Rattle.ws_words.specs.Outside.{loads, row, with_acts, Outside, State, zeros, World, opening_out, write, stored, printed, taken}
+use Rattle.ws_words.specs.Outside.{loads, row, with_acts, Outside, ProcState, zeros, World, opening_out, write, stored, printed, taken}
 use Rattle.src_ast.specs.Turns.{PartEnd, Ended, Out, and_then, turn, CallEnd, Returned, back_in, ending, loop}
 use Rattle.src_ast.specs.declared.lexeme.Name.{Name}
 use Rattle.src_ast.specs.Syntax.{Expression, Number, Variable, Cell, Signed, Binary, Statement, Assign, Store, Print, Read, Give, Take, Call, If, While, Statements, Nothing, Then, Last, Procedure, Part}
@@ -40,7 +40,7 @@ module _ (scope : Scope) where
   loads_same (Signed s e) vars cells = loads_same e vars cells ∙ sym (signed_loads s (term scope e) vars cells)
   loads_same (Binary op a b) vars cells = ap (λ acts. acts ++ meaning.loads_of scope b vars cells) (loads_same a vars cells) ∙ ap (λ acts. walks.loads_of (term scope a) vars cells ++ acts) (loads_same b vars cells)
 
-  of_same : (e : Expression) (s : State) → meaning.value_of scope e s ≡ walks.value_of (term scope e) s
+  of_same : (e : Expression) (s : ProcState) → meaning.value_of scope e s ≡ walks.value_of (term scope e) s
   of_same e s = ap (λ n. (n, with_acts s (meaning.loads_of scope e s.vars s.out.cells))) (value_same e s.vars s.out.cells) ∙ ap (λ acts. (walks.value (term scope e) s.vars s.out.cells, with_acts s acts)) (loads_same e s.vars s.out.cells)
 
   values_same : (es : List Expression) (vars : List ℕ) (cells : List (List ℕ)) → meaning.values scope es vars cells ≡ walks.values (terms scope es) vars cells
@@ -51,14 +51,14 @@ module _ (scope : Scope) where
   all_loads_same [] vars cells = refl
   all_loads_same (e ∷ es) vars cells = ap (λ acts. acts ++ meaning.all_loads scope es vars cells) (loads_same e vars cells) ∙ ap (λ acts. walks.loads_of (term scope e) vars cells ++ acts) (all_loads_same es vars cells)
 
-  all_of_same : (es : List Expression) (s : State) → meaning.values_of scope es s ≡ walks.values_of (terms scope es) s
+  all_of_same : (es : List Expression) (s : ProcState) → meaning.values_of scope es s ≡ walks.values_of (terms scope es) s
   all_of_same es s = ap (λ ns. (ns, with_acts s (meaning.all_loads scope es s.vars s.out.cells))) (values_same es s.vars s.out.cells) ∙ ap (λ acts. (walks.values (terms scope es) s.vars s.out.cells, with_acts s acts)) (all_loads_same es s.vars s.out.cells)
 
-turn_same : (k : ℕ) (s : State) (go went : ℕ → PartEnd) → ((j : ℕ) → go j ≡ went j) → turn k s go ≡ turn k s went
+turn_same : (k : ℕ) (s : ProcState) (go went : ℕ → PartEnd) → ((j : ℕ) → go j ≡ went j) → turn k s go ≡ turn k s went
 turn_same zero s go went h = refl
 turn_same (suc k) s go went h = h k
 
-then_same : (o u : PartEnd) (go went : State → ℕ → PartEnd) → o ≡ u → ((s : State) (k : ℕ) → go s k ≡ went s k) → and_then o go ≡ and_then u went
+then_same : (o u : PartEnd) (go went : ProcState → ℕ → PartEnd) → o ≡ u → ((s : ProcState) (k : ℕ) → go s k ≡ went s k) → and_then o go ≡ and_then u went
 then_same (Ended s k) u go went e h = h s k ∙ ap (λ o. and_then o went) e
 then_same (Out o) u go went e h = ap (λ x. and_then x went) e
 
@@ -66,40 +66,40 @@ if_same : (b : Bool) (o u p q : PartEnd) → o ≡ p → u ≡ q → (if b then 
 if_same true o u p q e f = e
 if_same false o u p q e f = f
 
-loop_same : (fuel : ℕ) (test tested : State → ℕ × State) (body went : State → ℕ → PartEnd) → ((s : State) → test s ≡ tested s) → ((s : State) (k : ℕ) → body s k ≡ went s k) → (s : State) (k : ℕ) → loop fuel test body s k ≡ loop fuel tested went s k
+loop_same : (fuel : ℕ) (test tested : ProcState → ℕ × ProcState) (body went : ProcState → ℕ → PartEnd) → ((s : ProcState) → test s ≡ tested s) → ((s : ProcState) (k : ℕ) → body s k ≡ went s k) → (s : ProcState) (k : ℕ) → loop fuel test body s k ≡ loop fuel tested went s k
 loop_same zero test tested body went e h s k = refl
 loop_same (suc fuel) test tested body went e h s k =
     turn_same k s _ _ (λ j.
     if_same ((test s).0 == 0) _ _ _ _ refl (then_same (body (test s).1 j) (went (test s).1 j) (loop fuel test body) (loop fuel tested went) (h (test s).1 j) (loop_same fuel test tested body went e h))
-    ∙ ap (λ (v : ℕ × State). if v.0 == 0 then Ended v.1 j else and_then (went v.1 j) (loop fuel tested went)) (e s))
+    ∙ ap (λ (v : ℕ × ProcState). if v.0 == 0 then Ended v.1 j else and_then (went v.1 j) (loop fuel tested went)) (e s))
 
 module _ (scope : Scope) (calls : Calls) where
   mutual
-    one_same : (st : Statement) (s : State) (k : ℕ) → meaning.run_one scope calls st s k ≡ resolved.run_one calls (one scope st) s k
-    one_same (Assign at x e) s k = turn_same k s _ _ (λ j. ap (λ (v : ℕ × State). Ended (write v.1 (var_number scope x) v.0) j) (of_same scope e s))
+    one_same : (st : Statement) (s : ProcState) (k : ℕ) → meaning.run_one scope calls st s k ≡ resolved.run_one calls (one scope st) s k
+    one_same (Assign at x e) s k = turn_same k s _ _ (λ j. ap (λ (v : ℕ × ProcState). Ended (write v.1 (var_number scope x) v.0) j) (of_same scope e s))
     one_same (Store at a e f) s k = turn_same k s _ _ (λ j.
-        ap (λ (i : ℕ × State). let v = meaning.value_of scope f i.1 in Ended (stored v.1 (array_number scope a) i.0 v.0) j) (of_same scope e s)
-        ∙ ap (λ (v : ℕ × State). Ended (stored v.1 (array_number scope a) (walks.value_of (term scope e) s).0 v.0) j) (of_same scope f (walks.value_of (term scope e) s).1))
-    one_same (Print at e) s k = turn_same k s _ _ (λ j. ap (λ (v : ℕ × State). Ended (printed v.1 v.0) j) (of_same scope e s))
+        ap (λ (i : ℕ × ProcState). let v = meaning.value_of scope f i.1 in Ended (stored v.1 (array_number scope a) i.0 v.0) j) (of_same scope e s)
+        ∙ ap (λ (v : ℕ × ProcState). Ended (stored v.1 (array_number scope a) (walks.value_of (term scope e) s).0 v.0) j) (of_same scope f (walks.value_of (term scope e) s).1))
+    one_same (Print at e) s k = turn_same k s _ _ (λ j. ap (λ (v : ℕ × ProcState). Ended (printed v.1 v.0) j) (of_same scope e s))
     one_same (Read at x) s k = refl
     one_same (Give at p q x) s k = refl
-    one_same (Take at p q e) s k = turn_same k s _ _ (λ j. ap (λ (v : ℕ × State). Ended (taken v.1 p v.0) j) (of_same scope e s))
-    one_same (Call at x f args) s k = turn_same k s _ _ (λ j. ap (λ (vs : List ℕ × State). back_in vs.1.vars (target scope x) (calls (proc_number scope f) vs.0 vs.1.out j)) (all_of_same scope args s))
+    one_same (Take at p q e) s k = turn_same k s _ _ (λ j. ap (λ (v : ℕ × ProcState). Ended (taken v.1 p v.0) j) (of_same scope e s))
+    one_same (Call at x f args) s k = turn_same k s _ _ (λ j. ap (λ (vs : List ℕ × ProcState). back_in vs.1.vars (target scope x) (calls (proc_number scope f) vs.0 vs.1.out j)) (all_of_same scope args s))
     one_same (If at e a b) s k = turn_same k s _ _ (λ j.
         if_same ((meaning.value_of scope e s).0 == 0) _ _ _ _ (all_same b (meaning.value_of scope e s).1 j) (all_same a (meaning.value_of scope e s).1 j)
-        ∙ ap (λ (v : ℕ × State). if v.0 == 0 then resolved.run_all calls (all scope b) v.1 j else resolved.run_all calls (all scope a) v.1 j) (of_same scope e s))
+        ∙ ap (λ (v : ℕ × ProcState). if v.0 == 0 then resolved.run_all calls (all scope b) v.1 j else resolved.run_all calls (all scope a) v.1 j) (of_same scope e s))
     one_same (While at e body) s k = loop_same (suc k) _ _ _ _ (of_same scope e) (all_same body) s k
 
-    all_same : (st : Statements) (s : State) (k : ℕ) → meaning.run_all scope calls st s k ≡ resolved.run_all calls (all scope st) s k
+    all_same : (st : Statements) (s : ProcState) (k : ℕ) → meaning.run_all scope calls st s k ≡ resolved.run_all calls (all scope st) s k
     all_same Nothing s k = refl
     all_same (Then st rest) s k = then_same (meaning.run_one scope calls st s k) (resolved.run_one calls (one scope st) s k) (meaning.run_all scope calls rest) (resolved.run_all calls (all scope rest)) (one_same st s k) (all_same rest)
 
-finish_same : (scope : Scope) (e : Option Last) (s : State) (k : ℕ) → meaning.finish scope e s k ≡ resolved.finish (result scope e) s k
+finish_same : (scope : Scope) (e : Option Last) (s : ProcState) (k : ℕ) → meaning.finish scope e s k ≡ resolved.finish (result scope e) s k
 finish_same scope None s k = refl
 finish_same scope (Some e) s zero = refl
-finish_same scope (Some e) s (suc j) = ap (λ (v : ℕ × State). Returned v.0 v.1.out j) (of_same scope e.value s)
+finish_same scope (Some e) s (suc j) = ap (λ (v : ℕ × ProcState). Returned v.0 v.1.out j) (of_same scope e.value s)
 
-ending_same : (o u : PartEnd) (go went : State → ℕ → CallEnd) → o ≡ u → ((s : State) (k : ℕ) → go s k ≡ went s k) → ending o go ≡ ending u went
+ending_same : (o u : PartEnd) (go went : ProcState → ℕ → CallEnd) → o ≡ u → ((s : ProcState) (k : ℕ) → go s k ≡ went s k) → ending o go ≡ ending u went
 ending_same (Ended s k) u go went e h = h s k ∙ ap (λ o. ending o went) e
 ending_same (Out o) u go went e h = ap (λ x. ending x went) e
 

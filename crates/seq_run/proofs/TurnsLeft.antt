@@ -1,6 +1,6 @@
 -- A run never has more turns left than it had.
 use Rattle.std.proofs.Common.{ℕ, zero, suc, ◌≤◌, ◌==◌, Bool, true, false, List, ◌++◌, Option, Some, None, if◌then◌else◌, arith}
-use Rattle.ws_words.specs.Outside.{Outside, State, zeros}
+use Rattle.ws_words.specs.Outside.{Outside, ProcState, zeros}
 use Rattle.src_ast.specs.Turns.{PartEnd, Ended, Out, and_then, turn, CallEnd, Returned, Stopped, back_in, ending, loop}
 use Rattle.src_ast.specs.Meaning.{Calls}
 use Rattle.cfg_core.specs.Graph.{Term}
@@ -20,11 +20,11 @@ lower : (j k : ℕ) → j ≤ k → (o : PartEnd) → AtMost j o → AtMost k o
 lower j k le (Ended s i) h = omega arith
 lower j k le (Out o) h = tt
 
-then_most : (k : ℕ) (o : PartEnd) (go : State → ℕ → PartEnd) → AtMost k o → ((s : State) (j : ℕ) → AtMost j (go s j)) → AtMost k (and_then o go)
+then_most : (k : ℕ) (o : PartEnd) (go : ProcState → ℕ → PartEnd) → AtMost k o → ((s : ProcState) (j : ℕ) → AtMost j (go s j)) → AtMost k (and_then o go)
 then_most k (Ended s j) go h f = lower j k h (go s j) (f s j)
 then_most k (Out o) go h f = tt
 
-turn_most : (k : ℕ) (s : State) (go : ℕ → PartEnd) → ((j : ℕ) → AtMost j (go j)) → AtMost k (turn k s go)
+turn_most : (k : ℕ) (s : ProcState) (go : ℕ → PartEnd) → ((j : ℕ) → AtMost j (go j)) → AtMost k (turn k s go)
 turn_most zero s go f = tt
 turn_most (suc k) s go f = lower k (suc k) (omega arith) (go k) (f k)
 
@@ -36,25 +36,25 @@ back_most : (k : ℕ) (vars : List ℕ) (x : Option ℕ) (e : CallEnd) → CallA
 back_most k vars x (Returned v o j) h = h
 back_most k vars x (Stopped o) h = tt
 
-loop_most : (fuel : ℕ) (test : State → ℕ × State) (body : State → ℕ → PartEnd) → ((s : State) (k : ℕ) → AtMost k (body s k)) → (s : State) (k : ℕ) → AtMost k (loop fuel test body s k)
+loop_most : (fuel : ℕ) (test : ProcState → ℕ × ProcState) (body : ProcState → ℕ → PartEnd) → ((s : ProcState) (k : ℕ) → AtMost k (body s k)) → (s : ProcState) (k : ℕ) → AtMost k (loop fuel test body s k)
 loop_most zero test body f s k = tt
 loop_most (suc fuel) test body f s k =
     turn_most k s _ (λ j. if_most j ((test s).0 == 0) _ _ (omega arith) (then_most j (body (test s).1 j) (loop fuel test body) (f (test s).1 j) (loop_most fuel test body f)))
 
 mutual
   -- nor does a step
-  pub one_most : (calls : Calls) → CallsAtMost calls → (st : Step) (s : State) (k : ℕ) → AtMost k (run_one calls st s k)
+  pub one_most : (calls : Calls) → CallsAtMost calls → (st : Step) (s : ProcState) (k : ℕ) → AtMost k (run_one calls st s k)
   one_most calls c (Do a) s k = turn_most k s _ (λ j. omega arith)
   one_most calls c (Call x f ts) s k = turn_most k s _ (λ j. back_most j _ x _ (c f _ _ j))
   one_most calls c (If t a b) s k = turn_most k s _ (λ j. if_most j ((value_of t s).0 == 0) _ _ (all_most calls c b (value_of t s).1 j) (all_most calls c a (value_of t s).1 j))
   one_most calls c (While t body) s k = loop_most (suc k) (value_of t) (run_all calls body) (all_most calls c body) s k
 
   -- nor do steps
-  pub all_most : (calls : Calls) → CallsAtMost calls → (st : Steps) (s : State) (k : ℕ) → AtMost k (run_all calls st s k)
+  pub all_most : (calls : Calls) → CallsAtMost calls → (st : Steps) (s : ProcState) (k : ℕ) → AtMost k (run_all calls st s k)
   all_most calls c Nothing s k = omega arith
   all_most calls c (Then st rest) s k = then_most k (run_one calls st s k) (run_all calls rest) (one_most calls c st s k) (all_most calls c rest)
 
-finish_most : (r : Option Term) (s : State) (k : ℕ) → CallAtMost k (finish r s k)
+finish_most : (r : Option Term) (s : ProcState) (k : ℕ) → CallAtMost k (finish r s k)
 finish_most None s k = omega arith
 finish_most (Some t) s zero = tt
 finish_most (Some t) s (suc j) = omega arith

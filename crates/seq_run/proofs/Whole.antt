@@ -20,7 +20,7 @@ use Rattle.seq_run.specs.Resolved.{run, calls_below}
 use Rattle.seq_run.specs.Resolving as resolving
 use Rattle.seq_run.specs.Seen.{call_seen}
 use Rattle.seq_run.specs.View as view
-use Rattle.seq_run.specs.Shows.{Shows, CallReturned, CallOut, ReplyIs}
+use Rattle.seq_run.specs.Shows.{ShowsMemory, CallReturned, CallOut, ReplyIs}
 use Rattle.seq_run.specs.Answer.{SaysEnded, SaysFault, SaysGoing, HasEnded, HasFaulted, IsGoing, RunEnded, RunGoes, RunSays}
 use Rattle.seq_run.specs.declared.tree.ArrayShape.{ArrayShape}
 use Rattle.seq_run.specs.declared.tree.Proc.{Proc as CodeProc}
@@ -45,7 +45,7 @@ cells_more arrays i x cells now row lt is so er en =
     at (y ∷ xs) = ap (λ (cs : List (List ℕ)). zeros y.length ∷ cs) (at xs)
 
 -- before the first turn the code holds what is outside then
-pub opening_shows : (o : Outside) (m : Memory) → o.acts ≡ [] → OutIs o m → Shows o o m
+pub opening_shows : (o : Outside) (m : Memory) → o.acts ≡ [] → OutIs o m → ShowsMemory o o m
 opening_shows o m e out = record {
   out = out;
   within = subst (AreWithin (lengths_of o.cells)) (sym e) tt;
@@ -104,8 +104,8 @@ module _ (start : Outside) (call : ℕ → CallEnd) (turns left : ℕ) (m : Memo
           within = h.stops.shows.within;
           act = h.stops.act;
           past = h.stops.past;
-          after = h.stops.first.more;
-          split = sym (seen_acts (call (suc h.earlier))) ∙ h.stops.first.rest ∙ append_assoc b.acts (h.stops.act ∷ []) h.stops.first.more;
+          after = h.stops.first.0;
+          split = sym (seen_acts (call (suc h.earlier))) ∙ h.stops.first.1 ∙ append_assoc b.acts (h.stops.act ∷ []) h.stops.first.0;
         };
         sooner = subst (AreWithin (lengths_of start.cells)) (seen_acts (call h.earlier)) h.within;
         left = h.stops.shows.told;
@@ -226,12 +226,12 @@ module _ (r : Resolved) (parts : List Part) (world : World) (turns : ℕ) (plain
 
 -- the reply of the call of `main` says how the run went
 pub reply_is : (r : Resolved) (world : World) (turns count : ℕ) (shapes : List ArrayShape) (procs : List CodeProc) (args : List ℕ) (reply answer : Reply) (cells : List (List ℕ)) (before m : Memory) (left : ℕ) → 0 < length r.procs.items → count ≡ length r.procs.items → shapes ≡ r.arrays.items → procs ≡ r.procs.items → args ≡ [] → reply ≡ answer → cells ≡ empty_cells (view.lengths shapes) → OutIs (opening_out cells world) before
-    → ((start o : Outside) → Shows start o before → ReplyIs start (calls_below count (view.procs procs) (count - 1) args o) turns reply m left)
+    → ((start o : Outside) → ShowsMemory start o before → ReplyIs start (calls_below count (view.procs procs) (count - 1) args o) turns reply m left)
     → ReplyIs (opening_out (empty_cells (view.program r).lengths) world) (run (view.program r) world) turns answer m left
 reply_is r world turns count shapes procs args reply answer cells before m left some ec es ep ea er ecs out f =
     let cs : cells ≡ empty_cells (view.lengths r.arrays.items) = ecs ∙ ap (λ (ss : List ArrayShape). empty_cells (view.lengths ss)) es in
     let start : Outside = opening_out (empty_cells (view.lengths r.arrays.items)) world in
-    let sh : Shows start start before = opening_shows start before refl (subst (λ (c : List (List ℕ)). OutIs (opening_out c world) before) cs out) in
+    let sh : ShowsMemory start start before = opening_shows start before refl (subst (λ (c : List (List ℕ)). OutIs (opening_out c world) before) cs out) in
     subst (λ (x : Reply). ReplyIs start (run (view.program r) world) turns x m left) er
     (reply_shift start (calls_below count (view.procs procs) (count - 1) args start) (run (view.program r) world) 0 turns turns reply m left (omega arith)
     (λ k. let z : k + 0 ≡ k = omega arith in ap (run (view.program r) world) z ∙ sym (

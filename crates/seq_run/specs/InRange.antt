@@ -2,31 +2,14 @@
 -- the language on procedures, parameters, variables, cells and statements.
 use Rattle.std.specs.Prelude.{◌≡◌, ℕ, suc, ◌+◌, ◌-◌, ◌<◌, ◌≤◌, List, [], ◌∷◌, length, Option, Some, None}
 use Rattle.std.specs.List.{AllByRecursion}
-use Rattle.src_ast.specs.LanguageLimits.{most_port, most_parameters, most_locals, most_procedures}
+use Rattle.src_ast.specs.LanguageLimits.{most_parameters, most_locals, most_procedures}
 use Rattle.src_ast.specs.LanguageLimits.{most_array_cells, most_statements}
-use Rattle.cfg_core.specs.Graph.{Term, Number, Var, Cell, Flip, Not, Neg, Binary}
+use Rattle.cfg_core.specs.Graph.{Term}
+use Rattle.cfg_core.specs.Rules.{IsArray, IsPort, TermIn, TargetIn}
 use Rattle.seq_run.specs.Resolved.{Action, Assign, Store, Print, Read, Give, Take, Step, Do, Call, If, While}
 use Rattle.seq_run.specs.Resolved.{Steps, Nothing, Then, Proc, nth_proc, ResolvedProgram}
 
--- one of this many arrays, by its number from 1
-abbrev pub IsArray : ℕ → ℕ → Type 0
-IsArray arrays a = (1 ≤ a) × (a ≤ arrays)
-
--- a port, by its number from 1
-abbrev pub IsPort : ℕ → Type 0
-IsPort port = (1 ≤ port) × (port ≤ most_port)
-
--- a term over this many arrays and variables
-abbrev pub TermIn : ℕ → ℕ → Term → Type 0
-TermIn arrays vars (Number n) = Unit {0}
-TermIn arrays vars (Var x) = x < vars
-TermIn arrays vars (Cell a t) = IsArray arrays a × TermIn arrays vars t
-TermIn arrays vars (Flip t) = TermIn arrays vars t
-TermIn arrays vars (Not t) = TermIn arrays vars t
-TermIn arrays vars (Neg t) = TermIn arrays vars t
-TermIn arrays vars (Binary op a b) = TermIn arrays vars a × TermIn arrays vars b
-
--- so is an action
+-- an action over this many arrays and variables
 abbrev pub ActionIn : ℕ → ℕ → Action → Type 0
 ActionIn arrays vars (Assign x t) = (x < vars) × TermIn arrays vars t
 ActionIn arrays vars (Store a t u) = IsArray arrays a × TermIn arrays vars t × TermIn arrays vars u
@@ -34,11 +17,6 @@ ActionIn arrays vars (Print t) = TermIn arrays vars t
 ActionIn arrays vars (Read x) = x < vars
 ActionIn arrays vars (Give p x) = IsPort p × (x < vars)
 ActionIn arrays vars (Take p t) = IsPort p × TermIn arrays vars t
-
--- the variable that takes a result, if one does
-abbrev pub TargetIn : ℕ → Option ℕ → Type 0
-TargetIn vars None = Unit {0}
-TargetIn vars (Some x) = x < vars
 
 -- the result of a procedure, if it has one
 abbrev pub ResultIn : ℕ → ℕ → Option Term → Type 0

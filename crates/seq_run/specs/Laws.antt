@@ -1,14 +1,9 @@
 -- What is said of each run: its acts with fewer turns come first among those with more, and it
 -- has one answer.
-use Rattle.std.specs.Prelude.{◌≡◌, ℕ, ◌≤◌, ◌⊎◌, List, ◌++◌}
-use Rattle.ws_words.specs.Outside.{Act, Outside, World}
+use Rattle.std.specs.Prelude.{ℕ, ◌≤◌, ◌⊎◌, List}
+use Rattle.ws_words.specs.Outside.{Outside, World}
 use Rattle.src_ast.specs.Syntax.{Part}
 use Rattle.src_ast.specs.Runs.{Runs, Goes, Faults}
-
--- acts that begin with these
-pub record Begins (front acts : List Act) : Type 0 where
-  pub more : List Act
-  pub rest : acts ≡ front ++ more
 
 -- the run ends within these turns
 pub record EndsWithin (parts : List Part) (world : World) (turns : ℕ) : Type 0 where

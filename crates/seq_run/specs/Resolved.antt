@@ -2,7 +2,7 @@
 -- terms variables are numbered from 0 in each procedure, parameters first, and arrays from 1.
 use Rattle.std.specs.Prelude.{ℕ, zero, suc, ◌-◌, ◌==◌, List, [], ◌∷◌, ◌++◌, length, Option, Some, None}
 use Rattle.std.specs.Prelude.{if◌then◌else◌}
-use Rattle.ws_words.specs.Outside.{Outside, State, write, stored, printed, taken, has_read, given, zeros}
+use Rattle.ws_words.specs.Outside.{Outside, ProcState, write, stored, printed, taken, has_read, given, zeros}
 use Rattle.ws_words.specs.Outside.{World, opening_out}
 use Rattle.src_ast.specs.Turns.{PartEnd, Ended, and_then, turn, CallEnd, Returned, Stopped, back_in, ending}
 use Rattle.src_ast.specs.Turns.{loop}
@@ -38,7 +38,7 @@ pub record Proc : Type 0 where
   pub result : Option Term
 
 -- what an action does, all but its turn
-abbrev pub done : Action → State → State
+abbrev pub done : Action → ProcState → ProcState
 done (Assign x t) s = let v = value_of t s in write v.1 x v.0
 done (Store a t u) s = let i = value_of t s in let v = value_of u i.1 in stored v.1 a i.0 v.0
 done (Print t) s = let v = value_of t s in printed v.1 v.0
@@ -47,7 +47,7 @@ done (Give p x) s = given s p x
 done (Take p t) s = let v = value_of t s in taken v.1 p v.0
 
 abbrev mutual
-  pub run_one : Calls → Step → State → ℕ → PartEnd
+  pub run_one : Calls → Step → ProcState → ℕ → PartEnd
   run_one calls (Do a) s k = turn k s (λ j. Ended (done a s) j)
   run_one calls (Call x f args) s k =
       turn k s (λ j. let vs = values_of args s in back_in vs.1.vars x (calls f vs.0 vs.1.out j))
@@ -56,12 +56,12 @@ abbrev mutual
       if v.0 == 0 then run_all calls b v.1 j else run_all calls a v.1 j)
   run_one calls (While t body) s k = loop (suc k) (value_of t) (run_all calls body) s k
 
-  pub run_all : Calls → Steps → State → ℕ → PartEnd
+  pub run_all : Calls → Steps → ProcState → ℕ → PartEnd
   run_all calls Nothing s k = Ended s k
   run_all calls (Then st rest) s k = and_then (run_one calls st s k) (run_all calls rest)
 
 -- the result of a procedure, for which `return` takes a turn
-abbrev pub finish : Option Term → State → ℕ → CallEnd
+abbrev pub finish : Option Term → ProcState → ℕ → CallEnd
 finish None s k = Returned 0 s.out k
 finish (Some t) s zero = Stopped s.out
 finish (Some t) s (suc j) = let v = value_of t s in Returned v.0 v.1.out j

@@ -1,12 +1,11 @@
 -- What the code holds of a run: all but the acts, of which it holds the words printed and taken.
 use Rattle.std.specs.Prelude.{◌≡◌, ℕ, suc, ◌+◌, Bool, true, false, List, [], ◌∷◌, ◌++◌, Option, Some, None}
 use Rattle.ws_words.specs.Memory.{OutIs, lengths_of}
-use Rattle.ws_words.specs.Outside.{Act, Outside, State}
-use Rattle.ws_words.specs.Past.{IsPast, AreWithin, after_acts}
+use Rattle.ws_words.specs.Outside.{Act, Outside, ProcState}
+use Rattle.ws_words.specs.Past.{ActsBegin, IsPast, AreWithin, after_acts}
 use Rattle.ws_words.specs.declared.memory.Memory.{Memory}
 use Rattle.src_ast.specs.Turns.{PartEnd, Ended, Out, CallEnd, Returned, Stopped}
 use Rattle.seq_run.specs.Resolved.{Action, done}
-use Rattle.seq_run.specs.Laws.{Begins}
 use Rattle.seq_run.specs.Seen.{seen, call_seen}
 use Rattle.seq_run.specs.declared.flow.Run.{Run}
 use Rattle.seq_run.specs.declared.flow.Flow.{Flow}
@@ -15,27 +14,27 @@ use Rattle.seq_run.specs.declared.flow.Reply.{Reply}
 use Rattle.seq_run.specs.declared.flow.Reply.TheVariants as replies
 
 -- the code holds what is outside; from the start until then no act was past
-pub record Shows (start o : Outside) (memory : Memory) : Type 0 where
+pub record ShowsMemory (start o : Outside) (memory : Memory) : Type 0 where
   pub out : OutIs o memory
   pub within : AreWithin (lengths_of start.cells) o.acts
   pub told : o ≡ after_acts start o.acts
 
 -- the code holds a state
-pub record Holds (start : Outside) (s : State) (memory : Memory) (vars : List ℕ) : Type 0 where
-  pub out : Shows start s.out memory
+pub record Holds (start : Outside) (s : ProcState) (memory : Memory) (vars : List ℕ) : Type 0 where
+  pub out : ShowsMemory start s.out memory
   pub same_vars : s.vars ≡ vars
 
 -- among these acts is one that is past, on this array, and the code holds what is outside before
 -- the first such
 pub record Stops (start : Outside) (acts : List Act) (array : ℕ) (memory : Memory) : Type 0 where
   pub before : Outside
-  pub shows : Shows start before memory
+  pub shows : ShowsMemory start before memory
   pub act : Act
   pub past : IsPast (lengths_of start.cells) array act
-  pub first : Begins (before.acts ++ act ∷ []) acts
+  pub first : ActsBegin (before.acts ++ act ∷ []) acts
 
 -- an action was done, or stopped before an act that is past
-abbrev pub IsDone : Outside → Action → State → Option ℕ → Memory → List ℕ → Type 0
+abbrev pub IsDone : Outside → Action → ProcState → Option ℕ → Memory → List ℕ → Type 0
 IsDone start a s None memory vars = Holds start (done a s) memory vars
 IsDone start a s (Some array) memory vars = Stops start (done a s).out.acts array memory
 
@@ -58,7 +57,7 @@ PartEnded start (Out o) memory vars left = ⊥
 -- a part wants a turn
 abbrev pub PartOut : Outside → PartEnd → Memory → Type 0
 PartOut start (Ended s k) memory = ⊥
-PartOut start (Out o) memory = Shows start o memory
+PartOut start (Out o) memory = ShowsMemory start o memory
 
 -- how a part went that was given these turns
 abbrev pub FlowIs : Outside → (ℕ → PartEnd) → ℕ → Flow → Memory → List ℕ → ℕ → Type 0
@@ -71,13 +70,13 @@ FlowIs start part turns (flows.Fault array) memory vars left =
 -- a call gave a word
 abbrev pub CallReturned : Outside → CallEnd → ℕ → Memory → ℕ → Type 0
 CallReturned start (Returned v o k) word memory left =
-    Shows start o memory × (v ≡ word) × (k ≡ left)
+    ShowsMemory start o memory × (v ≡ word) × (k ≡ left)
 CallReturned start (Stopped o) word memory left = ⊥
 
 -- a call wants a turn
 abbrev pub CallOut : Outside → CallEnd → Memory → Type 0
 CallOut start (Returned v o k) memory = ⊥
-CallOut start (Stopped o) memory = Shows start o memory
+CallOut start (Stopped o) memory = ShowsMemory start o memory
 
 -- how a call went that was given these turns
 abbrev pub ReplyIs : Outside → (ℕ → CallEnd) → ℕ → Reply → Memory → ℕ → Type 0
@@ -88,22 +87,22 @@ ReplyIs start call turns (replies.Fault array) memory left =
     Faulted start (λ k. call_seen (call k)) turns array memory left
 
 -- from each state that the code holds it goes as a part of the run does
-abbrev pub GoesAsPart : (State → ℕ → PartEnd) → Run → List ℕ → Flow → Run → List ℕ → Type 0
+abbrev pub GoesAsPart : (ProcState → ℕ → PartEnd) → Run → List ℕ → Flow → Run → List ℕ → Type 0
 GoesAsPart part before vars flow after now =
-    (start : Outside) (s : State) → Holds start s before.memory vars →
+    (start : Outside) (s : ProcState) → Holds start s before.memory vars →
     FlowIs start (part s) before.turns flow after.memory now after.turns
 
 -- so it goes as a call does
 abbrev pub FollowsCall : (Outside → ℕ → CallEnd) → Run → Reply → Run → Type 0
 FollowsCall call before reply after =
-    (start o : Outside) → Shows start o before.memory →
+    (start o : Outside) → ShowsMemory start o before.memory →
     ReplyIs start (call o) before.turns reply after.memory after.turns
 
 -- what is left of a part, from a state that the code holds, is the whole part, which has spent
 -- turns
-pub record Upto (start : Outside) (now : State → ℕ → PartEnd) (whole : ℕ → PartEnd) (turns : ℕ)
+pub record Upto (start : Outside) (now : ProcState → ℕ → PartEnd) (whole : ℕ → PartEnd) (turns : ℕ)
     (memory : Memory) (vars : List ℕ) (left : ℕ) : Type 0 where
-  pub at : State
+  pub at : ProcState
   pub holds : Holds start at memory vars
   pub spent : ℕ
   pub sum : turns ≡ left + spent

@@ -8,7 +8,7 @@ use Rattle.src_ast.specs.declared.lexeme.Name.{Name}
 use Rattle.src_ast.specs.Syntax.{Procedure}
 use Rattle.src_ast.specs.Meaning.{Scope}
 use Rattle.seq_run.specs.declared.table.NameNumbers.{NameNumbers}
-use Rattle.seq_run.specs.declared.names.Names.{Names}
+use Rattle.seq_run.specs.declared.names.NameMaps.{NameMaps}
 
 -- the number of the first name that is spelled so, counted from this number
 abbrev pub numbered : ℕ → List Name → List ℕ → Option ℕ
@@ -22,7 +22,7 @@ pub record IsTable (first : ℕ) (names : List Name) (table : NameNumbers) : Typ
   pub next : table.next ≡ first + length names
 
 -- variables are numbered from 0, arrays from 1 and procedures from 0
-pub record AreNames (scope : Scope) (names : Names) : Type 0 where
+pub record AreNames (scope : Scope) (names : NameMaps) : Type 0 where
   pub vars : IsTable 0 scope.names names.vars
   pub arrays : IsTable 1 scope.arrays names.arrays
   pub procs : IsTable 0 scope.procs names.procs

@@ -1,7 +1,7 @@
 //! What a step or a procedure's end does by itself: actions, results, and the variables that are 0 at first.
 
 ghost use Rattle.std.specs.Prelude.{◌≡◌, ◌≤◌, ◌++◌, IfOk, OnOk};
-ghost use Rattle.ws_words.specs.Outside.{Outside, State, zeros};
+ghost use Rattle.ws_words.specs.Outside.{Outside, ProcState, zeros};
 ghost use Rattle.src_ast.specs.Turns.{with_result};
 ghost use Rattle.src_ast.specs.Meaning.{Calls};
 ghost use Rattle.seq_run.specs.Resolved.{Do, run_one, finish as finished};
@@ -37,7 +37,7 @@ pub(crate) fn add_zeros(vars: &mut Words, count: u32) -> Result<(), NoMemory>
 #[inline(always)]
 fn act(memory: &mut Memory<'_>, action: &Action, vars: &mut Words) -> Result<Option<u32>, NoMemory>
     ensures { IfOk result (λ past.
-        (start : Outside) (s : State) → Holds start s memory.old vars.old →
+        (start : Outside) (s : ProcState) → Holds start s memory.old vars.old →
         IsDone start (view.action action.now) s past memory.new vars.new) }
 {
     let mut past = None;
@@ -107,7 +107,7 @@ pub(crate) fn run_action(
 
 // The result of a procedure, for which `return` takes a turn.
 pub(crate) fn finish(ending: &Option<Term>, vars: &Words, run: &mut Run<'_>) -> Reply
-    ensures follows { (start : Outside) (s : State) → Holds start s run.old.memory vars.now →
+    ensures follows { (start : Outside) (s : ProcState) → Holds start s run.old.memory vars.now →
         let call = finished (view.result ending.now) s in
         ReplyIs start call run.old.turns result run.new.memory run.new.turns }
     ensures turns { run.new.turns ≤ run.old.turns }

@@ -12,13 +12,13 @@
 #![tactic(auto)]
 
 ghost use Rattle.std.specs.Prelude.{◌≡◌, ◌+◌, ◌≤◌, ℕ, List};
-ghost use Rattle.ws_words.specs.Outside.{World, Outside, State};
-ghost use Rattle.ws_words.specs.Past.{after_acts};
+ghost use Rattle.ws_words.specs.Outside.{World, Outside, ProcState};
+ghost use Rattle.ws_words.specs.Past.{ActsBegin, after_acts};
 ghost use Rattle.src_ast.specs.Syntax.{Part};
 ghost use Rattle.src_ast.specs.Turns.{Returned};
 ghost use Rattle.src_ast.specs.Meaning as meaning;
 ghost use Rattle.src_ast.specs.Runs.{Runs, Goes, Faults, acts_in, opened, outside_of};
-ghost use Rattle.seq_run.specs.Laws.{Begins, HasAnswer};
+ghost use Rattle.seq_run.specs.Laws.{HasAnswer};
 ghost use Rattle.seq_run.specs.Resolved.{Steps as StepsOf, Proc as ProcOf, ResolvedProgram};
 ghost use Rattle.seq_run.specs.Resolved.{calls_below, run_all, run};
 ghost use Rattle.seq_run.specs.Resolving as resolving;
@@ -58,7 +58,7 @@ pub fn turns_are_exact()
 
 /// Steps never leave more turns than they were given.
 pub fn turns_never_grow()
-    ensures { (procs : List ProcOf) (below : ℕ) (steps : StepsOf) (s : State) (turns : ℕ) →
+    ensures { (procs : List ProcOf) (below : ℕ) (steps : StepsOf) (s : ProcState) (turns : ℕ) →
         AtMost turns (run_all (calls_below below procs) steps s turns) }
 {}
 
@@ -68,7 +68,7 @@ pub fn acts_tell_all()
         outside_of (meaning.run parts world turns)
         ≡ after_acts (opened parts world) (acts_in parts world turns) }
     ensures fronts { (parts : List Part) (world : World) (m n : ℕ) → m ≤ n →
-        Begins (acts_in parts world m) (acts_in parts world n) }
+        ActsBegin (acts_in parts world m) (acts_in parts world n) }
 {}
 
 /// With each number of turns a run has one answer: it has ended, met its first act that is past, or

@@ -8,13 +8,13 @@ use src_ast::Name;
 
 /// The names of a procedure's variables, from 0, of arrays, from 1, and of procedures, from 0.
 #[derive(Drop)]
-pub struct Names<'a> {
+pub struct NameMaps<'a> {
     pub vars: NameNumbers<'a>,
     pub arrays: NameNumbers<'a>,
     pub procs: NameNumbers<'a>,
 }
 
-impl<'a> Names<'a> {
+impl<'a> NameMaps<'a> {
     ghost use Rattle.seq_run.specs.Tables.{AreNames};
 
     pub(crate) fn var(&self, x: &Name) -> u32

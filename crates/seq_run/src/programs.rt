@@ -12,7 +12,7 @@ ghost use Rattle.seq_run.specs.Tables.{IsTable, AreNames, FewVars};
 ghost use Rattle.seq_run.specs.View as view;
 ghost use Rattle.src_ast.specs.Printed.{name_texts};
 
-use crate::names::Names;
+use crate::names::NameMaps;
 use crate::resolving::{steps, term};
 use crate::table::NameNumbers;
 use crate::tree::{ArrayShape, Proc, Resolved};
@@ -34,7 +34,7 @@ fn declare<'a>(table: &mut NameNumbers<'a>, list: &'a [Name]) -> Result<(), NoMe
 }
 
 // The arrays and procedures of a program; no variables.
-fn declared<'a>(alloc: Global, items: &'a [Item]) -> Result<Names<'a>, NoMemory>
+fn declared<'a>(alloc: Global, items: &'a [Item]) -> Result<NameMaps<'a>, NoMemory>
     requires { length items.now + 1 < 2 ^ 32 }
     ensures arrays { IfOk result (λ names.
         IsTable 1 (arrays_of (ast.parts items.now)) names.arrays) }
@@ -50,7 +50,7 @@ fn declared<'a>(alloc: Global, items: &'a [Item]) -> Result<Names<'a>, NoMemory>
             Item::Proc { name, .. } => procs.add(name)?,
         }
     }
-    Ok(Names {
+    Ok(NameMaps {
         vars,
         arrays,
         procs,
@@ -81,7 +81,7 @@ fn shapes(alloc: Global, items: &[Item]) -> Result<Vec<ArrayShape>, NoMemory>
 
 fn result_of(
     alloc: Global,
-    names: &Names,
+    names: &NameMaps,
     ending: &Option<Ending>,
 ) -> Result<Option<Term>, NoMemory>
     ensures { (scope : Scope) → AreNames scope names.now → IfOk result (λ r.
@@ -95,7 +95,7 @@ fn result_of(
 
 fn proc<'a>(
     alloc: Global,
-    names: &mut Names<'a>,
+    names: &mut NameMaps<'a>,
     params: &'a [Name],
     vars: &'a [Name],
     body: &[Stmt],
@@ -131,7 +131,11 @@ fn proc<'a>(
     })
 }
 
-fn procs<'a>(alloc: Global, names: &mut Names<'a>, items: &'a [Item]) -> Result<Vec<Proc>, NoMemory>
+fn procs<'a>(
+    alloc: Global,
+    names: &mut NameMaps<'a>,
+    items: &'a [Item],
+) -> Result<Vec<Proc>, NoMemory>
     requires { AllByRecursion FewVars (procs_of (ast.parts items.now)) }
     ensures { (arrays procs : List Name) →
         IsTable 1 arrays names.old.arrays → IsTable 0 procs names.old.procs → IfOk result (λ list.

@@ -10,7 +10,7 @@ ghost use Rattle.cfg_core.specs.View as graph;
 ghost use Rattle.seq_run.specs.View as view;
 
 use crate::make::{if_step, while_step};
-use crate::names::Names;
+use crate::names::NameMaps;
 use crate::tree::{Action, Step};
 use cfg_core::Term;
 use src_ast::{Expr, Form, Name, Stmt, Unary};
@@ -27,7 +27,7 @@ fn signed(sign: Unary, t: Box<Term>) -> Term
     }
 }
 
-pub(crate) fn term(alloc: Global, names: &Names, e: &Expr) -> Result<Term, NoMemory>
+pub(crate) fn term(alloc: Global, names: &NameMaps, e: &Expr) -> Result<Term, NoMemory>
     ensures { (scope : Scope) → AreNames scope names.now → IfOk result (λ t.
         graph.term t ≡ resolving.term scope (ast.expression e.now)) }
 {
@@ -50,7 +50,7 @@ pub(crate) fn term(alloc: Global, names: &Names, e: &Expr) -> Result<Term, NoMem
     }
 }
 
-fn terms(alloc: Global, names: &Names, es: &[Expr]) -> Result<Vec<Term>, NoMemory>
+fn terms(alloc: Global, names: &NameMaps, es: &[Expr]) -> Result<Vec<Term>, NoMemory>
     ensures { (scope : Scope) → AreNames scope names.now → IfOk result (λ ts.
         map graph.term ts.items ≡ resolving.terms scope (map ast.expression es.now)) }
 {
@@ -61,7 +61,7 @@ fn terms(alloc: Global, names: &Names, es: &[Expr]) -> Result<Vec<Term>, NoMemor
     Ok(list)
 }
 
-fn target(names: &Names, x: &Option<Name>) -> Option<u32>
+fn target(names: &NameMaps, x: &Option<Name>) -> Option<u32>
     ensures { (scope : Scope) → AreNames scope names.now → result ≡ target_in scope x.now }
 {
     match x {
@@ -71,7 +71,7 @@ fn target(names: &Names, x: &Option<Name>) -> Option<u32>
 }
 
 #[cycle(resolving)]
-pub(crate) fn steps(alloc: Global, names: &Names, body: &[Stmt]) -> Result<Vec<Step>, NoMemory>
+pub(crate) fn steps(alloc: Global, names: &NameMaps, body: &[Stmt]) -> Result<Vec<Step>, NoMemory>
     ensures { (scope : Scope) → AreNames scope names.now → IfOk result (λ list.
         view.steps list.items ≡ resolving.all scope (ast.statements body.now)) }
 {
@@ -84,7 +84,7 @@ pub(crate) fn steps(alloc: Global, names: &Names, body: &[Stmt]) -> Result<Vec<S
 }
 
 #[cycle(resolving)]
-fn step(alloc: Global, names: &Names, s: &Stmt) -> Result<Step, NoMemory>
+fn step(alloc: Global, names: &NameMaps, s: &Stmt) -> Result<Step, NoMemory>
     ensures { (scope : Scope) → AreNames scope names.now → IfOk result (λ one.
         view.step one ≡ resolving.one scope (ast.statement s.now)) }
 {

@@ -2,7 +2,7 @@
 use Rattle.std.proofs.Common.{◌≡◌, ℕ, zero, suc, ◌-◌, ◌==◌, length, List, [], ◌∷◌, ◌++◌, Option, Some, None, if◌then◌else◌, slice_index, nat_eq, refl, sym, ap, ◌∙◌, subst}
 use lib.Pointwise.{pointwise}
 use Rattle.ws_words.specs.Operators.{applied}
-use Rattle.ws_words.specs.Outside.{Outside, State, write, with_acts, row, loads, stored, printed, taken, has_read, given, zeros, opening_out}
+use Rattle.ws_words.specs.Outside.{Outside, ProcState, write, with_acts, row, loads, stored, printed, taken, has_read, given, zeros, opening_out}
 use Rattle.src_ast.specs.declared.lexeme.Name.{Name}
 use Rattle.src_ast.specs.Syntax.{Expression, Number, Variable, Cell, Signed, Binary, Statement, Assign, Store, Print, Read, Give, Take, Call, If, While, Statements, Nothing, Then, Last, Procedure, Part, Array, Proc}
 use Rattle.src_ast.specs.Turns.{Ended, and_then, turn, CallEnd, Returned, Stopped, back_in, ending, loop}
@@ -73,10 +73,10 @@ mutual
   all_bare scope calls Nothing = refl
   all_bare scope calls (Then st rest) = λ i s k. and_then (one_bare scope calls st i s k) (all_bare scope calls rest i)
 
-finish_at : (scope : Scope) (e : Option Last) (s : State) (k : ℕ) → finish (bare_scope scope) (bare_ending e) s k ≡ finish scope e s k
+finish_at : (scope : Scope) (e : Option Last) (s : ProcState) (k : ℕ) → finish (bare_scope scope) (bare_ending e) s k ≡ finish scope e s k
 finish_at scope None s k = refl
 finish_at scope (Some e) s zero = refl
-finish_at scope (Some e) s (suc j) = ap (λ (v : ℕ × State). Returned v.0 v.1.out j) (λ i. value_of_bare scope e.value i s)
+finish_at scope (Some e) s (suc j) = ap (λ (v : ℕ × ProcState). Returned v.0 v.1.out j) (λ i. value_of_bare scope e.value i s)
 
 names_append : (xs ys : List Name) → bare_names xs ++ bare_names ys ≡ bare_names (xs ++ ys)
 names_append [] ys = refl

@@ -4,7 +4,8 @@ use Rattle.std.specs.Prelude.{None, if◌then◌else◌, slice_index, nat_eq}
 use lib.Pointwise.{pointwise}
 use Rattle.ws_words.specs.declared.alu.Alu.TheVariants.{Sub}
 use Rattle.ws_words.specs.Operators.{applied, flag}
-use Rattle.ws_words.specs.Outside.{Outside, State, write, with_acts, row, Act, loads, stored, printed, taken}
+use Rattle.ws_words.specs.Outside.{Act, loads, Outside, ProcState}
+use Rattle.ws_words.specs.Outside.{write, with_acts, row, stored, printed, taken}
 use Rattle.ws_words.specs.Outside.{has_read, given, zeros, World, opening_out}
 use Rattle.src_ast.specs.declared.lexeme.Name.{Name}
 use Rattle.src_ast.specs.declared.tree.Unary.{Unary}
@@ -70,10 +71,10 @@ all_loads scope [] vars cells = []
 all_loads scope (e ∷ es) vars cells = loads_of scope e vars cells ++ all_loads scope es vars cells
 
 -- the value, and the state with the loads
-abbrev pub value_of : Scope → Expression → State → ℕ × State
+abbrev pub value_of : Scope → Expression → ProcState → ℕ × ProcState
 value_of scope e s = (value scope e s.vars s.out.cells, with_acts s (loads_of scope e s.vars s.out.cells))
 
-abbrev pub values_of : Scope → List Expression → State → List ℕ × State
+abbrev pub values_of : Scope → List Expression → ProcState → List ℕ × ProcState
 values_of scope es s = (
   values scope es s.vars s.out.cells,
   with_acts s (all_loads scope es s.vars s.out.cells),
@@ -88,7 +89,7 @@ abbrev pub Calls : Type 0
 Calls = ℕ → List ℕ → Outside → ℕ → CallEnd
 
 abbrev mutual
-  pub run_one : Scope → Calls → Statement → State → ℕ → PartEnd
+  pub run_one : Scope → Calls → Statement → ProcState → ℕ → PartEnd
   run_one scope calls (Assign at x e) s k =
       turn k s (λ j. let v = value_of scope e s in Ended (write v.1 (var_number scope x) v.0) j)
   run_one scope calls (Store at a e f) s k =
@@ -108,12 +109,12 @@ abbrev mutual
       else run_all scope calls a v.1 j)
   run_one scope calls (While at e body) s k = loop (suc k) (value_of scope e) (run_all scope calls body) s k
 
-  pub run_all : Scope → Calls → Statements → State → ℕ → PartEnd
+  pub run_all : Scope → Calls → Statements → ProcState → ℕ → PartEnd
   run_all scope calls Nothing s k = Ended s k
   run_all scope calls (Then st rest) s k = and_then (run_one scope calls st s k) (run_all scope calls rest)
 
 -- the result of a procedure, for which `return` takes a turn
-abbrev pub finish : Scope → Option Last → State → ℕ → CallEnd
+abbrev pub finish : Scope → Option Last → ProcState → ℕ → CallEnd
 finish scope None s k = Returned 0 s.out k
 finish scope (Some e) s zero = Stopped s.out
 finish scope (Some e) s (suc j) = let v = value_of scope e.value s in Returned v.0 v.1.out j

@@ -1,19 +1,19 @@
 -- How a run takes turns: a part of it ends with turns left, or wants a turn where none is left.
 use Rattle.std.specs.Prelude.{ℕ, zero, suc, ◌==◌, List, Option, Some, None, slice_set, if◌then◌else◌}
-use Rattle.ws_words.specs.Outside.{Outside, State}
+use Rattle.ws_words.specs.Outside.{Outside, ProcState}
 
 -- a part ended with turns left, or wanted a turn where none was left
 pub data PartEnd : Type 0 where
-  Ended : (s : State) (left : ℕ) → PartEnd
+  Ended : (s : ProcState) (left : ℕ) → PartEnd
   Out : (o : Outside) → PartEnd
 
 -- goes on with the turns that are left
-abbrev pub and_then : PartEnd → (State → ℕ → PartEnd) → PartEnd
+abbrev pub and_then : PartEnd → (ProcState → ℕ → PartEnd) → PartEnd
 and_then (Ended s k) go = go s k
 and_then (Out o) go = Out o
 
 -- takes one turn
-abbrev pub turn : ℕ → State → (ℕ → PartEnd) → PartEnd
+abbrev pub turn : ℕ → ProcState → (ℕ → PartEnd) → PartEnd
 turn zero s go = Out s.out
 turn (suc k) s go = go k
 
@@ -33,12 +33,12 @@ back_in vars x (Returned v o k) = Ended (record { vars = with_result x v vars; o
 back_in vars x (Stopped o) = Out o
 
 -- a part that ended gives the result of its call
-abbrev pub ending : PartEnd → (State → ℕ → CallEnd) → CallEnd
+abbrev pub ending : PartEnd → (ProcState → ℕ → CallEnd) → CallEnd
 ending (Ended s k) go = go s k
 ending (Out o) go = Stopped o
 
 -- at most `fuel` tests of a loop; each takes a turn, so one more than the turns left is fuel enough
-abbrev pub loop : ℕ → (State → ℕ × State) → (State → ℕ → PartEnd) → State → ℕ → PartEnd
+abbrev pub loop : ℕ → (ProcState → ℕ × ProcState) → (ProcState → ℕ → PartEnd) → ProcState → ℕ → PartEnd
 loop zero test body s k = Out s.out
 loop (suc fuel) test body s k =
     turn k s (λ j. let v = test s in if v.0 == 0 then Ended v.1 j

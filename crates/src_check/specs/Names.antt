@@ -9,7 +9,7 @@ use Rattle.src_ast.specs.Rules as rules
 use Rattle.src_check.specs.declared.names.Sort.{Sort}
 use Rattle.src_check.specs.declared.names.Sort.TheVariants.{Variable, Array, Procedure}
 use Rattle.src_check.specs.declared.names.Sorts.{Sorts}
-use Rattle.src_check.specs.declared.names.Names.{Names}
+use Rattle.src_check.specs.declared.names.KnownNames.{KnownNames}
 
 abbrev pub sort_of : Sort → rules.Sort
 sort_of Variable = rules.variable
@@ -27,7 +27,7 @@ or_else None y = y
 or_else (Some x) y = Some x
 
 -- what a name stands for in a procedure
-abbrev pub seen : Names → List ℕ → Option rules.Sort
+abbrev pub seen : KnownNames → List ℕ → Option rules.Sort
 seen names text = or_else (found names.inner text) (found names.outer text)
 
 abbrev pub passes : {X : Type 0} → (X → Bool) → Option X → Bool

@@ -8,7 +8,7 @@ ghost use Rattle.src_check.specs.Keeps.{KeepsInMemory};
 
 use crate::accepted::Accepted;
 use crate::locals::{parameters, variables};
-use crate::names::{Names, Sort, Sorts};
+use crate::names::{KnownNames, Sort, Sorts};
 use crate::statements::{body, ending};
 use crate::stop::{Stop, require};
 use src_ast::{
@@ -21,7 +21,7 @@ use std::alloc::Global;
 /// many cells and statements.
 #[derive(Drop)]
 pub struct Checker {
-    pub names: Names,
+    pub names: KnownNames,
     pub arrays: u64,
     pub procedures: u64,
     pub cells: u64,
@@ -42,7 +42,7 @@ impl Checker {
         ensures { IsAfter result [] }
     {
         Checker {
-            names: Names::new(alloc),
+            names: KnownNames::new(alloc),
             arrays: 0,
             procedures: 0,
             cells: 0,

@@ -6,12 +6,12 @@ ghost use Rattle.src_ast.specs.Rules.{Declared, use_rules, expression_rules, arg
 ghost use Rattle.src_check.specs.Names.{sort_of, seen, StandsFor};
 ghost use Rattle.src_check.specs.Keeps.{Keeps};
 
-use crate::names::{Names, Sort};
+use crate::names::{KnownNames, Sort};
 use crate::stop::require;
 use src_ast::{Expr, Name, Refusal, RefusalKind};
 
 /// A name is used as this.
-pub fn name_use(names: &Names, name: &Name, wanted: Sort) -> Result<(), Refusal>
+pub fn name_use(names: &KnownNames, name: &Name, wanted: Sort) -> Result<(), Refusal>
     ensures { (visible : List Declared) → StandsFor (seen names.now) visible
         → Keeps (use_rules visible name.now (sort_of wanted)) result }
 {
@@ -27,7 +27,7 @@ pub fn name_use(names: &Names, name: &Name, wanted: Sort) -> Result<(), Refusal>
 }
 
 /// An expression.
-pub fn expression(names: &Names, expr: &Expr) -> Result<(), Refusal>
+pub fn expression(names: &KnownNames, expr: &Expr) -> Result<(), Refusal>
     ensures { (visible : List Declared) → StandsFor (seen names.now) visible
         → Keeps (expression_rules visible (view.expression expr.now)) result }
 {
@@ -47,7 +47,7 @@ pub fn expression(names: &Names, expr: &Expr) -> Result<(), Refusal>
 }
 
 /// The arguments of a call.
-pub fn arguments(names: &Names, exprs: &[Expr]) -> Result<(), Refusal>
+pub fn arguments(names: &KnownNames, exprs: &[Expr]) -> Result<(), Refusal>
     ensures { (visible : List Declared) → StandsFor (seen names.now) visible
         → Keeps (argument_rules visible (map view.expression exprs.now)) result }
 {

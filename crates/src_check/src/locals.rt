@@ -7,7 +7,7 @@ ghost use Rattle.src_ast.specs.Rules.{Declared, parameter_rules, variable_rules}
 ghost use Rattle.src_check.specs.Names.{seen, StandsFor};
 ghost use Rattle.src_check.specs.Keeps.{KeepsInMemory};
 
-use crate::names::Names;
+use crate::names::KnownNames;
 use crate::stop::{Stop, require};
 use src_ast::{MOST_LOCALS, MOST_PARAMETERS, Name, Quantity, RefusalKind};
 use std::alloc::Global;
@@ -15,7 +15,7 @@ use std::alloc::Global;
 /// A parameter after this many others, put in with the names.
 fn parameter(
     alloc: Global,
-    names: &mut Names,
+    names: &mut KnownNames,
     main: bool,
     before: usize,
     name: &Name,
@@ -40,7 +40,12 @@ fn parameter(
 }
 
 /// The parameters, put in with the names.
-pub fn parameters(alloc: Global, names: &mut Names, main: bool, params: &[Name]) -> Result<(), Stop>
+pub fn parameters(
+    alloc: Global,
+    names: &mut KnownNames,
+    main: bool,
+    params: &[Name],
+) -> Result<(), Stop>
     ensures rules { (visible : List Declared) → StandsFor (seen names.old) visible
         → KeepsInMemory (parameter_rules main visible 0 params.now) result }
     ensures stands { OnOk result ((visible : List Declared) → StandsFor (seen names.old) visible
@@ -56,7 +61,7 @@ pub fn parameters(alloc: Global, names: &mut Names, main: bool, params: &[Name])
 }
 
 /// A variable after this many others and parameters, put in with the names.
-fn variable(alloc: Global, names: &mut Names, before: usize, name: &Name) -> Result<(), Stop>
+fn variable(alloc: Global, names: &mut KnownNames, before: usize, name: &Name) -> Result<(), Stop>
     ensures rules { (visible : List Declared) → StandsFor (seen names.old) visible
         → KeepsInMemory (variable_rules visible before (name.now ∷ [])) result }
     ensures stands { OnOk result ((visible : List Declared) → StandsFor (seen names.old) visible
@@ -76,7 +81,12 @@ fn variable(alloc: Global, names: &mut Names, before: usize, name: &Name) -> Res
 }
 
 /// The variables after this many parameters, put in with the names.
-pub fn variables(alloc: Global, names: &mut Names, before: usize, vars: &[Name]) -> Result<(), Stop>
+pub fn variables(
+    alloc: Global,
+    names: &mut KnownNames,
+    before: usize,
+    vars: &[Name],
+) -> Result<(), Stop>
     ensures rules { (visible : List Declared) → StandsFor (seen names.old) visible
         → KeepsInMemory (variable_rules visible before vars.now) result }
     ensures stands { OnOk result ((visible : List Declared) → StandsFor (seen names.old) visible

@@ -92,18 +92,18 @@ impl Sorts {
 
 /// The names of arrays and procedures, and those of the variables of the procedure at hand.
 #[derive(Drop)]
-pub struct Names {
+pub struct KnownNames {
     pub outer: Sorts,
     pub inner: Sorts,
 }
 
-impl Names {
+impl KnownNames {
     /// No names.
-    pub fn new(alloc: Global) -> Names
+    pub fn new(alloc: Global) -> KnownNames
         ensures outer { (text : List ℕ) → found result.outer text ≡ None }
         ensures inner { (text : List ℕ) → found result.inner text ≡ None }
     {
-        Names {
+        KnownNames {
             outer: Sorts::new(alloc),
             inner: Sorts::new(alloc),
         }

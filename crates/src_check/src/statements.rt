@@ -9,7 +9,7 @@ ghost use Rattle.src_check.specs.Names.{seen, StandsFor};
 ghost use Rattle.src_check.specs.Keeps.{Keeps};
 
 use crate::expressions::{arguments, expression, name_use};
-use crate::names::{Names, Sort};
+use crate::names::{KnownNames, Sort};
 use crate::stop::require;
 use src_ast::{
     Ending, Expr, Form, MOST_PORT, MOST_STATEMENTS, Name, Place, Quantity, Refusal, RefusalKind,
@@ -41,7 +41,7 @@ fn port_number(port: u64, place: Place) -> Result<(), Refusal>
 
 /// A statement, after this many: how many there are with those in it.
 #[cycle(body)]
-pub fn statement(names: &Names, before: u64, stmt: &Stmt) -> Result<u64, Refusal>
+pub fn statement(names: &KnownNames, before: u64, stmt: &Stmt) -> Result<u64, Refusal>
     ensures rules { (visible : List Declared) → StandsFor (seen names.now) visible
         → Keeps (statement_rules visible before (view.statement stmt.now)) result }
     ensures count { IfOk result (λ after. after ≡ before + size_of (view.statement stmt.now)) }
@@ -78,7 +78,7 @@ pub fn statement(names: &Names, before: u64, stmt: &Stmt) -> Result<u64, Refusal
 
 /// Statements, after this many: how many there are with them.
 #[cycle(body)]
-pub fn body(names: &Names, before: u64, stmts: &[Stmt]) -> Result<u64, Refusal>
+pub fn body(names: &KnownNames, before: u64, stmts: &[Stmt]) -> Result<u64, Refusal>
     ensures rules { (visible : List Declared) → StandsFor (seen names.now) visible
         → Keeps (body_rules visible before (view.statements stmts.now)) result }
     ensures count { IfOk result (λ after. after ≡ before
@@ -92,7 +92,7 @@ pub fn body(names: &Names, before: u64, stmts: &[Stmt]) -> Result<u64, Refusal>
 }
 
 /// The `return` that ends a procedure, after this many statements.
-pub fn ending(names: &Names, before: u64, last: &Option<Ending>) -> Result<u64, Refusal>
+pub fn ending(names: &KnownNames, before: u64, last: &Option<Ending>) -> Result<u64, Refusal>
     ensures rules { (visible : List Declared) → StandsFor (seen names.now) visible
         → Keeps (ending_rules visible before (view.maybe_last last.now)) result }
     ensures count { IfOk result (λ after. after ≡ before
@@ -109,7 +109,7 @@ pub fn ending(names: &Names, before: u64, last: &Option<Ending>) -> Result<u64, 
 /// `x = e;`
 #[tactic(auto, using(crate::proofs::Chain::chain))]
 fn assign(
-    names: &Names,
+    names: &KnownNames,
     before: u64,
     place: Place,
     name: &Name,
@@ -130,7 +130,7 @@ fn assign(
 /// `a[i] = e;`
 #[tactic(auto, using(crate::proofs::Chain::chain))]
 fn store(
-    names: &Names,
+    names: &KnownNames,
     before: u64,
     place: Place,
     array: &Name,
@@ -153,7 +153,7 @@ fn store(
 
 /// `print e;`
 #[tactic(auto, using(crate::proofs::Chain::chain))]
-fn print(names: &Names, before: u64, place: Place, value: &Expr) -> Result<u64, Refusal>
+fn print(names: &KnownNames, before: u64, place: Place, value: &Expr) -> Result<u64, Refusal>
     ensures rules { (visible : List Declared) → StandsFor (seen names.now) visible
         → Keeps (statement_rules visible before (Print place (view.expression value.now))) result }
     ensures count { IfOk result (λ after. after ≡ before + 1) }
@@ -165,7 +165,7 @@ fn print(names: &Names, before: u64, place: Place, value: &Expr) -> Result<u64, 
 
 /// `read x;`
 #[tactic(auto, using(crate::proofs::Chain::chain))]
-fn read(names: &Names, before: u64, place: Place, name: &Name) -> Result<u64, Refusal>
+fn read(names: &KnownNames, before: u64, place: Place, name: &Name) -> Result<u64, Refusal>
     ensures rules { (visible : List Declared) → StandsFor (seen names.now) visible
         → Keeps (statement_rules visible before (Read place name.now)) result }
     ensures count { IfOk result (λ after. after ≡ before + 1) }
@@ -178,7 +178,7 @@ fn read(names: &Names, before: u64, place: Place, name: &Name) -> Result<u64, Re
 /// `give p, x;`
 #[tactic(auto, using(crate::proofs::Chain::chain))]
 fn give(
-    names: &Names,
+    names: &KnownNames,
     before: u64,
     place: Place,
     port: u64,
@@ -198,7 +198,7 @@ fn give(
 /// `take p, e;`
 #[tactic(auto, using(crate::proofs::Chain::chain))]
 fn take(
-    names: &Names,
+    names: &KnownNames,
     before: u64,
     place: Place,
     port: u64,
@@ -220,7 +220,7 @@ fn take(
 
 /// `f(..);` or `x = f(..);`
 fn call(
-    names: &Names,
+    names: &KnownNames,
     before: u64,
     place: Place,
     target: &Option<Name>,

@@ -23,7 +23,7 @@ use Rattle.store_buf.specs.declared.store.Store.{Store}
 use Rattle.store_buf.specs.Requests.{entry_of, kept_in, issued_in, issued_keys, key_if, answer_if, operands_if}
 use Rattle.store_buf.specs.Finding.{place_in}
 use Rattle.store_buf.specs.Ordering.{no_request, OrderOk, Room}
-use Rattle.store_buf.specs.Outdoors.{Holding, OutIs, RoseAt}
+use Rattle.store_buf.specs.Outdoors.{Holding, HoldsOut, RoseAt}
 use Rattle.store_buf.specs.Outers.{holding}
 use Rattle.store_buf.specs.Holds.{stays, waiting_in}
 use Rattle.store_buf.specs.Contents.{Content, FailedSo, FaultIs, IsBuffer, PortWaits, Submitted, RightTokens, Idle, SubmitSo, buffer_in, with_tokens, RequestArrives}
@@ -165,7 +165,7 @@ module _ (image : Image) (world : World) (began : List (Option Began)) {P : Type
           (going_any image world (issued_in old.order.kept.items) (issued_in (old.order.kept.items ++ k ∷ [])) (issued_push image old.order.kept.items k fresh waits) (waiting_in image old.order.kept.items) (waiting_in image (old.order.kept.items ++ k ∷ [])) (chain_of old.order.chain) m (early_ops old.order.early)
           (subst (λ (f : Option ℕ). OrderGoes image world (issued_in old.order.kept.items) (waiting_in image old.order.kept.items) (has f) (chain_of old.order.chain) m (early_ops old.order.early)) running h.going));
       right = right_now;
-      outside = subst (OutIs began m) (sym keeps.outer) h.outside;
+      outside = subst (HoldsOut began m) (sym keeps.outer) h.outside;
     }
       where
         right_now : (w i : ℕ) (xs : List ℕ) → kept_in image mid.order.kept.items w i ≡ Some xs → RightRequest image world w i xs

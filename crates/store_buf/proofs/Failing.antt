@@ -8,7 +8,7 @@ use Rattle.ws_isa.specs.Image.{Image}
 use Rattle.port_set.specs.Ports.{Told}
 use Rattle.port_set.specs.Slots.{port_at}
 use Rattle.df_core.specs.Began.{Began}
-use Rattle.store_buf.specs.Outdoors.{Holding, OutIs, SlotIs, PortIn, RoseAt, RoseSince, BeganSo, AllBegan, TellsLeft, AllTell, began_at, began_of, left_at, lefts_of, words_or_none, failures, failed_before, port_of}
+use Rattle.store_buf.specs.Outdoors.{Holding, HoldsOut, SlotIs, PortIn, RoseAt, RoseSince, BeganSo, AllBegan, TellsLeft, AllTell, began_at, began_of, left_at, lefts_of, words_or_none, failures, failed_before, port_of}
 use Rattle.store_buf.specs.Contents.{Content, FailedSo, PortWaits}
 
 -- a port begins as it was handed in
@@ -60,7 +60,7 @@ in_seven (Give q) p e h = let same : q ≡ p = cc in subst (λ (n : ℕ). (1 ≤
 in_seven (Take q) p e h = let same : q ≡ p = cc in subst (λ (n : ℕ). (1 ≤ n) × (n ≤ 7)) same h
 in_seven _ p e h = absurd (let f : None ≡ Some p = e in cc)
 
-pub rose_since : (began : List (Option Began)) (m : Outside) (h : Holding) → OutIs began m h → (port : ℕ)
+pub rose_since : (began : List (Option Began)) (m : Outside) (h : Holding) → HoldsOut began m h → (port : ℕ)
     (new : List (Option Told)) (op : Op) → PortIn op → port_of op ≡ Some port → RoseAt port h.ports new →
     RoseSince began port new
 rose_since began m h out port new op inside is rose =

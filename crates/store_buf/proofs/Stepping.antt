@@ -35,7 +35,7 @@ use Rattle.store_buf.specs.declared.order.Order.{Order}
 use Rattle.store_buf.specs.Requests.{entry_of, kept_in, issued_in, answer_if, operands_if}
 use Rattle.store_buf.specs.Finding.{place_in}
 use Rattle.store_buf.specs.Ordering.{kept_at, OrderOk, ready_flag}
-use Rattle.store_buf.specs.Outdoors.{Holding, OutIs, Performed, SlotIs}
+use Rattle.store_buf.specs.Outdoors.{Holding, HoldsOut, Performed, SlotIs}
 use Rattle.store_buf.specs.Contents.{FaultIs, RightTokens}
 use Rattle.store_buf.specs.Holds.{Holds, Issued, Stopped, part, waiting_in}
 use Rattle.store_buf.proofs.Found as F
@@ -56,7 +56,7 @@ no_selector (Send k) xs e = absurd (both_ways false refl e)
 no_selector _ xs e = refl
 
 -- loads before their turn leave nothing
-pub out_effect : (began : List (Option Began)) (o : Outside) (h : Holding) → OutIs began o h → OutIs began (effect_of o) h
+pub out_effect : (began : List (Option Began)) (o : Outside) (h : Holding) → HoldsOut began o h → HoldsOut began (effect_of o) h
 out_effect began o h is = record {
   cells_are = is.cells_are;
   input_is = is.input_is;
@@ -177,10 +177,10 @@ module _ (image : Image) (world : World) (formed : Formed image) (sound : Sound 
     unfolding answer
     answer_is = answers.answer ∙ sym (same_answer (instr_at image (kept_at o p).instr).op oo m) ∙ ap (λ (ys : List ℕ). answer_op (instr_at image (kept_at o p).instr).op ys m) xs_is
 
-    after_is : OutIs began (effect_after image (kept_at o p).instr xs m) left
+    after_is : HoldsOut began (effect_after image (kept_at o p).instr xs m) left
     unfolding effect_after after
     after_is = out_effect began (after_op (instr_at image (kept_at o p).instr).op xs m) left
-        (subst (λ (z : Outside). OutIs began z left) (sym (same_after (instr_at image (kept_at o p).instr).op oo m) ∙ ap (λ (ys : List ℕ). after_op (instr_at image (kept_at o p).instr).op ys m) xs_is) answers.after)
+        (subst (λ (z : Outside). HoldsOut began z left) (sym (same_after (instr_at image (kept_at o p).instr).op oo m) ∙ ap (λ (ys : List ℕ). after_op (instr_at image (kept_at o p).instr).op ys m) xs_is) answers.after)
 
     abbrev changed : Kept
     changed = record { wave = (kept_at o p).wave; instr = (kept_at o p).instr; first = (kept_at o p).first; second = (kept_at o p).second; answer = Some word }

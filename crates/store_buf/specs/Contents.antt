@@ -16,7 +16,7 @@ use Rattle.store_buf.specs.declared.fault.BufFault.{BufFault}
 use Rattle.store_buf.specs.declared.fault.BufFault.TheVariants.{Old, Port, Stopped, Index, Ended, NoMemory}
 use Rattle.store_buf.specs.declared.kept.Kept.{Kept}
 use Rattle.store_buf.specs.Requests.{entry_of, issued_in}
-use Rattle.store_buf.specs.Outdoors.{Holding, OutIs, RoseAt, RoseSince, port_of}
+use Rattle.store_buf.specs.Outdoors.{Holding, HoldsOut, RoseAt, RoseSince, port_of}
 use Rattle.store_buf.specs.Holds.{Issues, part}
 
 -- its requests in the order in which they came, where the chain stands, the array of the operation past the
@@ -43,7 +43,7 @@ FaultIs image world (Some array) = (t : ℕ) × (f : FaultsAt image world t)
 pub record IsBuffer (image : Image) (world : World) (began : List (Option Began)) (c : Content)
     (m : Outside) : Type 0 where
   pub ok : BufferOk image world (buffer_in image c m)
-  pub outside : OutIs began m c.outside
+  pub outside : HoldsOut began m c.outside
   pub fault : FaultIs image world c.fault
 
 -- a request that had not come has come, and waits

@@ -12,7 +12,7 @@ use Rattle.store_buf.specs.Earlies.{early_ops}
 use Rattle.store_buf.specs.declared.kept.Kept.{Kept}
 use Rattle.store_buf.specs.declared.order.Order.{Order}
 use Rattle.store_buf.specs.Requests.{kept_in, issued_in, issued_keys}
-use Rattle.store_buf.specs.Outdoors.{Holding, OutIs}
+use Rattle.store_buf.specs.Outdoors.{Holding, HoldsOut}
 use Rattle.store_buf.specs.Orders.{OrderGoes}
 
 -- the part of the core's state that a buffer is
@@ -38,7 +38,7 @@ pub record Holds (image : Image) (world : World) (began : List (Option Began)) (
       (chain_of order.chain) m (early_ops order.early)
   pub right : (w i : ℕ) (xs : List ℕ) → kept_in image order.kept.items w i ≡ Some xs
       → RightRequest image world w i xs
-  pub outside : OutIs began m h
+  pub outside : HoldsOut began m h
 
 -- one issue: the request waits and is issuable, and takes its effect; these are its result tokens
 pub record Issued (image : Image) (old : Buffer) (w i : ℕ) (tokens : List Token) (new : Buffer) : Type 0 where

@@ -40,7 +40,7 @@ pub record Holding : Type 0 where
   pub printed : List ℕ
   pub ports : List (Option Told)
 
-pub record OutIs (began : List (Option Began)) (o : Outside) (h : Holding) : Type 0 where
+pub record HoldsOut (began : List (Option Began)) (o : Outside) (h : Holding) : Type 0 where
   pub cells_are : o.cells ≡ h.cells
   pub input_is : o.input ≡ h.input
   pub printed_are : printed_words o.acts ≡ h.printed
@@ -50,7 +50,7 @@ pub record OutIs (began : List (Option Began)) (o : Outside) (h : Holding) : Typ
 pub record Performed (began : List (Option Began)) (op : Op) (xs : List ℕ) (o : Outside) (word : ℕ)
     (h : Holding) : Type 0 where
   pub answer : word ≡ answer_op op xs o
-  pub after : OutIs began (after_op op xs o) h
+  pub after : HoldsOut began (after_op op xs o) h
 
 -- the port of an operation
 abbrev pub port_of : Op → Option ℕ

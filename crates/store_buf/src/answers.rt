@@ -2,7 +2,7 @@
 
 ghost use Rattle.std.specs.Prelude.{◌≡◌, ◌∷◌, ◌++◌, [], MatchOption};
 
-use crate::told::Told;
+use crate::told::PlainTokens;
 use df_core::{Job, Token, TokenList};
 use smallvec::SmallVec;
 use std::alloc::Global;
@@ -11,12 +11,12 @@ use std::marker::{Model, PhantomData};
 /// The result tokens of what a buffer issued in a call, the first eight of which take no memory. One
 /// that is used for many calls keeps its room.
 #[derive(Drop)]
-pub struct Answers<J: Job> {
-    pub told: Told,
+pub struct BufferAnswers<J: Job> {
+    pub told: PlainTokens,
     of: PhantomData<J>,
 }
 
-impl<J: Job> Model for Answers<J> {
+impl<J: Job> Model for BufferAnswers<J> {
     ghost use Rattle.std.specs.Prelude.{◌≤◌, List, All};
     ghost use Rattle.ws_isa.specs.Image.{Token as Plain};
     ghost use Rattle.df_core.specs.Rights.{IsRight, tokens_of};
@@ -29,12 +29,12 @@ impl<J: Job> Model for Answers<J> {
         × All (IsRight J.image J.world) (tokens_of answers.told.items) };
 }
 
-impl<J: Job> Answers<J> {
+impl<J: Job> BufferAnswers<J> {
     /// No tokens.
-    pub fn none(alloc: Global) -> Answers<J>
+    pub fn none(alloc: Global) -> BufferAnswers<J>
         ensures { result ≡ [] }
     {
-        Answers {
+        BufferAnswers {
             told: SmallVec::new(alloc),
             of: PhantomData,
         }

@@ -13,7 +13,7 @@ ghost use Rattle.store_buf.specs.Contents.{IsBuffer, FailedSo, Idle, SubmitSo, o
 ghost use Rattle.store_buf.specs.Contents.{stop_of, gives_word, with_tokens};
 ghost use Rattle.store_buf.specs.Stores.{asked_of};
 
-use crate::answers::Answers;
+use crate::answers::BufferAnswers;
 use crate::fault::BufFault;
 use crate::kept::Kept;
 use crate::order::Order;
@@ -99,7 +99,7 @@ impl<J: Job, P: Port> Buffer<J, P> {
     ) -> Result<TokenList<J>, BufFault>
         ensures { SubmitSo J.image J.world J.began self.old request result self.new }
     {
-        let mut answers = Answers::none(self.alloc);
+        let mut answers = BufferAnswers::none(self.alloc);
         match self.submit_into(code, request, &mut answers) {
             Ok(()) => Ok(answers.listed()),
             Err(fault) => Err(fault),
@@ -112,7 +112,7 @@ impl<J: Job, P: Port> Buffer<J, P> {
         &mut self,
         code: &Code<'_, J>,
         request: Request<J>,
-        answers: &mut Answers<J>,
+        answers: &mut BufferAnswers<J>,
     ) -> Result<(), BufFault>
         ensures { SubmitSo J.image J.world J.began self.old request (with_tokens answers.new result)
             self.new }

@@ -33,7 +33,7 @@ mod store;
 pub mod told;
 mod wave_places;
 
-pub use answers::Answers;
+pub use answers::BufferAnswers;
 pub use buffer::Buffer;
 pub use fault::BufFault;
 pub use kept::Kept;

@@ -7,7 +7,7 @@ ghost use Rattle.ws_isa.specs.Image.{cells_of};
 ghost use Rattle.ws_isa.specs.View as view;
 ghost use Rattle.port_set.specs.Slots.{AllOpen, contents};
 ghost use Rattle.df_core.specs.Began.{Began};
-ghost use Rattle.store_buf.specs.Outdoors.{OutIs, Performed, PortIn, SilentAt, FaultsGrow, silent_of};
+ghost use Rattle.store_buf.specs.Outdoors.{HoldsOut, Performed, PortIn, SilentAt, FaultsGrow, silent_of};
 ghost use Rattle.store_buf.specs.Outers.{holding};
 
 use crate::fault::Silent;
@@ -42,10 +42,10 @@ impl<P: Port> Outer<P> {
         requires port { PortIn op }
         requires room { vec_len self.old.printed < vec_capacity self.old.printed }
         ensures answer { IfOk result (λ word. (began : List (Option Began)) (o : Outside) (third : ℕ)
-            → OutIs began o (holding self.old)
+            → HoldsOut began o (holding self.old)
             → Performed began op (first ∷ second ∷ third ∷ []) o word (holding self.new)) }
         ensures kept { OnErr result ((began : List (Option Began)) (o : Outside)
-            → OutIs began o (holding self.old) → OutIs began o (holding self.new)) }
+            → HoldsOut began o (holding self.old) → HoldsOut began o (holding self.new)) }
         ensures room { vec_capacity self.new.printed ≡ vec_capacity self.old.printed }
         ensures fewer { vec_len self.new.printed ≤ vec_len self.old.printed + 1 }
         ensures unprinted { OnErr result (self.new.printed ≡ self.old.printed) }

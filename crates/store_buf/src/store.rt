@@ -19,7 +19,7 @@ use crate::fault::{BufFault, Silent};
 use crate::kept::Kept;
 use crate::order::Order;
 use crate::outer::Outer;
-use crate::told::{Told, tell};
+use crate::told::{PlainTokens, tell};
 use df_core::program::Program;
 use port_set::Port;
 use ws_isa::Op;
@@ -45,7 +45,7 @@ impl<P: Port> Store<P> {
         &mut self,
         program: &Program<'_>,
         kept: Kept,
-        told: &mut Told,
+        told: &mut PlainTokens,
     ) -> Result<(), BufFault>
         requires program { ProgramIs program.now }
         requires formed { Formed (image_of program.now) }
@@ -100,7 +100,7 @@ impl<P: Port> Store<P> {
         program: &Program<'_>,
         kept: Kept,
         lets: bool,
-        told: &mut Told,
+        told: &mut PlainTokens,
     ) -> Result<(), BufFault>
         requires program { ProgramIs program.now }
         requires formed { Formed (image_of program.now) }
@@ -130,7 +130,7 @@ impl<P: Port> Store<P> {
     }
 
     // Makes room for the tokens of all that waits, and of one more.
-    fn make_room(&self, told: &mut Told) -> Result<(), NoMemory>
+    fn make_room(&self, told: &mut PlainTokens) -> Result<(), NoMemory>
         ensures items { told.new.items ≡ told.old.items }
         ensures room { OnOk result (HasRoomFor told.new (8 * (self.now.order.waiting + 1))) }
         ensures grown { told.old.capacity ≤ told.new.capacity }
@@ -170,7 +170,7 @@ impl<P: Port> Store<P> {
         &mut self,
         program: &Program<'_>,
         first: Option<usize>,
-        told: &mut Told,
+        told: &mut PlainTokens,
     ) -> Result<(), BufFault>
         requires program { ProgramIs program.now }
         requires formed { Formed (image_of program.now) }
@@ -206,7 +206,7 @@ impl<P: Port> Store<P> {
         &mut self,
         program: &Program<'_>,
         place: usize,
-        told: &mut Told,
+        told: &mut PlainTokens,
     ) -> Result<(), Silent>
         requires program { ProgramIs program.now }
         requires formed { Formed (image_of program.now) }
@@ -247,7 +247,7 @@ impl<P: Port> Store<P> {
         &mut self,
         program: &Program<'_>,
         first: Option<usize>,
-        told: &mut Told,
+        told: &mut PlainTokens,
     ) -> Result<(), Silent>
         requires program { ProgramIs program.now }
         requires formed { Formed (image_of program.now) }

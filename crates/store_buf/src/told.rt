@@ -9,10 +9,10 @@ use smallvec::SmallVec;
 use ws_isa::Dest;
 
 /// Tokens by wave number, instruction, port and value, the first eight of which take no memory.
-pub type Told = SmallVec<(u64, u32, u8, u64), 8>;
+pub type PlainTokens = SmallVec<(u64, u32, u8, u64), 8>;
 
 /// Puts the tokens of one word to destinations under a wave number at the end. Takes no memory.
-pub fn tell(told: &mut Told, wave: u64, dests: &[Dest], word: u64)
+pub fn tell(told: &mut PlainTokens, wave: u64, dests: &[Dest], word: u64)
     requires { HasRoomFor told.old (length dests.now) }
     ensures tokens { tokens_of told.new.items
         ≡ tokens_of told.old.items ++ tokens_to wave word dests.now }

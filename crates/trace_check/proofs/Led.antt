@@ -5,7 +5,7 @@ use Rattle.ws_words.specs.Outside.{World}
 use Rattle.ws_isa.specs.Image.{Image, is_memory, ports}
 use Rattle.ws_isa.specs.Walk.{walk, CostAtMost}
 use Rattle.df_core.specs.Core.{State, Event, Match, Issue, Run, Step, Enabled, Rest, is_full, arrived, asks, tells, matched, core_opening}
-use Rattle.df_core.specs.Ends.{Whole, AtFault}
+use Rattle.df_core.specs.Ends.{WholeRun, AtFault}
 use Rattle.df_core.specs.declared.engine.Core.{Core}
 use Rattle.df_core.specs.declared.engine.Event.{Event as Made}
 use Rattle.df_core.specs.Cores.{IsAt, Makes, IsEnabled, IsAtRest, event_of}
@@ -83,13 +83,13 @@ next_enabled event budget core next image world s at = (next image world s at).0
 
 -- what the law of the core says of a state that the events lead to
 pub record Facts (image : Image) (world : World) (s : State) : Type 0 where
-  pub ends : Rest image s → Whole image world s ⊎ AtFault image world s
+  pub ends : Rest image s → WholeRun image world s ⊎ AtFault image world s
   pub stopped : s.stopped ≡ true → AtFault image world s
-  pub all : Whole image world s → (t : ℕ) → length (walk image world t) ≤ length s.fired
+  pub all : WholeRun image world s → (t : ℕ) → length (walk image world t) ≤ length s.fired
   pub way : (w i p v : ℕ) → s.way w i p ≡ Some v → (t : ℕ) × (length s.fired < length (walk image world t))
 
 module _ (image : Image) (world : World) (budget : ℕ) (s : State) (facts : Facts image world s) where
-  whole : Rest image s → s.stopped ≡ false → Whole image world s
+  whole : Rest image s → s.stopped ≡ false → WholeRun image world s
   whole rest going = elim (facts.ends rest) [ inl w ↦ w | inr a ↦ absurd (true≢false (sym a.stopped ∙ going)) ]
 
   dear_by : (e : Event) → Enabled image s e → ((d : Event) → Enabled image s d → IsQuiet image s d → ⊥) → length s.fired ≡ budget → CostAtMost image world budget → ⊥

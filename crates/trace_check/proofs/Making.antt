@@ -8,7 +8,7 @@ use Rattle.df_core.specs.Cores.{IsAt, Makes}
 use Rattle.trace_check.specs.declared.events.Lined.{Lined}
 use Rattle.trace_check.specs.declared.replaying.ReplayFault.{ReplayFault}
 use Rattle.trace_check.specs.declared.replaying.ReplayFault.TheVariants.{Illegal, NoMemory}
-use Rattle.trace_check.specs.Replays.{events_of, event_in, MakesAll, IsEventFault, IsFault}
+use Rattle.trace_check.specs.Replays.{events_of, event_in, MakesAll, IsEventFault, IsMakingFault}
 use Rattle.df_core.proofs.Same.{same_refl}
 
 -- Events have led from a state to one at which the core stands: whatever goes on from there goes on
@@ -66,7 +66,7 @@ take_all (x ∷ xs) zero l = absurd (omega arith)
 take_all (x ∷ xs) (suc k) l = ap (λ (ys : List Lined). x ∷ ys) (take_all xs k (omega arith))
 
 -- the event at a place isn't made
-pub not_made : (xs : List Lined) (k : ℕ) (d : Lined) (old core : Core) (fault : ReplayFault) → k < length xs → LedAlong (events_of (take k xs)) old core → IsEventFault (get_or xs k d) core fault → IsFault xs old fault
+pub not_made : (xs : List Lined) (k : ℕ) (d : Lined) (old core : Core) (fault : ReplayFault) → k < length xs → LedAlong (events_of (take k xs)) old core → IsEventFault (get_or xs k d) core fault → IsMakingFault xs old fault
 not_made xs k d old core NoMemory l along h = tt
 not_made xs k d old core (Illegal line) l along h = λ image world s at.
     let a = along image world s at in

@@ -8,7 +8,7 @@ use Rattle.ws_isa.specs.Operations.{ops, effect_of, Effect}
 use Rattle.df_core.specs.Effect.{effect_at}
 use Rattle.df_core.specs.Core.{State, Run, Rest, core_opening}
 use Rattle.df_core.specs.Fit.{Fit}
-use Rattle.df_core.specs.Ends.{Whole, AtFault}
+use Rattle.df_core.specs.Ends.{WholeRun, AtFault}
 use Rattle.df_core.specs.declared.engine.Core.{Core}
 use Rattle.df_core.specs.declared.engine.Event.{Event}
 use Rattle.df_core.specs.Cores.{IsAt, IsAtRest, IsEnabled, event_of}
@@ -16,7 +16,7 @@ use Rattle.trace_check.specs.declared.events.Lined.{Lined}
 use Rattle.trace_check.specs.declared.replaying.Replayed.{Replayed}
 use Rattle.trace_check.specs.declared.replaying.ReplayFault.{ReplayFault}
 use Rattle.trace_check.specs.declared.replaying.ReplayFault.TheVariants.{Illegal, NoMemory}
-use Rattle.trace_check.specs.Replays.{PrintsAll, PrintsToFault, Replays, StopsAt, IsReplayFault, IsFault, events_of}
+use Rattle.trace_check.specs.Replays.{PrintsAll, PrintsToFault, Replays, StopsAt, IsReplayFault, IsMakingFault, events_of}
 use Rattle.df_core.proofs.Issuing.{printed_alike}
 
 module _ (image : Image) (world : World) (s : State) (r : Replayed)
@@ -34,7 +34,7 @@ module _ (image : Image) (world : World) (s : State) (r : Replayed)
   pub prints_all : length s.fired ≡ r.fired → ((t : ℕ) → length (walk image world t) ≤ length s.fired) →
       (some : (t : ℕ) × (length s.fired ≤ length (walk image world t))) →
       ((d t : ℕ) → (more : List Inst) × (walk image world (d + t) ≡ walk image world t ++ more)) →
-      Whole image world s → PrintsAll image world r
+      WholeRun image world s → PrintsAll image world r
   prints_all fired all some goes w = record {
     no_fault = w.within;
     cost = λ t. (let a : length (walk image world t) ≤ length s.fired = all t in omega arith);
@@ -69,7 +69,7 @@ rest_told (Some event) false core e m image world s at =
     (λ f. absurd (true≢false (sym f)), λ rest. absurd (rest (event_of event) (m image world s at)))
 
 pub fault_told : (image : Image) (world : World) (core : Core) (trace xs : List Lined) (fault : ReplayFault) → xs ≡ trace →
-    IsAt image world core (core_opening image world) → IsFault xs core fault → IsReplayFault image world trace fault
+    IsAt image world core (core_opening image world) → IsMakingFault xs core fault → IsReplayFault image world trace fault
 fault_told image world core trace xs NoMemory e at h = tt
 fault_told image world core trace xs (Illegal line) e at h =
     subst (λ (ls : List Lined). StopsAt image (core_opening image world) ls line) e (h image world (core_opening image world) at)
@@ -77,13 +77,13 @@ fault_told image world core trace xs (Illegal line) e at h =
 -- what the law of the core says of states that lists of events reach
 pub record Facts (image : Image) (world : World) (s : State) : Type 0 where
   pub fit : Fit image world s
-  pub ends : Rest image s → Whole image world s ⊎ AtFault image world s
-  pub all : Whole image world s → (t : ℕ) → length (walk image world t) ≤ length s.fired
+  pub ends : Rest image s → WholeRun image world s ⊎ AtFault image world s
+  pub all : WholeRun image world s → (t : ℕ) → length (walk image world t) ≤ length s.fired
   pub some : (t : ℕ) × (length s.fired ≤ length (walk image world t))
   pub goes : (d t : ℕ) → (more : List Inst) × (walk image world (d + t) ≡ walk image world t ++ more)
   pub one : (p : ℕ) (o u : Outside) → Effect image world p o → Effect image world p u → o ≡ u
 
-ends_told : (image : Image) (world : World) (s : State) (r : Replayed) → Facts image world s → printed_words s.memory.acts ≡ r.printed → length s.fired ≡ r.fired → Whole image world s ⊎ AtFault image world s → PrintsAll image world r ⊎ PrintsToFault image world r
+ends_told : (image : Image) (world : World) (s : State) (r : Replayed) → Facts image world s → printed_words s.memory.acts ≡ r.printed → length s.fired ≡ r.fired → WholeRun image world s ⊎ AtFault image world s → PrintsAll image world r ⊎ PrintsToFault image world r
 ends_told image world s r f printed fired (inl w) = inl (prints_all image world s r printed fired (f.all w) f.some f.goes w)
 ends_told image world s r f printed fired (inr a) = inr (prints_to_fault image world s r printed f.one a)
 

@@ -79,7 +79,7 @@ abbrev pub IsEventFault : Lined → Core → ReplayFault → Type 0
 IsEventFault l core NoMemory = Unit {0}
 IsEventFault l core (Illegal line) = (l.line ≡ line) × NotEnabled (event_in l) core
 
-abbrev pub IsFault : List Lined → Core → ReplayFault → Type 0
-IsFault trace core NoMemory = Unit {0}
-IsFault trace core (Illegal line) = (image : Image) (world : World) (s : State) →
+abbrev pub IsMakingFault : List Lined → Core → ReplayFault → Type 0
+IsMakingFault trace core NoMemory = Unit {0}
+IsMakingFault trace core (Illegal line) = (image : Image) (world : World) (s : State) →
     IsAt image world core s → StopsAt image s trace line

@@ -4,7 +4,7 @@ ghost use Rattle.std.specs.Prelude.{◌≡◌, IfOk, IfErr, OnOk};
 ghost use Rattle.ws_words.specs.Plain.{world_of};
 ghost use Rattle.df_core.specs.Cores.{Makes, IsRunning};
 ghost use Rattle.trace_check.specs.declared.replaying.ReplayFault.TheVariants.{NoMemory as of_memory};
-ghost use Rattle.trace_check.specs.Replays.{Replays, IsReplayFault, MakesAll, IsEventFault, IsFault};
+ghost use Rattle.trace_check.specs.Replays.{Replays, IsReplayFault, MakesAll, IsEventFault, IsMakingFault};
 ghost use Rattle.trace_check.specs.Replays.{event_in};
 
 use crate::events::{Lined, Trace};
@@ -57,7 +57,7 @@ fn make_all(core: &mut Core<'_>, events: &[Lined]) -> Result<(), ReplayFault>
     requires { IsRunning core.old }
     ensures core { IsRunning core.new }
     ensures made { OnOk result (MakesAll events.now core.old core.new) }
-    ensures refused { IfErr result (IsFault events.now core.old) }
+    ensures refused { IfErr result (IsMakingFault events.now core.old) }
 {
     for event in events {
         if let Err(fault) = make(core, *event) {

@@ -1,7 +1,6 @@
 -- The walk of an image shows the run of the program that its graph shows.
 use Rattle.std.proofs.Common.{◌≡◌, ℕ, zero, suc, ◌+◌, ◌-◌, ◌*◌, ◌<◌, ◌≤◌, true, List, [], ◌++◌, length, map, sym, ap, ◌∙◌, subst, inl, inr, arith}
 use Rattle.std.proofs.lemmas.Bool.{cond-true, cases_lt}
-use Rattle.std.proofs.lemmas.List.{append-nil}
 use Rattle.std.proofs.lemmas.Nat.{mul-le}
 use Rattle.ws_words.specs.Outside.{Act, Outside, World}
 use Rattle.src_ast.specs.Syntax.{Part}
@@ -21,13 +20,12 @@ use Rattle.cfg_core.specs.Shown.{shown_acts, IsInside, AllInside}
 use Rattle.wave_gen.specs.Words.{array_of, arrays_of}
 use Rattle.wave_gen.specs.Keeps.{KeepsWalk, EndlessWith}
 use Rattle.wave_link.specs.Passed.{WalksFor}
-use Rattle.wave_build.specs.Compiled.{in_graph, shown, Shows, Begins, WalksAsRun}
+use Rattle.wave_build.specs.Compiled.{in_graph, shown, ShowsOutside, WalksAsRun}
+use Rattle.ws_words.specs.Past.{ActsBegin}
+use Rattle.ws_words.proofs.Acts.{begins_all, begins_then}
 use Rattle.wave_build.proofs.CompilingShown.{same_arrays, same_cells, shown_both, front_all}
 use Rattle.wave_build.specs.Prepared.{Shown, ShowsProgram}
-use Rattle.wave_build.proofs.CompilingGraphs.{begins_trans, Came, stands, over, at_came, WalksAnswer, Reaches, reaches}
-
-begins_same : (xs : List Act) → Begins xs xs
-begins_same xs = ([], sym (append-nil xs))
+use Rattle.wave_build.proofs.CompilingGraphs.{Came, stands, over, at_came, WalksAnswer, Reaches, reaches}
 
 -- an image's walk, further on
 module _ (image : Image) (world : World) where
@@ -54,16 +52,16 @@ module _ (image : Image) (world : World) where
     | inr l ↦ mem_later u t (omega (arith, l)) f
   ]
 
-  pub front_at : (t u : ℕ) → t ≤ u → Begins (mem image world t).acts (mem image world u).acts
+  pub front_at : (t u : ℕ) → t ≤ u → ActsBegin (mem image world t).acts (mem image world u).acts
   front_at t u l =
       let z : (u - t) + t ≡ u = omega (arith, l) in
-      subst (λ n. Begins (mem image world t).acts (mem image world n).acts) z (acts_grow image world (u - t) t)
+      subst (λ n. ActsBegin (mem image world t).acts (mem image world n).acts) z (acts_grow image world (u - t) t)
 
   -- what the walk does is the first of what it has done at its end
-  pub front_end : (t u : ℕ) → has_ended image world u ≡ true → Begins (mem image world t).acts (mem image world u).acts
+  pub front_end : (t u : ℕ) → has_ended image world u ≡ true → ActsBegin (mem image world t).acts (mem image world u).acts
   front_end t u e = elim (cases_lt t u) [
     | inl l ↦ front_at t u (omega (arith, l))
-    | inr l ↦ subst (λ (o : Outside). Begins o.acts (mem image world u).acts) (sym (mem_later u t (omega (arith, l)) e)) (begins_same (mem image world u).acts)
+    | inr l ↦ subst (λ (o : Outside). ActsBegin o.acts (mem image world u).acts) (sym (mem_later u t (omega (arith, l)) e)) (begins_all (mem image world u).acts)
   ]
 
   pub more_later : (t u : ℕ) → length (instances image world t) < length (instances image world u) → t ≤ u
@@ -98,7 +96,7 @@ module _ (parts : List Part) (g : Graph) (draft image : Image) (world : World) (
   acts_same : (acts : List Act) → shown image acts ≡ shown_acts g.arrays acts
   acts_same acts = ap (λ (xs : List GraphArray). shown_acts xs acts) back
 
-  shows : (now o : Outside) → Shown g now o → Shows image now o
+  shows : (now o : Outside) → Shown g now o → ShowsOutside image now o
   shows now o s = record {
     acts = acts_same now.acts ∙ s.acts;
     cells = ap (λ (xs : List Array). image_shown.shown_cells xs now.cells) arrays ∙ same_cells g.arrays now.cells ∙ s.cells;
@@ -106,7 +104,7 @@ module _ (parts : List Part) (g : Graph) (draft image : Image) (world : World) (
     left = s.left;
   }
 
-  shows_at : (a b o : Outside) → a ≡ b → Shown g b o → Shows image a o
+  shows_at : (a b o : Outside) → a ≡ b → Shown g b o → ShowsOutside image a o
   shows_at a b o e s = shows a o (subst (λ (x : Outside). Shown g x o) (sym e) s)
 
   draft_cost : (k : ℕ) → CostAtMost image world k → CostAtMost draft world k
@@ -128,19 +126,19 @@ module _ (parts : List Part) (g : Graph) (draft image : Image) (world : World) (
           let w = (keeps cost).goes_on (length draft.blocks * suc (length (instances draft world t))) b s frames 0 e in
           let l = more_later draft world t w.0 (more_instances (length draft.blocks) (length (instances draft world t)) (length (instances draft world w.0)) w.3) in
           let r = reaches answers g rules world cost (length draft.blocks * suc (length (instances draft world t))) b s frames 0 e in
-          let f : Begins (mem draft world t).acts s.out.acts = subst (λ (o : Outside). Begins (mem draft world t).acts o.acts) w.2 (front_at draft world t w.0 l) in
-          record { turns = r.turns; end = r.end; is = r.is; front = begins_trans (mem draft world t).acts s.out.acts r.end.acts f r.front }
+          let f : ActsBegin (mem draft world t).acts s.out.acts = subst (λ (o : Outside). ActsBegin (mem draft world t).acts o.acts) w.2 (front_at draft world t w.0 l) in
+          record { turns = r.turns; end = r.end; is = r.is; front = begins_then (mem draft world t).acts s.out.acts r.end.acts f r.front }
       go (over cost o d) =
           let e : walk g (length draft.blocks * suc (length (instances draft world t))) (opening g world cost) ≡ Over o 0 = exactly (length draft.blocks * suc (length (instances draft world t))) cost (opening g world) (Over o 0) (d 0) in
           let w = (keeps cost).ends (length draft.blocks * suc (length (instances draft world t))) o 0 e in
-          record { turns = cost; end = o; is = inl ((length draft.blocks * suc (length (instances draft world t))), e); front = subst (λ (p : Outside). Begins (mem draft world t).acts p.acts) w.2 (front_end draft world t w.0 w.1) }
+          record { turns = cost; end = o; is = inl ((length draft.blocks * suc (length (instances draft world t))), e); front = subst (λ (p : Outside). ActsBegin (mem draft world t).acts p.acts) w.2 (front_end draft world t w.0 w.1) }
 
   image_covered : (t : ℕ) → Reaches g world (mem image world t).acts
   image_covered t =
       let f = follow.follows t in
       let c = covered t in
-      let b : Begins (mem image world t).acts (mem draft world t).acts = subst (λ (o : Outside). Begins (mem image world t).acts o.acts) f.outside (front_at image world t f.steps f.as_many) in
-      record { turns = c.turns; end = c.end; is = c.is; front = begins_trans (mem image world t).acts (mem draft world t).acts c.end.acts b c.front }
+      let b : ActsBegin (mem image world t).acts (mem draft world t).acts = subst (λ (o : Outside). ActsBegin (mem image world t).acts o.acts) f.outside (front_at image world t f.steps f.as_many) in
+      record { turns = c.turns; end = c.end; is = c.is; front = begins_then (mem image world t).acts (mem draft world t).acts c.end.acts b c.front }
 
   bounded : (k : ℕ) → CostAtMost image world k → (n : ℕ) × (o : Outside) × Passes parts world n o
   bounded k c = go (at_came g (length draft.blocks * suc k) _ _ [])
@@ -157,46 +155,46 @@ module _ (parts : List Part) (g : Graph) (draft image : Image) (world : World) (
           let r = program.ends_only world cost o ((length draft.blocks * suc k), e) in
           (cost, r.0, r.1)
 
-  ends : (n : ℕ) (o : Outside) → Passes parts world n o → (t : ℕ) × (has_ended image world t ≡ true) × Shows image (mem image world t) o
+  ends : (n : ℕ) (o : Outside) → Passes parts world n o → (t : ℕ) × (has_ended image world t ≡ true) × ShowsOutside image (mem image world t) o
   ends n o p =
       let r = program.ends world n o p in
       let w = (keeps n).ends r.1.0 r.0 0 r.1.1 in
       let f = follow.follows w.0 in
       (f.steps, f.ended ∙ w.1, shows_at (mem image world f.steps) r.0 o (f.outside ∙ w.2) r.2)
 
-  ends_only : (t : ℕ) → has_ended image world t ≡ true → (n : ℕ) × (o : Outside) × Passes parts world n o × Shows image (mem image world t) o
+  ends_only : (t : ℕ) → has_ended image world t ≡ true → (n : ℕ) × (o : Outside) × Passes parts world n o × ShowsOutside image (mem image world t) o
   ends_only t e =
       let b = bounded (length (instances image world t)) (whole_cost image world t e) in
       let r = ends b.0 b.1 b.2 in
-      (b.0, b.1, b.2, subst (λ (x : Outside). Shows image x b.1) (sym (same_end image world t r.0 e r.1)) r.2)
+      (b.0, b.1, b.2, subst (λ (x : Outside). ShowsOutside image x b.1) (sym (same_end image world t r.0 e r.1)) r.2)
 
-  goes : (n : ℕ) (o : Outside) → Flows parts world n o → (t : ℕ) × Begins o.acts (shown image (mem image world t).acts)
+  goes : (n : ℕ) (o : Outside) → Flows parts world n o → (t : ℕ) × ActsBegin o.acts (shown image (mem image world t).acts)
   goes n o p =
       let r = program.goes world n o p in
       let w = (keeps n).out_of_turns r.1.0 r.0 r.1.1 in
       let f = follow.follows w.0 in (
         f.steps,
         (
-          shown_acts g.arrays w.1,
+          shown_acts g.arrays w.1.0,
           acts_same (mem image world f.steps).acts
               ∙ ap (λ (x : Outside). shown_acts g.arrays x.acts) f.outside
-              ∙ ap (shown_acts g.arrays) w.2
-              ∙ shown_both g.arrays r.0.acts w.1
-              ∙ ap (λ (z : List Act). z ++ shown_acts g.arrays w.1) r.2.acts,
+              ∙ ap (shown_acts g.arrays) w.1.1
+              ∙ shown_both g.arrays r.0.acts w.1.0
+              ∙ ap (λ (z : List Act). z ++ shown_acts g.arrays w.1.0) r.2.acts,
         ),
       )
 
-  shown_begins : (xs ys : List Act) (o : Outside) → Begins xs ys → shown_acts g.arrays ys ≡ o.acts → Begins (shown image xs) o.acts
+  shown_begins : (xs ys : List Act) (o : Outside) → ActsBegin xs ys → shown_acts g.arrays ys ≡ o.acts → ActsBegin (shown image xs) o.acts
   shown_begins xs ys o b e = (
     shown_acts g.arrays b.0,
     sym e ∙ ap (shown_acts g.arrays) b.1 ∙ shown_both g.arrays xs b.0
         ∙ ap (λ (z : List Act). z ++ shown_acts g.arrays b.0) (sym (acts_same xs)),
   )
 
-  goes_only : (t : ℕ) → (n : ℕ) × Begins (shown image (mem image world t).acts) (acts_in parts world n)
+  goes_only : (t : ℕ) → (n : ℕ) × ActsBegin (shown image (mem image world t).acts) (acts_in parts world n)
   goes_only t = go (image_covered t)
     where
-      go : Reaches g world (mem image world t).acts → (n : ℕ) × Begins (shown image (mem image world t).acts) (acts_in parts world n)
+      go : Reaches g world (mem image world t).acts → (n : ℕ) × ActsBegin (shown image (mem image world t).acts) (acts_in parts world n)
       go c = elim c.is [
         | inl e ↦ (let r = program.ends_only world c.turns c.end e in
             let b = shown_begins (mem image world t).acts c.end.acts r.0 c.front r.2.acts in

@@ -12,7 +12,7 @@ use Rattle.ws_isa.specs.Formed as formed
 use Rattle.ws_isa.specs.Formed.{most_blocks, most_waves, most_length, most_dests, most_pads, most_landings, total_length, ArraysFormed}
 use Rattle.wave_cut.specs.Cut.{Cut}
 use Rattle.call_gen.specs.Keeps.{SendsAtMost}
-use Rattle.call_gen.specs.Sizes.{cell_count, Sizes, LandingsAtMost, BlockWithin, IsWithin, larger, most_hidden_arrays, hidden_cells, spelled_sizes}
+use Rattle.call_gen.specs.Sizes.{cell_count, Sizes, LandingsAtMost, BlockWithin, KeepsSizes, larger, most_hidden_arrays, hidden_cells, spelled_sizes}
 use Rattle.live_vars.specs.Marks.{has}
 use Rattle.cfg_build.specs.Keeps as program
 use Rattle.wave_gen.specs.Limits.{BringsAtMost, LandsAtMost, KeepsLimits}
@@ -58,7 +58,7 @@ module _ (parts : List Part) (l j k s : Graph) (needed live : List (List ℕ)) (
   abbrev z : Sizes
   z = spelled_sizes (joined_sizes (lowered_sizes parts))
 
-  W : IsWithin z s
+  W : KeepsSizes z s
   W = last_within parts l j k s needed live cut P
 
   within_at : (b : ℕ) → BlockWithin z (block_at s b)

@@ -13,7 +13,7 @@ use Rattle.phi_conv.specs.Short.{Short, short}
 use Rattle.phi_conv.specs.Joined.{joined_if, joined_proc}
 use Rattle.phi_conv.proofs.Placing.{joined_spot, spots_are}
 use Rattle.call_gen.specs.Keeps.{SendsAtMost}
-use Rattle.call_gen.specs.Sizes.{call_count, cell_count, Sizes, LandingsAtMost, BlockWithin, ProcWithin, IsWithin, spelled_sizes}
+use Rattle.call_gen.specs.Sizes.{call_count, cell_count, Sizes, LandingsAtMost, BlockWithin, ProcWithin, KeepsSizes, spelled_sizes}
 use Rattle.wave_build.specs.Passed.{PassGraphs}
 use Rattle.wave_build.specs.Small.{lowered_sizes, joined_sizes}
 use Rattle.ws_words.proofs.Lists.{length_map as map_count}
@@ -96,7 +96,7 @@ module _ (parts : List Part) (l j k s : Graph) (needed live : List (List ℕ)) (
       let c = calls_paid (spots l) (all_at (λ (x : Spot). sum_by acts_of x.block.ops + jumps_of x.block.exit ≤ sum_by turns_of x.block.ops) (spots l) (λ b lt. P.lowering.work.acts b)) in
       let t = P.lowering.small.turns in omega (arith, c, t)
 
-  lowered_within : IsWithin (lowered_sizes parts) l
+  lowered_within : KeepsSizes (lowered_sizes parts) l
   lowered_within = let small = P.lowering.small in record {
     arrays = small.arrays;
     lengths = small.lengths;
@@ -123,7 +123,7 @@ module _ (parts : List Part) (l j k s : Graph) (needed live : List (List ℕ)) (
       let w = block_within b in let o = P.joining.sizes.ops b in let m = P.joining.sizes.nodes b in
       record { ops = (let h = w.ops in omega (arith, h, o)); nodes = (let h = w.nodes in omega (arith, h, m)); values = (sends_at b).0; landings = (sends_at b).1 }
 
-  joined_within : IsWithin (joined_sizes (lowered_sizes parts)) j
+  joined_within : KeepsSizes (joined_sizes (lowered_sizes parts)) j
   unfolding spot_at
   joined_within =
       let w = lowered_within in
@@ -145,8 +145,8 @@ module _ (parts : List Part) (l j k s : Graph) (needed live : List (List ℕ)) (
       }
 
   -- what is kept, and the last graph, keep their bounds
-  pub kept_within : IsWithin (joined_sizes (lowered_sizes parts)) k
+  pub kept_within : KeepsSizes (joined_sizes (lowered_sizes parts)) k
   kept_within = P.keeping.sizes (joined_sizes (lowered_sizes parts)) joined_within
 
-  pub last_within : IsWithin (spelled_sizes (joined_sizes (lowered_sizes parts))) s
+  pub last_within : KeepsSizes (spelled_sizes (joined_sizes (lowered_sizes parts))) s
   last_within = P.spelling.sizes (joined_sizes (lowered_sizes parts)) kept_within

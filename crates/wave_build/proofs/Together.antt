@@ -14,7 +14,7 @@ use Rattle.live_vars.specs.Marks.{has}
 use Rattle.wave_cut.specs.Cut.{Cut}
 use Rattle.call_gen.specs.Reached.{Reached}
 use Rattle.call_gen.specs.Charged.{beside, charged, CallsCharged, ReachedInPlace}
-use Rattle.call_gen.specs.Sizes.{Sizes, ProcWithin, IsWithin, spelled_sizes}
+use Rattle.call_gen.specs.Sizes.{Sizes, ProcWithin, KeepsSizes, spelled_sizes}
 use Rattle.wave_gen.specs.Limits.{most_quarters, KeepsLimits}
 use Rattle.wave_build.specs.Passed.{PassGraphs}
 use Rattle.wave_build.specs.Small.{lowered_sizes, joined_sizes}
@@ -97,10 +97,10 @@ vars_within z n le [] h = tt
 vars_within z n le (p ∷ ps) h = ((let v = h.0.vars in omega (arith, v, le)), vars_within z n le ps h.1)
 
 module _ (parts : List Part) (l j k s : Graph) (needed live : List (List ℕ)) (cut : Cut) (P : PassGraphs parts l j k s needed live cut) (narrow : widest parts ≤ most_statement_nodes) (locals : most_variables parts ≤ most_locals) where
-  W : IsWithin (spelled_sizes (joined_sizes (lowered_sizes parts))) s
+  W : KeepsSizes (spelled_sizes (joined_sizes (lowered_sizes parts))) s
   W = last_within parts l j k s needed live cut P
 
-  K : IsWithin (joined_sizes (lowered_sizes parts)) k
+  K : KeepsSizes (joined_sizes (lowered_sizes parts)) k
   K = kept_within parts l j k s needed live cut P
 
   -- a block of the last graph with one instruction more, and what a block of the joined one is charged

@@ -1,6 +1,7 @@
 -- What the image of a program does and shows.
-use Rattle.std.specs.Prelude.{◌≡◌, ℕ, suc, ◌*◌, true, List, ◌++◌, map}
+use Rattle.std.specs.Prelude.{◌≡◌, ℕ, suc, ◌*◌, true, List, map}
 use Rattle.ws_words.specs.Outside.{Act, Outside, World}
+use Rattle.ws_words.specs.Past.{ActsBegin}
 use Rattle.src_ast.specs.Syntax.{Part}
 use Rattle.src_ast.specs.Bound.{bound}
 use Rattle.src_ast.specs.Meaning.{Passes, Flows}
@@ -33,29 +34,25 @@ abbrev pub ShowsArrays : List Part → Image → Type 0
 ShowsArrays parts image = shown_arrays image.arrays ≡ map array_of (program.arrays_of parts)
 
 -- what is outside in a walk of an image shows this
-pub record Shows (image : Image) (now o : Outside) : Type 0 where
+pub record ShowsOutside (image : Image) (now o : Outside) : Type 0 where
   pub acts : shown image now.acts ≡ o.acts
   pub cells : shown_cells image.arrays now.cells ≡ o.cells
   pub input : now.input ≡ o.input
   pub left : now.left ≡ o.left
-
--- acts are the first of others
-abbrev pub Begins : List Act → List Act → Type 0
-Begins front acts = (more : List Act) × (acts ≡ front ++ more)
 
 -- The walk of an image is, as far as it shows, the run of a program that passes loads and stores
 -- past the end.
 pub record WalksAsRun (parts : List Part) (image : Image) (world : World) : Type 0 where
   -- one ends where the other does, and leaves the same
   pub ends : (n : ℕ) (o : Outside) → Passes parts world n o →
-      (t : ℕ) × (has_ended image world t ≡ true) × Shows image (mem image world t) o
+      (t : ℕ) × (has_ended image world t ≡ true) × ShowsOutside image (mem image world t) o
   pub ends_only : (t : ℕ) → has_ended image world t ≡ true →
-      (n : ℕ) × (o : Outside) × Passes parts world n o × Shows image (mem image world t) o
+      (n : ℕ) × (o : Outside) × Passes parts world n o × ShowsOutside image (mem image world t) o
   -- where it hasn't ended, each does first what the other has done
   pub goes : (n : ℕ) (o : Outside) → Flows parts world n o →
-      (t : ℕ) × Begins o.acts (shown image (mem image world t).acts)
+      (t : ℕ) × ActsBegin o.acts (shown image (mem image world t).acts)
   pub goes_only : (t : ℕ) →
-      (n : ℕ) × Begins (shown image (mem image world t).acts) (acts_in parts world n)
+      (n : ℕ) × ActsBegin (shown image (mem image world t).acts) (acts_in parts world n)
   -- the walk's cost is bounded exactly where the run ends
   pub endless : ((n : ℕ) → (o : Outside) × Flows parts world n o) →
       (k : ℕ) → CostAtMost image world k → ⊥

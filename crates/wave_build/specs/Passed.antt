@@ -13,7 +13,7 @@ use Rattle.wave_cut.specs.Cut.{Cut, IsCut, AreWaves}
 use Rattle.phi_conv.specs.Joined as phi
 use Rattle.phi_conv.specs.Keeps.{NoCopyLive, ShortJoined, SizesKept}
 use Rattle.call_gen.specs.Keeps.{HasNoCall, NoneLiveAcross, ParamsAtMost, SendsAtMost}
-use Rattle.call_gen.specs.Sizes.{Sizes, IsWithin, spelled_sizes}
+use Rattle.call_gen.specs.Sizes.{Sizes, KeepsSizes, spelled_sizes}
 use Rattle.call_gen.specs.Charged.{CallsCharged, ReachedInPlace}
 
 -- the graph of an accepted program, as `lower` gives it
@@ -37,20 +37,20 @@ pub record Joined (given joined : Graph) : Type 0 where
   pub turns : TwoBlocksATurn given → TwoBlocksATurn joined
 
 -- the part that walks may come to, as `reached` gives it
-pub record Kept (given kept : Graph) : Type 0 where
+pub record ReachedPart (given kept : Graph) : Type 0 where
   pub rules : IsGraph kept
   pub arms : ArmsAlone given → ArmsAlone kept
-  pub sizes : (z : Sizes) → IsWithin z given → IsWithin z kept
+  pub sizes : (z : Sizes) → KeepsSizes z given → KeepsSizes z kept
   pub places : ReachedInPlace given kept
 
 -- the graph with calls spelled out, by sets of live variables, as `spell_calls` gives it
-pub record Spelled (given : Graph) (sets : List (List ℕ)) (spelled : Graph) : Type 0 where
+pub record CallsSpelled (given : Graph) (sets : List (List ℕ)) (spelled : Graph) : Type 0 where
   pub rules : IsGraph spelled
   pub no_call : HasNoCall spelled
   pub across : NoneLiveAcross spelled
   pub values : (n : ℕ) → ParamsAtMost n given →
       (b : ℕ) → SendsAtMost (suc n) (block_at spelled b).exit
-  pub sizes : (z : Sizes) → IsWithin z given → IsWithin (spelled_sizes z) spelled
+  pub sizes : (z : Sizes) → KeepsSizes z given → KeepsSizes (spelled_sizes z) spelled
   pub arms : ArmsAlone given → ArmsAlone spelled
   pub start : (block_at spelled (first_block spelled)).named ≡ []
   pub charged : CallsCharged given sets spelled
@@ -61,9 +61,9 @@ pub record PassGraphs (parts : List Part) (lowered joined kept spelled : Graph)
     (needed live : List (List ℕ)) (cut : Cut) : Type 0 where
   pub lowering : Lowered parts lowered
   pub joining : Joined lowered joined
-  pub keeping : Kept joined kept
+  pub keeping : ReachedPart joined kept
   pub needing : AreLive kept needed
-  pub spelling : Spelled kept needed spelled
+  pub spelling : CallsSpelled kept needed spelled
   pub living : AreLive spelled live
   pub cutting : IsCut spelled cut
   pub waving : AreWaves spelled cut

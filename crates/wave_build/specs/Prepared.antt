@@ -9,7 +9,7 @@ use Rattle.cfg_core.specs.Shown.{shown_acts, shown_cells, shown_arrays, StaysIns
 use Rattle.cfg_build.specs.Keeps.{arrays_of}
 use Rattle.live_vars.specs.Marks.{AreLive}
 use Rattle.call_gen.specs.Keeps.{HasNoSend}
-use Rattle.wave_build.specs.Passed.{Lowered, Joined, Kept, Spelled}
+use Rattle.wave_build.specs.Passed.{Lowered, Joined, ReachedPart, CallsSpelled}
 
 -- what is outside in a walk of a graph shows this
 pub record Shown (g : Graph) (now o : Outside) : Type 0 where
@@ -46,7 +46,7 @@ pub record Prepared (parts : List Part) (spelled : Graph) : Type 0 where
   pub kept : Graph
   pub needed : List (List ℕ)
   pub begun : Begun parts joined
-  pub keeping : Kept joined kept
+  pub keeping : ReachedPart joined kept
   pub needing : AreLive kept needed
-  pub spelling : Spelled kept needed spelled
+  pub spelling : CallsSpelled kept needed spelled
   pub shows : ShowsProgram parts spelled

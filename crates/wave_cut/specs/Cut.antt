@@ -34,8 +34,8 @@ abbrev pub IsReturnPoint : Graph → ℕ → Type 0
 IsReturnPoint g c = (b : ℕ) × Returns (block_at g b).exit c
 
 -- a block that begins a wave whatever waves there are
-abbrev pub Begins : Graph → ℕ → Type 0
-Begins g b = IsEntry g b ⊎ (IsHeader g b ⊎ IsReturnPoint g b)
+abbrev pub BeginsWave : Graph → ℕ → Type 0
+BeginsWave g b = IsEntry g b ⊎ (IsHeader g b ⊎ IsReturnPoint g b)
 
 -- edges from blocks of two waves lead to block b
 abbrev pub Joins : Graph → Cut → ℕ → Type 0
@@ -47,7 +47,7 @@ Unentered g b = (p : ℕ) → Edge g p b → ⊥
 -- The rule: a wave begins at a procedure's entry, a loop's header, a return point, a block that no edge
 -- enters, and a join of waves, and nowhere else.
 abbrev pub Rule : Graph → Cut → ℕ → Type 0
-Rule g cut b = (is_first cut b ≡ true) ↔ (Begins g b ⊎ (Unentered g b ⊎ Joins g cut b))
+Rule g cut b = (is_first cut b ≡ true) ↔ (BeginsWave g b ⊎ (Unentered g b ⊎ Joins g cut b))
 
 -- an edge to a block that isn't the first one of its wave
 abbrev pub Inside : Graph → Cut → ℕ → ℕ → Type 0

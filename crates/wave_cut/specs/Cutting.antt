@@ -5,7 +5,7 @@ use Rattle.std.specs.Prelude.{List, [], ◌∷◌, ◌++◌, length, slice_index
 use Rattle.cfg_core.specs.Graph.{Exit, Goto, Branch, Graph, spots}
 use Rattle.cfg_core.specs.Rules.{Leads}
 use Rattle.cfg_core.specs.Edges.{Edge}
-use Rattle.wave_cut.specs.Cut.{Returns, Begins, Unentered}
+use Rattle.wave_cut.specs.Cut.{Returns, BeginsWave, Unentered}
 
 -- a flag that is set
 abbrev pub Set : List Bool → ℕ → Type 0
@@ -25,9 +25,9 @@ Says exit b c = (Leads exit c × (c ≤ b)) ⊎ Returns exit c
 -- what is known of block b by these edges and the waves of the blocks that they come from
 pub record Known (g : Graph) (E : ℕ → ℕ → Type 0) (waves : List ℕ) (b : ℕ) (begins : Bool)
     (from : ℕ) : Type 0 where
-  pub begun : begins ≡ true → Begins g b
+  pub begun : begins ≡ true → BeginsWave g b
       ⊎ ((p : ℕ) × (q : ℕ) × E p b × E q b × (slice_index waves p ≡ slice_index waves q → ⊥))
-  pub free : begins ≡ false → Begins g b → ⊥
+  pub free : begins ≡ false → BeginsWave g b → ⊥
   pub none : begins ≡ false → from ≡ 0 → (p : ℕ) → E p b → ⊥
   pub some : begins ≡ false → (from ≡ 0 → ⊥) → (p : ℕ) × E p b
   pub same : begins ≡ false → (from ≡ 0 → ⊥) → (p : ℕ) → E p b → slice_index waves p ≡ from
@@ -38,14 +38,14 @@ Before g i p b = Edge g p b × (p < i)
 
 -- block b is the first one of its wave
 pub record Heads (g : Graph) (waves heads : List ℕ) (b : ℕ) : Type 0 where
-  pub begins : Begins g b ⊎
+  pub begins : BeginsWave g b ⊎
       (Unentered g b ⊎ ((p : ℕ) × (q : ℕ) × Before g b p b × Before g b q b
       × (slice_index waves p ≡ slice_index waves q → ⊥)))
   pub first : slice_index heads (slice_index waves b - 1) ≡ b
 
 -- block b lies in the wave of the blocks before it
 pub record StaysInWave (g : Graph) (waves heads : List ℕ) (b : ℕ) : Type 0 where
-  pub free : Begins g b → ⊥
+  pub free : BeginsWave g b → ⊥
   pub entered : (p : ℕ) × Edge g p b
   pub same : (p : ℕ) → Edge g p b → (p < b) × (slice_index waves p ≡ slice_index waves b)
   pub not_first : slice_index heads (slice_index waves b - 1) ≡ b → ⊥

@@ -5,7 +5,7 @@ ghost use Rattle.std.specs.Prelude.{◌≡◌, ◌≤◌, ◌<◌, ◌↔◌, �
 ghost use Rattle.cfg_core.specs.Graph.{spots, block_at};
 ghost use Rattle.cfg_core.specs.View as view;
 ghost use Rattle.cfg_core.specs.Shows.{TableIs};
-ghost use Rattle.wave_cut.specs.Cut.{Begins};
+ghost use Rattle.wave_cut.specs.Cut.{BeginsWave};
 ghost use Rattle.wave_cut.specs.Cutting.{Set, Marked, Says};
 ghost use Rattle.ws_words.specs.Items.{In};
 
@@ -21,7 +21,7 @@ pub(crate) fn begins(alloc: Global, table: &GraphTable<'_>) -> Result<Vec<bool>,
         length (spots (view.graph table.now.graph.now))) }
     ensures begins { IfOk result (λ flags.
         (b : ℕ) → b < length (spots (view.graph table.now.graph.now)) →
-        Set flags.items b ↔ Begins (view.graph table.now.graph.now) b) }
+        Set flags.items b ↔ BeginsWave (view.graph table.now.graph.now) b) }
 {
     let count = table.spots.len();
     let mut flags = vec![in alloc; false; count]?;

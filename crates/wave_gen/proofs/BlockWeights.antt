@@ -5,7 +5,7 @@ use Rattle.ws_isa.specs.declared.instr.Op.{Op}
 use Rattle.ws_isa.specs.declared.instr.Op.TheVariants.{Merge, Advance, Send, Halt}
 use Rattle.ws_isa.specs.Image.{ports_of}
 use Rattle.wave_gen.specs.Wire.{Front, Wants, Made, with_wants, emit, gather}
-use Rattle.wave_gen.specs.Plans.{merges, Tail, Leaves, Onto, Either, Lands, Halts, Plan, pulse, operands_of, hung, hang, more, chain, tails_of, end_wants, behind_source, exit_made, body_made, has_front, renew, advances, fronts, operands_needed, plan_at, made_at, starts_at}
+use Rattle.wave_gen.specs.Plans.{merges, Tail, HowLeft, Onto, Either, Lands, Halts, Plan, pulse, operands_of, hung, hang, more, chain, tails_of, end_wants, behind_source, exit_made, body_made, has_front, renew, advances, fronts, operands_needed, plan_at, made_at, starts_at}
 use Rattle.wave_gen.proofs.Planned.{SourceIs, PlansAre}
 use Rattle.wave_gen.proofs.Weights.{total, charge, weights, ItemsBelow}
 use Rattle.wave_gen.proofs.Weighs.{set_out, set_total, emit_charge, rest_charge, gather_charge, make_charge, wire_charge}
@@ -79,7 +79,7 @@ advances_charge n b (x ∷ xs) s =
     omega (arith, i, g)
 
 -- what the instruction weighs by which an edge is chosen, or that ends the walk
-abbrev pub exit_own : Leaves → ℕ
+abbrev pub exit_own : HowLeft → ℕ
 exit_own (Onto c) = 0
 exit_own (Either op from c d) = 7
 exit_own (Lands op from values ls) = 4 + length from
@@ -99,7 +99,7 @@ module _ (width : ℕ) (starts : ℕ → Wants) (n b : ℕ) (p : Plan) where
       let e : weights (chain p.test (more 6 ts)) ≡ 4 * more 6 ts = chain_weight p.test (more 6 ts) in
       omega (arith, few, h, w, e)
 
-  exit_charge : (e : Leaves) → SourceIs e → above (operands_needed e) ≤ n → charge n (exit_made width starts b p e) ≤ charge n (behind_source width starts b p) + exit_own e
+  exit_charge : (e : HowLeft) → SourceIs e → above (operands_needed e) ≤ n → charge n (exit_made width starts b p e) ≤ charge n (behind_source width starts b p) + exit_own e
   exit_charge (Onto c) s l = omega arith
   exit_charge (Either op from c d) s l =
       let u : length from ≡ ports_of op = s.1 in let v = ports_few op in

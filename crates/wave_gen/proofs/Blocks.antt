@@ -4,8 +4,8 @@ use Rattle.std.proofs.lemmas.Bool.{cases_Bool, cases_eq, cases_order, both_ways,
 use Rattle.ws_isa.specs.declared.instr.Op.TheVariants.{Merge, Advance}
 use Rattle.ws_isa.specs.Sound.{HasDest}
 use Rattle.wave_gen.specs.Waits.{Owner}
-use Rattle.wave_gen.specs.Wire.{Spot, Back, Front, dests_of, WiredInstr, Wants, no_wants, Made, emit, wire}
-use Rattle.wave_gen.specs.Plans.{merges, Leaves, Onto, Either, Lands, Halts, Plan, pulse, same_spots, differing, steered, is_among, past, Tail, steers, sends, selected, tails_of, end_wants, behind_source, exit_made, body_made, block_made, has_front, renew, advances, fronts, no_plan, no_made, plan_at, start_of, blocks_from, mades, made_at, starts_at, numbers, begins, owner_of}
+use Rattle.wave_gen.specs.Wire.{Target, Back, Front, dests_of, WiredInstr, Wants, no_wants, Made, emit, wire}
+use Rattle.wave_gen.specs.Plans.{merges, HowLeft, Onto, Either, Lands, Halts, Plan, pulse, same_spots, differing, steered, is_among, past, Tail, steers, sends, selected, tails_of, end_wants, behind_source, exit_made, body_made, block_made, has_front, renew, advances, fronts, no_plan, no_made, plan_at, start_of, blocks_from, mades, made_at, starts_at, numbers, begins, owner_of}
 use Rattle.wave_gen.proofs.Planned.{Needs, Apart, Inner, Outer, EdgesAre, PlanIs}
 use Rattle.ws_isa.proofs.Steps.{first_le}
 use Rattle.wave_gen.proofs.SteeredNames.{or_in}
@@ -43,7 +43,7 @@ numbers_next (n ∷ ms) zero m e = let g : n ≡ m = cc in let z : numbers ms ze
 numbers_next (n ∷ ms) (suc i) m e = let h : numbers ms (suc i) ≡ numbers ms i + length m.code = numbers_next ms i m e in omega arith
 
 -- exits that agree on the wants at their targets
-targets_agree : (s t : ℕ → Wants) → Leaves → Type 0
+targets_agree : (s t : ℕ → Wants) → HowLeft → Type 0
 targets_agree s t (Onto c) = ◌≡◌ {A = Wants} (s c) (t c)
 targets_agree s t (Either op from c d) = ◌≡◌ {A = Wants} (s c) (t c) × ◌≡◌ {A = Wants} (s d) (t d)
 targets_agree s t _ = Unit {0}
@@ -97,21 +97,21 @@ module _ (width : ℕ) (ps : List Plan) where
   start_same b c l (inr o) = rw o.first refl
   start_same b c l (inl i) = rw (i.not_first, l.found c i.later) refl
 
-  tails_same : (s t : ℕ → Wants) (x : Leaves) → targets_agree s t x → tails_of width s x ≡ tails_of width t x
+  tails_same : (s t : ℕ → Wants) (x : HowLeft) → targets_agree s t x → tails_of width s x ≡ tails_of width t x
   unfolding targets_agree
   tails_same s t (Onto c) a = refl
   tails_same s t (Either op from c d) a = ap (λ (w : Wants). steers w (s d) (steered width w (s d))) a.0 ∙ ap (λ (w : Wants). steers (t c) w (steered width (t c) w)) a.1
   tails_same s t (Lands op from values ls) a = refl
   tails_same s t Halts a = refl
 
-  end_same : (s t : ℕ → Wants) (x : Leaves) → targets_agree s t x → ◌≡◌ {A = Wants} (end_wants width s x) (end_wants width t x)
+  end_same : (s t : ℕ → Wants) (x : HowLeft) → targets_agree s t x → ◌≡◌ {A = Wants} (end_wants width s x) (end_wants width t x)
   unfolding targets_agree
   end_same s t (Onto c) a = a
   end_same s t (Either op from c d) a = ap (λ (w : Wants). past (steered width w (s d)) w) a.0 ∙ ap (λ (w : Wants). past (steered width (t c) w) (t c)) a.1
   end_same s t (Lands op from values ls) a = refl
   end_same s t Halts a = refl
 
-  exit_same : (s t : ℕ → Wants) (b : ℕ) (p : Plan) (x : Leaves) → behind_source width s b p ≡ behind_source width t b p → exit_made width s b p x ≡ exit_made width t b p x
+  exit_same : (s t : ℕ → Wants) (b : ℕ) (p : Plan) (x : HowLeft) → behind_source width s b p ≡ behind_source width t b p → exit_made width s b p x ≡ exit_made width t b p x
   exit_same s t b p (Onto c) e = e
   exit_same s t b p (Either op from c d) e = rw e refl
   exit_same s t b p (Lands op from values ls) e = rw e refl
@@ -124,7 +124,7 @@ module _ (width : ℕ) (ps : List Plan) where
   block_same s t b p a = let e : exit_made width s b p p.exit ≡ exit_made width t b p p.exit = exit_same s t b p p.exit (behind_same s t b p a) in
       ap (λ (m : Made). cond p.first (advances b p.entries (renew b p.entries (wire b p.items m))) (cond (merges p (wire b p.items m)) (emit b pulse Merge (pulse ∷ []) (wire b p.items m)) (wire b p.items m))) e
 
-  laid_agree : (b : ℕ) (l : Laid b) (x : Leaves) → EdgesAre ps b x → targets_agree (start_of ps (suc b) l.later) (starts_at width ps) x
+  laid_agree : (b : ℕ) (l : Laid b) (x : HowLeft) → EdgesAre ps b x → targets_agree (start_of ps (suc b) l.later) (starts_at width ps) x
   unfolding targets_agree
   laid_agree b l (Onto c) e = start_same b c l e
   laid_agree b l (Either op from c d) e = (start_same b c l (inl e.0), start_same b d l (inl e.1))
@@ -181,7 +181,7 @@ module _ (width : ℕ) (ps : List Plan) where
   helds_sends p [] = refl
   helds_sends p (x ∷ xs) = ap (λ (r : List ℕ). x ∷ r) (helds_sends (suc p) xs)
 
-  pub nil_or : (l : List Spot) → (l ≡ []) ⊎ (l ≡ [] → ⊥)
+  pub nil_or : (l : List Target) → (l ≡ []) ⊎ (l ≡ [] → ⊥)
   nil_or [] = inl refl
   nil_or (p ∷ l) = inr (λ e. cc)
 
@@ -209,12 +209,12 @@ module _ (width : ℕ) (ps : List Plan) where
   exit_wanted : (Live : ℕ → ℕ → Type 0) (b : ℕ) (p : Plan) (x : ℕ) → ((c y : ℕ) → Inner ps b c ⊎ Outer ps c → Wanted (S c) y → Live c y) → EdgesAre ps b p.exit → Wanted (exit_made width S b p p.exit).wants x → Needs Live p.test p.exit x
   exit_wanted Live b p x live e h = go p.exit refl e h
     where
-      behind : (l : Leaves) → p.exit ≡ l → Wanted (behind_source width S b p).wants x → (x ≡ p.test) ⊎ (In x (helds (tails_of width S l)) ⊎ Wanted (end_wants width S l) x)
-      behind l q g = subst (λ (m : Leaves). (x ≡ p.test) ⊎ (In x (helds (tails_of width S m)) ⊎ Wanted (end_wants width S m) x)) q
+      behind : (l : HowLeft) → p.exit ≡ l → Wanted (behind_source width S b p).wants x → (x ≡ p.test) ⊎ (In x (helds (tails_of width S l)) ⊎ Wanted (end_wants width S l) x)
+      behind l q g = subst (λ (m : HowLeft). (x ≡ p.test) ⊎ (In x (helds (tails_of width S m)) ⊎ Wanted (end_wants width S m) x)) q
           (selected_wanted b p.test (tails_of width S p.exit) (end_wants width S p.exit) x g)
 
-      bare : (l : Leaves) → p.exit ≡ l → Wanted (behind_source width S b p).wants x → Wanted (selected b p.test (tails_of width S l) (end_wants width S l)).wants x
-      bare l q g = subst (λ (m : Leaves). Wanted (selected b p.test (tails_of width S m) (end_wants width S m)).wants x) q g
+      bare : (l : HowLeft) → p.exit ≡ l → Wanted (behind_source width S b p).wants x → Wanted (selected b p.test (tails_of width S l) (end_wants width S l)).wants x
+      bare l q g = subst (λ (m : HowLeft). Wanted (selected b p.test (tails_of width S m) (end_wants width S m)).wants x) q g
 
       either : (c d : ℕ) → Inner ps b c → Inner ps b d → (y : ℕ) → y ≡ x → In x (steered width (S c) (S d)) ⊎ Wanted (past (steered width (S c) (S d)) (S c)) x → (x ≡ pulse) ⊎ (Live c x ⊎ Live d x)
       either c d i j y f (inl k) = elim (steered_wanted (S c) (S d) x k) [
@@ -223,7 +223,7 @@ module _ (width : ℕ) (ps : List Plan) where
       ]
       either c d i j y f (inr k) = inr (inl (live c x (inl i) (past_wanted (steered width (S c) (S d)) (S c) x k).1))
 
-      go : (l : Leaves) → p.exit ≡ l → EdgesAre ps b l → Wanted (exit_made width S b p l).wants x → Needs Live p.test l x
+      go : (l : HowLeft) → p.exit ≡ l → EdgesAre ps b l → Wanted (exit_made width S b p l).wants x → Needs Live p.test l x
       go (Onto c) q e g = live c x e (bare (Onto c) q g)
       go (Either op from c d) q e g = elim (make_wanted b p.test op from (behind_source width S b p) x g) [
         | inl i ↦ inl i
@@ -259,7 +259,7 @@ module _ (width : ℕ) (ps : List Plan) where
       (wire_wanted b p.items (exit_made width S b p p.exit) x h))
 
   -- wants that lie ahead of a number lie ahead of a lower one
-  ahead_low : (Fn : ℕ → ℕ → Type 0) (k l : ℕ) (p : Spot) → l ≤ k → Ahead F Fn k p → Ahead F Fn l p
+  ahead_low : (Fn : ℕ → ℕ → Type 0) (k l : ℕ) (p : Target) → l ≤ k → Ahead F Fn k p → Ahead F Fn l p
   ahead_low Fn k l (Back c r q) m a = let z : k ≤ F (suc c) - suc r = a in omega arith
   ahead_low Fn k l (Front c i) m a = a
 
@@ -275,13 +275,13 @@ module _ (width : ℕ) (ps : List Plan) where
     apart = λ x y j q h g. c.apart x y j q (sub x j q h) (sub y j q g);
     once = λ x. elim (past_is xs w x) [ inl e ↦ rw e tt | inr e ↦ rw e (c.once x) ];
     few = λ x h. c.few x (past_wanted xs w x h).1;
-    ahead = λ x p h. elim (past_is xs w x) [ inl e ↦ absurd (subst (λ (l : List Spot). In p l) e h) | inr e ↦ c.ahead x p (subst (λ (l : List Spot). In p l) e h) ];
+    ahead = λ x p h. elim (past_is xs w x) [ inl e ↦ absurd (subst (λ (l : List Target). In p l) e h) | inr e ↦ c.ahead x p (subst (λ (l : List Target). In p l) e h) ];
   }
     where
       sub : (x j q : ℕ) → HasDest (dests_of F (past xs w x)) j q → HasDest (dests_of F (w x)) j q
       sub x j q h = elim (past_is xs w x) [
-        | inl e ↦ absurd (subst (λ (l : List Spot). HasDest (dests_of F l) j q) e h)
-        | inr e ↦ subst (λ (l : List Spot). HasDest (dests_of F l) j q) e h
+        | inl e ↦ absurd (subst (λ (l : List Target). HasDest (dests_of F l) j q) e h)
+        | inr e ↦ subst (λ (l : List Target). HasDest (dests_of F l) j q) e h
       ]
 
   pub none_clean : (Fn : ℕ → ℕ → Type 0) (k : ℕ) → Clean F Fn k width no_wants
@@ -295,7 +295,7 @@ module _ (width : ℕ) (ps : List Plan) where
       pub clean : (k : ℕ) → k ≤ F b → Clean F Fine k width (S b)
       pub spare : (plan_at ps b).first ≡ true → (x : ℕ) → (In x (plan_at ps b).entries → ⊥) → (made_at width ps b).wants x ≡ []
       -- an advance sends to no entry of its block
-      pub bars : (plan_at ps b).first ≡ true → (i : ℕ) (l : WiredInstr) → i < length (plan_at ps b).entries → nth (made_at width ps b).code i ≡ Some l → (q : Spot) → In q l.dests → Ahead F (FineAt b) (F b + length (plan_at ps b).entries) q
+      pub bars : (plan_at ps b).first ≡ true → (i : ℕ) (l : WiredInstr) → i < length (plan_at ps b).entries → nth (made_at width ps b).code i ≡ Some l → (q : Target) → In q l.dests → Ahead F (FineAt b) (F b + length (plan_at ps b).entries) q
 
     outer_is : (c : ℕ) → Outer ps c → Is c
     outer_is c o = (o.some, o.there)
@@ -326,7 +326,7 @@ module _ (width : ℕ) (ps : List Plan) where
       pub end_clean : Clean F Fine (F (suc b)) width (E b)
       end_clean = go (plan_at ps b).exit (plans b h).edges
         where
-          go : (x : Leaves) → EdgesAre ps b x → Clean F Fine (F (suc b)) width (end_wants width S x)
+          go : (x : HowLeft) → EdgesAre ps b x → Clean F Fine (F (suc b)) width (end_wants width S x)
           go (Onto c) e = target_clean c e
           go (Either op from c d) e = past_clean Fine (F (suc b)) (steered width (S c) (S d)) (S c) (target_clean c (inl e.0))
           go (Lands op from values ls) e = none_clean Fine (F (suc b))
@@ -403,7 +403,7 @@ module _ (width : ℕ) (ps : List Plan) where
         facts_inner : Facts b
         facts_inner = record { inv = fine_at; live = live_inner; clean = clean_inner; spare = λ f x n. absurd (both_ways (plan_at ps b).first not_first f); bars = λ f i l u e q a. absurd (both_ways (plan_at ps b).first not_first f) }
           where
-            at_spot : (q : Spot) → Ahead F Fine (F b) q → Ahead F (FineAt b) (F b) q
+            at_spot : (q : Target) → Ahead F Fine (F b) q → Ahead F (FineAt b) (F b) q
             at_spot (Back c r i) a = a
             at_spot (Front c i) a = (a, λ e. absurd (both_ways (plan_at ps b).first not_first e))
 
@@ -455,8 +455,8 @@ module _ (width : ℕ) (ps : List Plan) where
         unfolding core
         core_renewed x i = renewed b (plan_at ps b).entries (body_made width S b (plan_at ps b)) x i
 
-        spot_wanted : (w : Wants) (x : ℕ) (q : Spot) → In q (w x) → Wanted w x
-        spot_wanted w x q i e = subst (λ (l : List Spot). In q l) e i
+        spot_wanted : (w : Wants) (x : ℕ) (q : Target) → In q (w x) → Wanted w x
+        spot_wanted w x q i e = subst (λ (l : List Target). In q l) e i
 
         core_inv : Inv F b (O b) (FineAt b) (F b + length (plan_at ps b).entries) core
         core_inv =
@@ -465,7 +465,7 @@ module _ (width : ℕ) (ps : List Plan) where
             let v : Inv F b (O b) Fine (F b + length (plan_at ps b).entries) core = subst (λ (k : ℕ). Inv F b (O b) Fine k core) z (core_good (omega arith)) in
             record { at = v.at; has = v.has; all = v.all; once = v.once; ahead = λ x q a. at_spot x q a (v.ahead x q a); lines = v.lines }
           where
-            at_spot : (x : ℕ) (q : Spot) → In q (core.wants x) → Ahead F Fine (F b + length (plan_at ps b).entries) q → Ahead F (FineAt b) (F b + length (plan_at ps b).entries) q
+            at_spot : (x : ℕ) (q : Target) → In q (core.wants x) → Ahead F Fine (F b + length (plan_at ps b).entries) q → Ahead F (FineAt b) (F b + length (plan_at ps b).entries) q
             at_spot x (Back c r i) a f = f
             at_spot x (Front c i) a f = (f, λ e g. no_front b (core.wants x) i (core_renewed x (core_wanted x (spot_wanted core.wants x (Front c i) a))) (subst (λ (z : ℕ). In (Front z i) (core.wants x)) g a))
 
@@ -493,11 +493,11 @@ module _ (width : ℕ) (ps : List Plan) where
           bars = λ f i l u e q a. bar (plan_at ps b).entries i l u (plans b h).entries_apart (ap (λ (m : Made). nth m.code i) (sym made_outer) ∙ e) q a;
         }
           where
-            bar : (ys : List ℕ) (i : ℕ) (l : WiredInstr) → i < length ys → Apart ys → nth (advances b ys core).code i ≡ Some l → (q : Spot) → In q l.dests → Ahead F (FineAt b) (F b + length (plan_at ps b).entries) q
+            bar : (ys : List ℕ) (i : ℕ) (l : WiredInstr) → i < length ys → Apart ys → nth (advances b ys core).code i ≡ Some l → (q : Target) → In q l.dests → Ahead F (FineAt b) (F b + length (plan_at ps b).entries) q
             bar [] i l u a e q k = absurd (omega arith)
             bar (y ∷ ys) zero l u a e q k =
                 let g : record { op = Advance; dests = (advances b ys core).wants y; others = [] } ≡ l = cc in
-                core_inv.ahead y q (subst (λ (d : List Spot). In q d) (ap (λ (m : WiredInstr). m.dests) (sym g) ∙ advances_other b ys core y a.0) k)
+                core_inv.ahead y q (subst (λ (d : List Target). In q d) (ap (λ (m : WiredInstr). m.dests) (sym g) ∙ advances_other b ys core y a.0) k)
             bar (y ∷ ys) (suc i) l u a e q k = bar ys i l (omega arith) a.1 e q k
 
       facts_here : Facts b

@@ -3,7 +3,7 @@ use Rattle.std.proofs.Common.{ℕ, zero, suc, ◌+◌, ◌*◌, ◌≡◌, ◌<�
 use Rattle.std.proofs.lemmas.Bool.{cases_Bool, both_ways, cond-true, cond-false}
 use Rattle.std.specs.List.{sum_by}
 use Rattle.std.proofs.lemmas.List.Sums.{sum_by-cons}
-use Rattle.ws_words.specs.Outside.{Outside, State, World}
+use Rattle.ws_words.specs.Outside.{Outside, ProcState, World}
 use Rattle.ws_isa.specs.Image.{Image, Array, first_number, stops, target}
 use Rattle.ws_isa.specs.Walk.{opening_memory, CostAtMost}
 use Rattle.ws_isa.proofs.Ending.{over_is_whole}
@@ -11,11 +11,11 @@ use Rattle.wave_link.specs.Passed.{blocks_left}
 use Rattle.cfg_core.specs.Graph as graph
 use Rattle.cfg_core.specs.Graph.{Term, Graph, spots, spot_at, block_at}
 use Rattle.cfg_core.specs.Rules.{ExitIn}
-use Rattle.cfg_core.specs.Walk.{Outcome, Done, Out, run_ops, Config, At, Over, Going, passed, step, walk, opening}
+use Rattle.cfg_core.specs.Walk.{OpsOutcome, Done, Out, run_ops, Config, At, Over, Going, passed, step, walk, opening}
 use Rattle.cfg_core.specs.Weights.{block_left, path}
 use Rattle.wave_cut.specs.Cut.{Cut, is_first}
 use Rattle.wave_gen.specs.Waits.{Code, count, names_at, chosen, RunPlace, pass, places}
-use Rattle.wave_gen.specs.Plans.{Leaves, Plan, pulse, tails_of, end_wants, steered, plan_at, made_at, starts_at, begins, draft_of, code_of}
+use Rattle.wave_gen.specs.Plans.{HowLeft, Plan, pulse, tails_of, end_wants, steered, plan_at, made_at, starts_at, begins, draft_of, code_of}
 use Rattle.wave_gen.specs.Gen.{gen_term, gen_ops}
 use Rattle.wave_gen.specs.Drawn.{gen_terms}
 use Rattle.wave_gen.specs.Listing.{gen_exit, entries_of, listing, index_of, place_of, width_of, plans_of, needed, nothing_zeroed, graph_draft}
@@ -96,7 +96,7 @@ module _ (g : Graph) (arrays : List Array) (width : ℕ) (ps : List Plan) (live 
       gone : RunPlace
       gone = record { over = false; block = target I p.block (chosen I C p.block (names_at C p).env); env = C.next p.block (chosen I C p.block (names_at C p).env) (names_at C p).env; out = (names_at C p).out; fired = p.fired + count (C.steps p.block) }
 
-  tied_at : (p : RunPlace) (c : Config) → Ties p c → (b : ℕ) (st : State) (frames : List _) (k : ℕ) → c ≡ At b st frames k → (p.over ≡ false) × (p.block ≡ place b)
+  tied_at : (p : RunPlace) (c : Config) → Ties p c → (b : ℕ) (st : ProcState) (frames : List _) (k : ℕ) → c ≡ At b st frames k → (p.over ≡ false) × (p.block ≡ place b)
   tied_at p c (at_block b' st' j a) b st frames k e = let z : At b' st' [] j ≡ At b st frames k = e in let q : b' ≡ b = cc in (a.stands.over, a.stands.block ∙ ap place q)
   tied_at p c (at_end o j x y) b st frames k e = absurd (let z : Over o j ≡ At b st frames k = e in cc)
   tied_at p c (out_of_turns o) b st frames k e = absurd (let z : Going o ≡ At b st frames k = e in cc)
@@ -107,7 +107,7 @@ module _ (g : Graph) (arrays : List Array) (width : ℕ) (ps : List Plan) (live 
   tied_over p c (out_of_turns o') o k e = absurd (let z : Going o' ≡ Over o k = e in cc)
 
   -- a block is paid for by its weight and by what is wanted behind it
-  one_block : (b : ℕ) (st : State) (p : RunPlace) → AtBlock arrays width ps (λ b x. live b x ≡ true) d.plans g d.rules place zeroed d.drawn b st p → (c : Config) (l : ℕ) → Ties (after p) c → paced.Leaves c l → 4 * (after p).fired + total (starts_at width ps (place b)) n ≤ 4 * p.fired + weight b + wanted c
+  one_block : (b : ℕ) (st : ProcState) (p : RunPlace) → AtBlock arrays width ps (λ b x. live b x ≡ true) d.plans g d.rules place zeroed d.drawn b st p → (c : Config) (l : ℕ) → Ties (after p) c → paced.Leaves c l → 4 * (after p).fired + total (starts_at width ps (place b)) n ≤ 4 * p.fired + weight b + wanted c
   one_block b st p a c l t leaves =
       let h : (1 ≤ place b) × (place b ≤ length ps) = a.stands.there in
       let q : after p ≡ pass I C p = cond-false p.over p (pass I C p) a.stands.over in
@@ -157,7 +157,7 @@ module _ (g : Graph) (arrays : List Array) (width : ℕ) (ps : List Plan) (live 
           let y : sum_by weight (path g (suc m) (At b st [] j)) ≡ weight b + sum_by weight (path g m (step g (At b st [] j))) = ap (λ (r : List ℕ). sum_by weight (r ++ path g m (step g (At b st [] j)))) q ∙ sum_by-cons weight b (path g m (step g (At b st [] j))) in
           omega (arith, w, i, y)
 
-      go : (r : Outcome) → run_ops (block_at g b).ops st j ≡ r → Ties (after p) (step g (At b st [] j)) → 4 * (afters m (after p)).fired + wanted (step g (At b st [] j)) ≤ 4 * (after p).fired + sum_by weight (path g m (step g (At b st [] j))) →
+      go : (r : OpsOutcome) → run_ops (block_at g b).ops st j ≡ r → Ties (after p) (step g (At b st [] j)) → 4 * (afters m (after p)).fired + wanted (step g (At b st [] j)) ≤ 4 * (after p).fired + sum_by weight (path g m (step g (At b st [] j))) →
           4 * (afters (suc m) p).fired + wanted (At b st [] j) ≤ 4 * p.fired + sum_by weight (path g (suc m) (At b st [] j))
       go (Out q) r s i = absurd (walk_going g m q o k (ap (λ z. walk g m (passed g z (block_at g b).exit [])) (sym r) ∙ e))
       go (Done u l) r s i = on l s (subst (λ z. paced.Leaves (passed g z (block_at g b).exit []) l) (sym r) (exit_leaves g (block_at g b).exit u [] l)) i

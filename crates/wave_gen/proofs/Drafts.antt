@@ -6,9 +6,9 @@ use Rattle.ws_isa.specs.declared.instr.Op.TheVariants.{Merge, Advance, Halt, Ste
 use Rattle.ws_isa.specs.declared.instr.Dest.{Dest}
 use Rattle.ws_isa.specs.Image.{Image, Instr, Array, instr_at, first_number, now_dests, now_of, is_advance, is_advance_op, IsIn}
 use Rattle.ws_isa.specs.Sound.{HasDest}
-use Rattle.wave_gen.specs.Waits.{Distinct, Owner, Step, Fires, Rests, Skips, Copies, Stands}
-use Rattle.wave_gen.specs.Wire.{Spot, Back, Front, dest_of, dests_of, WiredInstr, Wants, Made, emit, rest, with_rooms, make, Item, Make, Act, Same}
-use Rattle.wave_gen.specs.Plans.{merges, Leaves, Onto, Either, Lands, Halts, Plan, pulse, Tail, TailAt, steers, sends, steered, hang, selected, tails_of, end_wants, behind_source, exit_made, body_made, renew, advances, plan_at, made_at, starts_at, begins, owner_of, instr_of, draft_of, source_of, operands_needed, chooses, KeptOf}
+use Rattle.wave_gen.specs.Waits.{DistinctDests, Owner, Step, Fires, Rests, Skips, Copies, Stands}
+use Rattle.wave_gen.specs.Wire.{Target, Back, Front, dest_of, dests_of, WiredInstr, Wants, Made, emit, rest, with_rooms, make, Item, Make, Act, Same}
+use Rattle.wave_gen.specs.Plans.{merges, HowLeft, Onto, Either, Lands, Halts, Plan, pulse, Tail, TailAt, steers, sends, steered, hang, selected, tails_of, end_wants, behind_source, exit_made, body_made, renew, advances, plan_at, made_at, starts_at, begins, owner_of, instr_of, draft_of, source_of, operands_needed, chooses, KeptOf}
 use Rattle.wave_gen.proofs.Planned.{is_act_op, ItemsAre, SourceIs, PlanIs}
 use Rattle.wave_gen.proofs.Wiring.{Ahead, CodeOk, spot_of}
 use Rattle.wave_gen.proofs.Keeping.{KeptOk, KeptAt, Body, wire_body, renew_body, advances_body, merge_body, act_body, AllHold, hang_count, from_src, rooms_chain, selected_chain, source_body}
@@ -26,7 +26,7 @@ hold_sends : (p : ℕ) (xs : List ℕ) → AllHold (sends p xs)
 hold_sends p [] = tt
 hold_sends p (x ∷ xs) = (record { gives = λ z. (refl, λ env. refl) }, hold_sends (suc p) xs)
 
-hold_tails : (width : ℕ) (starts : ℕ → Wants) (e : Leaves) → AllHold (tails_of width starts e)
+hold_tails : (width : ℕ) (starts : ℕ → Wants) (e : HowLeft) → AllHold (tails_of width starts e)
 hold_tails width starts (Onto c) = tt
 hold_tails width starts (Either op from c d) = hold_steers (starts c) (starts d) (steered width (starts c) (starts d))
 hold_tails width starts (Lands op from values ls) = hold_sends 0 values
@@ -42,14 +42,14 @@ sends_kind P h p [] = tt
 sends_kind P h p (x ∷ xs) = (h p, sends_kind P h (suc p) xs)
 
 -- the operations of an exit are of this kind
-abbrev pub Kind : (Op → Type 0) → Leaves → Type 0
+abbrev pub Kind : (Op → Type 0) → HowLeft → Type 0
 Kind P (Onto c) = Unit {0}
 Kind P (Either op from c d) = P op × P Steer
 Kind P (Lands op from values ls) = P op × ((p : ℕ) → P (Send p))
 Kind P Halts = P Halt
 
 module _ (P : Op → Type 0) (merge : P Merge) (width : ℕ) (starts : ℕ → Wants) (b : ℕ) (p : Plan) where
-  tails_kind : (e : Leaves) → Kind P e → Tails P (tails_of width starts e)
+  tails_kind : (e : HowLeft) → Kind P e → Tails P (tails_of width starts e)
   tails_kind (Onto c) k = tt
   tails_kind (Either op from c d) k = steers_kind P k.1 (starts c) (starts d) (steered width (starts c) (starts d))
   tails_kind (Lands op from values ls) k = sends_kind P k.1 0 values
@@ -59,7 +59,7 @@ module _ (P : Op → Type 0) (merge : P Merge) (width : ℕ) (starts : ℕ → W
   behind_lines k = (selected_more P merge b p.test (tails_of width starts p.exit) (end_wants width starts p.exit)).lines
       (hang_lines P merge b 6 p.test (tails_of width starts p.exit) (end_wants width starts p.exit) (tails_kind p.exit k))
 
-  exit_lines : (e : Leaves) → Kind P e → Lines P (behind_source width starts b p).code → Lines P (exit_made width starts b p e).code
+  exit_lines : (e : HowLeft) → Kind P e → Lines P (behind_source width starts b p).code → Lines P (exit_made width starts b p e).code
   exit_lines (Onto c) k l = l
   exit_lines (Either op from c d) k l = (make_more P merge b p.test op from (behind_source width starts b p) k.0).lines l
   exit_lines (Lands op from values ls) k l = (make_more P merge b p.test op from (behind_source width starts b p) k.0).lines l
@@ -85,7 +85,7 @@ items_no_advance (Make x op from ∷ is) h = (h.0.0.1, items_no_advance is h.1)
 items_no_advance (Act op from ∷ is) h = (act_no_advance op h.0.1, items_no_advance is h.1)
 items_no_advance (Same x y ∷ is) h = items_no_advance is h.1
 
-exit_no_advance : (e : Leaves) → SourceIs e → Kind NoAdvance e
+exit_no_advance : (e : HowLeft) → SourceIs e → Kind NoAdvance e
 exit_no_advance (Onto c) s = tt
 exit_no_advance (Either op from c d) s = (s.0.1, refl)
 exit_no_advance (Lands op from values ls) s = (s.0.1, λ p. refl)
@@ -115,7 +115,7 @@ module _ (image : Image) (first : ℕ → ℕ) (b : ℕ) (o : Owner) (K : ℕ �
       ports = c.0.ports;
       lists = λ j q h. c.0.lists j q (subst (λ (ds : List Dest). HasDest ds j q) dests_here h);
       lists_all = λ j q e. subst (λ (ds : List Dest). HasDest ds j q) (sym dests_here) (c.0.lists_all j q e);
-      once = subst Distinct (sym dests_here) c.0.once;
+      once = subst DistinctDests (sym dests_here) c.0.once;
       fresh = c.0.fresh;
       back = λ j q h a i. (let r : j ≤ k + 0 = back 0 j q l refl (subst (λ (ds : List Dest). HasDest ds j q) dests_here h) a i in omega arith);
       kept = t.0;
@@ -274,7 +274,7 @@ module _ (arrays : List Array) (width : ℕ) (ps : List Plan) (Live : ℕ → �
     abbrev Any : Op → Type 0
     Any op = Unit {0}
 
-    any_tails : (e : Leaves) → Kind Any e
+    any_tails : (e : HowLeft) → Kind Any e
     any_tails (Onto c) = tt
     any_tails (Either op from c d) = (tt, tt)
     any_tails (Lands op from values ls) = (tt, λ p. tt)
@@ -395,7 +395,7 @@ module _ (arrays : List Array) (width : ℕ) (ps : List Plan) (Live : ℕ → �
         halting c t e = whole_body (F (suc b)) (λ m i k. absurd (none_read c t m i k)) (subst (λ (s : Made). Body K (F (suc b)) (F (suc b)) (λ m i k. absurd (none_read c t m i k)) s) (sym e)
             (act_body K (F (suc b)) (F (suc b)) (λ m i k. absurd (none_read c t m i k)) b (record { op = Halt; dests = []; others = [] }) (pulse ∷ []) (behind_source width S b (plan_at ps b)) (bare_body c t)))
 
-        go : (e : Leaves) → (plan_at ps b).exit ≡ e → KeptAt K (F (suc b)) (made_at width ps b)
+        go : (e : HowLeft) → (plan_at ps b).exit ≡ e → KeptAt K (F (suc b)) (made_at width ps b)
         go (Onto c) q = bare (ap chooses q) (ap (tails_of width S) q) (ap (exit_made width S b (plan_at ps b)) q)
         go Halts q = halting (ap chooses q) (ap (tails_of width S) q) (ap (exit_made width S b (plan_at ps b)) q)
         go (Either op from c d) q = whole_body (source_of width ps b) (low_source op from (ap operands_needed q) (ap chooses q) (ap (exit_made width S b (plan_at ps b)) q)) (chosen_body op from (ap operands_needed q) (ap chooses q) (ap (exit_made width S b (plan_at ps b)) q))
@@ -422,7 +422,7 @@ module _ (arrays : List Array) (width : ℕ) (ps : List Plan) (Live : ℕ → �
       | inl u ↦ absurd (away (spot_of F l.dests j q d).spot (spot_of F l.dests j q d).instr (fact.bars (advance_front j inn a).0 i l u e (spot_of F l.dests j q d).spot (spot_of F l.dests j q d).inside))
     ]
       where
-        away : (s : Spot) → (dest_of F s).instr ≡ j → Ahead F (FineAt width ps b) (F b + length (plan_at ps b).entries) s → ⊥
+        away : (s : Target) → (dest_of F s).instr ≡ j → Ahead F (FineAt width ps b) (F b + length (plan_at ps b).entries) s → ⊥
         away (Back c r k) g f = let lt : j < F b + length (plan_at ps b).entries = (advance_front j inn a).1 in let z : F b + length (plan_at ps b).entries ≤ F (suc c) - suc r = f in let y : F (suc c) - suc r ≡ j = g in omega arith
         away (Front c k) g f = let r = inside j inn in entry_away c k j f.0 (f.1 (advance_front j inn a).0) g r.0 r.1
 

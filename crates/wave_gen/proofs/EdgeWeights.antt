@@ -2,9 +2,9 @@
 use Rattle.std.proofs.Common.{ℕ, zero, suc, ◌+◌, ◌≡◌, ◌<◌, ◌≤◌, ◌⊎◌, ◌||◌, Bool, true, false, cond, eqb, List, [], ◌∷◌, length, refl, sym, ap, ◌∙◌, subst, inl, inr, arith, eq-eqb}
 use Rattle.std.proofs.lemmas.Bool.{cases_Bool, cases_lt, cases_eq, both_ways, cond-true, cond-false}
 use Rattle.ws_isa.specs.Image.{Image, Array, is_stop, stops, target}
-use Rattle.wave_gen.specs.Wire.{Spot, Wants}
+use Rattle.wave_gen.specs.Wire.{Target, Wants}
 use Rattle.wave_gen.specs.Words.{live_from}
-use Rattle.wave_gen.specs.Plans.{Leaves, Onto, Either, Lands, Halts, Plan, same_spot, same_spots, differing, steered, is_among, past, steers, sends, end_wants, plan_at, starts_at, exit_of, source_of, draft_of}
+use Rattle.wave_gen.specs.Plans.{HowLeft, Onto, Either, Lands, Halts, Plan, same_spot, same_spots, differing, steered, is_among, past, steers, sends, end_wants, plan_at, starts_at, exit_of, source_of, draft_of}
 use Rattle.wave_gen.proofs.SteeredNames.{or_count, or_among}
 use Rattle.wave_gen.proofs.Planned.{PlansAre, EdgesAre, Inner}
 use Rattle.wave_gen.proofs.Weights.{total}
@@ -13,7 +13,7 @@ use Rattle.wave_gen.proofs.Edges.{target_is}
 use Rattle.wave_gen.proofs.Waiting.{stops_is}
 use Rattle.ws_words.proofs.Bools.{and_parts as and_both}
 
-nil_or : (l : List Spot) → (l ≡ []) ⊎ (l ≡ [] → ⊥)
+nil_or : (l : List Target) → (l ≡ []) ⊎ (l ≡ [] → ⊥)
 nil_or [] = inl refl
 nil_or (p ∷ l) = inr (λ e. cc)
 
@@ -22,7 +22,7 @@ differing_live : (w v : Wants) (p : ℕ → Bool) → ((y : ℕ) → p y ≡ fal
 differing_live w v p none x zero m past = omega arith
 differing_live w v p none x (suc n) zero past =
     let o = past x (omega arith) in
-    let e : same_spots (w (suc x)) (v (suc x)) ≡ true = ap (λ (r : List Spot). same_spots r (v (suc x))) o.0 ∙ ap (same_spots []) o.1 in
+    let e : same_spots (w (suc x)) (v (suc x)) ≡ true = ap (λ (r : List Target). same_spots r (v (suc x))) o.0 ∙ ap (same_spots []) o.1 in
     let c : length (differing w v (suc x) (suc n)) ≡ length (differing w v (suc (suc x)) n) = ap length (cond-true (same_spots (w (suc x)) (v (suc x))) (differing w v (suc (suc x)) n) (suc x ∷ differing w v (suc (suc x)) n) e) in
     let i : length (differing w v (suc (suc x)) n) ≤ length (live_from p (suc x) 0) = differing_live w v p none (suc x) n 0 (λ y l. past y (omega (arith, l))) in
     omega (arith, c, i)
@@ -41,7 +41,7 @@ differing_live w v p none x (suc n) (suc m) past =
         omega (arith, c, k)
     by_test false e i =
         let o = none x e in
-        let s : same_spots (w (suc x)) (v (suc x)) ≡ true = ap (λ (r : List Spot). same_spots r (v (suc x))) o.0 ∙ ap (same_spots []) o.1 in
+        let s : same_spots (w (suc x)) (v (suc x)) ≡ true = ap (λ (r : List Target). same_spots r (v (suc x))) o.0 ∙ ap (same_spots []) o.1 in
         let d : length (differing w v (suc x) (suc n)) ≡ length (differing w v (suc (suc x)) n) = ap length (cond-true (same_spots (w (suc x)) (v (suc x))) (differing w v (suc (suc x)) n) (suc x ∷ differing w v (suc (suc x)) n) s) in
         let c : length (live_from p x (suc m)) ≡ length (live_from p (suc x) m) = ap length (cond-false (p x) (suc x ∷ live_from p (suc x) m) (live_from p (suc x) m) e) in
         omega (arith, i, d, c)
@@ -66,7 +66,7 @@ sends_count p [] = refl
 sends_count p (x ∷ xs) = ap suc (sends_count (suc p) xs)
 
 -- lists of places that are the same
-same_count : (ps qs : List Spot) → same_spots ps qs ≡ true → length ps ≡ length qs
+same_count : (ps qs : List Target) → same_spots ps qs ≡ true → length ps ≡ length qs
 same_count [] [] e = refl
 same_count (p ∷ ps) (q ∷ qs) e = ap suc (same_count ps qs (and_both (same_spot p q) (same_spots ps qs) e).1)
 same_count [] (q ∷ qs) e = absurd (both_ways false refl e)
@@ -147,10 +147,10 @@ module _ (arrays : List Array) (width : ℕ) (ps : List Plan) (Live : ℕ → �
       arm c d g false = total_least (past (steered width (starts_at width ps c) (starts_at width ps d)) (starts_at width ps c)) (starts_at width ps c) n
           (past_one (steered width (starts_at width ps c) (starts_at width ps d)) (starts_at width ps c))
 
-      to : (e : Leaves) → (plan_at ps b).exit ≡ e → total (end_wants width (starts_at width ps) e) n ≤ total (starts_at width ps (target I b r)) n → total (end_wants width (starts_at width ps) (plan_at ps b).exit) n ≤ total (starts_at width ps (target I b r)) n
-      to e q l = subst (λ (x : Leaves). total (end_wants width (starts_at width ps) x) n ≤ total (starts_at width ps (target I b r)) n) (sym q) l
+      to : (e : HowLeft) → (plan_at ps b).exit ≡ e → total (end_wants width (starts_at width ps) e) n ≤ total (starts_at width ps (target I b r)) n → total (end_wants width (starts_at width ps) (plan_at ps b).exit) n ≤ total (starts_at width ps (target I b r)) n
+      to e q l = subst (λ (x : HowLeft). total (end_wants width (starts_at width ps) x) n ≤ total (starts_at width ps (target I b r)) n) (sym q) l
 
-      go : (e : Leaves) → (plan_at ps b).exit ≡ e → EdgesAre ps b e → total (end_wants width (starts_at width ps) (plan_at ps b).exit) n ≤ total (starts_at width ps (target I b r)) n
+      go : (e : HowLeft) → (plan_at ps b).exit ≡ e → EdgesAre ps b e → total (end_wants width (starts_at width ps) (plan_at ps b).exit) n ≤ total (starts_at width ps (target I b r)) n
       go (Onto c) q g = to (Onto c) q (let t : target I b r ≡ c = target_is arrays width ps Live plans b h (Onto c) q r in
           let z : total (starts_at width ps (target I b r)) n ≡ total (starts_at width ps c) n = ap (λ (x : ℕ). total (starts_at width ps x) n) t in omega (arith, z))
       go (Either op from c d) q g = to (Either op from c d) q (let t : target I b r ≡ cond (eqb r 0) d c = target_is arrays width ps Live plans b h (Either op from c d) q r in
@@ -161,11 +161,11 @@ module _ (arrays : List Array) (width : ℕ) (ps : List Plan) (Live : ℕ → �
   pub ends_stop : (n b : ℕ) → Is b → stops I b ≡ true → total (end_wants width (starts_at width ps) (plan_at ps b).exit) n ≤ 0
   ends_stop n b h s = go (plan_at ps b).exit refl
     where
-      bad : (e : Leaves) → (plan_at ps b).exit ≡ e → is_stop (exit_of (source_of width ps b) e) ≡ false → ⊥
-      bad e q f = both_ways (stops I b) (stops_is arrays width ps Live plans b h ∙ ap (λ (l : Leaves). is_stop (exit_of (source_of width ps b) l)) q ∙ f) s
+      bad : (e : HowLeft) → (plan_at ps b).exit ≡ e → is_stop (exit_of (source_of width ps b) e) ≡ false → ⊥
+      bad e q f = both_ways (stops I b) (stops_is arrays width ps Live plans b h ∙ ap (λ (l : HowLeft). is_stop (exit_of (source_of width ps b) l)) q ∙ f) s
 
-      go : (e : Leaves) → (plan_at ps b).exit ≡ e → total (end_wants width (starts_at width ps) (plan_at ps b).exit) n ≤ 0
+      go : (e : HowLeft) → (plan_at ps b).exit ≡ e → total (end_wants width (starts_at width ps) (plan_at ps b).exit) n ≤ 0
       go (Onto c) q = absurd (bad (Onto c) q refl)
       go (Either op from c d) q = absurd (bad (Either op from c d) q refl)
       go (Lands op from values ls) q = absurd (bad (Lands op from values ls) q refl)
-      go Halts q = subst (λ (x : Leaves). total (end_wants width (starts_at width ps) x) n ≤ 0) (sym q) (total_none n)
+      go Halts q = subst (λ (x : HowLeft). total (end_wants width (starts_at width ps) x) n ≤ 0) (sym q) (total_none n)

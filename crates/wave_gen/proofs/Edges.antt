@@ -7,9 +7,9 @@ use Rattle.ws_isa.specs.declared.instr.Dest.{Dest}
 use Rattle.ws_isa.specs.Image as image
 use Rattle.ws_isa.specs.Image.{Image, Instr, Array, instr_at, block_at, first_number, edge_of, edge_dests, pad_of, leave_to, landing_of, target, IsIn}
 use Rattle.ws_isa.specs.Sound.{HasDest, edge_all, opens_at}
-use Rattle.wave_gen.specs.Waits.{Distinct, Code, starts, Arrives, went_past, was_sent}
-use Rattle.wave_gen.specs.Wire.{Spot, Back, Front, dests_of, WiredInstr, Wants}
-use Rattle.wave_gen.specs.Plans.{Leaves, Onto, Either, Lands, Plan, same_spot, same_spots, differing, steered, is_among, past, Tail, TailAt, steer_of, steers, sends, fronts, plan_at, starts_at, begins, tails_of, end_wants, pads_of, draft_of, code_of, exit_of, source_of, filled, next_of, instr_of}
+use Rattle.wave_gen.specs.Waits.{DistinctDests, Code, starts, Arrives, went_past, was_sent}
+use Rattle.wave_gen.specs.Wire.{Target, Back, Front, dests_of, WiredInstr, Wants}
+use Rattle.wave_gen.specs.Plans.{HowLeft, Onto, Either, Lands, Plan, same_spot, same_spots, differing, steered, is_among, past, Tail, TailAt, steer_of, steers, sends, fronts, plan_at, starts_at, begins, tails_of, end_wants, pads_of, draft_of, code_of, exit_of, source_of, filled, next_of, instr_of}
 use Rattle.wave_gen.proofs.SteeredNames.{or_apart, in_or}
 use Rattle.wave_gen.proofs.Planned.{Apart, AllIn, PadsFit, PlansAre, Outer}
 use Rattle.wave_gen.proofs.Ends.{Clean, owner_has, owner_from}
@@ -31,11 +31,11 @@ edge_none image b r i Steer e = absurd (both_ways true e refl)
 edge_none image b r i (Send p) e = absurd (both_ways true e refl)
 edge_none image b r i _ e = refl
 
-pub empty_distinct : (ds : List Dest) → ((j q : ℕ) → HasDest ds j q → ⊥) → Distinct ds
+pub empty_distinct : (ds : List Dest) → ((j q : ℕ) → HasDest ds j q → ⊥) → DistinctDests ds
 empty_distinct [] n = tt
 empty_distinct (d ∷ ds) n = absurd (n d.instr d.port (inl (refl, refl)))
 
-distinct_append : (ds es : List Dest) → Distinct ds → Distinct es → ((j q : ℕ) → HasDest ds j q → HasDest es j q → ⊥) → Distinct (ds ++ es)
+distinct_append : (ds es : List Dest) → DistinctDests ds → DistinctDests es → ((j q : ℕ) → HasDest ds j q → HasDest es j q → ⊥) → DistinctDests (ds ++ es)
 distinct_append [] es a b n = b
 distinct_append (d ∷ ds) es a b n = (
   (λ h. elim (has_append_cases ds es d.instr d.port h) [ inl g ↦ a.0 g | inr g ↦ n d.instr d.port (inl (refl, refl)) g ]),
@@ -43,8 +43,8 @@ distinct_append (d ∷ ds) es a b n = (
 )
 
 -- lists of the instructions of a block that have nothing in common
-edges_distinct : (image : Image) (b r k n : ℕ) → ((m : ℕ) → k ≤ m → m < k + n → Distinct (edge_dests image b r m)) →
-    ((m l j q : ℕ) → k ≤ m → m < k + n → k ≤ l → l < k + n → HasDest (edge_dests image b r m) j q → HasDest (edge_dests image b r l) j q → m ≡ l) → Distinct (edge_all image b r k n)
+edges_distinct : (image : Image) (b r k n : ℕ) → ((m : ℕ) → k ≤ m → m < k + n → DistinctDests (edge_dests image b r m)) →
+    ((m l j q : ℕ) → k ≤ m → m < k + n → k ≤ l → l < k + n → HasDest (edge_dests image b r m) j q → HasDest (edge_dests image b r l) j q → m ≡ l) → DistinctDests (edge_all image b r k n)
 edges_distinct image b r k zero d s = tt
 edges_distinct image b r k (suc n) d s = distinct_append (edge_dests image b r k) (edge_all image b r (suc k) n) (d k (omega arith) (omega arith))
     (edges_distinct image b r (suc k) n (λ m l u. d m (omega arith) (omega arith)) (λ m l j q a c e f g h. s m l j q (omega arith) (omega arith) (omega arith) (omega arith) g h))
@@ -56,19 +56,19 @@ edges_distinct image b r k (suc n) d s = distinct_append (edge_dests image b r k
         let e : k ≡ f.source = s k f.source j q (omega arith) (omega arith) (omega arith) (omega arith) g f.has in omega arith
 
 -- lists of spots that are told apart
-spot_eq : (p q : Spot) → same_spot p q ≡ true → p ≡ q
+spot_eq : (p q : Target) → same_spot p q ≡ true → p ≡ q
 spot_eq (Back b r i) (Back c s j) e = let a = and_both (eqb b c) (eqb r s && eqb i j) e in let d = and_both (eqb r s) (eqb i j) a.1 in
     ap (λ (x : ℕ). Back x r i) (eqb_is b c a.0) ∙ ap (λ (x : ℕ). Back c x i) (eqb_is r s d.0) ∙ ap (λ (x : ℕ). Back c s x) (eqb_is i j d.1)
 spot_eq (Front b i) (Front c j) e = let a = and_both (eqb b c) (eqb i j) e in ap (λ (x : ℕ). Front x i) (eqb_is b c a.0) ∙ ap (λ (x : ℕ). Front c x) (eqb_is i j a.1)
 spot_eq (Back b r i) (Front c j) e = absurd (both_ways false refl e)
 spot_eq (Front b i) (Back c s j) e = absurd (both_ways false refl e)
 
-spots_eq : (l m : List Spot) → same_spots l m ≡ true → l ≡ m
+spots_eq : (l m : List Target) → same_spots l m ≡ true → l ≡ m
 spots_eq [] [] e = refl
 spots_eq [] (q ∷ m) e = absurd (both_ways false refl e)
 spots_eq (p ∷ l) [] e = absurd (both_ways false refl e)
 spots_eq (p ∷ l) (q ∷ m) e = let a = and_both (same_spot p q) (same_spots l m) e in
-    ap (λ (x : Spot). x ∷ l) (spot_eq p q a.0) ∙ ap (λ (r : List Spot). q ∷ r) (spots_eq l m a.1)
+    ap (λ (x : Target). x ∷ l) (spot_eq p q a.0) ∙ ap (λ (r : List Target). q ∷ r) (spots_eq l m a.1)
 
 pub among_in : (x : ℕ) (xs : List ℕ) → is_among x xs ≡ true → In x xs
 among_in x [] e = absurd (both_ways false refl e)
@@ -180,13 +180,13 @@ module _ (arrays : List Array) (width : ℕ) (ps : List Plan) (Live : ℕ → �
     pub exit_is : (block_at I b).exit ≡ exit_of (source_of width ps b) (plan_at ps b).exit
     exit_is = ap (λ (k : image.Block). k.exit) (block_at_is arrays width ps b h)
 
-    pub target_is : (e : Leaves) → (plan_at ps b).exit ≡ e → (r : ℕ) → target I b r ≡ leave_to (exit_of (source_of width ps b) e) r
+    pub target_is : (e : HowLeft) → (plan_at ps b).exit ≡ e → (r : ℕ) → target I b r ≡ leave_to (exit_of (source_of width ps b) e) r
     unfolding target
     target_is e q r = ap (λ (x : image.Exit). leave_to x r) (exit_is ∙ ap (exit_of (source_of width ps b)) q)
 
-    pub next_is : (e : Leaves) → (plan_at ps b).exit ≡ e → (r x : ℕ) (env : ℕ → ℕ) → C.next b r env x ≡ next_of ps e r env x
+    pub next_is : (e : HowLeft) → (plan_at ps b).exit ≡ e → (r x : ℕ) (env : ℕ → ℕ) → C.next b r env x ≡ next_of ps e r env x
     unfolding code_of
-    next_is e q r x env = ap (λ (l : Leaves). next_of ps l r env x) q
+    next_is e q r x env = ap (λ (l : HowLeft). next_of ps l r env x) q
 
     kept_tail : (m x : ℕ) → TailAt (F (suc b)) m x (tails_of width S (plan_at ps b).exit) → C.Kept b m x
     unfolding code_of
@@ -209,10 +209,10 @@ module _ (arrays : List Array) (width : ℕ) (ps : List Plan) (Live : ℕ → �
     block_size m l u = let a : first_number I b ≤ first_number I (suc b) = next_first I b in omega arith
 
     -- a list of an edge has no repeats
-    one_distinct : (r m : ℕ) → ((j q : ℕ) → HasDest (edge_dests I b r m) j q → Distinct (edge_dests I b r m)) → Distinct (edge_dests I b r m)
+    one_distinct : (r m : ℕ) → ((j q : ℕ) → HasDest (edge_dests I b r m) j q → DistinctDests (edge_dests I b r m)) → DistinctDests (edge_dests I b r m)
     one_distinct r m f = go (edge_dests I b r m) refl
       where
-        go : (l : List Dest) → edge_dests I b r m ≡ l → Distinct (edge_dests I b r m)
+        go : (l : List Dest) → edge_dests I b r m ≡ l → DistinctDests (edge_dests I b r m)
         go [] e = rw e tt
         go (d ∷ ds) e = f d.instr d.port (rw e (inl (refl, refl)))
 
@@ -222,17 +222,17 @@ module _ (arrays : List Array) (width : ℕ) (ps : List Plan) (Live : ℕ → �
       onto_target r = target_is (Onto c) q0 r
 
       end_is : (x : ℕ) → end_wants width S (plan_at ps b).exit x ≡ S c x
-      end_is x = ap (λ (l : Leaves). end_wants width S l x) q0
+      end_is x = ap (λ (l : HowLeft). end_wants width S l x) q0
 
       no_tail : (m : ℕ) → IsTail arrays width ps Live plans.each b h m → ⊥
-      no_tail m t = let e : nth [] t.place ≡ Some t.tail = subst (λ (l : Leaves). nth (tails_of width S l) t.place ≡ Some t.tail) q0 t.at in let z : None ≡ Some t.tail = e in cc
+      no_tail m t = let e : nth [] t.place ≡ Some t.tail = subst (λ (l : HowLeft). nth (tails_of width S l) t.place ≡ Some t.tail) q0 t.at in let z : None ≡ Some t.tail = e in cc
 
       pub onto_arrives : (r j q x : ℕ) → starts I C (target I b r) j q ≡ Some x → Arrives I C b r j q x
-      onto_arrives r j q x e = went_past (ends_has x j q (subst (λ (l : List Spot). HasDest (dests_of F l) j q) (sym (end_is x)) (all c hc x j q (subst (λ (t : ℕ). starts I C t j q ≡ Some x) (onto_target r) e))))
+      onto_arrives r j q x e = went_past (ends_has x j q (subst (λ (l : List Target). HasDest (dests_of F l) j q) (sym (end_is x)) (all c hc x j q (subst (λ (t : ℕ). starts I C t j q ≡ Some x) (onto_target r) e))))
           (λ env. next_is (Onto c) q0 r x env)
 
       pub onto_past : (r j q x : ℕ) → C.ends b j q ≡ Some x → (y : ℕ) × (starts I C (target I b r) j q ≡ Some y)
-      onto_past r j q x e = (x, subst (λ (t : ℕ). starts I C t j q ≡ Some x) (sym (onto_target r)) (has c hc x j q (subst (λ (l : List Spot). HasDest (dests_of F l) j q) (end_is x) (ends_all x j q e))))
+      onto_past r j q x e = (x, subst (λ (t : ℕ). starts I C t j q ≡ Some x) (sym (onto_target r)) (has c hc x j q (subst (λ (l : List Target). HasDest (dests_of F l) j q) (end_is x) (ends_all x j q e))))
 
       pub onto_sent : (r m j q : ℕ) → IsIn I b m → HasDest (edge_dests I b r m) j q → ⊥
       onto_sent r m j q i d = no_tail m (edge_tail r m j q i d)
@@ -259,7 +259,7 @@ module _ (arrays : List Array) (width : ℕ) (ps : List Plan) (Live : ℕ → �
       tails_are = ap (tails_of width S) q0
 
       past_end_is : (x : ℕ) → end_wants width S (plan_at ps b).exit x ≡ past (steered width (S c) (S d)) (S c) x
-      past_end_is x = ap (λ (l : Leaves). end_wants width S l x) q0
+      past_end_is x = ap (λ (l : HowLeft). end_wants width S l x) q0
 
       -- a steer sends to what its arm wants
       steer_sends : (r m x : ℕ) → instr_at I m ≡ instr_of F (steer_of (S c) (S d) x).line → edge_dests I b r m ≡ dests_of F (S (cond (eqb r 0) d c) x)
@@ -281,20 +281,20 @@ module _ (arrays : List Array) (width : ℕ) (ps : List Plan) (Live : ℕ → �
           few x (inr w) = let l : x < width = ((facts width ps Live plans.each d hd).clean 0 (omega arith)).few x w in omega arith
 
       wanted_by : (t x j q : ℕ) → HasDest (dests_of F (S t x)) j q → Wanted (S t) x
-      wanted_by t x j q g e = subst (λ (l : List Spot). HasDest (dests_of F l) j q) e g
+      wanted_by t x j q g e = subst (λ (l : List Target). HasDest (dests_of F l) j q) e g
 
       arm_wants : (r x j q : ℕ) → (In x (steered width (S c) (S d)) → ⊥) → HasDest (dests_of F (S (cond (eqb r 0) d c) x)) j q → HasDest (dests_of F (S c x)) j q
       arm_wants r x j q n g = go (eqb r 0) g
         where
           go : (f : Bool) → HasDest (dests_of F (S (cond f d c) x)) j q → HasDest (dests_of F (S c x)) j q
-          go true k = subst (λ (l : List Spot). HasDest (dests_of F l) j q) (sym (alike x n (inr (wanted_by d x j q k)))) k
+          go true k = subst (λ (l : List Target). HasDest (dests_of F l) j q) (sym (alike x n (inr (wanted_by d x j q k)))) k
           go false k = k
 
       wants_arm : (r x j q : ℕ) → (In x (steered width (S c) (S d)) → ⊥) → HasDest (dests_of F (S c x)) j q → HasDest (dests_of F (S (cond (eqb r 0) d c) x)) j q
       wants_arm r x j q n g = go (eqb r 0)
         where
           go : (f : Bool) → HasDest (dests_of F (S (cond f d c) x)) j q
-          go true = subst (λ (l : List Spot). HasDest (dests_of F l) j q) (alike x n (inl (wanted_by c x j q g))) g
+          go true = subst (λ (l : List Target). HasDest (dests_of F l) j q) (alike x n (inl (wanted_by c x j q g))) g
           go false = g
 
       not_among : (x : ℕ) → (In x (steered width (S c) (S d)) → ⊥) → past (steered width (S c) (S d)) (S c) x ≡ S c x
@@ -306,7 +306,7 @@ module _ (arrays : List Array) (width : ℕ) (ps : List Plan) (Live : ℕ → �
 
       pub either_arrives : (r j q x : ℕ) → starts I C (target I b r) j q ≡ Some x → Arrives I C b r j q x
       either_arrives r j q x e = elim (in_or_not (steered width (S c) (S d)) x) [
-        | inr n ↦ went_past (ends_has x j q (subst (λ (l : List Spot). HasDest (dests_of F l) j q) (sym (past_end_is x ∙ not_among x n)) (arm_wants r x j q n at_arm))) (λ env. next_is (Either op from c d) q0 r x env)
+        | inr n ↦ went_past (ends_has x j q (subst (λ (l : List Target). HasDest (dests_of F l) j q) (sym (past_end_is x ∙ not_among x n)) (arm_wants r x j q n at_arm))) (λ env. next_is (Either op from c d) q0 r x env)
         | inl i ↦ (let k = nth_in (steered width (S c) (S d)) x i in
             let a : nth (tails_of width S (plan_at ps b).exit) k.0 ≡ Some (steer_of (S c) (S d) x) = subst (λ (ts : List Tail). nth ts k.0 ≡ Some (steer_of (S c) (S d) x)) (sym tails_are) (steers_nth (S c) (S d) (steered width (S c) (S d)) k.0 x k.1) in
             let t = tail_instr arrays width ps Live plans.each b h k.0 (steer_of (S c) (S d) x) a in
@@ -326,7 +326,7 @@ module _ (arrays : List Array) (width : ℕ) (ps : List Plan) (Live : ℕ → �
           go (inr e) = ((λ i. both_ways (is_among x (steered width (S c) (S d))) e (in_among x (steered width (S c) (S d)) i)), subst (λ (f : Bool). HasDest (dests_of F (cond f [] (S c x))) j q) e g)
 
       end_past : (j q x : ℕ) → C.ends b j q ≡ Some x → (In x (steered width (S c) (S d)) → ⊥) × HasDest (dests_of F (S c x)) j q
-      end_past j q x e = past_not x j q (subst (λ (l : List Spot). HasDest (dests_of F l) j q) (past_end_is x) (ends_all x j q e))
+      end_past j q x e = past_not x j q (subst (λ (l : List Target). HasDest (dests_of F l) j q) (past_end_is x) (ends_all x j q e))
 
       pub either_past : (r j q x : ℕ) → C.ends b j q ≡ Some x → (y : ℕ) × (starts I C (target I b r) j q ≡ Some y)
       either_past r j q x e = let p = end_past j q x e in
@@ -350,13 +350,13 @@ module _ (arrays : List Array) (width : ℕ) (ps : List Plan) (Live : ℕ → �
       pub either_sent : (r m j q : ℕ) → IsIn I b m → HasDest (edge_dests I b r m) j q → (C.ends b j q ≡ None) × ((y : ℕ) × (starts I C (target I b r) j q ≡ Some y))
       either_sent r m j q i g =
           let s = steers_it r m j q i g in (
-            ends_none j q (λ x f. (let p = past_not x j q (subst (λ (l : List Spot). HasDest (dests_of F l) j q) (past_end_is x) f) in
+            ends_none j q (λ x f. (let p = past_not x j q (subst (λ (l : List Target). HasDest (dests_of F l) j q) (past_end_is x) f) in
                 let e : x ≡ s.name = one_name (cond (eqb r 0) d c) (arm_is r) x s.name j q (wants_arm r x j q p.0 p.1) s.wants in
                 p.0 (subst (λ (z : ℕ). In z (steered width (S c) (S d))) (sym e) (in_nth (steered width (S c) (S d)) s.place s.name s.at)))),
             (s.name, subst (λ (t : ℕ). starts I C t j q ≡ Some s.name) (sym (either_target r)) (has (cond (eqb r 0) d c) (arm_is r) s.name j q s.wants)),
           )
 
-      pub either_once : (r : ℕ) → Distinct (opens_at I b r)
+      pub either_once : (r : ℕ) → DistinctDests (opens_at I b r)
       unfolding opens_at
       either_once r = edges_distinct I b r (first_number I b) (image.size_of I b) one two
         where
@@ -366,7 +366,7 @@ module _ (arrays : List Array) (width : ℕ) (ps : List Plan) (Live : ℕ → �
               size_in : (m : ℕ) → first_number I b ≤ m → m < first_number I b + image.size_of I b → m < first_number I (suc b)
               size_in m l u = block_size m l u
 
-          one : (m : ℕ) → first_number I b ≤ m → m < first_number I b + image.size_of I b → Distinct (edge_dests I b r m)
+          one : (m : ℕ) → first_number I b ≤ m → m < first_number I b + image.size_of I b → DistinctDests (edge_dests I b r m)
           one m l u = one_distinct r m (λ j q g. (let s = steers_it r m j q (in_block m l u) g in
               rw s.list (((facts width ps Live plans.each (cond (eqb r 0) d c) (arm_is r)).clean 0 (omega arith)).once s.name)))
 
@@ -399,7 +399,7 @@ module _ (arrays : List Array) (width : ℕ) (ps : List Plan) (Live : ℕ → �
       land_is r = ((outer r).some, (outer r).there)
 
       pub lands_none : (j q : ℕ) → C.ends b j q ≡ None
-      lands_none j q = ends_none j q (λ x g. subst (λ (l : Leaves). HasDest (dests_of F (end_wants width S l x)) j q) q0 g)
+      lands_none j q = ends_none j q (λ x g. subst (λ (l : HowLeft). HasDest (dests_of F (end_wants width S l x)) j q) q0 g)
 
       pads_nth : (c i k : ℕ) (entries xs : List ℕ) (x : ℕ) → nth xs i ≡ Some x → pad_of (pads_of F c k entries xs) (k + i) ≡ dests_of F (fronts c 0 entries x)
       pads_nth c i k entries [] x e = absurd (let a : None ≡ Some x = e in cc)
@@ -461,7 +461,7 @@ module _ (arrays : List Array) (width : ℕ) (ps : List Plan) (Live : ℕ → �
 
           front : FrontIs F (landing_of landings r) (plan_at ps (landing_of landings r)).entries x j q
           front = front_is F (landing_of landings r) (plan_at ps (landing_of landings r)).entries x j q (plans.each (landing_of landings r) (land_is r)).entries_apart
-              (subst (λ (l : List Spot). HasDest (dests_of F l) j q) (ap (λ (w : Wants). w x) (starts_outer width ps (landing_of landings r) (outer r).first)) at_land)
+              (subst (λ (l : List Target). HasDest (dests_of F l) j q) (ap (λ (w : Wants). w x) (starts_outer width ps (landing_of landings r) (outer r).first)) at_land)
 
           k : (i : ℕ) × (nth (plan_at ps (landing_of landings r)).pads i ≡ Some x)
           k = nth_in (plan_at ps (landing_of landings r)).pads x ((fit r).filled x (in_nth (plan_at ps (landing_of landings r)).entries front.place x front.is))
@@ -497,11 +497,11 @@ module _ (arrays : List Array) (width : ℕ) (ps : List Plan) (Live : ℕ → �
       lands_sent r m j q i g = let s = sends_it r m j q i g in
           (s.name, subst (λ (t : ℕ). starts I C t j q ≡ Some s.name) (sym (lands_target r)) (has (landing_of landings r) (land_is r) s.name j q s.wants))
 
-      pub lands_once : (r : ℕ) → Distinct (opens_at I b r)
+      pub lands_once : (r : ℕ) → DistinctDests (opens_at I b r)
       unfolding opens_at
       lands_once r = edges_distinct I b r (first_number I b) (image.size_of I b) one two
         where
-          one : (m : ℕ) → first_number I b ≤ m → m < first_number I b + image.size_of I b → Distinct (edge_dests I b r m)
+          one : (m : ℕ) → first_number I b ≤ m → m < first_number I b + image.size_of I b → DistinctDests (edge_dests I b r m)
           one m l u = one_distinct r m (λ j q g. (let s = sends_it r m j q (l, block_size m l u) g in
               rw s.list (((facts width ps Live plans.each (landing_of landings r) (land_is r)).clean 0 (omega arith)).once s.name)))
 

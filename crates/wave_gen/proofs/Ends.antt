@@ -5,9 +5,9 @@ use Rattle.ws_isa.specs.declared.instr.Op.TheVariants.{Merge, Halt}
 use Rattle.ws_isa.specs.declared.instr.Dest.{Dest}
 use Rattle.ws_isa.specs.Image.{ports_of, now_of}
 use Rattle.ws_isa.specs.Sound.{HasDest}
-use Rattle.wave_gen.specs.Waits.{Distinct, Owner}
-use Rattle.wave_gen.specs.Wire.{Spot, dests_of, Wants, Made, emit, gather, Item, Make, Act, Same}
-use Rattle.wave_gen.specs.Plans.{Leaves, Onto, Either, Lands, Halts, Plan, pulse, steered, Tail, steers, sends, operands_of, hang, more, chain, selected, tails_of, end_wants, behind_source, exit_made, body_made, has_front, renew, has_dest, owner_of}
+use Rattle.wave_gen.specs.Waits.{DistinctDests, Owner}
+use Rattle.wave_gen.specs.Wire.{Target, dests_of, Wants, Made, emit, gather, Item, Make, Act, Same}
+use Rattle.wave_gen.specs.Plans.{HowLeft, Onto, Either, Lands, Halts, Plan, pulse, steered, Tail, steers, sends, operands_of, hang, more, chain, selected, tails_of, end_wants, behind_source, exit_made, body_made, has_front, renew, has_dest, owner_of}
 use Rattle.wave_gen.proofs.Planned.{ItemsAre, SourceIs}
 use Rattle.wave_gen.proofs.Turns.{some_of}
 use Rattle.wave_gen.proofs.Wiring.{Ahead, Good, ItemsOk, rest_good, gather_good, make_good, wire_good}
@@ -19,9 +19,9 @@ use Rattle.ws_words.specs.Items.{In}
 -- wants that can stand at a block's end: a slot is wanted once, by a name below the width, and lies ahead
 pub record Clean (first : ℕ → ℕ) (Fine : ℕ → ℕ → Type 0) (k width : ℕ) (w : Wants) : Type 0 where
   pub apart : (x y j q : ℕ) → HasDest (dests_of first (w x)) j q → HasDest (dests_of first (w y)) j q → x ≡ y
-  pub once : (x : ℕ) → Distinct (dests_of first (w x))
+  pub once : (x : ℕ) → DistinctDests (dests_of first (w x))
   pub few : (x : ℕ) → Wanted w x → x < width
-  pub ahead : (x : ℕ) (p : Spot) → In p (w x) → Ahead first Fine k p
+  pub ahead : (x : ℕ) (p : Target) → In p (w x) → Ahead first Fine k p
 
 pub has_dest_is : (ds : List Dest) (j q : ℕ) → has_dest ds j q ≡ true → HasDest ds j q
 has_dest_is [] j q e = absurd (both_ways false refl e)
@@ -54,7 +54,7 @@ owner_some first (suc n) w j q x l h = go (owner_some first n w j q x) (cases_Bo
     go ih (inr e) (inr m) = rw e (ih (omega arith) h)
 
 wanted_by : (first : ℕ → ℕ) (w : Wants) (x j q : ℕ) → HasDest (dests_of first (w x)) j q → Wanted w x
-wanted_by first w x j q h e = subst (λ (l : List Spot). HasDest (dests_of first l) j q) e h
+wanted_by first w x j q h e = subst (λ (l : List Target). HasDest (dests_of first l) j q) e h
 
 module _ (first : ℕ → ℕ) (Fine : ℕ → ℕ → Type 0) (k width : ℕ) (w : Wants) (clean : Clean first Fine k width w) where
   pub owner_has : (x j q : ℕ) → HasDest (dests_of first (w x)) j q → owner_of first width w j q ≡ Some x
@@ -79,7 +79,7 @@ sends_are : (p : ℕ) (xs : List ℕ) → TailsAre (sends p xs)
 sends_are p [] = tt
 sends_are p (x ∷ xs) = (record { silent = λ ds. refl; two = λ x z. refl }, sends_are (suc p) xs)
 
-pub tails_are : (width : ℕ) (starts : ℕ → Wants) (e : Leaves) → TailsAre (tails_of width starts e)
+pub tails_are : (width : ℕ) (starts : ℕ → Wants) (e : HowLeft) → TailsAre (tails_of width starts e)
 tails_are width starts (Onto c) = tt
 tails_are width starts (Either op from c d) = steers_are (starts c) (starts d) (steered width (starts c) (starts d))
 tails_are width starts (Lands op from values ls) = sends_are 0 values
@@ -127,7 +127,7 @@ module _ (first : ℕ → ℕ) (b width : ℕ) (Fine : ℕ → ℕ → Type 0) (
       behind : G (behind_source width starts b p)
       behind = subst (λ (w : Wants). G (selected b p.test (tails_of width starts p.exit) w)) same (selected_good p.test (tails_of width starts p.exit) (tails_are width starts p.exit))
 
-      exit_good : (x : Leaves) → SourceIs x → G (exit_made width starts b p x)
+      exit_good : (x : HowLeft) → SourceIs x → G (exit_made width starts b p x)
       exit_good (Onto c) src = behind
       exit_good (Either op from c d) src = make_good first b O Fine low clear p.test op from (behind_source width starts b p) src.0.0 src.1 behind
       exit_good (Lands op from values ls) src = make_good first b O Fine low clear p.test op from (behind_source width starts b p) src.0.0 src.1 behind

@@ -4,7 +4,7 @@ use Rattle.std.proofs.lemmas.Bool.{cases_eq, cases_lt, cases_order, lt-ltb, le-l
 use Rattle.ws_isa.specs.declared.instr.Op.{Op}
 use Rattle.ws_isa.specs.declared.instr.Op.TheVariants.{Advance, Send}
 use Rattle.ws_isa.specs.Image.{is_memory_op, ports_of}
-use Rattle.wave_gen.specs.Wire.{Spot, Back, WiredInstr, Wants, Made, with_wants, with_uses, moved, emit, rest, skip, copy, gather, with_room, with_rooms, Item, Make, Act, Same, is_nil, make, alias, wire, most}
+use Rattle.wave_gen.specs.Wire.{Target, Back, WiredInstr, Wants, Made, with_wants, with_uses, moved, emit, rest, skip, copy, gather, with_room, with_rooms, Item, Make, Act, Same, is_nil, make, alias, wire, most}
 use Rattle.wave_gen.specs.Plans.{Tail, operands_of, hung, hang, chain, renew, advances, has_front}
 use Rattle.wave_gen.proofs.Planned.{ItemsAre, Apart, AllBelow}
 use Rattle.wave_gen.proofs.Flow.{helds}
@@ -120,7 +120,7 @@ pub make_few : (b x : ℕ) (op : Op) (from : List ℕ) (s : Made) → length fro
 make_few b x op from s e f = let p : ports_of op ≤ 3 = ports_few op in
     emit_few b x op from (with_rooms b (length from) from s) (rooms_few b (length from) from s f) (rooms_here b (length from) from s (omega arith))
 
-app_length : (xs ys : List Spot) → length (xs ++ ys) ≡ length xs + length ys
+app_length : (xs ys : List Target) → length (xs ++ ys) ≡ length xs + length ys
 app_length [] ys = omega arith
 app_length (x ∷ xs) ys = let e : length (xs ++ ys) ≡ length xs + length ys = app_length xs ys in omega arith
 

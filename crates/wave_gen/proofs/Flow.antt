@@ -4,7 +4,7 @@ use Rattle.std.proofs.lemmas.Bool.{cases_eq, cases_lt, both_ways}
 use Rattle.ws_isa.specs.declared.instr.Op.{Op}
 use Rattle.ws_isa.specs.declared.instr.Op.TheVariants.{Merge}
 use Rattle.ws_isa.specs.Image.{is_memory_op}
-use Rattle.wave_gen.specs.Wire.{Spot, Back, Wants, Made, with_wants, with_uses, moved, emit, skip, copy, gather, with_room, with_rooms, Item, Make, Act, Same, is_nil, make, alias, wire, most}
+use Rattle.wave_gen.specs.Wire.{Target, Back, Wants, Made, with_wants, with_uses, moved, emit, skip, copy, gather, with_room, with_rooms, Item, Make, Act, Same, is_nil, make, alias, wire, most}
 use Rattle.wave_gen.specs.Plans.{Tail, operands_of, hung, hang, more, chain, selected}
 use Rattle.wave_gen.proofs.Planned.{Reads}
 use Rattle.ws_isa.specs.declared.instr.Op.TheVariants.{Send}
@@ -94,7 +94,7 @@ alias_wanted b y z s x h = go (cases_eq y z) h
       ]
     ]
 
-nil_and : (l : List Spot) (m : Bool) → (is_nil l && m) ≡ true → l ≡ []
+nil_and : (l : List Target) (m : Bool) → (is_nil l && m) ≡ true → l ≡ []
 nil_and [] m e = refl
 nil_and (s ∷ ss) m e = absurd (both_ways false refl e)
 

@@ -3,8 +3,8 @@ use Rattle.std.proofs.Common.{ℕ, ◌≡◌, ◌≤◌, true, false, cond, eqb,
 use Rattle.std.proofs.lemmas.Bool.{cond-true, cond-false}
 use Rattle.ws_isa.specs.Image as image
 use Rattle.ws_isa.specs.Image.{Image, Array, stops, target}
-use Rattle.wave_gen.specs.Waits.{Names, Code, RunPlace, names_at, pass, chosen, chosen_of}
-use Rattle.wave_gen.specs.Plans.{Leaves, Onto, Either, Lands, Halts, Plan, plan_at, starts_at, draft_of, code_of, exit_of, source_of, filled}
+use Rattle.wave_gen.specs.Waits.{NameState, Code, RunPlace, names_at, pass, chosen, chosen_of}
+use Rattle.wave_gen.specs.Plans.{HowLeft, Onto, Either, Lands, Halts, Plan, plan_at, starts_at, draft_of, code_of, exit_of, source_of, filled}
 use Rattle.wave_gen.proofs.Planned.{PlansAre}
 use Rattle.wave_gen.proofs.Runs.{run_items, run_choice}
 use Rattle.wave_gen.proofs.Running.{Chained, block_runs}
@@ -24,10 +24,10 @@ module _ (arrays : List Array) (width : ℕ) (ps : List Plan) (Live : ℕ → �
 
   -- what a block leaves
   module _ (p : RunPlace) (n : ℕ) (h : Is n) (b : p.block ≡ n) where
-    abbrev start : Names
+    abbrev start : NameState
     start = record { env = p.env; out = p.out }
 
-    abbrev pub ending : Names
+    abbrev pub ending : NameState
     ending = run_choice (plan_at ps n).test (plan_at ps n).exit (run_items (plan_at ps n).items start)
 
     pub left : Chained (plan_at ps n).test ending (names_at C p)
@@ -38,7 +38,7 @@ module _ (arrays : List Array) (width : ℕ) (ps : List Plan) (Live : ℕ → �
     pub stopped : (plan_at ps n).exit ≡ Halts → ((pass I C p).over ≡ true) × ((pass I C p).out ≡ ending.out)
     unfolding pass
     stopped q =
-        let s : stops I p.block ≡ true = ap (stops I) b ∙ stops_is arrays width ps Live plans n h ∙ ap (λ (l : Leaves). image.is_stop (exit_of (source_of width ps n) l)) q in
+        let s : stops I p.block ≡ true = ap (stops I) b ∙ stops_is arrays width ps Live plans n h ∙ ap (λ (l : HowLeft). image.is_stop (exit_of (source_of width ps n) l)) q in
         (ap (λ (z : RunPlace). z.over) (cond-true (stops I p.block) _ _ s), ap (λ (z : RunPlace). z.out) (cond-true (stops I p.block) _ _ s) ∙ left.out)
 
     -- where it goes on
@@ -59,13 +59,13 @@ module _ (arrays : List Array) (width : ℕ) (ps : List Plan) (Live : ℕ → �
           out = ap (λ (z : RunPlace). z.out) (cond-false (stops I p.block) _ _ s) ∙ left.out;
         }
 
-    going : (e : Leaves) → (plan_at ps n).exit ≡ e → image.is_stop (exit_of (source_of width ps n) e) ≡ false → stops I n ≡ false
-    going e q f = stops_is arrays width ps Live plans n h ∙ ap (λ (l : Leaves). image.is_stop (exit_of (source_of width ps n) l)) q ∙ f
+    going : (e : HowLeft) → (plan_at ps n).exit ≡ e → image.is_stop (exit_of (source_of width ps n) e) ≡ false → stops I n ≡ false
+    going e q f = stops_is arrays width ps Live plans n h ∙ ap (λ (l : HowLeft). image.is_stop (exit_of (source_of width ps n) l)) q ∙ f
 
     abbrev choice : ℕ
     choice = chosen I C n (names_at C p).env
 
-    choice_is : (e : Leaves) → (plan_at ps n).exit ≡ e → chosen I C n (names_at C p).env ≡ chosen_of (exit_of (source_of width ps n) e) ((names_at C p).env (plan_at ps n).test)
+    choice_is : (e : HowLeft) → (plan_at ps n).exit ≡ e → chosen I C n (names_at C p).env ≡ chosen_of (exit_of (source_of width ps n) e) ((names_at C p).env (plan_at ps n).test)
     unfolding chosen code_of
     choice_is e q = ap (λ (x : image.Exit). chosen_of x ((names_at C p).env (plan_at ps n).test)) (Rattle.wave_gen.proofs.Edges.exit_is arrays width ps Live plans n h ∙ ap (exit_of (source_of width ps n)) q)
 

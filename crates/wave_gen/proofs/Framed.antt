@@ -4,12 +4,12 @@ use Rattle.std.proofs.lemmas.Bool.{cases_Bool}
 use Rattle.std.proofs.lemmas.List.{drop_more, reverse-append, length-reverse, get_or-reverse}
 use Rattle.wave_gen.specs.declared.plan.Plan as code
 use Rattle.wave_gen.specs.declared.kept.Kept.{Kept}
-use Rattle.wave_gen.specs.Wire.{Spot, Front, Wants, no_wants, Made, with_wants, wire}
+use Rattle.wave_gen.specs.Wire.{Target, Front, Wants, no_wants, Made, with_wants, wire}
 use Rattle.wave_gen.specs.View as view
-use Rattle.wave_gen.specs.Plans.{Leaves, Onto, Either, Lands, Halts, Plan, steers, steered, past, selected, tails_of, end_wants, behind_source, exit_made, block_made, fronts, no_plan, no_made, plan_at, start_of, blocks_from, mades, made_at, starts_at}
+use Rattle.wave_gen.specs.Plans.{HowLeft, Onto, Either, Lands, Halts, Plan, steers, steered, past, selected, tails_of, end_wants, behind_source, exit_made, block_made, fronts, no_plan, no_made, plan_at, start_of, blocks_from, mades, made_at, starts_at}
 use Rattle.wave_gen.specs.declared.spot.Line.{Line}
 use Rattle.wave_gen.specs.declared.maker.Maker.{Maker}
-use Rattle.wave_gen.specs.Tables.{listed, line_of, behind_of, Stands, leaves_made, begun}
+use Rattle.wave_gen.specs.Tables.{listed, line_of, behind_of, HasMade, leaves_made, begun}
 use Rattle.wave_gen.specs.Kept.{wanted, IsKept, AreKept, KeptBehind, Ahead, LeadsAhead}
 use Rattle.ws_words.specs.Items.{nth, or_else}
 
@@ -38,14 +38,14 @@ plan_past ps zero lt = absurd (omega arith)
 plan_past ps (suc b) lt = nth_none ps b (omega arith)
 
 -- entries
-pub front_more : (b k : ℕ) (xs : List ℕ) (w v : Wants) (l : List Spot) (d : ℕ) → 0 < k → k ≤ length xs → ◌≡◌ {A = Wants} w (fronts b k (drop k xs)) → l ≡ Front b (k - 1) ∷ [] → ◌≡◌ {A = Wants} v (with_wants w (get_or xs (k - 1) d) l)
+pub front_more : (b k : ℕ) (xs : List ℕ) (w v : Wants) (l : List Target) (d : ℕ) → 0 < k → k ≤ length xs → ◌≡◌ {A = Wants} w (fronts b k (drop k xs)) → l ≡ Front b (k - 1) ∷ [] → ◌≡◌ {A = Wants} v (with_wants w (get_or xs (k - 1) d) l)
     → ◌≡◌ {A = Wants} v (fronts b (k - 1) (drop (k - 1) xs))
 front_more b k xs w v l d pos le ew el ev =
     let up : (k - 1) + 1 ≡ k = omega arith in
     let also : suc (k - 1) ≡ k = omega arith in
     let y = get_or xs (k - 1) d in
     subst (λ (ys : List ℕ). ◌≡◌ {A = Wants} v (fronts b (k - 1) ys)) (sym (drop_more xs (k - 1) d (omega arith)))
-    (ev ∙ ap (λ (z : List Spot). with_wants w y z) el ∙ ap (λ (z : Wants). with_wants z y (Front b (k - 1) ∷ [])) ew
+    (ev ∙ ap (λ (z : List Target). with_wants w y z) el ∙ ap (λ (z : Wants). with_wants z y (Front b (k - 1) ∷ [])) ew
     ∙ ap (λ n. with_wants (fronts b n (drop k xs)) y (Front b (k - 1) ∷ [])) (sym also)
     ∙ ap (λ n. with_wants (fronts b (suc (k - 1)) (drop n xs)) y (Front b (k - 1) ∷ [])) (sym up))
 
@@ -79,7 +79,7 @@ module _ (width : ℕ) (ps : List Plan) where
 
 -- Blocks.
 
-left_is : (width b : ℕ) (starts : ℕ → Wants) (p : Plan) (x : Leaves) → leaves_made b p.test x (behind_source width starts b p) ≡ exit_made width starts b p x
+left_is : (width b : ℕ) (starts : ℕ → Wants) (p : Plan) (x : HowLeft) → leaves_made b p.test x (behind_source width starts b p) ≡ exit_made width starts b p x
 left_is width b starts p (Onto c) = refl
 left_is width b starts p (Either op from c d) = refl
 left_is width b starts p (Lands op from values landings) = refl
@@ -126,13 +126,13 @@ module _ (width : ℕ) (ps : List Plan) where
     | inr f ↦ rw (f, found b c (a f)) refl
   ]
 
-  tails_same : (b : ℕ) (x : Leaves) → LeadsAhead ps b x → tails_of width (start_of ps (suc b) (Behind b)) x ≡ tails_of width (starts_at width ps) x
+  tails_same : (b : ℕ) (x : HowLeft) → LeadsAhead ps b x → tails_of width (start_of ps (suc b) (Behind b)) x ≡ tails_of width (starts_at width ps) x
   tails_same b (Onto c) a = refl
   tails_same b (Either op from c d) a = λ i. steers (start_agrees b c a.0 i) (start_agrees b d a.1 i) (steered width (start_agrees b c a.0 i) (start_agrees b d a.1 i))
   tails_same b (Lands op from values ls) a = refl
   tails_same b Halts a = refl
 
-  end_same : (b : ℕ) (x : Leaves) → LeadsAhead ps b x → ◌≡◌ {A = Wants} (end_wants width (start_of ps (suc b) (Behind b)) x) (end_wants width (starts_at width ps) x)
+  end_same : (b : ℕ) (x : HowLeft) → LeadsAhead ps b x → ◌≡◌ {A = Wants} (end_wants width (start_of ps (suc b) (Behind b)) x) (end_wants width (starts_at width ps) x)
   end_same b (Onto c) a = start_agrees b c a
   end_same b (Either op from c d) a = λ i. past (steered width (start_agrees b c a.0 i) (start_agrees b d a.1 i)) (start_agrees b c a.0 i)
   end_same b (Lands op from values ls) a = refl
@@ -142,14 +142,14 @@ module _ (width : ℕ) (ps : List Plan) where
   behind_same b p a = λ i. selected b p.test (tails_same b p.exit a i) (end_same b p.exit a i)
 
   pub block_kept : (b : ℕ) (p : Plan) (k : Kept) (m : Maker) → p ≡ plan_at ps b → LeadsAhead ps b (plan_at ps b).exit
-      → Stands b m (begun b p (wire b p.items (leaves_made b p.test p.exit (behind_source width (start_of ps (suc b) (blocks_from width ps (suc b) (drop b ps))) b p))))
+      → HasMade b m (begun b p (wire b p.items (leaves_made b p.test p.exit (behind_source width (start_of ps (suc b) (blocks_from width ps (suc b) (drop b ps))) b p))))
       → k.code.items ≡ m.code.items → ◌≡◌ {A = Wants} (wanted k.wants.items) (listed m.wants.lists.items) → k.behind ≡ behind_of b p.exit (behind_source width (start_of ps (suc b) (blocks_from width ps (suc b) (drop b ps))) b p)
       → IsKept width ps b k (block_made width (start_of ps (suc b) (blocks_from width ps (suc b) (drop b ps))) b (plan_at ps b))
   block_kept b p k m e a st ec ew eb =
       let starts = start_of ps (suc b) (Behind b) in
-      let made : Stands b m (block_made width starts b (plan_at ps b)) =
-      subst (λ (q : Plan). Stands b m (block_made width starts b q)) e
-      (subst (λ (s : Made). Stands b m (begun b p (wire b p.items s))) (left_is width b starts p p.exit) st) in
+      let made : HasMade b m (block_made width starts b (plan_at ps b)) =
+      subst (λ (q : Plan). HasMade b m (block_made width starts b q)) e
+      (subst (λ (s : Made). HasMade b m (begun b p (wire b p.items s))) (left_is width b starts p p.exit) st) in
       record {
         code = ap (λ (ls : List Line). reverse (map line_of ls)) ec ∙ made.code;
         wants = ew ∙ made.wants;

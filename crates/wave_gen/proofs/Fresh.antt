@@ -1,5 +1,5 @@
 -- The items of a block write each free name once.
-use Rattle.std.proofs.Common.{ℕ, zero, suc, ◌≡◌, ◌<◌, ◌≤◌, List, [], ◌∷◌, ◌++◌, arith}
+use Rattle.std.proofs.Common.{ℕ, zero, suc, ◌≡◌, ◌<◌, ◌≤◌, List, [], ◌∷◌, ◌++◌, length, arith}
 use Rattle.std.specs.List.{AllByRecursion}
 use Rattle.ws_words.specs.declared.alu.Alu.TheVariants.{Sub, Eq}
 use Rattle.ws_isa.specs.declared.instr.Op.{Op}
@@ -133,7 +133,7 @@ module _ (g : Graph) (vars w : ℕ) (wide : vars < w) where
   variable : (x y : ℕ) → x < vars → w ≤ y → suc x ≡ y → ⊥
   variable x y l u e = omega (arith, e, l, u, wide)
 
-  op_fresh : (op : graph.Op) (k : ℕ) → OpIn g vars op → w ≤ k → Fresh w k (gen_op k op).items (gen_op k op).next
+  op_fresh : (op : graph.Op) (k : ℕ) → OpIn (length g.arrays) vars op → w ≤ k → Fresh w k (gen_op k op).items (gen_op k op).next
   op_fresh (graph.Assign x t) k h l =
       let r = gen_term k t in
       fresh_append w k r.next r.next r.items (Same (suc x) r.name ∷ []) l (term_fresh w t k l) (fresh_item w r.next (Same (suc x) r.name) (λ z n e. cc) (λ y u. variable x y h.0 u))
@@ -162,7 +162,7 @@ module _ (g : Graph) (vars w : ℕ) (wide : vars < w) where
   op_fresh (graph.Tick n) k h l = fresh_none w k
   op_fresh (graph.TickBy t n m) k h l = fresh_none w k
 
-  ops_fresh : (ops : List graph.Op) (k : ℕ) → AllByRecursion (OpIn g vars) ops → w ≤ k → Fresh w k (gen_ops k ops).items (gen_ops k ops).next
+  ops_fresh : (ops : List graph.Op) (k : ℕ) → AllByRecursion (OpIn (length g.arrays) vars) ops → w ≤ k → Fresh w k (gen_ops k ops).items (gen_ops k ops).next
   ops_fresh [] k h l = fresh_none w k
   ops_fresh (op ∷ ops) k h l =
       let d = gen_op k op in let e = gen_ops d.next ops in let f = op_fresh op k h.0 l in
@@ -179,7 +179,7 @@ module _ (g : Graph) (vars w : ℕ) (wide : vars < w) where
   exit_fresh place graph.Stop k l = fresh_none w k
 
   -- a block's constants
-  pub block_once : (place : ℕ → ℕ) (ops : List graph.Op) (exit : graph.Exit) → AllByRecursion (OpIn g vars) ops → Once ((gen_ops w ops).items ++ (gen_exit place (gen_ops w ops).next exit).items)
+  pub block_once : (place : ℕ → ℕ) (ops : List graph.Op) (exit : graph.Exit) → AllByRecursion (OpIn (length g.arrays) vars) ops → Once ((gen_ops w ops).items ++ (gen_exit place (gen_ops w ops).next exit).items)
   block_once place ops exit h =
       let d = gen_ops w ops in let f = ops_fresh ops w h (omega arith) in
       (fresh_append w w d.next (exit_next d.next exit) d.items (gen_exit place d.next exit).items (omega arith) f (exit_fresh place exit d.next (up w w d.items d.next (omega arith) f))).once

@@ -2,7 +2,7 @@
 use Rattle.std.proofs.Common.{ℕ, zero, suc, ◌+◌, ◌-◌, ◌≡◌, ◌<◌, ◌≤◌, ◌⊎◌, ◌||◌, Bool, true, false, cond, eqb, List, [], ◌∷◌, length, Some, None, refl, sym, ap, ◌∙◌, subst, inl, inr, arith, eq-eqb, ne_eqb}
 use Rattle.std.proofs.lemmas.Bool.{cases_eq, both_ways}
 use Rattle.ws_isa.specs.Sound.{HasDest}
-use Rattle.wave_gen.specs.Wire.{Spot, Back, Front, dests_of, Made, gather}
+use Rattle.wave_gen.specs.Wire.{Target, Back, Front, dests_of, Made, gather}
 use Rattle.wave_gen.specs.Plans.{has_front, renew, advances, fronts}
 use Rattle.wave_gen.proofs.Planned.{Apart}
 use Rattle.wave_gen.proofs.Wiring.{Ahead}
@@ -50,13 +50,13 @@ pub record FrontIs (first : ℕ → ℕ) (b : ℕ) (xs : List ℕ) (x j q : ℕ)
 pub front_is : (first : ℕ → ℕ) (b : ℕ) (xs : List ℕ) (x j q : ℕ) → Apart xs → HasDest (dests_of first (fronts b 0 xs x)) j q → FrontIs first b xs x j q
 front_is first b xs x j q a h = elim (in_or_not xs x) [
   | inl i ↦ (let r = nth_in xs x i in
-      let g : HasDest (dests_of first (Front b (0 + r.0) ∷ [])) j q = subst (λ (l : List Spot). HasDest (dests_of first l) j q) (fronts_at b 0 xs r.0 x a r.1) h in
+      let g : HasDest (dests_of first (Front b (0 + r.0) ∷ [])) j q = subst (λ (l : List Target). HasDest (dests_of first l) j q) (fronts_at b 0 xs r.0 x a r.1) h in
       elim g [ inl d ↦ record { place = r.0; is = r.1; instr = (let f : first b + (0 + r.0) ≡ j = d.0 in omega arith); port = sym d.1 } | inr z ↦ absurd z ])
-  | inr n ↦ absurd (subst (λ (l : List Spot). HasDest (dests_of first l) j q) (fronts_none b 0 xs x n) h)
+  | inr n ↦ absurd (subst (λ (l : List Target). HasDest (dests_of first l) j q) (fronts_none b 0 xs x n) h)
 ]
 
 pub is_front : (first : ℕ → ℕ) (b : ℕ) (xs : List ℕ) (i x : ℕ) → Apart xs → nth xs i ≡ Some x → HasDest (dests_of first (fronts b 0 xs x)) (first b + i) 0
-is_front first b xs i x a e = subst (λ (l : List Spot). HasDest (dests_of first l) (first b + i) 0) (sym (fronts_at b 0 xs i x a e)) (inl ((let z : 0 + i ≡ i = omega arith in rw z refl), refl))
+is_front first b xs i x a e = subst (λ (l : List Target). HasDest (dests_of first l) (first b + i) 0) (sym (fronts_at b 0 xs i x a e)) (inl ((let z : 0 + i ≡ i = omega arith in rw z refl), refl))
 
 pub fronts_one : (b k : ℕ) (xs : List ℕ) (x : ℕ) → (fronts b k xs x ≡ []) ⊎ ((i : ℕ) × (k ≤ i) × (i < k + length xs) × (fronts b k xs x ≡ Front b i ∷ []))
 fronts_one b k [] x = inl refl
@@ -74,9 +74,9 @@ fronts_clean first Fine k width b xs a few fine = record {
   once = λ x. elim (fronts_one b 0 xs x) [ inl e ↦ rw e tt | inr r ↦ rw r.3 ((λ h. h), tt) ];
   few = λ x h. elim (in_or_not xs x) [ inl i ↦ few x i | inr n ↦ absurd (h (fronts_none b 0 xs x n)) ];
   ahead = λ x p h. elim (fronts_one b 0 xs x) [
-    | inl e ↦ absurd (subst (λ (l : List Spot). In p l) e h)
-    | inr r ↦ elim (subst (λ (l : List Spot). In p l) r.3 h) [
-      | inl e ↦ subst (λ (s : Spot). Ahead first Fine k s) (sym e) (fine r.0 (let l : r.0 < 0 + length xs = r.2 in omega arith))
+    | inl e ↦ absurd (subst (λ (l : List Target). In p l) e h)
+    | inr r ↦ elim (subst (λ (l : List Target). In p l) r.3 h) [
+      | inl e ↦ subst (λ (s : Target). Ahead first Fine k s) (sym e) (fine r.0 (let l : r.0 < 0 + length xs = r.2 in omega arith))
       | inr z ↦ absurd z
     ]
   ];
@@ -138,7 +138,7 @@ renewed b (y ∷ xs) s x (inl e) = renew_keeps b xs (cond (has_front b (s.wants 
     go true g = gather_back b y s
     go false g = g
 
-pub no_front : (b : ℕ) (l : List Spot) (i : ℕ) → has_front b l ≡ false → In (Front b i) l → ⊥
+pub no_front : (b : ℕ) (l : List Target) (i : ℕ) → has_front b l ≡ false → In (Front b i) l → ⊥
 no_front b l i e h = both_ways (has_front b l) e (go l h)
   where
     left : (x y : Bool) → x ≡ true → (x || y) ≡ true
@@ -148,10 +148,10 @@ no_front b l i e h = both_ways (has_front b l) e (go l h)
     right true y e = refl
     right false y e = e
 
-    same_block : (p : Spot) → Front b i ≡ p → (c k : ℕ) → p ≡ Front c k → b ≡ c
+    same_block : (p : Target) → Front b i ≡ p → (c k : ℕ) → p ≡ Front c k → b ≡ c
     same_block p f c k g = let z : Front b i ≡ Front c k = f ∙ g in cc
 
-    go : (l : List Spot) → In (Front b i) l → has_front b l ≡ true
+    go : (l : List Target) → In (Front b i) l → has_front b l ≡ true
     go [] h = absurd h
     go (Front c k ∷ l) (inl f) = left (eqb b c) (has_front b l) (eq-eqb b c (same_block (Front c k) f c k refl))
     go (Front c k ∷ l) (inr h) = right (eqb b c) (has_front b l) (go l h)

@@ -64,7 +64,7 @@ module _ (g : Graph) (image : Image) (same : length image.arrays ≡ length g.ar
   array_in : (a : ℕ) → (1 ≤ a) × (a ≤ length g.arrays) → formed.ArrayIn image a
   array_in a h = (h.0, let l : a ≤ length g.arrays = h.1 in omega (arith, l, same))
 
-  term_in : (vars : ℕ) (t : Term) → TermIn g vars t → TermHas (formed.OpIn image) t
+  term_in : (vars : ℕ) (t : Term) → TermIn (length g.arrays) vars t → TermHas (formed.OpIn image) t
   term_in vars (Number zero) h = tt
   term_in vars (Number (suc n)) h = tt
   term_in vars (Var x) h = tt
@@ -74,11 +74,11 @@ module _ (g : Graph) (image : Image) (same : length image.arrays ≡ length g.ar
   term_in vars (Neg t) h = term_in vars t h
   term_in vars (Binary op a b) h = (term_in vars a h.0, term_in vars b h.1)
 
-  terms_in : (vars : ℕ) (ts : List Term) → AllByRecursion (TermIn g vars) ts → AllByRecursion (TermHas (formed.OpIn image)) ts
+  terms_in : (vars : ℕ) (ts : List Term) → AllByRecursion (TermIn (length g.arrays) vars) ts → AllByRecursion (TermHas (formed.OpIn image)) ts
   terms_in vars [] h = tt
   terms_in vars (t ∷ ts) h = (term_in vars t h.0, terms_in vars ts h.1)
 
-  op_in : (vars : ℕ) (op : graph.Op) → OpIn g vars op → OpHas (formed.OpIn image) op
+  op_in : (vars : ℕ) (op : graph.Op) → OpIn (length g.arrays) vars op → OpHas (formed.OpIn image) op
   op_in vars (graph.Assign x t) h = term_in vars t h.1
   op_in vars (graph.Store a t u) h = (array_in a h.0, term_in vars t h.1, term_in vars u h.2)
   op_in vars (graph.Print t) h = term_in vars t h
@@ -89,7 +89,7 @@ module _ (g : Graph) (image : Image) (same : length image.arrays ≡ length g.ar
   op_in vars (graph.Tick n) h = tt
   op_in vars (graph.TickBy t n m) h = tt
 
-  ops_in : (vars : ℕ) (ops : List graph.Op) → AllByRecursion (OpIn g vars) ops → AllByRecursion (OpHas (formed.OpIn image)) ops
+  ops_in : (vars : ℕ) (ops : List graph.Op) → AllByRecursion (OpIn (length g.arrays) vars) ops → AllByRecursion (OpHas (formed.OpIn image)) ops
   ops_in vars [] h = tt
   ops_in vars (op ∷ ops) h = (op_in vars op h.0, ops_in vars ops h.1)
 

@@ -2,7 +2,8 @@
 use Rattle.std.proofs.Common.{ℕ, zero, suc, ◌+◌, ◌-◌, ◌*◌, ◌≡◌, ◌<◌, ◌≤◌, Bool, true, false, List, [], ◌∷◌, ◌++◌, length, Option, Some, None, refl, sym, ap, ◌∙◌, subst, inl, inr, arith}
 use Rattle.std.proofs.lemmas.Bool.{cond-true}
 use Rattle.std.specs.List.{AllByRecursion}
-use Rattle.ws_words.specs.Outside.{Act, Outside, State, World}
+use Rattle.ws_words.specs.Past.{ActsBegin}
+use Rattle.ws_words.specs.Outside.{Act, Outside, ProcState, World}
 use Rattle.ws_isa.specs.Image.{Image, Array, first_number, is_first, IsBlock}
 use Rattle.ws_isa.specs.Sound.{SlotRules}
 use Rattle.ws_isa.specs.Walk.{opening_memory, mem, has_ended, CostAtMost}
@@ -138,8 +139,8 @@ module _ (g : Graph) (arrays : List Array) (width : ℕ) (ps : List Plan) (live 
     end_case p c (at_end o' k x y) o left e = let z : Over o' k ≡ Over o left = e in let q : o' ≡ o = cc in (x, y ∙ q)
     end_case p c (out_of_turns o') o left e = absurd (let z : Going o' ≡ Over o left = e in cc)
 
-    block_case : (p : RunPlace) (c : Config) → Tied arrays width ps (λ b x. live b x ≡ true) d.plans g d.rules place zeroed d.drawn p c → (b : ℕ) (st : State) (frames : List Frame) (left : ℕ) → c ≡ At b st frames left → (p.over ≡ false) × (p.out ≡ st.out)
-    block_case p c (at_block b' st' k a) b st frames left e = let z : At b' st' [] k ≡ At b st frames left = e in let q : st' ≡ st = cc in (a.stands.over, a.stands.state.out ∙ ap (λ (s : State). s.out) q)
+    block_case : (p : RunPlace) (c : Config) → Tied arrays width ps (λ b x. live b x ≡ true) d.plans g d.rules place zeroed d.drawn p c → (b : ℕ) (st : ProcState) (frames : List Frame) (left : ℕ) → c ≡ At b st frames left → (p.over ≡ false) × (p.out ≡ st.out)
+    block_case p c (at_block b' st' k a) b st frames left e = let z : At b' st' [] k ≡ At b st frames left = e in let q : st' ≡ st = cc in (a.stands.over, a.stands.state.out ∙ ap (λ (s : ProcState). s.out) q)
     block_case p c (at_end o' k x y) b st frames left e = absurd (let z : Over o' k ≡ At b st frames left = e in cc)
     block_case p c (out_of_turns o') b st frames left e = absurd (let z : Going o' ≡ At b st frames left = e in cc)
 
@@ -155,7 +156,7 @@ module _ (g : Graph) (arrays : List Array) (width : ℕ) (ps : List Plan) (live 
         let t = timed m in
         (t.0, t.1.over ∙ q.0, t.1.out ∙ q.1, over_is_whole I world t.0 (t.1.over ∙ q.0))
 
-    going_on : (m b : ℕ) (st : State) (frames : List Frame) (left : ℕ) → walk g m (opening g world turns) ≡ At b st frames left →
+    going_on : (m b : ℕ) (st : ProcState) (frames : List Frame) (left : ℕ) → walk g m (opening g world turns) ≡ At b st frames left →
         (t : ℕ) × (has_ended I world t ≡ false) × (mem I world t ≡ st.out) × (m < length I.blocks * suc (length (instances I world t)))
     unfolding has_ended mem
     going_on m b st frames left e =
@@ -166,7 +167,7 @@ module _ (g : Graph) (arrays : List Array) (width : ℕ) (ps : List Plan) (live 
         (t.0, t.1.over ∙ q.0, t.1.out ∙ q.1, omega (arith, f, w))
 
     -- what the walk has done before it is out of turns
-    tied_block : (p : RunPlace) (c : Config) → Tied arrays width ps (λ b x. live b x ≡ true) d.plans g d.rules place zeroed d.drawn p c → (b : ℕ) (st : State) (frames : List Frame) (left : ℕ) → c ≡ At b st frames left → AtBlock arrays width ps (λ b x. live b x ≡ true) d.plans g d.rules place zeroed d.drawn b st p
+    tied_block : (p : RunPlace) (c : Config) → Tied arrays width ps (λ b x. live b x ≡ true) d.plans g d.rules place zeroed d.drawn p c → (b : ℕ) (st : ProcState) (frames : List Frame) (left : ℕ) → c ≡ At b st frames left → AtBlock arrays width ps (λ b x. live b x ≡ true) d.plans g d.rules place zeroed d.drawn b st p
     tied_block p c (at_block b' st' k a) b st frames left e =
         let z : At b' st' [] k ≡ At b st frames left = e in let q : st' ≡ st = cc in let r : b' ≡ b = cc in
         subst (λ n. AtBlock arrays width ps (λ b x. live b x ≡ true) d.plans g d.rules place zeroed d.drawn n st p) r (subst (λ s. AtBlock arrays width ps (λ b x. live b x ≡ true) d.plans g d.rules place zeroed d.drawn b' s p) q a)
@@ -177,7 +178,7 @@ module _ (g : Graph) (arrays : List Array) (width : ℕ) (ps : List Plan) (live 
     left_out p c k t (inl (b, st, frames, e)) = (block_case p c t b st frames k e).1 ∙ ap outside (sym e)
     left_out p c k t (inr (o, e)) = (end_case p c t o k e).1 ∙ ap outside (sym e)
 
-    stopped : (m : ℕ) (o : Outside) → walk g m (opening g world turns) ≡ Going o → (t : ℕ) × (more : List Act) × ((mem I world t).acts ≡ o.acts ++ more)
+    stopped : (m : ℕ) (o : Outside) → walk g m (opening g world turns) ≡ Going o → (t : ℕ) × ActsBegin o.acts (mem I world t).acts
     unfolding mem
     stopped m o e =
         let l = last_block g m (entry_of g (length g.procs - 1)) _ [] turns o e in
@@ -195,9 +196,11 @@ module _ (g : Graph) (arrays : List Array) (width : ℕ) (ps : List Plan) (live 
         let y = exit_longer g (block_at g l.block).exit r.state [] r.left in
         let w = r.longer in (
           t.0,
-          w.0 ++ y.0,
-          ap (λ (z : Outside). z.acts) (t.1.out ∙ q)
-              ∙ y.1 ∙ ap (λ (z : List Act). z ++ y.0) w.1 ∙ append_assoc o.acts w.0 y.0,
+          (
+            w.0 ++ y.0,
+            ap (λ (z : Outside). z.acts) (t.1.out ∙ q)
+                ∙ y.1 ∙ ap (λ (z : List Act). z ++ y.0) w.1 ∙ append_assoc o.acts w.0 y.0,
+          ),
         )
 
     pub keeps_walk : KeepsWalk g I world turns

@@ -7,7 +7,7 @@ use Rattle.wave_gen.specs.declared.spot.Line.{Line}
 use Rattle.wave_gen.specs.declared.kept.Want.{Want}
 use Rattle.wave_gen.specs.declared.tails.Tail.{Tail}
 use Rattle.wave_gen.specs.declared.fork.Arms.{Arms}
-use Rattle.wave_gen.specs.Wire.{Spot, Wants, with_wants}
+use Rattle.wave_gen.specs.Wire.{Target, Wants, with_wants}
 use Rattle.wave_gen.specs.Plans as plans
 use Rattle.wave_gen.specs.Plans.{pulse, or_pulse, same_spot, same_spots, differing, is_among, past, steer_of, steers}
 use Rattle.wave_gen.specs.Tables.{listed, tail_of}
@@ -17,15 +17,15 @@ use Rattle.wave_gen.proofs.Listed.{Lists, list_past}
 wanted_append : (ps qs : List Want) (x : ℕ) → wanted (ps ++ qs) x ≡ wanted ps x ++ wanted qs x
 wanted_append [] qs x = refl
 wanted_append (p ∷ ps) qs x = elim (cases_eq x p.name) [
-  | inl e ↦ rw (eq-eqb x p.name e) (ap (λ (l : List Spot). p.spot ∷ l) (wanted_append ps qs p.name ∙ ap (λ y. wanted ps p.name ++ wanted qs y) (sym e)))
+  | inl e ↦ rw (eq-eqb x p.name e) (ap (λ (l : List Target). p.spot ∷ l) (wanted_append ps qs p.name ∙ ap (λ y. wanted ps p.name ++ wanted qs y) (sym e)))
   | inr n ↦ rw (ne_eqb x p.name n) (wanted_append ps qs x)
 ]
 
-wanted_here : (x : ℕ) (l : List Spot) → wanted (wants_of x l) x ≡ l
+wanted_here : (x : ℕ) (l : List Target) → wanted (wants_of x l) x ≡ l
 wanted_here x [] = refl
-wanted_here x (p ∷ l) = rw (eq-eqb x x refl) (ap (λ (k : List Spot). p ∷ k) (wanted_here x l))
+wanted_here x (p ∷ l) = rw (eq-eqb x x refl) (ap (λ (k : List Target). p ∷ k) (wanted_here x l))
 
-wanted_there : (x y : ℕ) (l : List Spot) → (y ≡ x → ⊥) → wanted (wants_of x l) y ≡ []
+wanted_there : (x y : ℕ) (l : List Target) → (y ≡ x → ⊥) → wanted (wants_of x l) y ≡ []
 wanted_there x y [] n = refl
 wanted_there x y (p ∷ l) n = rw (ne_eqb y x n) (wanted_there x y l n)
 
@@ -33,14 +33,14 @@ wanted_beyond : (w : Wants) (n x : ℕ) → n ≤ x → wanted (wants_below w n)
 wanted_beyond w zero x le = refl
 wanted_beyond w (suc n) x le =
     wanted_append (wants_below w n) (wants_of n (w n)) x
-    ∙ ap (λ (l : List Spot). l ++ wanted (wants_of n (w n)) x) (wanted_beyond w n x (omega arith))
+    ∙ ap (λ (l : List Target). l ++ wanted (wants_of n (w n)) x) (wanted_beyond w n x (omega arith))
     ∙ wanted_there n x (w n) (λ e. absurd (omega arith))
 
 wanted_below : (w : Wants) (n x : ℕ) → x < n → wanted (wants_below w n) x ≡ w x
 wanted_below w zero x lt = absurd (omega arith)
 wanted_below w (suc n) x lt = wanted_append (wants_below w n) (wants_of n (w n)) x ∙ elim (cases_eq x n) [
-  | inl e ↦ ap (λ (l : List Spot). l ++ wanted (wants_of n (w n)) x) (wanted_beyond w n x (omega arith)) ∙ ap (wanted (wants_of n (w n))) e ∙ wanted_here n (w n) ∙ ap w (sym e)
-  | inr d ↦ ap (λ (l : List Spot). wanted (wants_below w n) x ++ l) (wanted_there n x (w n) d) ∙ append-nil (wanted (wants_below w n) x) ∙ wanted_below w n x (omega arith)
+  | inl e ↦ ap (λ (l : List Target). l ++ wanted (wants_of n (w n)) x) (wanted_beyond w n x (omega arith)) ∙ ap (wanted (wants_of n (w n))) e ∙ wanted_here n (w n) ∙ ap w (sym e)
+  | inr d ↦ ap (λ (l : List Target). wanted (wants_below w n) x ++ l) (wanted_there n x (w n) d) ∙ append-nil (wanted (wants_below w n) x) ∙ wanted_below w n x (omega arith)
 ]
 
 kept_at : (vs : Lists) (n x : ℕ) → length vs ≤ n → wanted (wants_below (listed vs) n) x ≡ listed vs x
@@ -69,7 +69,7 @@ load_more ws k d w v pos le ew ev =
 not_among : (x : ℕ) (xs : List ℕ) (w : Wants) → is_among x xs ≡ false → past xs w x ≡ w x
 not_among x xs w e = ap (λ b. cond b [] (w x)) e
 
-past_or : (a b : Bool) (l : List Spot) → cond a [] (cond b [] l) ≡ cond (a || b) [] l
+past_or : (a b : Bool) (l : List Target) → cond a [] (cond b [] l) ≡ cond (a || b) [] l
 past_or true b l = refl
 past_or false b l = refl
 
@@ -95,17 +95,17 @@ forked_more x xs w v f g l free op ed eo es en et was =
       none = past_more x xs v (listed f.none.lists.items) (listed g.none.lists.items) was.none en;
     }
 
-same_is : (x : ℕ) (xs : List ℕ) (w v : Wants) (f : Arms) (l k : List Spot) (r : Bool) → is_among x xs ≡ false → l ≡ listed f.some.lists.items x → k ≡ listed f.none.lists.items x → r ≡ same_spots l k → Forked w v xs f → r ≡ same_spots (w x) (v x)
+same_is : (x : ℕ) (xs : List ℕ) (w v : Wants) (f : Arms) (l k : List Target) (r : Bool) → is_among x xs ≡ false → l ≡ listed f.some.lists.items x → k ≡ listed f.none.lists.items x → r ≡ same_spots l k → Forked w v xs f → r ≡ same_spots (w x) (v x)
 same_is x xs w v f l k r free el ek er was =
     let here : l ≡ w x = el ∙ ap (λ (z : Wants). z x) was.some ∙ not_among x xs w free in
     let there : k ≡ v x = ek ∙ ap (λ (z : Wants). z x) was.none ∙ not_among x xs v free in
-    er ∙ ap (λ (z : List Spot). same_spots z k) here ∙ ap (same_spots (w x)) there
+    er ∙ ap (λ (z : List Target). same_spots z k) here ∙ ap (same_spots (w x)) there
 
-pub compared_same : (x : ℕ) (xs : List ℕ) (w v : Wants) (f : Arms) (l k : List Spot) (r : Bool) → l ≡ listed f.some.lists.items x → k ≡ listed f.none.lists.items x → r ≡ same_spots l k → r ≡ true → is_among x xs ≡ false
+pub compared_same : (x : ℕ) (xs : List ℕ) (w v : Wants) (f : Arms) (l k : List Target) (r : Bool) → l ≡ listed f.some.lists.items x → k ≡ listed f.none.lists.items x → r ≡ same_spots l k → r ≡ true → is_among x xs ≡ false
     → Forked w v xs f → Forked w v (cond (same_spots (w x) (v x)) xs (x ∷ xs)) f
 compared_same x xs w v f l k r el ek er t free was = subst (λ b. Forked w v (cond b xs (x ∷ xs)) f) (sym t ∙ same_is x xs w v f l k r free el ek er was) was
 
-pub compared_other : (x : ℕ) (xs : List ℕ) (w v : Wants) (f g : Arms) (l k : List Spot) (r : Bool) → l ≡ listed f.some.lists.items x → k ≡ listed f.none.lists.items x → r ≡ same_spots l k → r ≡ false → is_among x xs ≡ false
+pub compared_other : (x : ℕ) (xs : List ℕ) (w v : Wants) (f g : Arms) (l k : List Target) (r : Bool) → l ≡ listed f.some.lists.items x → k ≡ listed f.none.lists.items x → r ≡ same_spots l k → r ≡ false → is_among x xs ≡ false
     → Forked w v xs f → Forked w v (x ∷ xs) g → Forked w v (cond (same_spots (w x) (v x)) xs (x ∷ xs)) g
 compared_other x xs w v f g l k r el ek er t free was end = subst (λ b. Forked w v (cond b xs (x ∷ xs)) g) (sym t ∙ same_is x xs w v f l k r free el ek er was) end
 
@@ -160,7 +160,7 @@ false_and : (a b : Bool) → false ≡ b → false ≡ a && b
 false_and true b e = e
 false_and false b e = refl
 
-pub lengths_differ : (ps qs : List Spot) → (length ps ≡ length qs → ⊥) → false ≡ same_spots ps qs
+pub lengths_differ : (ps qs : List Target) → (length ps ≡ length qs → ⊥) → false ≡ same_spots ps qs
 lengths_differ [] [] n = absurd (n refl)
 lengths_differ [] (q ∷ qs) n = refl
 lengths_differ (p ∷ ps) [] n = refl

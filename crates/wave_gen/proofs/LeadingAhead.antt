@@ -1,7 +1,7 @@
 -- Edges of plans of a draft lead ahead where they don't lead to the first block of a wave.
 use Rattle.std.proofs.Common.{ℕ, zero, suc, ◌<◌, ◌≤◌, List, [], ◌∷◌, length, sym, ◌∙◌, inl, inr, arith}
 use Rattle.std.proofs.lemmas.Bool.{cases_lt, false≢true}
-use Rattle.wave_gen.specs.Plans.{Leaves, Onto, Either, Lands, Halts, Plan, no_plan, plan_at}
+use Rattle.wave_gen.specs.Plans.{HowLeft, Onto, Either, Lands, Halts, Plan, no_plan, plan_at}
 use Rattle.wave_gen.specs.Kept.{Ahead, LeadsAhead}
 use Rattle.wave_gen.proofs.Planned.{Outer, EdgesAre, PlansAre}
 use Rattle.ws_words.specs.Items.{nth, or_else}
@@ -9,7 +9,7 @@ use Rattle.ws_words.specs.Items.{nth, or_else}
 outer_ahead : (ps : List Plan) (b c : ℕ) → Outer ps c → Ahead ps b c
 outer_ahead ps b c o e = absurd (false≢true (sym e ∙ o.first))
 
-edges_ahead : (ps : List Plan) (b : ℕ) (x : Leaves) → EdgesAre ps b x → LeadsAhead ps b x
+edges_ahead : (ps : List Plan) (b : ℕ) (x : HowLeft) → EdgesAre ps b x → LeadsAhead ps b x
 edges_ahead ps b (Onto c) (inl i) = λ e. i.later
 edges_ahead ps b (Onto c) (inr o) = outer_ahead ps b c o
 edges_ahead ps b (Either op from c d) e = (λ z. e.0.later, λ z. e.1.later)

@@ -13,7 +13,7 @@ use Rattle.cfg_core.specs.Graph.{Term, Number, Var, Cell, Flip, Not, Neg, Binary
 use Rattle.cfg_core.specs.Rules as rules
 use Rattle.cfg_core.proofs.Pigeons.{pigeons}
 use Rattle.wave_cut.specs.Cut.{Cut}
-use Rattle.wave_gen.specs.Plans.{Plan, Leaves, Onto, Either, Lands, Halts, pulse, plan_at, begins, pads_of, exit_of, source_of, draft_of}
+use Rattle.wave_gen.specs.Plans.{Plan, HowLeft, Onto, Either, Lands, Halts, pulse, plan_at, begins, pads_of, exit_of, source_of, draft_of}
 use Rattle.wave_gen.proofs.Planned.{PlansAre}
 use Rattle.wave_gen.specs.Gen.{top_word, gen_ops}
 use Rattle.wave_gen.specs.Words.{TermOfWords, OpOfWords, ExitOfWords, GraphOfWords, arrays_of}
@@ -225,7 +225,7 @@ module _ (g : Graph) (live : ℕ → ℕ → Bool) (cut : Cut) (fit : Fits g liv
       let z : length (plan_at ps b).pads ≤ suc n = subst (λ (p : Plan). length p.pads ≤ suc n) (sym r.2) (plan_pads n r.0 h (has_pads g r.0) refl) in
       subst (λ (k : Block). AllByRecursion (λ p. p.number ≤ n) k.pads) (sym (block_at_is (arrays_of g) (width_of g) (plans_of g live cut) b s)) (pads_below (begins (width_of g) ps) b 0 n (plan_at ps b).entries (plan_at ps b).pads (omega (arith, z)))
 
-  landed : (k : ℕ) (exit : graph.Exit) (e : Leaves) (s : ℕ) (ls : List ℕ) → (gen_exit (place_of g cut) k exit).exit ≡ e → exit_of s e ≡ image.Landings s ls → (t : Term) × (ts : List Term) × (ms : List ℕ) × (exit ≡ graph.Send t ts ms) × (ls ≡ map (place_of g cut) ms)
+  landed : (k : ℕ) (exit : graph.Exit) (e : HowLeft) (s : ℕ) (ls : List ℕ) → (gen_exit (place_of g cut) k exit).exit ≡ e → exit_of s e ≡ image.Landings s ls → (t : Term) × (ts : List Term) × (ms : List ℕ) × (exit ≡ graph.Send t ts ms) × (ls ≡ map (place_of g cut) ms)
   landed k (graph.Send t ts ms) e s ls q f = let z : image.Landings s (map (place_of g cut) ms) ≡ image.Landings s ls = ap (exit_of s) q ∙ f in let y : map (place_of g cut) ms ≡ ls = cc in (t, ts, ms, refl, sym y)
   landed k (graph.Goto c) e s ls q f = absurd (let z : image.Goto (place_of g cut c) ≡ image.Landings s ls = ap (exit_of s) q ∙ f in cc)
   landed k (graph.Branch t a b) e s ls q f = absurd (let z : image.Branch s (place_of g cut a) (place_of g cut b) ≡ image.Landings s ls = ap (exit_of s) q ∙ f in cc)
@@ -245,7 +245,7 @@ module _ (g : Graph) (live : ℕ → ℕ → Bool) (cut : Cut) (fit : Fits g liv
       let w : length ls ≡ length x.2 = ap length x.4 ∙ map_length (place_of g cut) x.2 in
       omega (arith, u, w)
     where
-      same_source : (e : Leaves) (m s : ℕ) (ls : List ℕ) → exit_of m e ≡ image.Landings s ls → exit_of s e ≡ image.Landings s ls
+      same_source : (e : HowLeft) (m s : ℕ) (ls : List ℕ) → exit_of m e ≡ image.Landings s ls → exit_of s e ≡ image.Landings s ls
       same_source (Lands op from values ms) m s ls f = let z : ms ≡ ls = cc in ap (image.Landings s) z
       same_source (Onto c) m s ls f = absurd (let z : image.Goto c ≡ image.Landings s ls = f in cc)
       same_source (Either op from c d) m s ls f = absurd (let z : image.Branch m c d ≡ image.Landings s ls = f in cc)

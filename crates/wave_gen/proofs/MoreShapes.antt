@@ -9,7 +9,7 @@ use Rattle.ws_isa.specs.Formed.{WavesInOrder, WavesFrom}
 use Rattle.ws_isa.specs.Sound.{HasDest, HasPad, IsAhead}
 use Rattle.wave_gen.specs.Waits.{Code}
 use Rattle.wave_gen.specs.Wire.{Item, Make, Act, Same, Wants, dests_of, WiredInstr}
-use Rattle.wave_gen.specs.Plans.{Tail, Leaves, Onto, Either, Lands, Halts, Plan, pulse, fronts, plan_at, starts_at, begins, pads_of, blocks_of, draft_of, code_of, exit_of, source_of, chooses, operands_needed, exit_made, tails_of, sends, made_at, selected, end_wants}
+use Rattle.wave_gen.specs.Plans.{Tail, HowLeft, Onto, Either, Lands, Halts, Plan, pulse, fronts, plan_at, starts_at, begins, pads_of, blocks_of, draft_of, code_of, exit_of, source_of, chooses, operands_needed, exit_made, tails_of, sends, made_at, selected, end_wants}
 use Rattle.wave_gen.proofs.Planned.{ItemsAre, is_act_op, AllIn, PadsFit, PlansAre, EdgesAre, Outer}
 use Rattle.wave_gen.proofs.More.{ItemsGive, SourceGives, PlansGive}
 use Rattle.wave_gen.proofs.Starts.{first_is, waits_first, starts_has}
@@ -116,7 +116,7 @@ module _ (arrays : List Array) (width : ℕ) (ps : List Plan) (Live : ℕ → �
       go (inr e) = absurd (let z : (block_at I b).pads ≡ [] = more_pads_first b hb (first_is arrays width ps Live plans b h ∙ e) in subst (λ (l : List Pad). In p l) z i)
 
   -- the exit's instruction gives its result
-  source_giving : (b : ℕ) → Is b → (e : Leaves) → (plan_at ps b).exit ≡ e → chooses (plan_at ps b).exit ≡ true → is_giving I (source_of width ps b) ≡ true
+  source_giving : (b : ℕ) → Is b → (e : HowLeft) → (plan_at ps b).exit ≡ e → chooses (plan_at ps b).exit ≡ true → is_giving I (source_of width ps b) ≡ true
   unfolding is_giving
   source_giving b h (Onto c) q k = absurd (both_ways (chooses (plan_at ps b).exit) (ap chooses q) k)
   source_giving b h Halts q k = absurd (both_ways (chooses (plan_at ps b).exit) (ap chooses q) k)
@@ -141,10 +141,10 @@ module _ (arrays : List Array) (width : ℕ) (ps : List Plan) (Live : ℕ → �
   lands_at : (b s r : ℕ) (ls : List ℕ) (h : Is b) → (block_at I b).exit ≡ image.Landings s ls → (values : List ℕ) × (tails_of width (starts_at width ps) (plan_at ps b).exit ≡ sends 0 values) × Outer ps (target I b r) × PadsFit ps values (target I b r)
   lands_at b s r ls h e = go (plan_at ps b).exit refl (plans.each b h).edges
     where
-      other : (l : Leaves) → (plan_at ps b).exit ≡ l → exit_of (source_of width ps b) l ≡ image.Landings s ls
+      other : (l : HowLeft) → (plan_at ps b).exit ≡ l → exit_of (source_of width ps b) l ≡ image.Landings s ls
       other l q = sym (exit_is arrays width ps Live plans b h ∙ ap (exit_of (source_of width ps b)) q) ∙ e
 
-      go : (l : Leaves) → (plan_at ps b).exit ≡ l → EdgesAre ps b l → (values : List ℕ) × (tails_of width (starts_at width ps) (plan_at ps b).exit ≡ sends 0 values) × Outer ps (target I b r) × PadsFit ps values (target I b r)
+      go : (l : HowLeft) → (plan_at ps b).exit ≡ l → EdgesAre ps b l → (values : List ℕ) × (tails_of width (starts_at width ps) (plan_at ps b).exit ≡ sends 0 values) × Outer ps (target I b r) × PadsFit ps values (target I b r)
       go (Onto c) q g = absurd (let z : image.Goto c ≡ image.Landings s ls = other (Onto c) q in cc)
       go Halts q g = absurd (let z : image.Stop ≡ image.Landings s ls = other Halts q in cc)
       go (Either op from c d) q g = absurd (let z : image.Branch (source_of width ps b) c d ≡ image.Landings s ls = other (Either op from c d) q in cc)
@@ -181,7 +181,7 @@ module _ (arrays : List Array) (width : ℕ) (ps : List Plan) (Live : ℕ → �
   items_no_halt (Act op from ∷ is) a g = (act_no_halt op a.0.1, items_no_halt is a.1 g)
   items_no_halt (Same x y ∷ is) a g = items_no_halt is a.1 g
 
-  exit_no_halt : (e : Leaves) → SourceGives e → chooses e ≡ true → Kind NoHalt e
+  exit_no_halt : (e : HowLeft) → SourceGives e → chooses e ≡ true → Kind NoHalt e
   exit_no_halt (Onto c) g k = tt
   exit_no_halt (Either op from c d) g k = (giving_no_halt op g, refl)
   exit_no_halt (Lands op from values ls) g k = (giving_no_halt op g, λ p. refl)
@@ -219,14 +219,14 @@ module _ (arrays : List Array) (width : ℕ) (ps : List Plan) (Live : ℕ → �
       h : Is b
       h = is_block arrays width ps b hb
 
-      kind : (l : Leaves) → (plan_at ps b).exit ≡ l → Kind NoHalt l → ⊥
+      kind : (l : HowLeft) → (plan_at ps b).exit ≡ l → Kind NoHalt l → ⊥
       kind l q n = no_halt b k hb i (subst (Kind NoHalt) (sym q) n) e
 
-      go : (l : Leaves) → (plan_at ps b).exit ≡ l → stops I b ≡ true
+      go : (l : HowLeft) → (plan_at ps b).exit ≡ l → stops I b ≡ true
       go (Onto c) q = absurd (kind (Onto c) q tt)
       go (Either op from c d) q = absurd (kind (Either op from c d) q (exit_no_halt (Either op from c d) (subst SourceGives q (gives.source b h)) refl))
       go (Lands op from values ls) q = absurd (kind (Lands op from values ls) q (exit_no_halt (Lands op from values ls) (subst SourceGives q (gives.source b h)) refl))
-      go Halts q = stops_is arrays width ps Live plans b h ∙ ap (λ (l : Leaves). image.is_stop (exit_of (source_of width ps b) l)) q
+      go Halts q = stops_is arrays width ps Live plans b h ∙ ap (λ (l : HowLeft). image.is_stop (exit_of (source_of width ps b) l)) q
 
   -- the halt is the last line of a block that stops
   abbrev halt_line : WiredInstr
@@ -238,8 +238,8 @@ module _ (arrays : List Array) (width : ℕ) (ps : List Plan) (Live : ℕ → �
     none : Lines NoHalt front
 
   stop_code : (b : ℕ) → (plan_at ps b).exit ≡ Halts → (exit_made width (starts_at width ps) b (plan_at ps b) (plan_at ps b).exit).code ≡ halt_line ∷ []
-  stop_code b q = ap (λ (l : Leaves). (exit_made width (starts_at width ps) b (plan_at ps b) l).code) q
-      ∙ ap (λ (l : Leaves). halt_line ∷ (selected b (plan_at ps b).test (tails_of width (starts_at width ps) l) (end_wants width (starts_at width ps) l)).code) q
+  stop_code b q = ap (λ (l : HowLeft). (exit_made width (starts_at width ps) b (plan_at ps b) l).code) q
+      ∙ ap (λ (l : HowLeft). halt_line ∷ (selected b (plan_at ps b).test (tails_of width (starts_at width ps) l) (end_wants width (starts_at width ps) l)).code) q
 
   last_halt : (b : ℕ) → Is b → (plan_at ps b).exit ≡ Halts → LastHalt b
   last_halt b h q =
@@ -249,10 +249,10 @@ module _ (arrays : List Array) (width : ℕ) (ps : List Plan) (Live : ℕ → �
   halts_exit : (b : ℕ) → Is b → stops I b ≡ true → (plan_at ps b).exit ≡ Halts
   halts_exit b h e = go (plan_at ps b).exit refl
     where
-      bad : (l : Leaves) → (plan_at ps b).exit ≡ l → image.is_stop (exit_of (source_of width ps b) l) ≡ false → ⊥
-      bad l q n = both_ways (stops I b) (stops_is arrays width ps Live plans b h ∙ ap (λ (l : Leaves). image.is_stop (exit_of (source_of width ps b) l)) q ∙ n) e
+      bad : (l : HowLeft) → (plan_at ps b).exit ≡ l → image.is_stop (exit_of (source_of width ps b) l) ≡ false → ⊥
+      bad l q n = both_ways (stops I b) (stops_is arrays width ps Live plans b h ∙ ap (λ (l : HowLeft). image.is_stop (exit_of (source_of width ps b) l)) q ∙ n) e
 
-      go : (l : Leaves) → (plan_at ps b).exit ≡ l → (plan_at ps b).exit ≡ Halts
+      go : (l : HowLeft) → (plan_at ps b).exit ≡ l → (plan_at ps b).exit ≡ Halts
       go (Onto c) q = absurd (bad (Onto c) q refl)
       go (Either op from c d) q = absurd (bad (Either op from c d) q refl)
       go (Lands op from values ls) q = absurd (bad (Lands op from values ls) q refl)

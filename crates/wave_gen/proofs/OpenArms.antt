@@ -8,7 +8,7 @@ use Rattle.ws_isa.specs.Image.{Image, Instr, Block, Array, flat, block_at, first
 use Rattle.ws_isa.specs.Formed.{NoNotes}
 use Rattle.ws_isa.specs.Open.{OnlyEdge, IsArm, HasGiver, EnteredBySteer}
 use Rattle.wave_gen.specs.Wire.{WiredInstr, Made, emit}
-use Rattle.wave_gen.specs.Plans.{gives, merges, differing, Leaves, Onto, Either, Lands, Halts, Plan, pulse, steer_of, tails_of, body_made, renew, plan_at, made_at, starts_at, begins, instr_of, blocks_of, draft_of, exit_of, source_of}
+use Rattle.wave_gen.specs.Plans.{gives, merges, differing, HowLeft, Onto, Either, Lands, Halts, Plan, pulse, steer_of, tails_of, body_made, renew, plan_at, made_at, starts_at, begins, instr_of, blocks_of, draft_of, exit_of, source_of}
 use Rattle.wave_gen.proofs.SteeredNames.{or_first}
 use Rattle.wave_gen.proofs.Planned.{PlansAre, EdgesAre, Inner}
 use Rattle.wave_gen.proofs.Opening.{OnlyEdgeOf, PlansOpen}
@@ -56,7 +56,7 @@ module _ (arrays : List Array) (width : ℕ) (ps : List Plan) (Live : ℕ → �
   Is b = (1 ≤ b) × (b ≤ length ps)
 
   -- edges of a block are those of its plan
-  edges_same : (s : ℕ) (e : Leaves) → edges_of (exit_of s e) ≡ edges_of (exit_of 0 e)
+  edges_same : (s : ℕ) (e : HowLeft) → edges_of (exit_of s e) ≡ edges_of (exit_of 0 e)
   edges_same s (Onto c) = refl
   edges_same s (Either op from c d) = refl
   edges_same s (Lands op from values ls) = refl
@@ -86,14 +86,14 @@ module _ (arrays : List Array) (width : ℕ) (ps : List Plan) (Live : ℕ → �
       h : Is b
       h = is_block arrays width ps b hb
 
-      go : (l : Leaves) → (plan_at ps b).exit ≡ l → IsArm I b 0 x × IsArm I b 1 y
+      go : (l : HowLeft) → (plan_at ps b).exit ≡ l → IsArm I b 0 x × IsArm I b 1 y
       go (Onto c) q = absurd (let f : image.Goto c ≡ image.Branch s x y = sym (exit_is arrays width ps Live plans b h ∙ ap (exit_of (source_of width ps b)) q) ∙ e in cc)
       go Halts q = absurd (let f : image.Stop ≡ image.Branch s x y = sym (exit_is arrays width ps Live plans b h ∙ ap (exit_of (source_of width ps b)) q) ∙ e in cc)
       go (Lands op from values ls) q = absurd (let f : image.Landings (source_of width ps b) ls ≡ image.Branch s x y = sym (exit_is arrays width ps Live plans b h ∙ ap (exit_of (source_of width ps b)) q) ∙ e in cc)
       go (Either op from c d) q =
           let f : image.Branch (source_of width ps b) c d ≡ image.Branch s x y = sym (exit_is arrays width ps Live plans b h ∙ ap (exit_of (source_of width ps b)) q) ∙ e in
           let ex : c ≡ x = cc in let ey : d ≡ y = cc in
-          let g = subst (λ (l : Leaves). EdgesAre ps b l) q (plans.each b h).edges in
+          let g = subst (λ (l : HowLeft). EdgesAre ps b l) q (plans.each b h).edges in
           let o = opens.arms b op from c d h q in
           (subst (λ (z : ℕ). IsArm I b 0 z) ex (arm_is b 0 c h g.0 o.0), subst (λ (z : ℕ). IsArm I b 1 z) ey (arm_is b 1 d h g.1 o.1))
 
@@ -167,7 +167,7 @@ module _ (arrays : List Array) (width : ℕ) (ps : List Plan) (Live : ℕ → �
           let a = opens.bare b h f j in
           let S = starts_at width ps in
           let u = or_first (differing (S a.one) (S a.other) 0 width) in
-          let t : nth (tails_of width (starts_at width ps) (plan_at ps a.before).exit) 0 ≡ Some (steer_of (S a.one) (S a.other) u.name) = ap (λ (l : Leaves). nth (tails_of width (starts_at width ps) l) 0) a.exit ∙ u.is (S a.one) (S a.other) in
+          let t : nth (tails_of width (starts_at width ps) (plan_at ps a.before).exit) 0 ≡ Some (steer_of (S a.one) (S a.other) u.name) = ap (λ (l : HowLeft). nth (tails_of width (starts_at width ps) l) 0) a.exit ∙ u.is (S a.one) (S a.other) in
           let i = tail_instr arrays width ps Live plans.each a.before a.there 0 (steer_of (S a.one) (S a.other) u.name) t in
           inr (record {
             before = a.before;

@@ -11,7 +11,7 @@ use Rattle.ws_isa.specs.Sound.{HasDest, HasPad, BlockShape, ShapeRules}
 use Rattle.ws_isa.specs.Open.{OpenToNotes}
 use Rattle.wave_gen.specs.Waits.{Code}
 use Rattle.wave_gen.specs.Wire.{WiredInstr, Wants, dests_of}
-use Rattle.wave_gen.specs.Plans.{Leaves, Onto, Either, Lands, Halts, Plan, fronts, plan_at, made_at, begins, instr_of, draft_of, code_of, exit_of, source_of}
+use Rattle.wave_gen.specs.Plans.{HowLeft, Onto, Either, Lands, Halts, Plan, fronts, plan_at, made_at, begins, instr_of, draft_of, code_of, exit_of, source_of}
 use Rattle.wave_gen.proofs.Planned.{AllIn, PadsFit, PlansAre, EdgesAre, Outer}
 use Rattle.wave_gen.proofs.More.{PlansGive}
 use Rattle.wave_gen.proofs.Opening.{PlansOpen}
@@ -171,10 +171,10 @@ module _ (arrays : List Array) (width : ℕ) (ps : List Plan) (Live : ℕ → �
       h : Is b
       h = is_block arrays width ps b hb
 
-      is : (e : Leaves) → (plan_at ps b).exit ≡ e → (block_at I b).exit ≡ exit_of (source_of width ps b) e
+      is : (e : HowLeft) → (plan_at ps b).exit ≡ e → (block_at I b).exit ≡ exit_of (source_of width ps b) e
       is e q = exit_is arrays width ps Live plans b h ∙ ap (exit_of (source_of width ps b)) q
 
-      go : (e : Leaves) → (plan_at ps b).exit ≡ e → EdgesAre ps b e → ExitIn I (block_at I b).exit
+      go : (e : HowLeft) → (plan_at ps b).exit ≡ e → EdgesAre ps b e → ExitIn I (block_at I b).exit
       go (Onto c) q g = subst (ExitIn I) (sym (is (Onto c) q)) (block_is arrays width ps c (target_there arrays width ps Live plans b c h g))
       go (Either op from c d) q g = subst (ExitIn I) (sym (is (Either op from c d) q)) (
         in_image I b (source_of width ps b) hb (shape_source arrays width ps Live plans b (source_of width ps b) c d hb (is (Either op from c d) q)),
@@ -190,10 +190,10 @@ module _ (arrays : List Array) (width : ℕ) (ps : List Plan) (Live : ℕ → �
   lands : (b : ℕ) → IsBlock I b → SomeLanding (block_at I b).exit
   lands b hb = go (plan_at ps b).exit refl (plans.each b (is_block arrays width ps b hb)).edges
     where
-      is : (e : Leaves) → (plan_at ps b).exit ≡ e → (block_at I b).exit ≡ exit_of (source_of width ps b) e
+      is : (e : HowLeft) → (plan_at ps b).exit ≡ e → (block_at I b).exit ≡ exit_of (source_of width ps b) e
       is e q = exit_is arrays width ps Live plans b (is_block arrays width ps b hb) ∙ ap (exit_of (source_of width ps b)) q
 
-      go : (e : Leaves) → (plan_at ps b).exit ≡ e → EdgesAre ps b e → SomeLanding (block_at I b).exit
+      go : (e : HowLeft) → (plan_at ps b).exit ≡ e → EdgesAre ps b e → SomeLanding (block_at I b).exit
       go (Onto c) q g = subst SomeLanding (sym (is (Onto c) q)) tt
       go (Either op from c d) q g = subst SomeLanding (sym (is (Either op from c d) q)) tt
       go (Lands op from values ls) q g = subst SomeLanding (sym (is (Lands op from values ls) q)) g.0

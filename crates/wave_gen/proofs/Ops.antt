@@ -2,13 +2,13 @@
 use Rattle.std.proofs.Common.{ℕ, zero, suc, ◌-◌, ◌≡◌, ◌<◌, ◌≤◌, ◌==◌, Bool, true, false, cond, eqb, List, [], ◌∷◌, ◌++◌, length, slice_index, slice_set, refl, sym, ap, ◌∙◌, subst, inl, inr, arith}
 use Rattle.std.proofs.lemmas.Bool.{cases_eq}
 use Rattle.ws_words.specs.Outside as outside
-use Rattle.ws_words.specs.Outside.{Outside, State, row, write, stored, printed, taken, has_read, given}
+use Rattle.ws_words.specs.Outside.{Outside, ProcState, row, write, stored, printed, taken, has_read, given}
 use Rattle.ws_isa.specs.declared.instr.Op.TheVariants.{Phi, Store, Output, Take}
 use Rattle.cfg_core.specs.Graph as graph
 use Rattle.cfg_core.specs.Graph.{Graph, Term, Number, Var, Cell, Flip, Not, Neg, Binary}
 use Rattle.cfg_core.specs.Rules.{TermIn, OpIn, NoCell, ChoosesBare}
-use Rattle.cfg_core.specs.Walk.{value, loads_of, value_of, Outcome, Done, Out, spend, run_op, run_ops, and_then}
-use Rattle.wave_gen.specs.Waits.{Names, set}
+use Rattle.cfg_core.specs.Walk.{value, loads_of, value_of, OpsOutcome, Done, Out, spend, run_op, run_ops, and_then}
+use Rattle.wave_gen.specs.Waits.{NameState, set}
 use Rattle.wave_gen.specs.Wire.{Item, Make, Act, Same}
 use Rattle.wave_gen.specs.Plans.{pulse}
 use Rattle.wave_gen.proofs.Runs.{run_item, run_items}
@@ -42,7 +42,7 @@ agrees_set vars env x v a = record {
 }
 
 -- names and what is outside are those of the state
-pub record IsState (st : State) (s : Names) : Type 0 where
+pub record IsState (st : ProcState) (s : NameState) : Type 0 where
   pub agrees : Agrees st.vars s.env
   pub out : s.out ≡ st.out
 
@@ -60,25 +60,25 @@ same_test : (v : ℕ) → eqb v 0 ≡ (v == 0)
 same_test v = refl
 
 -- what an operation leaves
-pub record Left (k : ℕ) (st st' : State) (items : List Item) (free : ℕ) (s : Names) : Type 0 where
+pub record Left (k : ℕ) (st st' : ProcState) (items : List Item) (free : ℕ) (s : NameState) : Type 0 where
   pub is : IsState st' (run_items items s)
   pub length_same : length st'.vars ≡ length st.vars
   pub next : k ≤ free
 
-pub done_is : (a c : State) (k l : ℕ) → Done a k ≡ Done c l → a ≡ c
+pub done_is : (a c : ProcState) (k l : ℕ) → Done a k ≡ Done c l → a ≡ c
 done_is a c k l e = cc
 
-spend_is : (n : ℕ) (s st : State) (k l : ℕ) → spend n s k ≡ Done st l → s ≡ st
+spend_is : (n : ℕ) (s st : ProcState) (k l : ℕ) → spend n s k ≡ Done st l → s ≡ st
 spend_is zero s st k l e = done_is s st k l e
 spend_is (suc n) s st zero l e = absurd (let z : Out s.out ≡ Done st l = e in cc)
 spend_is (suc n) s st (suc k) l e = spend_is n s st k l e
 
-same_state : (k : ℕ) (st st' : State) (s : Names) → IsState st s → st ≡ st' → Left k st st' [] k s
+same_state : (k : ℕ) (st st' : ProcState) (s : NameState) → IsState st s → st ≡ st' → Left k st st' [] k s
 same_state k st st' s i e = record { is = rw (sym e) i; length_same = rw (sym e) refl; next = omega arith }
 
 module _ (g : Graph) where
   -- a term on a state
-  pub on_state : (t : Term) (k n : ℕ) (st : State) (s : Names) → TermIn g n t → n ≡ length st.vars → n < k → IsState st s → FlipsWords t st.vars st.out.cells →
+  pub on_state : (t : Term) (k n : ℕ) (st : ProcState) (s : NameState) → TermIn (length g.arrays) n t → n ≡ length st.vars → n < k → IsState st s → FlipsWords t st.vars st.out.cells →
       Gives k s (gen_term k t) (value t st.vars st.out.cells) (loads_of t st.vars st.out.cells)
   on_state t k n st s i m l a f =
       let c : s.out.cells ≡ st.out.cells = ap (λ (o : Outside). o.cells) a.out in
@@ -86,13 +86,13 @@ module _ (g : Graph) where
       (term_gives g t k n st.vars s i m l a.agrees (subst (λ (cs : List (List ℕ)). FlipsWords t st.vars cs) (sym c) f))
 
   -- the state behind a term
-  pub behind_term : (t : Term) (k n : ℕ) (st : State) (s : Names) → TermIn g n t → n ≡ length st.vars → n < k → IsState st s → FlipsWords t st.vars st.out.cells →
+  pub behind_term : (t : Term) (k n : ℕ) (st : ProcState) (s : NameState) → TermIn (length g.arrays) n t → n ≡ length st.vars → n < k → IsState st s → FlipsWords t st.vars st.out.cells →
       IsState (value_of t st).1 (run_items (gen_term k t).items s)
   behind_term t k n st s i m l a f =
       let h = on_state t k n st s i m l a f in
       record { agrees = agrees_on st.vars k n s.env (run_items (gen_term k t).items s).env (omega arith) l h.keeps a.agrees; out = h.out ∙ ap (λ (o : Outside). with_more o (loads_of t st.vars st.out.cells)) a.out }
 
-  op_left : (op : graph.Op) (k n : ℕ) (st st' : State) (s : Names) (turns left : ℕ) → OpIn g n op → ChoosesBare op → n ≡ length st.vars → n < k → OpFine op st.vars st.out.cells → IsState st s → run_op op st turns ≡ Done st' left →
+  op_left : (op : graph.Op) (k n : ℕ) (st st' : ProcState) (s : NameState) (turns left : ℕ) → OpIn (length g.arrays) n op → ChoosesBare op → n ≡ length st.vars → n < k → OpFine op st.vars st.out.cells → IsState st s → run_op op st turns ≡ Done st' left →
       Left k st st' (gen_op k op).items (gen_op k op).next s
   op_left (graph.Assign x t) k n st st' s turns left i c m l f a e =
       let h = on_state t k n st s i.1 m l a f in
@@ -154,7 +154,7 @@ module _ (g : Graph) where
       let h = on_state t k n st s i.1 m l a f.0 in
       let b = behind_term t k n st s i.1 m l a f.0 in
       let q = gen_term k t in
-      let s1 : Names = run_items q.items s in
+      let s1 : NameState = run_items q.items s in
       let l1 : n < q.next = (let r : k ≤ q.next = h.next in omega arith) in
       let h1 = on_state u q.next n (value_of t st).1 s1 i.2 m l1 b f.1 in
       let b1 = behind_term u q.next n (value_of t st).1 s1 i.2 m l1 b f.1 in
@@ -174,7 +174,7 @@ module _ (g : Graph) where
     next = (let r1 : k ≤ q.next = h.next in let r2 : q.next ≤ q1.next = h1.next in let r3 : q1.next ≤ q2.next = h2.next in omega arith);
   }
     where
-      bare : (p : Term) → NoCell p → (z : State) → (value_of p z).1 ≡ z
+      bare : (p : Term) → NoCell p → (z : ProcState) → (value_of p z).1 ≡ z
       bare p b z = rw (no_loads p z.vars z.out.cells b) (ap (λ (o : Outside). record { vars = z.vars; out = o }) (acted_none z.out))
 
       q : Got
@@ -183,11 +183,11 @@ module _ (g : Graph) where
       h : Gives k s (gen_term k t) (value t st.vars st.out.cells) (loads_of t st.vars st.out.cells)
       h = on_state t k n st s i.1 m l a f.0
 
-      s1 : Names
+      s1 : NameState
       s1 = run_items (gen_term k t).items s
 
       a1 : IsState st (run_items (gen_term k t).items s)
-      a1 = subst (λ (z : State). IsState z (run_items (gen_term k t).items s)) (bare t c.0 st) (behind_term t k n st s i.1 m l a f.0)
+      a1 = subst (λ (z : ProcState). IsState z (run_items (gen_term k t).items s)) (bare t c.0 st) (behind_term t k n st s i.1 m l a f.0)
 
       l1 : n < (gen_term k t).next
       l1 = let r : k ≤ (gen_term k t).next = h.next in omega arith
@@ -199,7 +199,7 @@ module _ (g : Graph) where
       h1 = on_state u (gen_term k t).next n st (run_items (gen_term k t).items s) i.2 m l1 a1 f.1
 
       a2 : IsState st (run_items q1.items s1)
-      a2 = subst (λ (z : State). IsState z (run_items (gen_term (gen_term k t).next u).items (run_items (gen_term k t).items s))) (bare u c.1 st) (behind_term u (gen_term k t).next n st (run_items (gen_term k t).items s) i.2 m l1 a1 f.1)
+      a2 = subst (λ (z : ProcState). IsState z (run_items (gen_term (gen_term k t).next u).items (run_items (gen_term k t).items s))) (bare u c.1 st) (behind_term u (gen_term k t).next n st (run_items (gen_term k t).items s) i.2 m l1 a1 f.1)
 
       l2 : n < (gen_term (gen_term k t).next u).next
       l2 = let r : (gen_term k t).next ≤ (gen_term (gen_term k t).next u).next = h1.next in let l1' : n < (gen_term k t).next = l1 in omega arith
@@ -207,14 +207,14 @@ module _ (g : Graph) where
       q2 : Got
       q2 = gen_term (gen_term (gen_term k t).next u).next w
 
-      s2 : Names
+      s2 : NameState
       s2 = run_items (gen_term (gen_term k t).next u).items (run_items (gen_term k t).items s)
 
       h2 : Gives (gen_term (gen_term k t).next u).next s2 (gen_term (gen_term (gen_term k t).next u).next w) (value w st.vars st.out.cells) (loads_of w st.vars st.out.cells)
       h2 = on_state w (gen_term (gen_term k t).next u).next n st s2 i.3 m l2 a2 f.2
 
       a3 : IsState st (run_items q2.items s2)
-      a3 = subst (λ (z : State). IsState z (run_items (gen_term (gen_term (gen_term k t).next u).next w).items s2)) (bare w c.2 st) (behind_term w (gen_term (gen_term k t).next u).next n st s2 i.3 m l2 a2 f.2)
+      a3 = subst (λ (z : ProcState). IsState z (run_items (gen_term (gen_term (gen_term k t).next u).next w).items s2)) (bare w c.2 st) (behind_term w (gen_term (gen_term k t).next u).next n st s2 i.3 m l2 a2 f.2)
 
       phi : Item
       phi = Make (suc x) Phi (q1.name ∷ q2.name ∷ q.name ∷ [])
@@ -231,33 +231,33 @@ module _ (g : Graph) where
       chosen : ℕ → IsState (write st x (cond (eqb (value t st.vars st.out.cells) 0) (value w st.vars st.out.cells) (value u st.vars st.out.cells))) (run_item phi (run_items q2.items s2))
       chosen z = record { agrees = rw (test_is, first_is, h2.value) (agrees_set st.vars (run_items q2.items s2).env x (cond (eqb (value t st.vars st.out.cells) 0) (value w st.vars st.out.cells) (value u st.vars st.out.cells)) a3.agrees); out = a3.out }
 
-      branch : (b : Bool) → State
+      branch : (b : Bool) → ProcState
       branch b = write st x (cond b (value w st.vars st.out.cells) (value u st.vars st.out.cells))
 
       picked : (b : Bool) → (value t st.vars st.out.cells == 0) ≡ b → write st x (cond (eqb (value t st.vars st.out.cells) 0) (value w st.vars st.out.cells) (value u st.vars st.out.cells)) ≡ branch b
       picked b v = ap (λ (z : Bool). write st x (cond z (value w st.vars st.out.cells) (value u st.vars st.out.cells))) (same_test (value t st.vars st.out.cells) ∙ v)
 
       -- the state in which a chosen term is evaluated
-      whole : (p : Term) → ((z : State) → (value_of p z).1 ≡ z) → write st x (value p st.vars st.out.cells) ≡ write (value_of p (value_of t st).1).1 x (value_of p (value_of t st).1).0
-      whole p b = ap (λ (z : State). write z x (value p st.vars st.out.cells)) (sym (b (value_of t st).1 ∙ bare t c.0 st))
+      whole : (p : Term) → ((z : ProcState) → (value_of p z).1 ≡ z) → write st x (value p st.vars st.out.cells) ≡ write (value_of p (value_of t st).1).1 x (value_of p (value_of t st).1).0
+      whole p b = ap (λ (z : ProcState). write z x (value p st.vars st.out.cells)) (sym (b (value_of t st).1 ∙ bare t c.0 st))
 
       go : (b : Bool) → (value t st.vars st.out.cells == 0) ≡ b →
           Rattle.std.specs.Prelude.if◌then◌else◌ b (Done (write (value_of w (value_of t st).1).1 x (value_of w (value_of t st).1).0) turns) (Done (write (value_of u (value_of t st).1).1 x (value_of u (value_of t st).1).0) turns) ≡ Done st' left →
           IsState st' (run_item phi (run_items q2.items s2))
-      go true v d = subst (λ (z : State). IsState z (run_item phi (run_items q2.items s2))) (picked true v ∙ whole w (bare w c.2) ∙ done_is _ st' turns left d) (chosen 0)
-      go false v d = subst (λ (z : State). IsState z (run_item phi (run_items q2.items s2))) (picked false v ∙ whole u (bare u c.1) ∙ done_is _ st' turns left d) (chosen 0)
+      go true v d = subst (λ (z : ProcState). IsState z (run_item phi (run_items q2.items s2))) (picked true v ∙ whole w (bare w c.2) ∙ done_is _ st' turns left d) (chosen 0)
+      go false v d = subst (λ (z : ProcState). IsState z (run_item phi (run_items q2.items s2))) (picked false v ∙ whole u (bare u c.1) ∙ done_is _ st' turns left d) (chosen 0)
 
       same_length : (b : Bool) → Rattle.std.specs.Prelude.if◌then◌else◌ b (Done (write (value_of w (value_of t st).1).1 x (value_of w (value_of t st).1).0) turns) (Done (write (value_of u (value_of t st).1).1 x (value_of u (value_of t st).1).0) turns) ≡ Done st' left → length st'.vars ≡ length st.vars
       same_length true d = rw (sym (done_is _ st' turns left d)) (set_length st.vars x (value w st.vars st.out.cells))
       same_length false d = rw (sym (done_is _ st' turns left d)) (set_length st.vars x (value u st.vars st.out.cells))
 
-  pub ops_left : (ops : List graph.Op) (k n : ℕ) (st st' : State) (s : Names) (turns left : ℕ) → AllByRecursion (OpIn g n) ops → AllByRecursion ChoosesBare ops → n ≡ length st.vars → n < k → OpsFine ops st → IsState st s → run_ops ops st turns ≡ Done st' left →
+  pub ops_left : (ops : List graph.Op) (k n : ℕ) (st st' : ProcState) (s : NameState) (turns left : ℕ) → AllByRecursion (OpIn (length g.arrays) n) ops → AllByRecursion ChoosesBare ops → n ≡ length st.vars → n < k → OpsFine ops st → IsState st s → run_ops ops st turns ≡ Done st' left →
       Left k st st' (gen_ops k ops).items (gen_ops k ops).next s
   ops_left [] k n st st' s turns left i c m l f a e = same_state k st st' s a (done_is st st' turns left e)
   ops_left (op ∷ ops) k n st st' s turns left i c m l f a e = go (run_op op st turns) refl e (λ st1 l1 d. ops_left ops (gen_op k op).next n st1 st' (run_items (gen_op k op).items s) l1 left i.1 c.1)
     where
-      go : (r : Outcome) → run_op op st turns ≡ r → and_then r (run_ops ops) ≡ Done st' left →
-          ((st1 : State) (l1 : ℕ) → run_op op st turns ≡ Done st1 l1 → n ≡ length st1.vars → n < (gen_op k op).next → OpsFine ops st1 → IsState st1 (run_items (gen_op k op).items s) → run_ops ops st1 l1 ≡ Done st' left → Left (gen_op k op).next st1 st' (gen_ops (gen_op k op).next ops).items (gen_ops (gen_op k op).next ops).next (run_items (gen_op k op).items s)) →
+      go : (r : OpsOutcome) → run_op op st turns ≡ r → and_then r (run_ops ops) ≡ Done st' left →
+          ((st1 : ProcState) (l1 : ℕ) → run_op op st turns ≡ Done st1 l1 → n ≡ length st1.vars → n < (gen_op k op).next → OpsFine ops st1 → IsState st1 (run_items (gen_op k op).items s) → run_ops ops st1 l1 ≡ Done st' left → Left (gen_op k op).next st1 st' (gen_ops (gen_op k op).next ops).items (gen_ops (gen_op k op).next ops).next (run_items (gen_op k op).items s)) →
           Left k st st' (gen_ops k (op ∷ ops)).items (gen_ops k (op ∷ ops)).next s
       go (Out o) q d ih = absurd (let z : Out o ≡ Done st' left = d in cc)
       go (Done st1 l1) q d ih =

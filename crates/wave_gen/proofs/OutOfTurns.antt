@@ -1,8 +1,9 @@
 -- What a walk has done when it is out of turns is done first by the walk with more turns.
 use Rattle.std.proofs.Common.{ℕ, zero, suc, ◌+◌, ◌-◌, ◌≡◌, ◌≤◌, ◌==◌, Bool, true, false, if◌then◌else◌, List, [], ◌∷◌, ◌++◌, refl, sym, ap, ◌∙◌, subst, arith}
-use Rattle.ws_words.specs.Outside.{Act, Outside, State}
+use Rattle.ws_words.specs.Outside.{Act, Outside, ProcState}
+use Rattle.ws_words.specs.Past.{ActsBegin}
 use Rattle.cfg_core.specs.Graph.{Op, Assign, Store, Print, Read, Give, Take, Choose, Tick, TickBy, Exit, Goto, Branch, Call, Return, Send, Stop, Graph}
-use Rattle.cfg_core.specs.Walk.{value_of, values_of, Outcome, Done, Out, and_then, spend, run_op, run_ops, Config, At, Over, Going, Frame, leave}
+use Rattle.cfg_core.specs.Walk.{value_of, values_of, OpsOutcome, Done, Out, and_then, spend, run_op, run_ops, Config, At, Over, Going, Frame, leave}
 use Rattle.wave_gen.proofs.Paced.{op_most, ops_most}
 
 append_nil : (xs : List Act) → xs ≡ xs ++ []
@@ -19,55 +20,55 @@ append_three xs ys zs us = append_assoc (xs ++ ys) zs us ∙ append_assoc xs ys 
 
 -- acts go on
 abbrev pub Longer : Outside → Outside → Type 0
-Longer o p = (more : List Act) × (p.acts ≡ o.acts ++ more)
+Longer o p = ActsBegin o.acts p.acts
 
-longer_same : (o : Outside) → Longer o o
+pub longer_same : (o : Outside) → Longer o o
 longer_same o = ([], append_nil o.acts)
 
 longer_trans : (o p q : Outside) → Longer o p → Longer p q → Longer o q
 longer_trans o p q a b = (a.0 ++ b.0, b.1 ∙ ap (λ (r : List Act). r ++ b.0) a.1 ∙ append_assoc o.acts a.0 b.0)
 
-loads_longer : (t : _) (s : State) → Longer s.out (value_of t s).1.out
+loads_longer : (t : _) (s : ProcState) → Longer s.out (value_of t s).1.out
 loads_longer t s = (_, refl)
 
-all_longer : (ts : List _) (s : State) → Longer s.out (values_of ts s).1.out
+all_longer : (ts : List _) (s : ProcState) → Longer s.out (values_of ts s).1.out
 all_longer ts s = (_, refl)
 
 -- an outcome with fewer turns is of this state
-abbrev Agrees : State → Outcome → Type 0
+abbrev Agrees : ProcState → OpsOutcome → Type 0
 Agrees u (Done t l) = t ≡ u
 Agrees u (Out o) = o ≡ u.out
 
 -- with n turns, of which it takes at most m, an operation is done
-record Whole (s : State) (m n : ℕ) (run : ℕ → Outcome) : Type 0 where
-  pub state : State
+record Whole (s : ProcState) (m n : ℕ) (run : ℕ → OpsOutcome) : Type 0 where
+  pub state : ProcState
   pub left : ℕ
   pub done : run n ≡ Done state left
   pub enough : n ≤ left + m
   pub longer : Longer s.out state.out
   pub same : (k : ℕ) → Agrees state (run k)
 
-at_once : (s u : State) (n : ℕ) → Longer s.out u.out → Whole s 0 n (λ k. Done u k)
+at_once : (s u : ProcState) (n : ℕ) → Longer s.out u.out → Whole s 0 n (λ k. Done u k)
 at_once s u n l = record { state = u; left = n; done = refl; enough = omega arith; longer = l; same = λ k. refl }
 
-spend_done : (m : ℕ) (s : State) (n : ℕ) → m ≤ n → spend m s n ≡ Done s (n - m)
+spend_done : (m : ℕ) (s : ProcState) (n : ℕ) → m ≤ n → spend m s n ≡ Done s (n - m)
 spend_done zero s n l = ap (Done s) (let z : n ≡ n - 0 = omega arith in z)
 spend_done (suc m) s zero l = absurd (omega arith)
 spend_done (suc m) s (suc n) l = let e : suc n - suc m ≡ n - m = omega arith in spend_done m s n (omega (arith, l)) ∙ ap (Done s) (sym e)
 
-spend_same : (m : ℕ) (s : State) (k : ℕ) → Agrees s (spend m s k)
+spend_same : (m : ℕ) (s : ProcState) (k : ℕ) → Agrees s (spend m s k)
 spend_same zero s k = refl
 spend_same (suc m) s zero = refl
 spend_same (suc m) s (suc k) = spend_same m s k
 
-spent : (s u : State) (m most n : ℕ) → m ≤ most → most ≤ n → Longer s.out u.out → Whole s most n (spend m u)
+spent : (s u : ProcState) (m most n : ℕ) → m ≤ most → most ≤ n → Longer s.out u.out → Whole s most n (spend m u)
 spent s u m most n l h w = record { state = u; left = n - m; done = spend_done m u n (omega (arith, l, h)); enough = omega (arith, l, h); longer = w; same = spend_same m u }
 
-either_whole : (s : State) (m n : ℕ) (v : Bool) (x y : ℕ → Outcome) → Whole s m n x → Whole s m n y → Whole s m n (λ k. if v then x k else y k)
+either_whole : (s : ProcState) (m n : ℕ) (v : Bool) (x y : ℕ → OpsOutcome) → Whole s m n x → Whole s m n y → Whole s m n (λ k. if v then x k else y k)
 either_whole s m n true x y a b = record { state = a.state; left = a.left; done = a.done; enough = a.enough; longer = a.longer; same = a.same }
 either_whole s m n false x y a b = record { state = b.state; left = b.left; done = b.done; enough = b.enough; longer = b.longer; same = b.same }
 
-op_whole : (op : Op) (s : State) (n : ℕ) → op_most op ≤ n → Whole s (op_most op) n (run_op op s)
+op_whole : (op : Op) (s : ProcState) (n : ℕ) → op_most op ≤ n → Whole s (op_most op) n (run_op op s)
 op_whole (Assign x t) s n h = at_once s _ n (_, refl)
 op_whole (Store a t u) s n h = at_once s _ n (_, append_three s.out.acts _ _ _)
 op_whole (Print t) s n h = at_once s _ n (_, append_assoc s.out.acts _ _)
@@ -81,22 +82,22 @@ op_whole (TickBy t i j) s n h = either_whole s (i + j) n ((value_of t s).0 == 0)
     (spent s (value_of t s).1 j (i + j) n (omega arith) h (loads_longer t s)) (spent s (value_of t s).1 i (i + j) n (omega arith) h (loads_longer t s))
 
 -- operations with enough turns are done
-pub record Ran (o : Outside) (r : Outcome) : Type 0 where
-  pub state : State
+pub record Ran (o : Outside) (r : OpsOutcome) : Type 0 where
+  pub state : ProcState
   pub left : ℕ
   pub done : r ≡ Done state left
   pub longer : Longer o state.out
 
-all_run : (ops : List Op) (s : State) (n : ℕ) → ops_most ops ≤ n → Ran s.out (run_ops ops s n)
+all_run : (ops : List Op) (s : ProcState) (n : ℕ) → ops_most ops ≤ n → Ran s.out (run_ops ops s n)
 all_run [] s n h = record { state = s; left = n; done = refl; longer = longer_same s.out }
 all_run (op ∷ ops) s n h =
     let w = op_whole op s n (omega (arith, h)) in
     let e : n ≤ w.left + op_most op = w.enough in
     let r = all_run ops w.state w.left (omega (arith, h, e)) in
-    record { state = r.state; left = r.left; done = ap (λ (x : Outcome). and_then x (run_ops ops)) w.done ∙ r.done; longer = longer_trans s.out w.state.out r.state.out w.longer r.longer }
+    record { state = r.state; left = r.left; done = ap (λ (x : OpsOutcome). and_then x (run_ops ops)) w.done ∙ r.done; longer = longer_trans s.out w.state.out r.state.out w.longer r.longer }
 
 -- operations that are out of turns have done what they do first with enough of them
-pub front_run : (ops : List Op) (s : State) (k n : ℕ) (o : Outside) → run_ops ops s k ≡ Out o → ops_most ops ≤ n → Ran o (run_ops ops s n)
+pub front_run : (ops : List Op) (s : ProcState) (k n : ℕ) (o : Outside) → run_ops ops s k ≡ Out o → ops_most ops ≤ n → Ran o (run_ops ops s n)
 front_run [] s k n o e h = absurd (let z : Done s k ≡ Out o = e in cc)
 front_run (op ∷ ops) s k n o e h = go (run_op op s k) refl (w.same k) (λ t l f m i. front_run ops t l m o f i)
   where
@@ -104,18 +105,18 @@ front_run (op ∷ ops) s k n o e h = go (run_op op s k) refl (w.same k) (λ t l 
     w = op_whole op s n (omega (arith, h))
 
     first : run_ops (op ∷ ops) s n ≡ run_ops ops w.state w.left
-    first = ap (λ (x : Outcome). and_then x (run_ops ops)) w.done
+    first = ap (λ (x : OpsOutcome). and_then x (run_ops ops)) w.done
 
     enough : ops_most ops ≤ w.left
     enough = let f : n ≤ w.left + op_most op = w.enough in omega (arith, h, f)
 
-    go : (r : Outcome) → run_op op s k ≡ r → Agrees w.state r → ((t : State) (l : ℕ) → run_ops ops t l ≡ Out o → (m : ℕ) → ops_most ops ≤ m → Ran o (run_ops ops t m)) → Ran o (run_ops (op ∷ ops) s n)
+    go : (r : OpsOutcome) → run_op op s k ≡ r → Agrees w.state r → ((t : ProcState) (l : ℕ) → run_ops ops t l ≡ Out o → (m : ℕ) → ops_most ops ≤ m → Ran o (run_ops ops t m)) → Ran o (run_ops (op ∷ ops) s n)
     go (Done t l) q a ih =
-        let f : run_ops ops t l ≡ Out o = ap (λ (x : Outcome). and_then x (run_ops ops)) (sym q) ∙ e in
+        let f : run_ops ops t l ≡ Out o = ap (λ (x : OpsOutcome). and_then x (run_ops ops)) (sym q) ∙ e in
         let r = ih t l f w.left enough in
-        record { state = r.state; left = r.left; done = first ∙ ap (λ (u : State). run_ops ops u w.left) (sym a) ∙ r.done; longer = r.longer }
+        record { state = r.state; left = r.left; done = first ∙ ap (λ (u : ProcState). run_ops ops u w.left) (sym a) ∙ r.done; longer = r.longer }
     go (Out p) q a ih =
-        let f : Out p ≡ Out o = ap (λ (x : Outcome). and_then x (run_ops ops)) (sym q) ∙ e in
+        let f : Out p ≡ Out o = ap (λ (x : OpsOutcome). and_then x (run_ops ops)) (sym q) ∙ e in
         let z : p ≡ o = cc in
         let r = all_run ops w.state w.left enough in
         record { state = r.state; left = r.left; done = first ∙ r.done; longer = subst (λ (x : Outside). Longer x r.state.out) (sym a ∙ z) r.longer }
@@ -127,7 +128,7 @@ outside (Over o k) = o
 outside (Going o) = o
 
 -- an exit goes on
-pub exit_longer : (g : Graph) (exit : Exit) (s : State) (frames : List Frame) (k : ℕ) → (more : List Act) × ((outside (leave g exit s frames k)).acts ≡ s.out.acts ++ more)
+pub exit_longer : (g : Graph) (exit : Exit) (s : ProcState) (frames : List Frame) (k : ℕ) → (more : List Act) × ((outside (leave g exit s frames k)).acts ≡ s.out.acts ++ more)
 exit_longer g (Goto b) s frames k = longer_same s.out
 exit_longer g (Branch t a b) s frames k = go ((value_of t s).0 == 0)
   where

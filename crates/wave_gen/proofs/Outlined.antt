@@ -10,7 +10,7 @@ use Rattle.live_vars.specs.Marks.{has}
 use Rattle.wave_cut.specs.Cut.{is_first}
 use Rattle.wave_gen.specs.Wire.{Item}
 use Rattle.wave_gen.specs.Plans as plans
-use Rattle.wave_gen.specs.Plans.{Leaves, pulse}
+use Rattle.wave_gen.specs.Plans.{HowLeft, pulse}
 use Rattle.wave_gen.specs.Gen.{gen_ops}
 use Rattle.wave_gen.specs.Shared.{shared, none_known}
 use Rattle.wave_gen.specs.Drawn.{exit_next}
@@ -19,7 +19,7 @@ use Rattle.wave_gen.specs.Words.{live_from}
 use Rattle.wave_gen.specs.View as shown
 use Rattle.wave_gen.specs.Placed.{OutlineIs, place, turned_at}
 use Rattle.wave_gen.specs.declared.plan.Plan.{Plan}
-use Rattle.wave_gen.specs.declared.plans.Outline.{Outline}
+use Rattle.wave_gen.specs.declared.plans.PlanGround.{PlanGround}
 use Rattle.ws_words.specs.Items.{flag_at}
 use Rattle.cfg_core.specs.Weights.{first_block}
 
@@ -47,13 +47,13 @@ spot_of t h b x l e = spot_in t.spots.items (spots (view.graph t.graph.now)) b x
 abbrev ItemsOf : (ℕ → ℕ) → ℕ → Block → List Item
 ItemsOf f width x = let d = gen_ops width x.ops in shared none_known (d.items ++ (gen_exit f d.next x.exit).items)
 
-abbrev ExitOf : (ℕ → ℕ) → ℕ → Block → Leaves
+abbrev ExitOf : (ℕ → ℕ) → ℕ → Block → HowLeft
 ExitOf f width x = (gen_exit f (gen_ops width x.ops).next x.exit).exit
 
 abbrev TestOf : ℕ → Block → ℕ
 TestOf width x = exit_next (gen_ops width x.ops).next x.exit
 
-pub plan_made : (o : Outline) → OutlineIs o → (b : ℕ) → b < length (spots (view.graph o.table.graph.now)) → (x : code.Spot) → SpotIs (spot_at (view.graph o.table.graph.now) b) x → (p : Plan) →
+pub plan_made : (o : PlanGround) → OutlineIs o → (b : ℕ) → b < length (spots (view.graph o.table.graph.now)) → (x : code.Spot) → SpotIs (spot_at (view.graph o.table.graph.now) b) x → (p : Plan) →
     p.wave ≡ turned_at o.waves.now o.start b → p.first ≡ is_first o.waves.now b → p.joined ≡ not (is_first o.waves.now b || flag_at o.arms.items b) →
     p.entries.items ≡ cond (is_first o.waves.now b) (pulse ∷ live_from (has o.live.now b) 0 x.vars) [] →
     p.pads.items ≡ cond (eqb b o.start || flag_at o.landed.items b) (pulse ∷ map suc (view.block x.block.now).named) [] →

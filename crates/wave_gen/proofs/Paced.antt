@@ -1,9 +1,9 @@
 -- How many blocks a walk passes before it is out of turns.
 use Rattle.std.proofs.Common.{ℕ, zero, suc, ◌+◌, ◌*◌, ◌≡◌, ◌<◌, ◌≤◌, ◌⊎◌, ◌==◌, Bool, true, false, if◌then◌else◌, List, [], ◌∷◌, refl, sym, ap, ◌∙◌, subst, inl, inr, arith}
 use Rattle.std.proofs.Math.Nat.{add-mul}
-use Rattle.ws_words.specs.Outside.{Outside, State}
+use Rattle.ws_words.specs.Outside.{Outside, ProcState}
 use Rattle.cfg_core.specs.Graph.{Op, Assign, Store, Print, Read, Give, Take, Choose, Tick, TickBy, Exit, Goto, Branch, Call, Return, Send, Stop, Graph, Spot, no_spot, spots, spot_at, block_at}
-use Rattle.cfg_core.specs.Walk.{value_of, Outcome, Done, Out, and_then, spend, run_op, run_ops, Config, At, Over, Going, Frame, leave, passed, step, walk}
+use Rattle.cfg_core.specs.Walk.{value_of, OpsOutcome, Done, Out, and_then, spend, run_op, run_ops, Config, At, Over, Going, Frame, leave, passed, step, walk}
 use Rattle.ws_words.specs.Items.{nth, or_else}
 
 -- the most turns of an operation, of operations, and of all blocks together
@@ -21,32 +21,32 @@ spots_most [] = 0
 spots_most (s ∷ ss) = ops_most s.block.ops + spots_most ss
 
 -- from k turns at most n were taken, or wanted
-abbrev pub Paid : ℕ → ℕ → Outcome → Type 0
+abbrev pub Paid : ℕ → ℕ → OpsOutcome → Type 0
 Paid n k (Done s l) = k ≤ l + n
 Paid n k (Out o) = k < n
 
-paid_both : (a b k l : ℕ) (r : Outcome) → k ≤ l + a → Paid b l r → Paid (a + b) k r
+paid_both : (a b k l : ℕ) (r : OpsOutcome) → k ≤ l + a → Paid b l r → Paid (a + b) k r
 paid_both a b k l (Done s j) h p = omega (arith, h, p)
 paid_both a b k l (Out o) h p = omega (arith, h, p)
 
-paid_more : (a b k : ℕ) (r : Outcome) → a ≤ b → Paid a k r → Paid b k r
+paid_more : (a b k : ℕ) (r : OpsOutcome) → a ≤ b → Paid a k r → Paid b k r
 paid_more a b k (Done s j) h p = omega (arith, h, p)
 paid_more a b k (Out o) h p = omega (arith, h, p)
 
-spend_paid : (n : ℕ) (s : State) (k : ℕ) → Paid n k (spend n s k)
+spend_paid : (n : ℕ) (s : ProcState) (k : ℕ) → Paid n k (spend n s k)
 spend_paid zero s k = omega arith
 spend_paid (suc n) s zero = omega arith
 spend_paid (suc n) s (suc k) = go (spend n s k) (spend_paid n s k)
   where
-    go : (r : Outcome) → Paid n k r → Paid (suc n) (suc k) r
+    go : (r : OpsOutcome) → Paid n k r → Paid (suc n) (suc k) r
     go (Done t l) h = omega (arith, h)
     go (Out o) h = omega (arith, h)
 
-either_paid : (n k : ℕ) (v : Bool) (x y : Outcome) → Paid n k x → Paid n k y → Paid n k (if v then x else y)
+either_paid : (n k : ℕ) (v : Bool) (x y : OpsOutcome) → Paid n k x → Paid n k y → Paid n k (if v then x else y)
 either_paid n k true x y h i = h
 either_paid n k false x y h i = i
 
-op_paid : (op : Op) (s : State) (k : ℕ) → Paid (op_most op) k (run_op op s k)
+op_paid : (op : Op) (s : ProcState) (k : ℕ) → Paid (op_most op) k (run_op op s k)
 op_paid (Assign x t) s k = omega arith
 op_paid (Store a t u) s k = omega arith
 op_paid (Print t) s k = omega arith
@@ -59,20 +59,20 @@ op_paid (TickBy t n m) s k = either_paid (n + m) k ((value_of t s).0 == 0) (spen
     (paid_more m (n + m) k (spend m (value_of t s).1 k) (omega arith) (spend_paid m (value_of t s).1 k))
     (paid_more n (n + m) k (spend n (value_of t s).1 k) (omega arith) (spend_paid n (value_of t s).1 k))
 
-pub ops_paid : (ops : List Op) (s : State) (k : ℕ) → Paid (ops_most ops) k (run_ops ops s k)
+pub ops_paid : (ops : List Op) (s : ProcState) (k : ℕ) → Paid (ops_most ops) k (run_ops ops s k)
 ops_paid [] s k = omega arith
 ops_paid (op ∷ ops) s k = go (run_op op s k) (op_paid op s k) (λ t l. ops_paid ops t l)
   where
-    go : (r : Outcome) → Paid (op_most op) k r → ((t : State) (l : ℕ) → Paid (ops_most ops) l (run_ops ops t l)) → Paid (op_most op + ops_most ops) k (and_then r (run_ops ops))
+    go : (r : OpsOutcome) → Paid (op_most op) k r → ((t : ProcState) (l : ℕ) → Paid (ops_most ops) l (run_ops ops t l)) → Paid (op_most op + ops_most ops) k (and_then r (run_ops ops))
     go (Done t l) h ih = paid_both (op_most op) (ops_most ops) k l (run_ops ops t l) h (ih t l)
     go (Out o) h ih = omega (arith, h)
 
 -- an exit takes no turn
 abbrev pub Leaves : Config → ℕ → Type 0
-Leaves c k = ((b : ℕ) × (s : State) × (frames : List Frame) × (c ≡ At b s frames k)) ⊎ ((o : Outside) × (c ≡ Over o k))
+Leaves c k = ((b : ℕ) × (s : ProcState) × (frames : List Frame) × (c ≡ At b s frames k)) ⊎ ((o : Outside) × (c ≡ Over o k))
 
 -- where an exit leads to
-pub exit_leaves : (g : Graph) (exit : Exit) (s : State) (frames : List Frame) (k : ℕ) → Leaves (leave g exit s frames k) k
+pub exit_leaves : (g : Graph) (exit : Exit) (s : ProcState) (frames : List Frame) (k : ℕ) → Leaves (leave g exit s frames k) k
 exit_leaves g (Goto b) s frames k = inl (b, s, frames, refl)
 exit_leaves g (Branch t a b) s frames k = go ((value_of t s).0 == 0)
   where
@@ -108,7 +108,7 @@ module _ (g : Graph) where
   pub record LastBlock (m k : ℕ) (c : Config) (o : Outside) : Type 0 where
     pub place : ℕ
     pub block : ℕ
-    pub state : State
+    pub state : ProcState
     pub frames : List Frame
     pub left : ℕ
     pub at : walk g place c ≡ At block state frames left
@@ -118,7 +118,7 @@ module _ (g : Graph) where
   grow : (n t : ℕ) → suc n * t ≡ n * t + t
   grow n t = let e = add-mul n 1 t in omega (arith, e)
 
-  pub last_block : (m b : ℕ) (s : State) (frames : List Frame) (k : ℕ) (o : Outside) → walk g m (At b s frames k) ≡ Going o → LastBlock m k (At b s frames k) o
+  pub last_block : (m b : ℕ) (s : ProcState) (frames : List Frame) (k : ℕ) (o : Outside) → walk g m (At b s frames k) ≡ Going o → LastBlock m k (At b s frames k) o
   last_block zero b s frames k o e = absurd (let z : At b s frames k ≡ Going o = e in cc)
   last_block (suc m) b s frames k o e = go (run_ops (block_at g b).ops s k) refl (ops_paid (block_at g b).ops s k) (λ c t fr l h. last_block m c t fr l o h)
     where
@@ -126,7 +126,7 @@ module _ (g : Graph) where
       going zero p = refl
       going (suc n) p = going n p
 
-      on : (t : State) (l : ℕ) → run_ops (block_at g b).ops s k ≡ Done t l → k ≤ l + ops_most (block_at g b).ops → ((c : ℕ) (u : State) (fr : List Frame) (j : ℕ) → walk g m (At c u fr j) ≡ Going o → LastBlock m j (At c u fr j) o) → Leaves (leave g (block_at g b).exit t frames l) l → LastBlock (suc m) k (At b s frames k) o
+      on : (t : ProcState) (l : ℕ) → run_ops (block_at g b).ops s k ≡ Done t l → k ≤ l + ops_most (block_at g b).ops → ((c : ℕ) (u : ProcState) (fr : List Frame) (j : ℕ) → walk g m (At c u fr j) ≡ Going o → LastBlock m j (At c u fr j) o) → Leaves (leave g (block_at g b).exit t frames l) l → LastBlock (suc m) k (At b s frames k) o
       on t l q h ih (inl (c, u, fr, w)) =
           let to : step g (At b s frames k) ≡ At c u fr l = ap (λ r. passed g r (block_at g b).exit frames) q ∙ w in
           let i = ih c u fr l (subst (λ z. walk g m z ≡ Going o) to e) in
@@ -136,7 +136,7 @@ module _ (g : Graph) where
           record { place = suc i.place; block = i.block; state = i.state; frames = i.frames; left = i.left; at = ap (walk g i.place) to ∙ i.at; out = i.out; late = omega (arith, a, f, h, d) }
       on t l q h ih (inr (p, w)) = absurd (walk_over g m p o l (subst (λ z. walk g m z ≡ Going o) (ap (λ r. passed g r (block_at g b).exit frames) q ∙ w) e))
 
-      go : (r : Outcome) → run_ops (block_at g b).ops s k ≡ r → Paid (ops_most (block_at g b).ops) k r → ((c : ℕ) (u : State) (fr : List Frame) (j : ℕ) → walk g m (At c u fr j) ≡ Going o → LastBlock m j (At c u fr j) o) → LastBlock (suc m) k (At b s frames k) o
+      go : (r : OpsOutcome) → run_ops (block_at g b).ops s k ≡ r → Paid (ops_most (block_at g b).ops) k r → ((c : ℕ) (u : ProcState) (fr : List Frame) (j : ℕ) → walk g m (At c u fr j) ≡ Going o → LastBlock m j (At c u fr j) o) → LastBlock (suc m) k (At b s frames k) o
       go (Done t l) q h ih = on t l q h ih (exit_leaves g (block_at g b).exit t frames l)
       go (Out p) q h ih =
           let to : walk g m (step g (At b s frames k)) ≡ Going p = ap (λ r. walk g m (passed g r (block_at g b).exit frames)) q ∙ going m p in

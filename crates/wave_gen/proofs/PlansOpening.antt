@@ -9,7 +9,7 @@ use Rattle.cfg_core.specs.Graph.{Graph, Spot, Term, spots, spot_at, block_at, no
 use Rattle.cfg_core.specs.Rules as rules
 use Rattle.cfg_core.specs.Rules.{ExitIn}
 use Rattle.wave_cut.specs.Cut.{Cut, is_first}
-use Rattle.wave_gen.specs.Plans.{Leaves, Onto, Either, Lands, Halts, Plan, pulse, plan_at, exit_of}
+use Rattle.wave_gen.specs.Plans.{HowLeft, Onto, Either, Lands, Halts, Plan, pulse, plan_at, exit_of}
 use Rattle.std.specs.List.{AllByRecursion}
 use Rattle.wave_gen.specs.Gen.{gen_term, gen_ops}
 use Rattle.wave_gen.specs.Drawn.{gen_source, gen_terms}
@@ -24,11 +24,11 @@ use Rattle.ws_words.specs.Items.{nth, or_else, In}
 use Rattle.ws_words.proofs.Options.{some_same}
 use Rattle.ws_words.proofs.Places.{nth_there}
 
-abbrev first_arm : Leaves → ℕ
+abbrev first_arm : HowLeft → ℕ
 first_arm (Either op from c d) = c
 first_arm _ = 0
 
-abbrev second_arm : Leaves → ℕ
+abbrev second_arm : HowLeft → ℕ
 second_arm (Either op from c d) = d
 second_arm _ = 0
 

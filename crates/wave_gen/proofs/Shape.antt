@@ -8,7 +8,7 @@ use Rattle.ws_isa.specs.Image.{Image, Instr, Array, instr_at, block_at, first_nu
 use Rattle.ws_isa.specs.Sound.{BringsResult}
 use Rattle.wave_gen.specs.Waits.{Owner, Step, Fires, Rests, Skips, Copies, count, Stands}
 use Rattle.wave_gen.specs.Wire.{WiredInstr, Wants, Made, with_rooms, make}
-use Rattle.wave_gen.specs.Plans.{Leaves, Onto, Either, Lands, Halts, Plan, Tail, steers, sends, steered, hang, plan_at, made_at, starts_at, begins, owner_of, tails_of, end_wants, behind_source, exit_made, draft_of, exit_of, source_of, operands_needed, chooses, KeptOf}
+use Rattle.wave_gen.specs.Plans.{HowLeft, Onto, Either, Lands, Halts, Plan, Tail, steers, sends, steered, hang, plan_at, made_at, starts_at, begins, owner_of, tails_of, end_wants, behind_source, exit_made, draft_of, exit_of, source_of, operands_needed, chooses, KeptOf}
 use Rattle.wave_gen.proofs.Planned.{AllIn, PadsFit, PlansAre, EdgesAre, Inner, Outer}
 use Rattle.wave_gen.proofs.Turns.{stands_end}
 use Rattle.wave_gen.proofs.Keeping.{hang_count}
@@ -170,11 +170,11 @@ module _ (arrays : List Array) (width : ℕ) (ps : List Plan) (Live : ℕ → �
   there b h = is_block arrays width ps b h
 
   -- edges
-  target_exit : (b : ℕ) → Is b → (e : Leaves) → (plan_at ps b).exit ≡ e → (r : ℕ) → target I b r ≡ image.leave_to (exit_of (source_of width ps b) e) r
+  target_exit : (b : ℕ) → Is b → (e : HowLeft) → (plan_at ps b).exit ≡ e → (r : ℕ) → target I b r ≡ image.leave_to (exit_of (source_of width ps b) e) r
   target_exit b h e q r = target_is arrays width ps Live plans b h e q r
 
-  stops_exit : (b : ℕ) → Is b → (e : Leaves) → (plan_at ps b).exit ≡ e → stops I b ≡ image.is_stop (exit_of (source_of width ps b) e)
-  stops_exit b h e q = Rattle.wave_gen.proofs.Waiting.stops_is arrays width ps Live plans b h ∙ ap (λ (l : Leaves). image.is_stop (exit_of (source_of width ps b) l)) q
+  stops_exit : (b : ℕ) → Is b → (e : HowLeft) → (plan_at ps b).exit ≡ e → stops I b ≡ image.is_stop (exit_of (source_of width ps b) e)
+  stops_exit b h e q = Rattle.wave_gen.proofs.Waiting.stops_is arrays width ps Live plans b h ∙ ap (λ (l : HowLeft). image.is_stop (exit_of (source_of width ps b) l)) q
 
   landing_ok : (values ls : List ℕ) (r : ℕ) → 1 ≤ length ls → AllIn ls (λ c. Outer ps c × PadsFit ps values c) → Outer ps (image.landing_of ls r)
   landing_ok values [] r l a = absurd (omega arith)
@@ -186,7 +186,7 @@ module _ (arrays : List Array) (width : ℕ) (ps : List Plan) (Live : ℕ → �
   goes : (b r : ℕ) → Is b → stops I b ≡ false → Inner ps b (target I b r) ⊎ Outer ps (target I b r)
   goes b r h s = go (plan_at ps b).exit refl (plans.each b h).edges
     where
-      go : (e : Leaves) → (plan_at ps b).exit ≡ e → EdgesAre ps b e → Inner ps b (target I b r) ⊎ Outer ps (target I b r)
+      go : (e : HowLeft) → (plan_at ps b).exit ≡ e → EdgesAre ps b e → Inner ps b (target I b r) ⊎ Outer ps (target I b r)
       go (Onto c) q e = rw (target_exit b h (Onto c) q r) e
       go (Either op from c d) q e = rw (target_exit b h (Either op from c d) q r) (inl (arm (eqb r 0)))
         where
@@ -225,10 +225,10 @@ module _ (arrays : List Array) (width : ℕ) (ps : List Plan) (Live : ℕ → �
       a : IsTail arrays width ps Live plans.each b h m
       a = is_tail arrays width ps Live plans.each b h m i t
 
-      nothing : (e : Leaves) → (plan_at ps b).exit ≡ e → tails_of width S e ≡ [] → Hangs b m
+      nothing : (e : HowLeft) → (plan_at ps b).exit ≡ e → tails_of width S e ≡ [] → Hangs b m
       nothing e q n = absurd (let z : nth [] a.place ≡ Some a.tail = subst (λ (ts : List Tail). nth ts a.place ≡ Some a.tail) (ap (tails_of width S) q ∙ n) a.at in let y : None ≡ Some a.tail = z in cc)
 
-      go : (e : Leaves) → (plan_at ps b).exit ≡ e → Hangs b m
+      go : (e : HowLeft) → (plan_at ps b).exit ≡ e → Hangs b m
       go (Onto c) q = nothing (Onto c) q refl
       go Halts q = nothing Halts q refl
       go (Either op from c d) q = record { chose = ap chooses q; carried = tail_carried b h op from (ap operands_needed q) (ap chooses q) (ap (exit_made width S b (plan_at ps b)) q) m i t }
@@ -255,7 +255,7 @@ module _ (arrays : List Array) (width : ℕ) (ps : List Plan) (Live : ℕ → �
           let f : (instr_at I k).op ≡ Send (0 + a.place) = ap (λ (j : Instr). j.op) a.is ∙ send_only 0 values a.place a.tail (subst (λ (ts : List Tail). nth ts a.place ≡ Some a.tail) n a.at) in
           let z : Steer ≡ Send (0 + a.place) = sym e ∙ f in cc
 
-      go : (l : Leaves) → (plan_at ps b).exit ≡ l → (s x y : ℕ) × ((block_at I b).exit ≡ image.Branch s x y) × BringsResult I b s k 1
+      go : (l : HowLeft) → (plan_at ps b).exit ≡ l → (s x y : ℕ) × ((block_at I b).exit ≡ image.Branch s x y) × BringsResult I b s k 1
       go (Onto d) q = absurd (both_ways (chooses (plan_at ps b).exit) (ap chooses q) (hangs b k h i t).chose)
       go Halts q = absurd (both_ways (chooses (plan_at ps b).exit) (ap chooses q) (hangs b k h i t).chose)
       go (Lands op from values ls) q = absurd (no_send values (ap (tails_of width S) q))
@@ -281,7 +281,7 @@ module _ (arrays : List Array) (width : ℕ) (ps : List Plan) (Live : ℕ → �
           let f : (instr_at I k).op ≡ Steer = ap (λ (j : Instr). j.op) a.is ∙ steer_only b w v xs a.place a.tail (subst (λ (ts : List Tail). nth ts a.place ≡ Some a.tail) n a.at) in
           let z : Send p ≡ Steer = sym e ∙ f in cc
 
-      go : (l : Leaves) → (plan_at ps b).exit ≡ l → (s : ℕ) × (ls : List ℕ) × ((block_at I b).exit ≡ image.Landings s ls) × BringsResult I b s k 0
+      go : (l : HowLeft) → (plan_at ps b).exit ≡ l → (s : ℕ) × (ls : List ℕ) × ((block_at I b).exit ≡ image.Landings s ls) × BringsResult I b s k 0
       go (Onto d) q = absurd (both_ways (chooses (plan_at ps b).exit) (ap chooses q) (hangs b k h i t).chose)
       go Halts q = absurd (both_ways (chooses (plan_at ps b).exit) (ap chooses q) (hangs b k h i t).chose)
       go (Either op from x y) q = absurd (no_steer (S x) (S y) (steered width (S x) (S y)) (ap (tails_of width S) q))

@@ -4,7 +4,7 @@ use Rattle.std.proofs.lemmas.Bool.{cases_eq}
 use Rattle.ws_isa.specs.declared.instr.Op.{Op}
 use Rattle.ws_isa.specs.declared.instr.Op.TheVariants.{Const, Alu, Merge, Advance, Steer, Phi, Send, Load, Store, Input, Output, Give, Take, Nop, Halt}
 use Rattle.ws_isa.specs.Image.{is_giving_op}
-use Rattle.wave_gen.specs.Waits.{Names, set}
+use Rattle.wave_gen.specs.Waits.{NameState, set}
 use Rattle.wave_gen.specs.Wire.{Item, Make, Act, Same}
 use Rattle.wave_gen.specs.Plans.{pulse}
 use Rattle.wave_gen.specs.Shared.{is_pulse, const_of, share, share_as, learn, learn_of, shared, none_known}
@@ -201,18 +201,18 @@ abbrev pub Once : List Item → Type 0
 Once [] = Unit {0}
 Once (i ∷ is) = ((x n : ℕ) → i ≡ Make x (Const n) (pulse ∷ []) → AllSpare x is) × Once is
 
-spared : (y : ℕ) (i : Item) (s : Names) → Spares y i → (run_item i s).env y ≡ s.env y
+spared : (y : ℕ) (i : Item) (s : NameState) → Spares y i → (run_item i s).env y ≡ s.env y
 spared y (Make x op from) s h = set_off s.env x _ y (λ e. h (sym e))
 spared y (Act op from) s h = refl
 spared y (Same x z) s h = set_off s.env x _ y (λ e. h (sym e))
 
-abbrev pub Sure : (ℕ → ℕ) → List Item → Names → Type 0
+abbrev pub Sure : (ℕ → ℕ) → List Item → NameState → Type 0
 Sure K is s = (n : ℕ) → (K n ≡ pulse → ⊥) → (s.env (K n) ≡ n) × AllSpare (K n) is
 
-sure_on : (K : ℕ → ℕ) (i : Item) (is : List Item) (s : Names) → Sure K (i ∷ is) s → Sure K is (run_item i s)
+sure_on : (K : ℕ → ℕ) (i : Item) (is : List Item) (s : NameState) → Sure K (i ∷ is) s → Sure K is (run_item i s)
 sure_on K i is s h n d = (spared (K n) i s (h n d).1.0 ∙ (h n d).0, (h n d).1.1)
 
-sure_more : (K : ℕ → ℕ) (x n : ℕ) (is : List Item) (s : Names) → AllSpare x is → Sure K (Make x (Const n) (pulse ∷ []) ∷ is) s → Sure (set K n x) is (run_item (Make x (Const n) (pulse ∷ [])) s)
+sure_more : (K : ℕ → ℕ) (x n : ℕ) (is : List Item) (s : NameState) → AllSpare x is → Sure K (Make x (Const n) (pulse ∷ []) ∷ is) s → Sure (set K n x) is (run_item (Make x (Const n) (pulse ∷ [])) s)
 sure_more K x n is s a h m d = elim (cases_eq m n) [
   | inl f ↦ (let e : set K n x m ≡ x = ap (set K n x) f ∙ set_at K n x in
       (ap (set s.env x n) e ∙ set_at s.env x n ∙ sym f, subst (λ y. AllSpare y is) (sym e) a))
@@ -221,7 +221,7 @@ sure_more K x n is s a h m d = elim (cases_eq m n) [
       (ap (set s.env x n) e ∙ r.0, subst (λ y. AllSpare y is) (sym e) r.1))
 ]
 
-pub shared_runs : (K : ℕ → ℕ) (is : List Item) (s : Names) → Once is → Sure K is s → run_items (shared K is) s ≡ run_items is s
+pub shared_runs : (K : ℕ → ℕ) (is : List Item) (s : NameState) → Once is → Sure K is s → run_items (shared K is) s ≡ run_items is s
 shared_runs K [] s o h = refl
 shared_runs K (i ∷ is) s o h = elim (turns K i) [
   | kept e f ↦ ap (λ (j : Item). run_items (shared (learn K i) is) (run_item j s)) e ∙ ap (λ (k : ℕ → ℕ). run_items (shared k is) (run_item i s)) f
@@ -230,13 +230,13 @@ shared_runs K (i ∷ is) s o h = elim (turns K i) [
       ∙ shared_runs (set K n x) is (run_item i s) o.1
       (subst (λ (j : Item). Sure (set K n x) is (run_item j s)) (sym g) (sure_more K x n is s (o.0 x n g) (subst (λ (j : Item). Sure K (j ∷ is) s) g h)))
   | again x n g e f d ↦ ap (λ (j : Item). run_items (shared (learn K i) is) (run_item j s)) e ∙ ap (λ (k : ℕ → ℕ). run_items (shared k is) (run_item (Same x (K n)) s)) f
-      ∙ ap (λ (r : Names). run_items (shared K is) r) (taken x n d g) ∙ shared_runs K is (run_item i s) o.1 (sure_on K i is s h)
+      ∙ ap (λ (r : NameState). run_items (shared K is) r) (taken x n d g) ∙ shared_runs K is (run_item i s) o.1 (sure_on K i is s h)
 ]
   where
     taken : (x n : ℕ) → (K n ≡ pulse → ⊥) → i ≡ Make x (Const n) (pulse ∷ []) → run_item (Same x (K n)) s ≡ run_item i s
     taken x n d g = ap (λ v. record { env = set s.env x v; out = s.out }) (h n d).0 ∙ ap (λ (j : Item). run_item j s) (sym g)
 
-pub shared_run : (is : List Item) → Once is → (s : Names) → run_items (shared none_known is) s ≡ run_items is s
+pub shared_run : (is : List Item) → Once is → (s : NameState) → run_items (shared none_known is) s ≡ run_items is s
 shared_run is o s = shared_runs none_known is s o (λ n d. absurd (d refl))
 
 -- what they weigh: a copy weighs more than a constant by 1

@@ -4,8 +4,8 @@ use Rattle.std.proofs.lemmas.Bool.{cases_Bool}
 use Rattle.ws_isa.specs.declared.instr.Op.TheVariants.{Merge, Halt}
 use Rattle.ws_isa.specs.Image as image
 use Rattle.ws_isa.specs.Image.{Instr, Pad, Array, instr_at}
-use Rattle.wave_gen.specs.Wire.{Spot, dests_of, WiredInstr, Wants, no_wants, emit}
-use Rattle.wave_gen.specs.Plans.{merges, Leaves, Onto, Either, Lands, Halts, Plan, pulse, steers, sends, steered, past, hang, more, chain, selected, tails_of, end_wants, behind_source, exit_made, body_made, renew, advances, fronts, plan_at, made_at, starts_at, begins, pads_of, draft_of}
+use Rattle.wave_gen.specs.Wire.{Target, dests_of, WiredInstr, Wants, no_wants, emit}
+use Rattle.wave_gen.specs.Plans.{merges, HowLeft, Onto, Either, Lands, Halts, Plan, pulse, steers, sends, steered, past, hang, more, chain, selected, tails_of, end_wants, behind_source, exit_made, body_made, renew, advances, fronts, plan_at, made_at, starts_at, begins, pads_of, draft_of}
 use Rattle.wave_gen.proofs.Planned.{Apart, AllBelow, ValuesApart, PlansAre, EdgesAre, SourceIs, Inner, Outer}
 use Rattle.wave_gen.specs.Lists.{ListsFit}
 use Rattle.wave_gen.proofs.Fronts.{fronts_one}
@@ -16,7 +16,7 @@ use Rattle.wave_gen.proofs.Drafts.{line_in}
 use Rattle.wave_gen.proofs.Number.{block_at_is, is_block}
 use Rattle.ws_words.specs.Items.{nth, In}
 
-dests_count : (first : ℕ → ℕ) (l : List Spot) → length (dests_of first l) ≡ length l
+dests_count : (first : ℕ → ℕ) (l : List Target) → length (dests_of first l) ≡ length l
 dests_count first [] = refl
 dests_count first (p ∷ l) = ap suc (dests_count first l)
 
@@ -40,7 +40,7 @@ sends_short : (p : ℕ) (xs : List ℕ) → TailsShort (sends p xs)
 sends_short p [] = tt
 sends_short p (x ∷ xs) = (omega arith, omega arith, sends_short (suc p) xs)
 
-nil_or : (l : List Spot) → (l ≡ []) ⊎ (l ≡ [] → ⊥)
+nil_or : (l : List Target) → (l ≡ []) ⊎ (l ≡ [] → ⊥)
 nil_or [] = inl refl
 nil_or (p ∷ l) = inr (λ e. cc)
 
@@ -68,7 +68,7 @@ module _ (arrays : List Array) (width : ℕ) (ps : List Plan) (Live : ℕ → �
     there : (c : ℕ) → Inner ps b c → Is c
     there c i = (let l : b < c = i.later in omega (arith, h.0), i.there)
 
-    behind_few : (e : Leaves) → EdgesAre ps b e → ValuesApart (plan_at ps b).test e → Few (selected b (plan_at ps b).test (tails_of width S e) (end_wants width S e))
+    behind_few : (e : HowLeft) → EdgesAre ps b e → ValuesApart (plan_at ps b).test e → Few (selected b (plan_at ps b).test (tails_of width S e) (end_wants width S e))
     behind_few (Onto c) e v = record { wants = start_few c e; lines = tt }
     behind_few Halts e v = record { wants = λ x. omega arith; lines = tt }
     behind_few (Lands op from values ls) e v = wire_few b (chain (plan_at ps b).test (more 6 (sends 0 values))) (hang b 6 (plan_at ps b).test (sends 0 values) no_wants) (chain_are (plan_at ps b).test (more 6 (sends 0 values)))
@@ -102,12 +102,12 @@ module _ (arrays : List Array) (width : ℕ) (ps : List Plan) (Live : ℕ → �
     behind : Few (behind_source width S b (plan_at ps b))
     behind = behind_few (plan_at ps b).exit (plans.each b h).edges (plans.each b h).values
 
-    exit_few : (e : Leaves) → (plan_at ps b).exit ≡ e → SourceIs e → Few (exit_made width S b (plan_at ps b) e)
+    exit_few : (e : HowLeft) → (plan_at ps b).exit ≡ e → SourceIs e → Few (exit_made width S b (plan_at ps b) e)
     exit_few (Onto c) q s = behind
     exit_few (Either op from c d) q s = make_few b (plan_at ps b).test op from (behind_source width S b (plan_at ps b)) s.1 behind
     exit_few (Lands op from values ls) q s = make_few b (plan_at ps b).test op from (behind_source width S b (plan_at ps b)) s.1 behind
     exit_few Halts q s = rest_few b (record { op = Halt; dests = []; others = [] }) (pulse ∷ []) (behind_source width S b (plan_at ps b)) (omega arith) (omega arith) behind
-        (λ y i. (let g : length ((behind_source width S b (plan_at ps b)).wants y) ≡ 0 = ap (λ (l : Leaves). length ((selected b (plan_at ps b).test (tails_of width S l) (end_wants width S l)).wants y)) q in omega arith))
+        (λ y i. (let g : length ((behind_source width S b (plan_at ps b)).wants y) ≡ 0 = ap (λ (l : HowLeft). length ((selected b (plan_at ps b).test (tails_of width S l) (end_wants width S l)).wants y)) q in omega arith))
 
     block_few : Few (made_at width ps b)
     block_few = subst Few (sym (made_is width ps b h (plans.each b h).edges)) (go (plan_at ps b).first)

@@ -6,7 +6,7 @@ use Rattle.ws_isa.specs.Image as image
 use Rattle.ws_isa.specs.Image.{Image, Array, block_at, first_number, is_advance, is_first, IsIn, IsBlock}
 use Rattle.ws_isa.specs.Sound.{HasDest}
 use Rattle.wave_gen.specs.Waits.{Code, own, starts}
-use Rattle.wave_gen.specs.Wire.{Spot, Back, Front, dests_of, Wants, Made}
+use Rattle.wave_gen.specs.Wire.{Target, Back, Front, dests_of, Wants, Made}
 use Rattle.wave_gen.specs.Plans.{Plan, advances, renew, body_made, plan_at, made_at, starts_at, begins, owner_of, end_wants, draft_of, code_of}
 use Rattle.wave_gen.proofs.Planned.{PlansAre}
 use Rattle.wave_gen.proofs.Fronts.{nth_in, in_or_not, fronts_none, fronts_at, FrontIs, front_is, is_front, advances_at, advances_count}
@@ -95,7 +95,7 @@ module _ (arrays : List Array) (width : ℕ) (ps : List Plan) (Live : ℕ → �
 
   first_front : (b j q x : ℕ) → Is b → (plan_at ps b).first ≡ true → starts I C b j q ≡ Some x → FrontIs F b (plan_at ps b).entries x j q
   first_front b j q x h f e = front_is F b (plan_at ps b).entries x j q (plans.each b h).entries_apart
-      (subst (λ (l : List Spot). HasDest (dests_of F l) j q) (ap (λ (w : Wants). w x) (starts_outer width ps b f)) (starts_all b h x j q e))
+      (subst (λ (l : List Target). HasDest (dests_of F l) j q) (ap (λ (w : Wants). w x) (starts_outer width ps b f)) (starts_all b h x j q e))
 
   pub waits_first : (b j q x : ℕ) → IsBlock I b → is_first I b ≡ true → starts I C b j q ≡ Some x → IsIn I b j × (is_advance I j ≡ true) × (q ≡ 0)
   waits_first b j q x hb f e =
@@ -126,6 +126,6 @@ module _ (arrays : List Array) (width : ℕ) (ps : List Plan) (Live : ℕ → �
       let n : F b + (j - F b) ≡ j = omega (arith, i.0) in
       let s = some_at (plan_at ps b).entries (j - F b) (omega (arith, i.0, r.1)) in (
         s.0,
-        starts_has b h s.0 j 0 (subst (λ (k : ℕ). HasDest (dests_of F (S b s.0)) k 0) n (subst (λ (l : List Spot). HasDest (dests_of F l) (F b + (j - F b)) 0) (sym (ap (λ (w : Wants). w s.0) (starts_outer width ps b r.0)))
+        starts_has b h s.0 j 0 (subst (λ (k : ℕ). HasDest (dests_of F (S b s.0)) k 0) n (subst (λ (l : List Target). HasDest (dests_of F l) (F b + (j - F b)) 0) (sym (ap (λ (w : Wants). w s.0) (starts_outer width ps b r.0)))
             (is_front F b (plan_at ps b).entries (j - F b) s.0 (plans.each b h).entries_apart s.1))),
       )

@@ -5,7 +5,7 @@ use Rattle.ws_isa.specs.declared.instr.Op.{Op}
 use Rattle.ws_isa.specs.declared.instr.Op.TheVariants.{Merge, Advance, Send, Halt}
 use Rattle.ws_isa.specs.Image.{is_memory_op, is_giving_op, is_steer_op}
 use Rattle.wave_gen.specs.Wire.{WiredInstr, Wants, Made, emit, gather, with_room, with_rooms, Item, Make, Act, Same, is_nil, skip, make, alias, wire, most}
-use Rattle.wave_gen.specs.Plans.{merges, Tail, Leaves, Onto, Either, Lands, Halts, Plan, pulse, steers, sends, steered, hang, more, chain, tails_of, end_wants, behind_source, exit_made, body_made, renew, advances, has_front, plan_at, made_at, starts_at}
+use Rattle.wave_gen.specs.Plans.{merges, Tail, HowLeft, Onto, Either, Lands, Halts, Plan, pulse, steers, sends, steered, hang, more, chain, tails_of, end_wants, behind_source, exit_made, body_made, renew, advances, has_front, plan_at, made_at, starts_at}
 use Rattle.wave_gen.proofs.Planned.{PlansAre}
 use Rattle.wave_gen.proofs.More.{ItemsGive, SourceGives, PlansGive}
 use Rattle.wave_gen.proofs.Blocks.{made_is}
@@ -74,7 +74,7 @@ sends_suit : (p : ℕ) (xs : List ℕ) → TailsSuit (sends p xs)
 sends_suit p [] = tt
 sends_suit p (x ∷ xs) = (bare_suits (Send p), sends_suit (suc p) xs)
 
-tails_suit : (width : ℕ) (starts : ℕ → Wants) (e : Leaves) → TailsSuit (tails_of width starts e)
+tails_suit : (width : ℕ) (starts : ℕ → Wants) (e : HowLeft) → TailsSuit (tails_of width starts e)
 tails_suit width starts (Onto c) = tt
 tails_suit width starts (Either op from c d) = steers_suit (starts c) (starts d) (steered width (starts c) (starts d))
 tails_suit width starts (Lands op from values ls) = sends_suit 0 values
@@ -107,7 +107,7 @@ module _ (width : ℕ) (starts : ℕ → Wants) (b : ℕ) (p : Plan) where
       (chain_gives p.test (more 6 (tails_of width starts p.exit)))
       (hang_suits b 6 p.test (tails_of width starts p.exit) (end_wants width starts p.exit) (tails_suit width starts p.exit))
 
-  exit_suits : (e : Leaves) → SourceGives e → SuitAll (exit_made width starts b p e).code
+  exit_suits : (e : HowLeft) → SourceGives e → SuitAll (exit_made width starts b p e).code
   exit_suits (Onto c) g = behind_suits
   exit_suits (Either op from c d) g = make_suits b p.test op from (behind_source width starts b p) g behind_suits
   exit_suits (Lands op from values ls) g = make_suits b p.test op from (behind_source width starts b p) g behind_suits

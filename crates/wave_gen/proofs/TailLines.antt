@@ -6,7 +6,7 @@ use Rattle.ws_isa.specs.declared.instr.Op.TheVariants.{Merge, Halt, Advance, Ste
 use Rattle.ws_isa.specs.declared.instr.Dest.{Dest}
 use Rattle.ws_isa.specs.Image.{Image, Instr, Array, instr_at, now_of, first_number, IsIn}
 use Rattle.wave_gen.specs.Wire.{WiredInstr, Wants, Made, emit, Item, Make, Act, Same}
-use Rattle.wave_gen.specs.Plans.{merges, Leaves, Onto, Either, Lands, Halts, Plan, pulse, Tail, TailAt, hang, tails_of, end_wants, behind_source, exit_made, body_made, renew, advances, plan_at, made_at, starts_at, begins, instr_of, draft_of}
+use Rattle.wave_gen.specs.Plans.{merges, HowLeft, Onto, Either, Lands, Halts, Plan, pulse, Tail, TailAt, hang, tails_of, end_wants, behind_source, exit_made, body_made, renew, advances, plan_at, made_at, starts_at, begins, instr_of, draft_of}
 use Rattle.wave_gen.proofs.Planned.{is_act_op, ItemsAre, SourceIs, PlanIs}
 use Rattle.wave_gen.proofs.Keeping.{hang_count}
 use Rattle.wave_gen.proofs.Lines.{line_at, Items, More, then_more, same_more, emit_more, rest_more, make_more, wire_more, renew_more, advances_more, selected_more, hang_nth}
@@ -61,7 +61,7 @@ module _ (arrays : List Array) (width : ℕ) (ps : List Plan) (Live : ℕ → �
   abbrev hung_made : Made
   hung_made = hang b 6 (plan_at ps b).test (tails_of width S (plan_at ps b).exit) (end_wants width S (plan_at ps b).exit)
 
-  exit_more : (e : Leaves) → SourceIs e → More NoTail refl (behind_source width S b (plan_at ps b)) (exit_made width S b (plan_at ps b) e)
+  exit_more : (e : HowLeft) → SourceIs e → More NoTail refl (behind_source width S b (plan_at ps b)) (exit_made width S b (plan_at ps b) e)
   exit_more (Onto c) s = same_more NoTail refl (behind_source width S b (plan_at ps b))
   exit_more (Either op from c d) s = make_more NoTail refl b (plan_at ps b).test op from (behind_source width S b (plan_at ps b)) (sends_no_tail op s.0.0)
   exit_more (Lands op from values ls) s = make_more NoTail refl b (plan_at ps b).test op from (behind_source width S b (plan_at ps b)) (sends_no_tail op s.0.0)

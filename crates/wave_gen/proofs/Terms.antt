@@ -9,7 +9,7 @@ use Rattle.ws_isa.specs.declared.instr.Op.TheVariants.{Const, Alu, Load}
 use Rattle.cfg_core.specs.Graph.{Graph, Term, Number, Var, Cell, Flip, Not, Neg, Binary}
 use Rattle.cfg_core.specs.Rules.{TermIn}
 use Rattle.cfg_core.specs.Walk.{value, loads_of}
-use Rattle.wave_gen.specs.Waits.{Names, set, outcome, effect}
+use Rattle.wave_gen.specs.Waits.{NameState, set, outcome, effect}
 use Rattle.wave_gen.specs.Wire.{Item, Make}
 use Rattle.wave_gen.specs.Plans.{pulse}
 use Rattle.wave_gen.proofs.Runs.{run_item, run_items}
@@ -24,7 +24,7 @@ set_here f k v = rw (eq-eqb k k refl) refl
 pub set_other : (f : ℕ → ℕ) (k v j : ℕ) → (j ≡ k → ⊥) → set f k v j ≡ f j
 set_other f k v j n = rw (ne_eqb j k n) refl
 
-pub run_append : (xs ys : List Item) (s : Names) → run_items (xs ++ ys) s ≡ run_items ys (run_items xs s)
+pub run_append : (xs ys : List Item) (s : NameState) → run_items (xs ++ ys) s ≡ run_items ys (run_items xs s)
 run_append [] ys s = refl
 run_append (x ∷ xs) ys s = run_append xs ys (run_item x s)
 
@@ -35,7 +35,7 @@ pub acted_more : (o : Outside) (xs ys : List Act) → with_more (with_more o xs)
 acted_more o xs ys = ap (λ (acts : List Act). record { cells = o.cells; input = o.input; left = o.left; acts = acts }) (append_assoc o.acts xs ys)
 
 -- what items do: a value at a name, loads, and no name below k changes
-pub record Gives (k : ℕ) (s : Names) (g : Got) (v : ℕ) (ls : List Act) : Type 0 where
+pub record Gives (k : ℕ) (s : NameState) (g : Got) (v : ℕ) (ls : List Act) : Type 0 where
   pub value : (run_items g.items s).env g.name ≡ v
   pub keeps : (y : ℕ) → y < k → (run_items g.items s).env y ≡ s.env y
   pub out : (run_items g.items s).out ≡ with_more s.out ls
@@ -43,15 +43,15 @@ pub record Gives (k : ℕ) (s : Names) (g : Got) (v : ℕ) (ls : List Act) : Typ
   pub next : k ≤ g.next
 
 -- one more instruction, which reads what was made
-pub make_gives : (k : ℕ) (s : Names) (g : Got) (v : ℕ) (ls : List Act) → Gives k s g v ls → (op : Op) (from : List ℕ) (w : ℕ) (more : List Act) →
+pub make_gives : (k : ℕ) (s : NameState) (g : Got) (v : ℕ) (ls : List Act) → Gives k s g v ls → (op : Op) (from : List ℕ) (w : ℕ) (more : List Act) →
     outcome op (map (run_items g.items s).env from) (run_items g.items s).out ≡ w → effect op (map (run_items g.items s).env from) (run_items g.items s).out ≡ with_more (run_items g.items s).out more →
     Gives k s (then_make g (λ n. Make n op from)) w (ls ++ more)
 make_gives k s g v ls h op from w more a b =
     let e : run_items (g.items ++ Make g.next op from ∷ []) s ≡ run_item (Make g.next op from) (run_items g.items s) = run_append g.items (Make g.next op from ∷ []) s in
     record {
-      value = ap (λ (n : Names). n.env g.next) e ∙ set_here (run_items g.items s).env g.next _ ∙ a;
-      keeps = λ y l. ap (λ (n : Names). n.env y) e ∙ set_other (run_items g.items s).env g.next _ y (λ f. (let m : k ≤ g.next = h.next in omega arith)) ∙ h.keeps y l;
-      out = ap (λ (n : Names). n.out) e ∙ b ∙ ap (λ (o : Outside). with_more o more) h.out ∙ acted_more s.out ls more;
+      value = ap (λ (n : NameState). n.env g.next) e ∙ set_here (run_items g.items s).env g.next _ ∙ a;
+      keeps = λ y l. ap (λ (n : NameState). n.env y) e ∙ set_other (run_items g.items s).env g.next _ y (λ f. (let m : k ≤ g.next = h.next in omega arith)) ∙ h.keeps y l;
+      out = ap (λ (n : NameState). n.out) e ∙ b ∙ ap (λ (o : Outside). with_more o more) h.out ∙ acted_more s.out ls more;
       named = omega arith;
       next = let m : k ≤ g.next = h.next in omega arith;
     }
@@ -68,29 +68,29 @@ pub subtracted : (v : ℕ) → v < 2 ^ 64 → applied Sub top_word v ≡ 1844674
 unfolding top_word
 subtracted v l = flipped v l
 
-no_more : (k : ℕ) (s : Names) (g : Got) (v : ℕ) (ls : List Act) → Gives k s g v ((ls ++ []) ++ []) → Gives k s g v ls
+no_more : (k : ℕ) (s : NameState) (g : Got) (v : ℕ) (ls : List Act) → Gives k s g v ((ls ++ []) ++ []) → Gives k s g v ls
 no_more k s g v ls h = subst (λ (l : List Act). Gives k s g v l) (append_nil (ls ++ []) ∙ append_nil ls) h
 
-pub joined_gives : (k : ℕ) (s : Names) (g h : Got) (v w : ℕ) (ls ms : List Act) → Gives k s g v ls → Gives g.next (run_items g.items s) h w ms →
+pub joined_gives : (k : ℕ) (s : NameState) (g h : Got) (v w : ℕ) (ls ms : List Act) → Gives k s g v ls → Gives g.next (run_items g.items s) h w ms →
     Gives k s (got (g.items ++ h.items) h.name h.next) w (ls ++ ms) × ((run_items (g.items ++ h.items) s).env g.name ≡ v)
 joined_gives k s g h v w ls ms a b =
     let e : run_items (g.items ++ h.items) s ≡ run_items h.items (run_items g.items s) = run_append g.items h.items s in
     let n : k ≤ g.next = a.next in (
       record {
-        value = ap (λ (x : Names). x.env h.name) e ∙ b.value;
-        keeps = λ y l. ap (λ (x : Names). x.env y) e ∙ b.keeps y (omega arith) ∙ a.keeps y l;
-        out = ap (λ (x : Names). x.out) e ∙ b.out ∙ ap (λ (o : Outside). with_more o ms) a.out ∙ acted_more s.out ls ms;
+        value = ap (λ (x : NameState). x.env h.name) e ∙ b.value;
+        keeps = λ y l. ap (λ (x : NameState). x.env y) e ∙ b.keeps y (omega arith) ∙ a.keeps y l;
+        out = ap (λ (x : NameState). x.out) e ∙ b.out ∙ ap (λ (o : Outside). with_more o ms) a.out ∙ acted_more s.out ls ms;
         named = b.named;
         next = let m : g.next ≤ h.next = b.next in omega arith;
       },
-      ap (λ (x : Names). x.env g.name) e ∙ b.keeps g.name a.named ∙ a.value,
+      ap (λ (x : NameState). x.env g.name) e ∙ b.keeps g.name a.named ∙ a.value,
     )
 
 pub agrees_on : (vars : List ℕ) (k n : ℕ) (env env' : ℕ → ℕ) → length vars ≤ n → n < k → ((y : ℕ) → y < k → env' y ≡ env y) → Agrees vars env → Agrees vars env'
 agrees_on vars k n env env' m l h a = record { zero_pulse = h pulse (omega arith) ∙ a.zero_pulse; var = λ x u. h (suc x) (omega arith) ∙ a.var x u }
 
 module _ (graph : Graph) where
-  pub term_gives : (t : Term) (k n : ℕ) (vars : List ℕ) (s : Names) → TermIn graph n t → n ≡ length vars → n < k → Agrees vars s.env → FlipsWords t vars s.out.cells →
+  pub term_gives : (t : Term) (k n : ℕ) (vars : List ℕ) (s : NameState) → TermIn (length graph.arrays) n t → n ≡ length vars → n < k → Agrees vars s.env → FlipsWords t vars s.out.cells →
       Gives k s (gen_term k t) (value t vars s.out.cells) (loads_of t vars s.out.cells)
   term_gives (Number zero) k n vars s i m l a f = record { value = a.zero_pulse; keeps = λ y u. refl; out = sym (acted_none s.out); named = omega arith; next = omega arith }
   term_gives (Number (suc w)) k n vars s i m l a f = record {
@@ -112,7 +112,7 @@ module _ (graph : Graph) where
       let c = then_make g (λ n. Make n (Const top_word) (g.name ∷ [])) in
       let d : Gives k s c top_word (loads_of t vars s.out.cells ++ []) = make_gives k s g (value t vars s.out.cells) (loads_of t vars s.out.cells) h (Const top_word) (g.name ∷ []) top_word [] refl (sym (acted_none (run_items g.items s).out)) in
       let e : run_items c.items s ≡ run_item (Make g.next (Const top_word) (g.name ∷ [])) (run_items g.items s) = run_append g.items (Make g.next (Const top_word) (g.name ∷ []) ∷ []) s in
-      let u : (run_items c.items s).env g.name ≡ value t vars s.out.cells = ap (λ (x : Names). x.env g.name) e ∙ set_other (run_items g.items s).env g.next top_word g.name (λ y. (let r : g.name < g.next = h.named in omega arith)) ∙ h.value in
+      let u : (run_items c.items s).env g.name ≡ value t vars s.out.cells = ap (λ (x : NameState). x.env g.name) e ∙ set_other (run_items g.items s).env g.next top_word g.name (λ y. (let r : g.name < g.next = h.named in omega arith)) ∙ h.value in
       no_more k s (then_make c (λ n. Make n (Alu Sub) (g.next ∷ g.name ∷ []))) (18446744073709551615 - value t vars s.out.cells) (loads_of t vars s.out.cells)
       (make_gives k s c top_word (loads_of t vars s.out.cells ++ []) d (Alu Sub) (g.next ∷ g.name ∷ []) (18446744073709551615 - value t vars s.out.cells) []
       (rw (d.value, u) (subtracted (value t vars s.out.cells) f.0)) (sym (acted_none (run_items c.items s).out)))
@@ -131,7 +131,7 @@ module _ (graph : Graph) where
   term_gives (Binary op t u) k n vars s i m l a f =
       let g = gen_term k t in
       let h : Gives k s g (value t vars s.out.cells) (loads_of t vars s.out.cells) = term_gives t k n vars s i.0 m l a f.0 in
-      let s1 : Names = run_items g.items s in
+      let s1 : NameState = run_items g.items s in
       let c : s1.out.cells ≡ s.out.cells = ap (λ (o : Outside). o.cells) h.out in
       let a1 : Agrees vars s1.env = agrees_on vars k n s.env s1.env (omega arith) l h.keeps a in
       let j0 : Gives g.next s1 (gen_term g.next u) (value u vars s1.out.cells) (loads_of u vars s1.out.cells) = term_gives u g.next n vars s1 i.1 m (let r : k ≤ g.next = h.next in omega arith) a1 (subst (λ (cs : List (List ℕ)). FlipsWords u vars cs) (sym c) f.1) in

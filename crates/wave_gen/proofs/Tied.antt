@@ -2,7 +2,7 @@
 use Rattle.std.proofs.Common.{ℕ, zero, suc, ◌+◌, ◌-◌, ◌≡◌, ◌<◌, ◌≤◌, ◌⊎◌, ◌==◌, Bool, true, false, cond, eqb, List, [], ◌∷◌, ◌++◌, length, map, min, Some, None, if◌then◌else◌, slice_index, slice_set, refl, sym, ap, ◌∙◌, subst, inl, inr, arith, eq-eqb, ne_eqb}
 use Rattle.std.proofs.lemmas.Bool.{cases_eq, cond-true, cond-false}
 use Rattle.std.specs.List.{AllByRecursion}
-use Rattle.ws_words.specs.Outside.{Outside, State, World, zeros, opening_out}
+use Rattle.ws_words.specs.Outside.{Outside, ProcState, World, zeros, opening_out}
 use Rattle.ws_isa.specs.declared.instr.Op.TheVariants.{Merge}
 use Rattle.ws_isa.specs.Image as image
 use Rattle.ws_isa.specs.Image.{Image, Array}
@@ -11,10 +11,10 @@ use Rattle.cfg_core.specs.Graph.{Graph, Spot, spots, spot_at, no_spot}
 use Rattle.cfg_core.specs.Rules as rules
 use Rattle.cfg_core.specs.Rules.{IsGraph, BlockNumbers, TermIn, StaysIn, ExitIn, ChoosesBare}
 use Rattle.cfg_core.specs.Walk as walks
-use Rattle.cfg_core.specs.Walk.{Outcome, Done, Out, run_ops, Config, At, Over, Going, value, value_of, leave, passed, step, walk}
-use Rattle.wave_gen.specs.Waits.{Names, set, Code, RunPlace, names_at, pass, places}
+use Rattle.cfg_core.specs.Walk.{OpsOutcome, Done, Out, run_ops, Config, At, Over, Going, value, value_of, leave, passed, step, walk}
+use Rattle.wave_gen.specs.Waits.{NameState, set, Code, RunPlace, names_at, pass, places}
 use Rattle.wave_gen.specs.Wire.{Item, Make, Same}
-use Rattle.wave_gen.specs.Plans.{Leaves, Onto, Either, Lands, Halts, Plan, plan_at, pulse, draft_of, code_of, filled}
+use Rattle.wave_gen.specs.Plans.{HowLeft, Onto, Either, Lands, Halts, Plan, plan_at, pulse, draft_of, code_of, filled}
 use Rattle.wave_gen.proofs.Planned.{PlansAre, Inner, Outer, EdgesAre}
 use Rattle.wave_gen.proofs.Runs.{run_item, run_items, run_choice}
 use Rattle.wave_gen.specs.Gen.{gen_term, gen_ops, Agrees, FlipsWords}
@@ -159,7 +159,7 @@ agrees_zero vars env x z a = record {
 }
 
 -- zeroing variables that are 0
-zeroes : (zs : List ℕ) (st : State) (s : Names) → ((x : ℕ) → In x zs → slice_index st.vars x ≡ 0) → IsState st s → IsState st (run_items (zero_items zs) s)
+zeroes : (zs : List ℕ) (st : ProcState) (s : NameState) → ((x : ℕ) → In x zs → slice_index st.vars x ≡ 0) → IsState st s → IsState st (run_items (zero_items zs) s)
 zeroes [] st s z i = i
 zeroes (x ∷ xs) st s z i = zeroes xs st (run_item (Same (suc x) pulse) s) (λ y h. z y (inr h)) (record { agrees = agrees_zero st.vars s.env x (z x (inl refl)) i.agrees; out = i.out })
 
@@ -182,7 +182,7 @@ module _ (arrays : List Array) (width : ℕ) (ps : List Plan) (Live : ℕ → �
   nexts (suc i) p = nexts i (next p)
 
   -- the draft stands at the start of the plan with this number, with the values of a state, some of which are 0
-  pub record Stands (n : ℕ) (zs : List ℕ) (st : State) (p : RunPlace) : Type 0 where
+  pub record Stands (n : ℕ) (zs : List ℕ) (st : ProcState) (p : RunPlace) : Type 0 where
     pub over : p.over ≡ false
     pub there : There n
     pub block : p.block ≡ n
@@ -191,7 +191,7 @@ module _ (arrays : List Array) (width : ℕ) (ps : List Plan) (Live : ℕ → �
     pub zero : (x : ℕ) → In x zs → slice_index st.vars x ≡ 0
 
   -- and so at a block of the graph
-  pub record AtBlock (b : ℕ) (st : State) (p : RunPlace) : Type 0 where
+  pub record AtBlock (b : ℕ) (st : ProcState) (p : RunPlace) : Type 0 where
     pub there : b < length (spots g)
     pub vars : (spot_at g b).vars ≡ length st.vars
     pub stands : Stands (place b) (zeroed b) st p
@@ -203,7 +203,7 @@ module _ (arrays : List Array) (width : ℕ) (ps : List Plan) (Live : ℕ → �
   one_next p o = cond-false p.over p (pass I C p) o
 
   -- a state that holds at a block's end holds behind the edge
-  state_on : (p : RunPlace) (n : ℕ) (h : There n) (b : p.block ≡ n) (st : State) → IsState st (ending arrays width ps Live plans p n h b) → length st.vars < width →
+  state_on : (p : RunPlace) (n : ℕ) (h : There n) (b : p.block ≡ n) (st : ProcState) → IsState st (ending arrays width ps Live plans p n h b) → length st.vars < width →
       ((x : ℕ) → (pass I C p).env x ≡ (names_at C p).env x) → (pass I C p).out ≡ (ending arrays width ps Live plans p n h b).out → IsState st (record { env = (pass I C p).env; out = (pass I C p).out })
   state_on p n h b st i w e o =
       let t : width ≤ (plan_at ps n).test = wide_test n h in
@@ -213,20 +213,20 @@ module _ (arrays : List Array) (width : ℕ) (ps : List Plan) (Live : ℕ → �
         out = o ∙ i.out;
       }
 
-  target_of : (n c : ℕ) → There n → (e : Leaves) → (plan_at ps n).exit ≡ e → EdgesAre ps n e
-  target_of n c h e q = subst (λ (l : Leaves). EdgesAre ps n l) q (plans.each n h).edges
+  target_of : (n c : ℕ) → There n → (e : HowLeft) → (plan_at ps n).exit ≡ e → EdgesAre ps n e
+  target_of n c h e q = subst (λ (l : HowLeft). EdgesAre ps n l) q (plans.each n h).edges
 
   -- the draft stands at the block
-  arrives : (n c : ℕ) (leads : Leads ps place zeroed n c) (st : State) (p : RunPlace) → c < length (spots g) → (spot_at g c).vars ≡ length st.vars → Stands n (zeroed_at leads) st p → AtBlock c st p
+  arrives : (n c : ℕ) (leads : Leads ps place zeroed n c) (st : ProcState) (p : RunPlace) → c < length (spots g) → (spot_at g c).vars ≡ length st.vars → Stands n (zeroed_at leads) st p → AtBlock c st p
   arrives n c (here e) st p l v s = record { there = l; vars = v; stands = subst (λ (m : ℕ). Stands m (zeroed c) st p) e s }
 
   -- an edge that keeps the variables
-  keeps_on : (n c : ℕ) → Keeps ps place zeroed n c → (st : State) (p : RunPlace) → c < length (spots g) → (spot_at g c).vars ≡ length st.vars → p.over ≡ false → There n → p.block ≡ n → IsState st (record { env = p.env; out = p.out }) → length st.vars < width → AtBlock c st p
+  keeps_on : (n c : ℕ) → Keeps ps place zeroed n c → (st : ProcState) (p : RunPlace) → c < length (spots g) → (spot_at g c).vars ≡ length st.vars → p.over ≡ false → There n → p.block ≡ n → IsState st (record { env = p.env; out = p.out }) → length st.vars < width → AtBlock c st p
   keeps_on n c k st p l v o h b s w = arrives n c k.leads st p l v (record { over = o; there = h; block = b; state = s; wide = w; zero = λ x y. absurd (subst (λ (ys : List ℕ). In x ys) k.none y) })
 
   -- the draft's place says of the graph's walk
   pub data Tied (p : RunPlace) : Config → Type 0 where
-    at_block : (b : ℕ) (st : State) (k : ℕ) → AtBlock b st p → Tied p (At b st [] k)
+    at_block : (b : ℕ) (st : ProcState) (k : ℕ) → AtBlock b st p → Tied p (At b st [] k)
     at_end : (o : Outside) (k : ℕ) → p.over ≡ true → p.out ≡ o → Tied p (Over o k)
     out_of_turns : (o : Outside) → Tied p (Going o)
 
@@ -239,7 +239,7 @@ module _ (arrays : List Array) (width : ℕ) (ps : List Plan) (Live : ℕ → �
   lands_at c l = all_at (λ s. rules.Lands g s.block.exit) (spots g) no_spot c is_graph.landings l
 
   -- one block of the graph
-  module _ (b : ℕ) (st : State) (p : RunPlace) (a : AtBlock b st p) (fine : BlockFine g b st) where
+  module _ (b : ℕ) (st : ProcState) (p : RunPlace) (a : AtBlock b st p) (fine : BlockFine g b st) where
     spot : BlockNumbers g (spot_at g b)
     unfolding spot_at
     spot = all_at (BlockNumbers g) (spots g) no_spot b is_graph.numbers.blocks a.there
@@ -254,13 +254,13 @@ module _ (arrays : List Array) (width : ℕ) (ps : List Plan) (Live : ℕ → �
     n : ℕ
     n = place b
 
-    abbrev s0 : Names
+    abbrev s0 : NameState
     s0 = record { env = p.env; out = p.out }
 
-    abbrev s1 : Names
+    abbrev s1 : NameState
     s1 = run_items (zero_items (zeroed b)) s0
 
-    abbrev s2 : Names
+    abbrev s2 : NameState
     s2 = run_items (gen_ops width (graph.block_at g b).ops).items s1
 
     state1 : IsState st s1
@@ -269,14 +269,14 @@ module _ (arrays : List Array) (width : ℕ) (ps : List Plan) (Live : ℕ → �
     items_run : run_items (plan_at ps (place b)).items s0 ≡ run_items d.first s2
     items_run = d.items s0 ∙ run_append (zero_items (zeroed b)) ((gen_ops width (graph.block_at g b).ops).items ++ d.first) s0 ∙ run_append (gen_ops width (graph.block_at g b).ops).items d.first s1
 
-    ops_done : (st' : State) (k l : ℕ) → run_ops (graph.block_at g b).ops st k ≡ Done st' l → Left width st st' (gen_ops width (graph.block_at g b).ops).items (gen_ops width (graph.block_at g b).ops).next s1
+    ops_done : (st' : ProcState) (k l : ℕ) → run_ops (graph.block_at g b).ops st k ≡ Done st' l → Left width st st' (gen_ops width (graph.block_at g b).ops).items (gen_ops width (graph.block_at g b).ops).next s1
     ops_done st' k l e = ops_left g (graph.block_at g b).ops width (spot_at g b).vars st st' s1 k l spot.ops bare a.vars d.wide fine.ops state1 e
 
-    abbrev E : Names
+    abbrev E : NameState
     E = ending arrays width ps Live plans p (place b) a.stands.there a.stands.block
 
-    ending_is : (e : Leaves) → (plan_at ps (place b)).exit ≡ e → E ≡ run_choice (plan_at ps (place b)).test e (run_items d.first s2)
-    ending_is e q = ap (λ (x : Leaves). run_choice (plan_at ps (place b)).test x (run_items (plan_at ps (place b)).items s0)) q ∙ ap (run_choice (plan_at ps (place b)).test e) items_run
+    ending_is : (e : HowLeft) → (plan_at ps (place b)).exit ≡ e → E ≡ run_choice (plan_at ps (place b)).test e (run_items d.first s2)
+    ending_is e q = ap (λ (x : HowLeft). run_choice (plan_at ps (place b)).test x (run_items (plan_at ps (place b)).items s0)) q ∙ ap (run_choice (plan_at ps (place b)).test e) items_run
 
     -- one more plan, and the draft's place says of the graph's walk
     abbrev pub More : Config → Type 0
@@ -286,14 +286,14 @@ module _ (arrays : List Array) (width : ℕ) (ps : List Plan) (Live : ℕ → �
     after : (q : RunPlace) → q ≡ pass I C p → (c : Config) → Tied q c → More c
     after q e c t = subst (λ (x : RunPlace). Tied x c) (e ∙ sym (one_next p a.stands.over)) t
 
-    tie_at : (c : ℕ) (st' : State) (k : ℕ) → AtBlock c st' (pass I C p) → More (At c st' [] k)
+    tie_at : (c : ℕ) (st' : ProcState) (k : ℕ) → AtBlock c st' (pass I C p) → More (At c st' [] k)
     tie_at c st' k r = after (pass I C p) refl (At c st' [] k) (at_block c st' k r)
 
     tie_over : (o : Outside) (k : ℕ) → (pass I C p).over ≡ true → (pass I C p).out ≡ o → More (Over o k)
     tie_over o k x y = after (pass I C p) refl (Over o k) (at_end o k x y)
 
     -- the exits
-    module _ (st' : State) (k l : ℕ) (e : run_ops (graph.block_at g b).ops st k ≡ Done st' l) where
+    module _ (st' : ProcState) (k l : ℕ) (e : run_ops (graph.block_at g b).ops st k ≡ Done st' l) where
       z : Left width st st' (gen_ops width (graph.block_at g b).ops).items (gen_ops width (graph.block_at g b).ops).next s1
       z = ops_done st' k l e
 
@@ -319,15 +319,15 @@ module _ (arrays : List Array) (width : ℕ) (ps : List Plan) (Live : ℕ → �
       go_goto c h m f q keep =
           let t = onto arrays width ps Live plans p (place b) a.stands.there a.stands.block m q in
           let s : E ≡ s2 = ending_is (Onto m) q ∙ ap (λ (x : List Item). run_items x s2) f in
-          let i : IsState st' E = subst (λ (x : Names). IsState st' x) (sym s) z.is in
+          let i : IsState st' E = subst (λ (x : NameState). IsState st' x) (sym s) z.is in
           tie_at c st' l (keeps_on m c keep st' (pass I C p) h.0 (same_vars c h) t.over (there_of m (target_of (place b) m a.stands.there (Onto m) q)) t.block (state_on p (place b) a.stands.there a.stands.block st' i small t.env_is t.out) small)
 
       go_halt : (o : Outside) → (plan_at ps (place b)).exit ≡ Halts → (run_items d.first s2).out ≡ o → More (Over o l)
       go_halt o q f =
           let t = stopped arrays width ps Live plans p (place b) a.stands.there a.stands.block q in
-          tie_over o l t.0 (t.1 ∙ ap (λ (x : Names). x.out) (ending_is Halts q) ∙ f)
+          tie_over o l t.0 (t.1 ∙ ap (λ (x : NameState). x.out) (ending_is Halts q) ∙ f)
 
-      go_return : (t : graph.Term) → TermIn g (spot_at g b).vars t → FlipsWords t st'.vars st'.out.cells → d.first ≡ (gen_term (gen_ops width (graph.block_at g b).ops).next t).items → (plan_at ps (place b)).exit ≡ Halts → More (Over (value_of t st').1.out l)
+      go_return : (t : graph.Term) → TermIn (length g.arrays) (spot_at g b).vars t → FlipsWords t st'.vars st'.out.cells → d.first ≡ (gen_term (gen_ops width (graph.block_at g b).ops).next t).items → (plan_at ps (place b)).exit ≡ Halts → More (Over (value_of t st').1.out l)
       go_return t i f u q = go_halt (value_of t st').1.out q (ap (λ (x : List Item). (run_items x s2).out) u ∙ (Rattle.wave_gen.proofs.Ops.behind_term g t (gen_ops width (graph.block_at g b).ops).next (spot_at g b).vars st' s2 i len high z.is f).out)
 
       go_branch : (t : graph.Term) (x y : ℕ) → ExitIn g (spot_at g b).home (spot_at g b).vars (graph.Branch t x y) → FlipsWords t st'.vars st'.out.cells → (m n : ℕ) → d.first ≡ (gen_source (gen_ops width (graph.block_at g b).ops).next t).items →
@@ -355,14 +355,14 @@ module _ (arrays : List Array) (width : ℕ) (ps : List Plan) (Live : ℕ → �
           E_is = ending_is (Either src.op src.from m n) q ∙ ap (λ (r : List Item). run_item (Make (plan_at ps (place b)).test src.op src.from) (run_items r s2)) u
 
           test_value : E.env (plan_at ps (place b)).test ≡ value t st'.vars st'.out.cells
-          test_value = ap (λ (r : Names). r.env (plan_at ps (place b)).test) E_is ∙ set_here (run_items src.items s2).env (plan_at ps (place b)).test _ ∙ w.value
+          test_value = ap (λ (r : NameState). r.env (plan_at ps (place b)).test) E_is ∙ set_here (run_items src.items s2).env (plan_at ps (place b)).test _ ∙ w.value
 
           end_state : IsState (value_of t st').1 E
           end_state = record {
             agrees = agrees_on st'.vars width (length st'.vars) s2.env E.env (omega arith) small
-                (λ r v. ap (λ (x : Names). x.env r) E_is ∙ set_other (run_items src.items s2).env (plan_at ps (place b)).test _ r (λ e'. (let lt : width ≤ (plan_at ps (place b)).test = wide_test (place b) a.stands.there in omega arith))
+                (λ r v. ap (λ (x : NameState). x.env r) E_is ∙ set_other (run_items src.items s2).env (plan_at ps (place b)).test _ r (λ e'. (let lt : width ≤ (plan_at ps (place b)).test = wide_test (place b) a.stands.there in omega arith))
                 ∙ w.keeps r (let lt : width ≤ (gen_ops width (graph.block_at g b).ops).next = z.next in omega arith)) z.is.agrees;
-            out = ap (λ (r : Names). r.out) E_is ∙ w.out ∙ ap (λ (o : Outside). with_more o (walks.loads_of t st'.vars st'.out.cells)) z.is.out;
+            out = ap (λ (r : NameState). r.out) E_is ∙ w.out ∙ ap (λ (o : Outside). with_more o (walks.loads_of t st'.vars st'.out.cells)) z.is.out;
           }
 
           t0 : To arrays width ps Live plans p (place b) a.stands.there a.stands.block (cond (eqb (E.env (plan_at ps (place b)).test) 0) n m) (names_at C p).env
@@ -397,7 +397,7 @@ module _ (arrays : List Array) (width : ℕ) (ps : List Plan) (Live : ℕ → �
           v : ℕ
           v = value t st'.vars st'.out.cells
 
-          stA : State
+          stA : ProcState
           stA = (value_of t st').1
 
           cells : s2.out.cells ≡ st'.out.cells
@@ -406,7 +406,7 @@ module _ (arrays : List Array) (width : ℕ) (ps : List Plan) (Live : ℕ → �
           hA : Rattle.wave_gen.proofs.Terms.Gives (gen_ops width (graph.block_at g b).ops).next s2 (gen_term (gen_ops width (graph.block_at g b).ops).next t) (value t st'.vars st'.out.cells) (walks.loads_of t st'.vars st'.out.cells)
           hA = Rattle.wave_gen.proofs.Ops.on_state g t (gen_ops width (graph.block_at g b).ops).next (spot_at g b).vars st' s2 i.0 len high z.is f.0
 
-          sA : Names
+          sA : NameState
           sA = run_items (gen_term (gen_ops width (graph.block_at g b).ops).next t).items s2
 
           iA : IsState (value_of t st').1 (run_items (gen_term (gen_ops width (graph.block_at g b).ops).next t).items s2)
@@ -422,7 +422,7 @@ module _ (arrays : List Array) (width : ℕ) (ps : List Plan) (Live : ℕ → �
           hM = subst (λ (cs : List (List ℕ)). GiveMany g A.next sA M.items M.names (walks.values ts st'.vars cs) (walks.all_loads ts st'.vars cs)) cA
               (terms_give g ts A.next (spot_at g b).vars st'.vars sA i.1 len highA iA.agrees (subst (λ (cs : List (List ℕ)). AllByRecursion (λ u. FlipsWords u st'.vars cs) ts) (sym cA) f.1))
 
-          sM : Names
+          sM : NameState
           sM = run_items M.items sA
 
           E_is : E ≡ run_item (Make (plan_at ps (place b)).test Merge (A.name ∷ [])) (run_items M.items sA)
@@ -430,12 +430,12 @@ module _ (arrays : List Array) (width : ℕ) (ps : List Plan) (Live : ℕ → �
               ∙ ap (run_item (Make (plan_at ps (place b)).test Merge (A.name ∷ []))) (run_append A.items M.items s2)
 
           test_value : E.env (plan_at ps (place b)).test ≡ value t st'.vars st'.out.cells
-          test_value = ap (λ (r : Names). r.env (plan_at ps (place b)).test) E_is ∙ set_here (run_items M.items sA).env (plan_at ps (place b)).test ((run_items M.items sA).env A.name) ∙ hM.keeps A.name hA.named ∙ hA.value
+          test_value = ap (λ (r : NameState). r.env (plan_at ps (place b)).test) E_is ∙ set_here (run_items M.items sA).env (plan_at ps (place b)).test ((run_items M.items sA).env A.name) ∙ hM.keeps A.name hA.named ∙ hA.value
 
           c' : ℕ
           c' = walks.landing (value t st'.vars st'.out.cells) ls
 
-          land : State
+          land : ProcState
           land = record { vars = walks.landed (graph.block_at g c').named (walks.values ts stA.vars stA.out.cells) (zeros (spot_at g c').vars); out = (walks.values_of ts stA).1.out }
 
           at : LandsAt g ps place zeroed (image.landing_of ns (value t st'.vars st'.out.cells)) c'
@@ -452,7 +452,7 @@ module _ (arrays : List Array) (width : ℕ) (ps : List Plan) (Live : ℕ → �
             over = t0.over;
             there = (out_of.some, out_of.there);
             block = t0.block ∙ ap (image.landing_of ns) test_value;
-            state = record { agrees = record { zero_pulse = pass_zero; var = pass_var }; out = t0.out ∙ ap (λ (r : Names). r.out) E_is ∙ hM.out ∙ ap (λ (o : Outside). with_more o (walks.all_loads ts st'.vars st'.out.cells)) iA.out };
+            state = record { agrees = record { zero_pulse = pass_zero; var = pass_var }; out = t0.out ∙ ap (λ (r : NameState). r.out) E_is ∙ hM.out ∙ ap (λ (o : Outside). with_more o (walks.all_loads ts st'.vars st'.out.cells)) iA.out };
             wide = (let x : (spot_at g c').vars < width = (drawn.blocks c' c_there).wide in let y : (spot_at g c').vars ≡ length land.vars = c_vars in omega arith);
             zero = λ x h. landed_other (graph.block_at g c').named (walks.values ts stA.vars stA.out.cells) (zeros (spot_at g c').vars) x (at.apart x h) ∙ zeros_at (spot_at g c').vars x;
           }
@@ -473,7 +473,7 @@ module _ (arrays : List Array) (width : ℕ) (ps : List Plan) (Live : ℕ → �
               pass_env x = t0.env_is x ∙ ap (λ (r : List ℕ). filled r (pulse ∷ M.names) (names_at C p).env x) pads_are
 
               below_test : (y : ℕ) → y < (plan_at ps (place b)).test → (names_at C p).env y ≡ sM.env y
-              below_test y u = chain.env y (omega arith) ∙ ap (λ (r : Names). r.env y) E_is ∙ set_other (run_items M.items sA).env (plan_at ps (place b)).test ((run_items M.items sA).env A.name) y (λ r. omega arith)
+              below_test y u = chain.env y (omega arith) ∙ ap (λ (r : NameState). r.env y) E_is ∙ set_other (run_items M.items sA).env (plan_at ps (place b)).test ((run_items M.items sA).env A.name) y (λ r. omega arith)
 
               values_are : map (names_at C p).env M.names ≡ walks.values ts st'.vars st'.out.cells
               values_are = map_below A.next ts (names_at C p).env sM.env (λ y u. below_test y (let x : M.next ≤ (plan_at ps (place b)).test = high_test in omega arith)) ∙ hM.values
@@ -493,7 +493,7 @@ module _ (arrays : List Array) (width : ℕ) (ps : List Plan) (Live : ℕ → �
                   (let y : (spot_at g c').vars ≡ length land.vars = c_vars in let w : length (zeros (spot_at g c').vars) ≡ (spot_at g c').vars = zeros_length (spot_at g c').vars in omega arith) (zeros_at (spot_at g c').vars x) named_as_many)
 
     -- a block, with its exit
-    leaves_so : (st' : State) (k l : ℕ) → run_ops (graph.block_at g b).ops st k ≡ Done st' l → (x : graph.Exit) → (graph.block_at g b).exit ≡ x → More (leave g x st' [] l)
+    leaves_so : (st' : ProcState) (k l : ℕ) → run_ops (graph.block_at g b).ops st k ≡ Done st' l → (x : graph.Exit) → (graph.block_at g b).exit ≡ x → More (leave g x st' [] l)
     leaves_so st' k l e x q = go x q (subst (λ (y : graph.Exit). ExitDrawn g ps place zeroed (gen_ops width (graph.block_at g b).ops).next y d.first (plan_at ps (place b)).exit) q d.exit)
         (subst (λ (y : graph.Exit). ExitIn g (spot_at g b).home (spot_at g b).vars y) q spot.exit)
         (subst (λ (y : graph.Exit). ExitFine y st') q (fine.exit st' k l e))
@@ -515,7 +515,7 @@ module _ (arrays : List Array) (width : ℕ) (ps : List Plan) (Live : ℕ → �
     pub block_step : (k : ℕ) → More (step g (At b st [] k))
     block_step k = go (run_ops (graph.block_at g b).ops st k) refl
       where
-        go : (r : Outcome) → run_ops (graph.block_at g b).ops st k ≡ r → More (passed g r (graph.block_at g b).exit [])
+        go : (r : OpsOutcome) → run_ops (graph.block_at g b).ops st k ≡ r → More (passed g r (graph.block_at g b).exit [])
         go (Out o) e = out_of_turns o
         go (Done st' l) e = leaves_so st' k l e (graph.block_at g b).exit refl
 
@@ -547,7 +547,7 @@ module _ (arrays : List Array) (width : ℕ) (ps : List Plan) (Live : ℕ → �
     begins_so l v =
         let w : (spot_at g (graph.entry_of g (length g.procs - 1))).vars < width = (drawn.blocks (graph.entry_of g (length g.procs - 1)) l).wide in
         let n : length (zeros (graph.proc_at g (length g.procs - 1)).vars) ≡ (graph.proc_at g (length g.procs - 1)).vars = zeros_length (graph.proc_at g (length g.procs - 1)).vars in
-        let st : State = record { vars = zeros (graph.proc_at g (length g.procs - 1)).vars; out = opening_out (walks.cells_of g.arrays) world } in
+        let st : ProcState = record { vars = zeros (graph.proc_at g (length g.procs - 1)).vars; out = opening_out (walks.cells_of g.arrays) world } in
         let r = arrives 1 (graph.entry_of g (length g.procs - 1)) drawn.start st (places I C (opening_out (image.cells_of arrays) world) 0) l (v ∙ sym n) (record {
           over = refl;
           there = (omega arith, plans.some);

@@ -5,7 +5,7 @@ use Rattle.ws_isa.specs.declared.instr.Op.{Op}
 use Rattle.ws_isa.specs.Image.{Image, ports, ports_of, is_advance, is_first, first_number, size_of, stops, target, now_dests, edge_dests, start_dests, IsIn, IsBlock}
 use Rattle.ws_isa.specs.Sound.{OpenSlots, HasDest, none_open, all_opened, Fresh, closed, opens_at, AdvancesOpen, SlotRules}
 use Rattle.ws_isa.proofs.SlotCert.{Alike, SlotCert}
-use Rattle.wave_gen.specs.Waits.{Distinct, Owner, Step, Fires, Rests, Skips, Copies, is_name, without, with_ports, renamed, own, count, FiresAt, RestsAt, Stands, Code, starts, went_past, was_sent, Waits}
+use Rattle.wave_gen.specs.Waits.{DistinctDests, Owner, Step, Fires, Rests, Skips, Copies, is_name, without, with_ports, renamed, own, count, FiresAt, RestsAt, Stands, Code, starts, went_past, was_sent, Waits}
 use Rattle.wave_gen.proofs.Slots.{has_or_not, distinct_fresh}
 use Rattle.ws_isa.proofs.Certified.{slot_rules}
 use Rattle.wave_gen.proofs.WalkShape.{WalkShape}
@@ -68,7 +68,7 @@ pub record Turn (image : Image) (o p : Owner) (k : ℕ) : Type 0 where
   pub before : (j q : ℕ) → HasDest (now_dests image k) j q → (k ≡ j → ⊥) → is_some (o j q) ≡ false
   pub other : (j q : ℕ) → (HasDest (now_dests image k) j q → ⊥) → (k ≡ j → ⊥) → is_some (p j q) ≡ is_some (o j q)
   pub fresh : (q : ℕ) → is_some (p k q) ≡ false
-  pub once : Distinct (now_dests image k)
+  pub once : DistinctDests (now_dests image k)
 
 -- the open slots before instruction k, where the first of these has number n
 abbrev pub at : ℕ → List Step → Owner → ℕ → Owner

@@ -5,9 +5,9 @@ use Rattle.ws_isa.specs.declared.instr.Dest.{Dest}
 use Rattle.ws_isa.specs.Image as image
 use Rattle.ws_isa.specs.Image.{Image, Array, block_at, first_number, is_stop, edge_dests, pad_of, start_dests, target, stops, IsIn, IsBlock}
 use Rattle.ws_isa.specs.Sound.{HasDest, edge_all, opens_at}
-use Rattle.wave_gen.specs.Waits.{Distinct, Code, starts, Stands, Arrives, Waits}
-use Rattle.wave_gen.specs.Wire.{Spot, dests_of, Wants}
-use Rattle.wave_gen.specs.Plans.{Leaves, Onto, Either, Lands, Halts, Plan, pulse, fronts, plan_at, starts_at, begins, end_wants, pads_of, draft_of, code_of, exit_of, source_of, KeptOf, operands_needed, chooses, exit_made}
+use Rattle.wave_gen.specs.Waits.{DistinctDests, Code, starts, Stands, Arrives, Waits}
+use Rattle.wave_gen.specs.Wire.{Target, dests_of, Wants}
+use Rattle.wave_gen.specs.Plans.{HowLeft, Onto, Either, Lands, Halts, Plan, pulse, fronts, plan_at, starts_at, begins, end_wants, pads_of, draft_of, code_of, exit_of, source_of, KeptOf, operands_needed, chooses, exit_made}
 use Rattle.wave_gen.proofs.Planned.{PlansAre, EdgesAre, Inner, Outer}
 use Rattle.ws_isa.proofs.Slots.{edge_all_from}
 use Rattle.wave_gen.proofs.Fronts.{front_is}
@@ -37,7 +37,7 @@ module _ (arrays : List Array) (width : ℕ) (ps : List Plan) (Live : ℕ → �
   unfolding stops
   stops_is b h = ap is_stop (exit_is arrays width ps Live plans b h)
 
-  none_once : (b : ℕ) → Is b → ((r m j q : ℕ) → IsIn I b m → HasDest (edge_dests I b r m) j q → ⊥) → (r : ℕ) → Distinct (opens_at I b r)
+  none_once : (b : ℕ) → Is b → ((r m j q : ℕ) → IsIn I b m → HasDest (edge_dests I b r m) j q → ⊥) → (r : ℕ) → DistinctDests (opens_at I b r)
   unfolding opens_at
   none_once b h n r = empty_distinct (edge_all I b r (first_number I b) (image.size_of I b)) (λ j q d.
       (let f = edge_all_from I b r (first_number I b) (image.size_of I b) j q d in
@@ -48,16 +48,16 @@ module _ (arrays : List Array) (width : ℕ) (ps : List Plan) (Live : ℕ → �
     pub arrives : (r j q x : ℕ) → stops I b ≡ false → starts I C (target I b r) j q ≡ Some x → Arrives I C b r j q x
     pub past_on : (r j q x : ℕ) → stops I b ≡ false → C.ends b j q ≡ Some x → (y : ℕ) × (starts I C (target I b r) j q ≡ Some y)
     pub sent_on : (r m j q : ℕ) → stops I b ≡ false → IsIn I b m → HasDest (edge_dests I b r m) j q → (C.ends b j q ≡ None) × ((y : ℕ) × (starts I C (target I b r) j q ≡ Some y))
-    pub once : (r : ℕ) → stops I b ≡ false → Distinct (opens_at I b r)
+    pub once : (r : ℕ) → stops I b ≡ false → DistinctDests (opens_at I b r)
     pub stop : (j q : ℕ) → stops I b ≡ true → C.ends b j q ≡ None
 
   edges : (b : ℕ) → Is b → Edges b
   edges b h = go (plan_at ps b).exit refl (plans.each b h).edges
     where
-      stopping : (e : Leaves) → (plan_at ps b).exit ≡ e → stops I b ≡ is_stop (exit_of (source_of width ps b) e)
-      stopping e q = stops_is b h ∙ ap (λ (l : Leaves). is_stop (exit_of (source_of width ps b) l)) q
+      stopping : (e : HowLeft) → (plan_at ps b).exit ≡ e → stops I b ≡ is_stop (exit_of (source_of width ps b) e)
+      stopping e q = stops_is b h ∙ ap (λ (l : HowLeft). is_stop (exit_of (source_of width ps b) l)) q
 
-      go : (e : Leaves) → (plan_at ps b).exit ≡ e → EdgesAre ps b e → Edges b
+      go : (e : HowLeft) → (plan_at ps b).exit ≡ e → EdgesAre ps b e → Edges b
       go (Onto c) q e = let hc : Is c = target_there b c h e in record {
         arrives = λ r j p x s. onto_arrives arrays width ps Live plans b h c q hc r j p x;
         past_on = λ r j p x s. onto_past arrays width ps Live plans b h c q hc r j p x;
@@ -84,7 +84,7 @@ module _ (arrays : List Array) (width : ℕ) (ps : List Plan) (Live : ℕ → �
         past_on = λ r j p x s. absurd (both_ways (stops I b) s (stopping Halts q));
         sent_on = λ r m j p s. absurd (both_ways (stops I b) s (stopping Halts q));
         once = λ r s. absurd (both_ways (stops I b) s (stopping Halts q));
-        stop = λ j p s. ends_none arrays width ps Live plans b h j p (λ x g. subst (λ (l : Leaves). HasDest (dests_of (begins width ps) (end_wants width (starts_at width ps) l x)) j p) q g);
+        stop = λ j p s. ends_none arrays width ps Live plans b h j p (λ x g. subst (λ (l : HowLeft). HasDest (dests_of (begins width ps) (end_wants width (starts_at width ps) l x)) j p) q g);
       }
 
   -- the start pulse
@@ -102,7 +102,7 @@ module _ (arrays : List Array) (width : ℕ) (ps : List Plan) (Live : ℕ → �
 
   start_pulse : (j q x : ℕ) → starts I C 1 j q ≡ Some x → x ≡ pulse
   start_pulse j q x e =
-      let d = subst (λ (l : List Spot). HasDest (dests_of (begins width ps) l) j q) (ap (λ (w : Wants). w x) (starts_outer width ps 1 plans.first)) (starts_all arrays width ps Live plans 1 one_is x j q e) in
+      let d = subst (λ (l : List Target). HasDest (dests_of (begins width ps) l) j q) (ap (λ (w : Wants). w x) (starts_outer width ps 1 plans.first)) (starts_all arrays width ps Live plans 1 one_is x j q e) in
       let f = front_is (begins width ps) 1 (plan_at ps 1).entries x j q (plans.each 1 one_is).entries_apart d in
       only f.place (subst (λ (l : List ℕ). nth l f.place ≡ Some x) plans.first_entries f.is)
     where
@@ -114,7 +114,7 @@ module _ (arrays : List Array) (width : ℕ) (ps : List Plan) (Live : ℕ → �
   kept_inside b m x h (inr t) = tail_in arrays width ps Live plans.each b h m x t
   kept_inside b m x h (inl k) = rw k.1 (source_inside (plan_at ps b).exit refl k.0)
     where
-      source_inside : (e : Leaves) → (plan_at ps b).exit ≡ e → chooses (plan_at ps b).exit ≡ true → IsIn I b (source_of width ps b)
+      source_inside : (e : HowLeft) → (plan_at ps b).exit ≡ e → chooses (plan_at ps b).exit ≡ true → IsIn I b (source_of width ps b)
       source_inside (Onto c) q k = absurd (both_ways (chooses (plan_at ps b).exit) (ap chooses q) k)
       source_inside Halts q k = absurd (both_ways (chooses (plan_at ps b).exit) (ap chooses q) k)
       source_inside (Either op from c d) q k = source_in arrays width ps Live plans.each b h op from (ap operands_needed q) k (ap (exit_made width (starts_at width ps) b (plan_at ps b)) q)
@@ -123,10 +123,10 @@ module _ (arrays : List Array) (width : ℕ) (ps : List Plan) (Live : ℕ → �
   pub chooses_by : (b : ℕ) → Is b → (s x y : ℕ) → (block_at I b).exit ≡ image.Branch s x y → (s ≡ source_of width ps b) × (chooses (plan_at ps b).exit ≡ true)
   chooses_by b h s x y e = go (plan_at ps b).exit refl
     where
-      go : (l : Leaves) → (plan_at ps b).exit ≡ l → (s ≡ source_of width ps b) × (chooses (plan_at ps b).exit ≡ true)
+      go : (l : HowLeft) → (plan_at ps b).exit ≡ l → (s ≡ source_of width ps b) × (chooses (plan_at ps b).exit ≡ true)
       go l q = here l (sym (exit_is arrays width ps Live plans b h ∙ ap (exit_of (source_of width ps b)) q) ∙ e) q
         where
-          here : (l : Leaves) → exit_of (source_of width ps b) l ≡ image.Branch s x y → (plan_at ps b).exit ≡ l → (s ≡ source_of width ps b) × (chooses (plan_at ps b).exit ≡ true)
+          here : (l : HowLeft) → exit_of (source_of width ps b) l ≡ image.Branch s x y → (plan_at ps b).exit ≡ l → (s ≡ source_of width ps b) × (chooses (plan_at ps b).exit ≡ true)
           here (Onto c) f q = absurd (let z : image.Goto c ≡ image.Branch s x y = f in cc)
           here Halts f q = absurd (let z : image.Stop ≡ image.Branch s x y = f in cc)
           here (Lands op from values ls) f q = absurd (let z : image.Landings (source_of width ps b) ls ≡ image.Branch s x y = f in cc)
@@ -135,10 +135,10 @@ module _ (arrays : List Array) (width : ℕ) (ps : List Plan) (Live : ℕ → �
   pub lands_by : (b : ℕ) → Is b → (s : ℕ) (ls : List ℕ) → (block_at I b).exit ≡ image.Landings s ls → (s ≡ source_of width ps b) × (chooses (plan_at ps b).exit ≡ true)
   lands_by b h s ls e = go (plan_at ps b).exit refl
     where
-      go : (l : Leaves) → (plan_at ps b).exit ≡ l → (s ≡ source_of width ps b) × (chooses (plan_at ps b).exit ≡ true)
+      go : (l : HowLeft) → (plan_at ps b).exit ≡ l → (s ≡ source_of width ps b) × (chooses (plan_at ps b).exit ≡ true)
       go l q = here l (sym (exit_is arrays width ps Live plans b h ∙ ap (exit_of (source_of width ps b)) q) ∙ e) q
         where
-          here : (l : Leaves) → exit_of (source_of width ps b) l ≡ image.Landings s ls → (plan_at ps b).exit ≡ l → (s ≡ source_of width ps b) × (chooses (plan_at ps b).exit ≡ true)
+          here : (l : HowLeft) → exit_of (source_of width ps b) l ≡ image.Landings s ls → (plan_at ps b).exit ≡ l → (s ≡ source_of width ps b) × (chooses (plan_at ps b).exit ≡ true)
           here (Onto c) f q = absurd (let z : image.Goto c ≡ image.Landings s ls = f in cc)
           here Halts f q = absurd (let z : image.Stop ≡ image.Landings s ls = f in cc)
           here (Either op from c d) f q = absurd (let z : image.Branch (source_of width ps b) c d ≡ image.Landings s ls = f in cc)
@@ -178,7 +178,7 @@ module _ (arrays : List Array) (width : ℕ) (ps : List Plan) (Live : ℕ → �
     stop = λ b j q h s. (edges b (there b h)).stop j q s;
     start = λ j q d. (pulse, starts_has arrays width ps Live plans 1 one_is pulse j q (subst (λ (l : List Dest). HasDest l j q) start_list d));
     start_back = λ j q x e. subst (λ (l : List Dest). HasDest l j q) (sym start_list) (starts_all arrays width ps Live plans 1 one_is pulse j q (e ∙ ap Some (start_pulse j q x e)));
-    start_once = subst Distinct (sym start_list) (((facts width ps Live plans.each 1 one_is).clean 0 (omega arith)).once pulse);
+    start_once = subst DistinctDests (sym start_list) (((facts width ps Live plans.each 1 one_is).clean 0 (omega arith)).once pulse);
     kept_in = kept_in_block;
     branches = branch_kept;
     lands = lands_kept;

@@ -3,17 +3,17 @@ use Rattle.std.proofs.Common.{ℕ, zero, suc, ◌+◌, ◌≡◌, ◌<◌, ◌�
 use Rattle.std.proofs.lemmas.Bool.{cases_eq, cases_lt, lt-ltb, le-ltb}
 use Rattle.ws_isa.specs.declared.instr.Op.{Op}
 use Rattle.ws_isa.specs.Image.{is_memory_op}
-use Rattle.wave_gen.specs.Wire.{Spot, Back, WiredInstr, Wants, Made, with_wants, with_uses, moved, emit, rest, skip, copy, gather, with_room, with_rooms, Item, Make, Act, Same, is_nil, make, alias, wire_item, wire, most}
+use Rattle.wave_gen.specs.Wire.{Target, Back, WiredInstr, Wants, Made, with_wants, with_uses, moved, emit, rest, skip, copy, gather, with_room, with_rooms, Item, Make, Act, Same, is_nil, make, alias, wire_item, wire, most}
 use Rattle.wave_gen.proofs.Planned.{AllBelow}
 use Rattle.wave_gen.proofs.Weights.{total, charge, weights, ItemsBelow}
 
 -- a name past the bound
-pub set_out : (w : Wants) (x : ℕ) (l : List Spot) (n : ℕ) → n ≤ x → total (with_wants w x l) n ≡ total w n
+pub set_out : (w : Wants) (x : ℕ) (l : List Target) (n : ℕ) → n ≤ x → total (with_wants w x l) n ≡ total w n
 set_out w x l zero u = refl
 set_out w x l (suc n) u = let h : total (with_wants w x l) n ≡ total w n = set_out w x l n (omega arith) in rw (ne_eqb n x (λ e. omega arith)) (omega arith)
 
 -- another list for a name
-pub set_total : (w : Wants) (x : ℕ) (l : List Spot) (n : ℕ) → x < n → total (with_wants w x l) n + length (w x) ≡ total w n + length l
+pub set_total : (w : Wants) (x : ℕ) (l : List Target) (n : ℕ) → x < n → total (with_wants w x l) n + length (w x) ≡ total w n + length l
 set_total w x l zero u = absurd (omega arith)
 set_total w x l (suc n) u = elim (cases_eq n x) [
   | inl e ↦ (let h : total (with_wants w x l) n ≡ total w n = set_out w x l n (omega arith) in
@@ -22,7 +22,7 @@ set_total w x l (suc n) u = elim (cases_eq n x) [
   | inr d ↦ (let h : total (with_wants w x l) n + length (w x) ≡ total w n + length l = set_total w x l n (omega arith) in rw (ne_eqb n x d) (omega arith))
 ]
 
-add_total : (w : Wants) (x : ℕ) (p : Spot) (n : ℕ) → total (with_wants w x (p ∷ w x)) n ≤ suc (total w n)
+add_total : (w : Wants) (x : ℕ) (p : Target) (n : ℕ) → total (with_wants w x (p ∷ w x)) n ≤ suc (total w n)
 add_total w x p n = elim (cases_lt x n) [
   | inl l ↦ (let h : total (with_wants w x (p ∷ w x)) n + length (w x) ≡ total w n + suc (length (w x)) = set_total w x (p ∷ w x) n l in omega arith)
   | inr l ↦ (let h : total (with_wants w x (p ∷ w x)) n ≡ total w n = set_out w x (p ∷ w x) n l in omega arith)
@@ -95,7 +95,7 @@ wanted_charge n b x op from s l a u w =
     let k : total (with_wants t.wants x []) n + length (t.wants x) ≡ total t.wants n + 0 = set_total t.wants x [] n l in
     let g : charge n t ≤ charge n s = rooms_charge n b (length from) from s a u in omega arith
 
-app_length : (xs ys : List Spot) → length (xs ++ ys) ≡ length xs + length ys
+app_length : (xs ys : List Target) → length (xs ++ ys) ≡ length xs + length ys
 app_length [] ys = omega arith
 app_length (x ∷ xs) ys = let e : length (xs ++ ys) ≡ length xs + length ys = app_length xs ys in omega arith
 
@@ -151,7 +151,7 @@ wire_charge n b (Make x op from ∷ is) s h =
     let ih : charge n (wire b is s) ≤ charge n s + weights is = wire_charge n b is s h.1 in
     let g : charge n (wire_item b (Make x op from) (wire b is s)) ≤ charge n (wire b is s) + cond (is_memory_op op) (4 + length from) (3 + length from) = go ((wire b is s).wants x) refl (is_memory_op op) in omega (arith, ih, g)
   where
-    go : (l : List Spot) → (wire b is s).wants x ≡ l → (m : Bool) → charge n (cond (is_nil ((wire b is s).wants x) && not m) (skip x op from (wire b is s)) (make b x op from (wire b is s))) ≤ charge n (wire b is s) + cond m (4 + length from) (3 + length from)
+    go : (l : List Target) → (wire b is s).wants x ≡ l → (m : Bool) → charge n (cond (is_nil ((wire b is s).wants x) && not m) (skip x op from (wire b is s)) (make b x op from (wire b is s))) ≤ charge n (wire b is s) + cond m (4 + length from) (3 + length from)
     go [] e true = rw e (make_charge n b x op from (wire b is s) h.0.1 h.0.2)
     go [] e false = rw e (omega arith)
     go (p ∷ l) e true = rw e (make_charge n b x op from (wire b is s) h.0.1 h.0.2)

@@ -7,9 +7,9 @@ use Rattle.std.specs.List.{AllByRecursion}
 use Rattle.ws_words.specs.declared.alu.Alu.{Alu}
 use Rattle.ws_words.specs.declared.alu.Alu.TheVariants.{Add, Sub, Mul, Div, Rem, And, Or, Xor, Shl, Shr, Eq, Ne, Lt, Le, Gt, Ge}
 use Rattle.ws_words.specs.Operators.{applied, flag}
-use Rattle.ws_words.specs.Outside.{State, World, row, with_row, head_or_zero, rest_of, zeros}
+use Rattle.ws_words.specs.Outside.{ProcState, World, row, with_row, head_or_zero, rest_of, zeros}
 use Rattle.cfg_core.specs.Graph.{Term, Number, Var, Cell, Flip, Not, Neg, Binary, Op, Assign, Store, Print, Read, Give, Take, Choose, Tick, TickBy, Exit, Goto, Branch, Call, Return, Send, Stop, Graph, GraphArray, Spot, no_spot, spots, spot_at, block_at, proc_at}
-use Rattle.cfg_core.specs.Walk.{value, values, value_of, Outcome, Done, Out, and_then, spend, run_op, run_ops, Config, At, Over, Going, Frame, landed, with_result, leave, passed, step, walk, cells_of, opening}
+use Rattle.cfg_core.specs.Walk.{value, values, value_of, OpsOutcome, Done, Out, and_then, spend, run_op, run_ops, Config, At, Over, Going, Frame, landed, with_result, leave, passed, step, walk, cells_of, opening}
 use Rattle.wave_gen.specs.Gen.{FlipsWords, OpFine}
 use Rattle.wave_gen.proofs.DrawnPlans.{OpsFine, ExitFine, BlockFine, WalkFine}
 use Rattle.wave_gen.specs.Words.{TermOfWords, OpOfWords, ExitOfWords, GraphOfWords, WorldOfWords}
@@ -141,26 +141,26 @@ module _ (vars : List ℕ) (cells : List (List ℕ)) (v : Words vars) (c : Rows 
   op_fine (TickBy t n m) h = tt
 
 -- what a walk holds
-record Held (s : State) : Type 0 where
+record Held (s : ProcState) : Type 0 where
   pub vars : Words s.vars
   pub cells : Rows s.out.cells
   pub input : Words s.out.input
   pub left : Rows s.out.left
 
-abbrev Kept : Outcome → Type 0
+abbrev Kept : OpsOutcome → Type 0
 Kept (Done s k) = Held s
 Kept (Out o) = Unit {0}
 
-spend_kept : (n : ℕ) (s : State) (k : ℕ) → Held s → Kept (spend n s k)
+spend_kept : (n : ℕ) (s : ProcState) (k : ℕ) → Held s → Kept (spend n s k)
 spend_kept zero s k h = h
 spend_kept (suc n) s zero h = tt
 spend_kept (suc n) s (suc k) h = spend_kept n s k h
 
-either_kept : (v : Bool) (x y : Outcome) → Kept x → Kept y → Kept (if v then x else y)
+either_kept : (v : Bool) (x y : OpsOutcome) → Kept x → Kept y → Kept (if v then x else y)
 either_kept true x y h i = h
 either_kept false x y h i = i
 
-op_kept : (op : Op) (s : State) (k : ℕ) → OpOfWords op → Held s → Kept (run_op op s k)
+op_kept : (op : Op) (s : ProcState) (k : ℕ) → OpOfWords op → Held s → Kept (run_op op s k)
 op_kept (Assign x t) s k w h = record { vars = set_words s.vars x (value t s.vars s.out.cells) h.vars (value_word s.vars s.out.cells h.vars h.cells t w); cells = h.cells; input = h.input; left = h.left }
 op_kept (Store a t u) s k w h = record {
   vars = h.vars;
@@ -186,19 +186,19 @@ op_kept (TickBy t n m) s k w h = either_kept (value t s.vars s.out.cells == 0) (
     (spend_kept m (value_of t s).1 k (record { vars = h.vars; cells = h.cells; input = h.input; left = h.left }))
     (spend_kept n (value_of t s).1 k (record { vars = h.vars; cells = h.cells; input = h.input; left = h.left }))
 
-ops_kept : (ops : List Op) (s : State) (k : ℕ) → AllByRecursion OpOfWords ops → Held s → Kept (run_ops ops s k)
+ops_kept : (ops : List Op) (s : ProcState) (k : ℕ) → AllByRecursion OpOfWords ops → Held s → Kept (run_ops ops s k)
 ops_kept [] s k w h = h
 ops_kept (op ∷ ops) s k w h = go (run_op op s k) (op_kept op s k w.0 h) (λ t l i. ops_kept ops t l w.1 i)
   where
-    go : (r : Outcome) → Kept r → ((t : State) (l : ℕ) → Held t → Kept (run_ops ops t l)) → Kept (and_then r (run_ops ops))
+    go : (r : OpsOutcome) → Kept r → ((t : ProcState) (l : ℕ) → Held t → Kept (run_ops ops t l)) → Kept (and_then r (run_ops ops))
     go (Done t l) i ih = ih t l i
     go (Out o) i ih = tt
 
-ops_fine : (ops : List Op) (s : State) → AllByRecursion OpOfWords ops → Held s → OpsFine ops s
+ops_fine : (ops : List Op) (s : ProcState) → AllByRecursion OpOfWords ops → Held s → OpsFine ops s
 ops_fine [] s w h = tt
 ops_fine (op ∷ ops) s w h = (op_fine s.vars s.out.cells h.vars h.cells op w.0, λ t k l e. ops_fine ops t w.1 (subst Kept e (op_kept op s k w.0 h)))
 
-exit_fine : (exit : Exit) (s : State) → ExitOfWords exit → Held s → ExitFine exit s
+exit_fine : (exit : Exit) (s : ProcState) → ExitOfWords exit → Held s → ExitFine exit s
 exit_fine (Goto b) s w h = tt
 exit_fine (Branch t a b) s w h = flips_words s.vars s.out.cells h.vars h.cells t w
 exit_fine (Call x f ts back) s w h = tt
@@ -224,11 +224,11 @@ result_words : (x : Option ℕ) (v : ℕ) (vars : List ℕ) → Word v → Words
 result_words None v vars w h = h
 result_words (Some x) v vars w h = set_words vars x v h w
 
-loaded : (t : Term) (s : State) → Held s → Held (value_of t s).1
+loaded : (t : Term) (s : ProcState) → Held s → Held (value_of t s).1
 loaded t s h = record { vars = h.vars; cells = h.cells; input = h.input; left = h.left }
 
 module _ (g : Graph) (words : GraphOfWords g) where
-  exit_holds : (exit : Exit) (s : State) (frames : List Frame) (k : ℕ) → ExitOfWords exit → Held s → Frames frames → Holds (leave g exit s frames k)
+  exit_holds : (exit : Exit) (s : ProcState) (frames : List Frame) (k : ℕ) → ExitOfWords exit → Held s → Frames frames → Holds (leave g exit s frames k)
   exit_holds (Goto b) s frames k w h f = (h, f)
   exit_holds (Branch t a b) s frames k w h f = go (value t s.vars s.out.cells == 0)
     where
@@ -279,7 +279,7 @@ module _ (g : Graph) (words : GraphOfWords g) where
   step_holds : (c : Config) → Holds c → Holds (step g c)
   step_holds (At b s frames k) h = go (run_ops (block_at g b).ops s k) (ops_kept (block_at g b).ops s k (block_words b).0 h.0)
     where
-      go : (r : Outcome) → Kept r → Holds (passed g r (block_at g b).exit frames)
+      go : (r : OpsOutcome) → Kept r → Holds (passed g r (block_at g b).exit frames)
       go (Done t l) i = exit_holds (block_at g b).exit t frames l (block_words b).1 i h.1
       go (Out o) i = tt
   step_holds (Over o k) h = tt
@@ -289,7 +289,7 @@ module _ (g : Graph) (words : GraphOfWords g) where
   walk_holds zero c h = h
   walk_holds (suc m) c h = walk_holds m (step g c) (step_holds c h)
 
-  block_fine : (b : ℕ) (s : State) → Held s → BlockFine g b s
+  block_fine : (b : ℕ) (s : ProcState) → Held s → BlockFine g b s
   block_fine b s h = record {
     ops = ops_fine (block_at g b).ops s (block_words b).0 h;
     exit = λ t k l e. exit_fine (block_at g b).exit t (block_words b).1 (subst Kept e (ops_kept (block_at g b).ops s k (block_words b).0 h));

@@ -4,8 +4,8 @@ use Rattle.wave_gen.specs.declared.kept.Want.{Want}
 use Rattle.wave_gen.specs.declared.kept.Kept.{Kept}
 use Rattle.wave_gen.specs.declared.fork.Arms.{Arms}
 use Rattle.wave_gen.specs.declared.fork.Ending.{Ending}
-use Rattle.wave_gen.specs.Wire.{Spot, Wants, Made, with_wants}
-use Rattle.wave_gen.specs.Plans.{Leaves, Onto, Either, Plan, plan_at, behind_source, starts_at}
+use Rattle.wave_gen.specs.Wire.{Target, Wants, Made, with_wants}
+use Rattle.wave_gen.specs.Plans.{HowLeft, Onto, Either, Plan, plan_at, behind_source, starts_at}
 use Rattle.wave_gen.specs.Plans.{blocks_from, steers, past, tails_of, end_wants}
 use Rattle.wave_gen.specs.Tables.{listed, line_of, tail_of, behind_of}
 
@@ -14,7 +14,7 @@ abbrev pub wanted : List Want → Wants
 wanted [] x = []
 wanted (p ∷ ps) x = with_wants (wanted ps) p.name (p.spot ∷ wanted ps p.name) x
 
-abbrev pub wants_of : ℕ → List Spot → List Want
+abbrev pub wants_of : ℕ → List Target → List Want
 wants_of x [] = []
 wants_of x (p ∷ ps) = record { name = x; spot = p } ∷ wants_of x ps
 
@@ -51,7 +51,7 @@ pub record Forked (w v : Wants) (xs : List ℕ) (f : Arms) : Type 0 where
   pub none : ◌≡◌ {A = Wants} (listed f.none.lists.items) (past xs v)
 
 -- what is sent along the edges of an exit, and what goes past it
-pub record EndingIs (width : ℕ) (starts : ℕ → Wants) (x : Leaves) (e : Ending) : Type 0 where
+pub record EndingIs (width : ℕ) (starts : ℕ → Wants) (x : HowLeft) (e : Ending) : Type 0 where
   pub tails : map tail_of e.tails.items ≡ tails_of width starts x
   pub past : ◌≡◌ {A = Wants} (listed e.past.lists.items) (end_wants width starts x)
 
@@ -59,7 +59,7 @@ pub record EndingIs (width : ℕ) (starts : ℕ → Wants) (x : Leaves) (e : End
 abbrev pub Ahead : List Plan → ℕ → ℕ → Type 0
 Ahead ps b c = (plan_at ps c).first ≡ false → b < c
 
-abbrev pub LeadsAhead : List Plan → ℕ → Leaves → Type 0
+abbrev pub LeadsAhead : List Plan → ℕ → HowLeft → Type 0
 LeadsAhead ps b (Onto c) = Ahead ps b c
 LeadsAhead ps b (Either op from c d) = Ahead ps b c × Ahead ps b d
 LeadsAhead ps b _ = Unit {0}

@@ -8,7 +8,7 @@ use Rattle.ws_isa.specs.Image.{Array, Image}
 use Rattle.wave_cut.specs.Cut.{Cut, wave, is_first}
 use Rattle.wave_gen.specs.Words.{live_from}
 use Rattle.wave_gen.specs.Wire.{Item}
-use Rattle.wave_gen.specs.Plans.{Leaves, Onto, Either, Lands, Halts, Plan, pulse, is_among, draft_of}
+use Rattle.wave_gen.specs.Plans.{HowLeft, Onto, Either, Lands, Halts, Plan, pulse, is_among, draft_of}
 use Rattle.wave_gen.specs.Gen.{gen_term, gen_ops}
 use Rattle.wave_gen.specs.Shared.{shared, none_known}
 use Rattle.wave_gen.specs.Drawn.{gen_source, gen_terms, exit_next}
@@ -18,9 +18,9 @@ use Rattle.cfg_core.specs.Weights.{first_block}
 -- the items before an exit, and the exit
 pub record Leaving : Type 0 where
   pub items : List Item
-  pub exit : Leaves
+  pub exit : HowLeft
 
-abbrev pub leaving : List Item → Leaves → Leaving
+abbrev pub leaving : List Item → HowLeft → Leaving
 leaving items exit = record { items = items; exit = exit }
 
 -- `place` numbers the plans of blocks, names from k on are free

@@ -4,8 +4,8 @@ use Rattle.wave_gen.specs.Wire as wire
 use Rattle.wave_gen.specs.Plans as plans
 use Rattle.wave_gen.specs.declared.plan.Item.{Item}
 use Rattle.wave_gen.specs.declared.plan.Item.TheVariants.{Make, Act, Same}
-use Rattle.wave_gen.specs.declared.plan.Leaves.{Leaves}
-use Rattle.wave_gen.specs.declared.plan.Leaves.TheVariants.{Onto, Either, Lands, Halts}
+use Rattle.wave_gen.specs.declared.plan.HowLeft.{HowLeft}
+use Rattle.wave_gen.specs.declared.plan.HowLeft.TheVariants.{Onto, Either, Lands, Halts}
 use Rattle.wave_gen.specs.declared.plan.Plan.{Plan}
 
 abbrev pub item : Item → wire.Item
@@ -13,7 +13,7 @@ item (Make x op from) = wire.Make x op from.items
 item (Act op from) = wire.Act op from.items
 item (Same x y) = wire.Same x y
 
-abbrev pub leaves : Leaves → plans.Leaves
+abbrev pub leaves : HowLeft → plans.HowLeft
 leaves (Onto b) = plans.Onto b
 leaves (Either op from b c) = plans.Either op from.items b c
 leaves (Lands op from values landings) =

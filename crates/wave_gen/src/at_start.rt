@@ -9,8 +9,8 @@ ghost use Rattle.wave_gen.specs.Kept.{AreKept, EndingIs};
 
 use crate::fork::{Ending, fork, sends};
 use crate::kept::{Kept, load};
-use crate::plan::{Leaves, Plan};
-use crate::spot::Spot;
+use crate::plan::{HowLeft, Plan};
+use crate::spot::Target;
 use crate::table::Table;
 use std::alloc::Global;
 use ws_words::NoMemory;
@@ -23,7 +23,7 @@ pub(crate) fn ending(
     plans: &[Plan],
     kept: &[Kept],
     block: usize,
-    exit: &Leaves,
+    exit: &HowLeft,
 ) -> Result<Ending, NoMemory>
     ensures { IfOk result (λ ending. (b : ℕ) (later : List Made) →
         AreKept width (map view.plan plans.now) b (reverse kept.now) later →
@@ -31,23 +31,23 @@ pub(crate) fn ending(
         (view.leaves exit.now) ending) }
 {
     match exit {
-        Leaves::Onto(c) => {
+        HowLeft::Onto(c) => {
             let past = start(alloc, width, plans, kept, block, *c)?;
             Ok(Ending {
                 tails: Vec::new(alloc),
                 past,
             })
         }
-        Leaves::Either { some, none, .. } => {
+        HowLeft::Either { some, none, .. } => {
             let some = start(alloc, width, plans, kept, block, *some)?;
             let none = start(alloc, width, plans, kept, block, *none)?;
             fork(alloc, width, some, none)
         }
-        Leaves::Lands { values, .. } => Ok(Ending {
+        HowLeft::Lands { values, .. } => Ok(Ending {
             tails: sends(alloc, values)?,
             past: Table::new(alloc),
         }),
-        Leaves::Halts => Ok(Ending {
+        HowLeft::Halts => Ok(Ending {
             tails: Vec::new(alloc),
             past: Table::new(alloc),
         }),
@@ -102,7 +102,7 @@ pub(crate) fn fronts(alloc: Global, block: usize, entries: &[usize]) -> Result<T
     while left > 0 {
         left -= 1;
         let mut list = Vec::new(alloc);
-        list.push(Spot::Front(block, left))?;
+        list.push(Target::Front(block, left))?;
         table.put(alloc, entries[left], list)?;
     }
     Ok(table)

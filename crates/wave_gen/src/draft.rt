@@ -12,7 +12,7 @@ use crate::block::make_blocks;
 use crate::fork::byte;
 use crate::kept::Kept;
 use crate::numbering::{dests, first_numbers, instrs, number_back, word};
-use crate::plan::{Leaves, Plan};
+use crate::plan::{HowLeft, Plan};
 use std::alloc::Global;
 use ws_isa::{ArrayDecls, Block, BlockList, Blocks, Draft, Exit, Pad, Pads};
 use ws_words::NoMemory;
@@ -104,16 +104,16 @@ fn pads(
     Ok(pads)
 }
 
-fn exit(alloc: Global, source: usize, leaves: &Leaves) -> Result<Exit, NoMemory>
+fn exit(alloc: Global, source: usize, leaves: &HowLeft) -> Result<Exit, NoMemory>
     ensures { IfOk result (λ exit. isa.exit exit ≡ exit_of source (view.leaves leaves.now)) }
 {
     match leaves {
-        Leaves::Onto(c) => Ok(Exit::Goto(word(*c)?)),
-        Leaves::Either { some, none, .. } => {
+        HowLeft::Onto(c) => Ok(Exit::Goto(word(*c)?)),
+        HowLeft::Either { some, none, .. } => {
             Ok(Exit::Branch(word(source)?, word(*some)?, word(*none)?))
         }
-        Leaves::Lands { landings, .. } => Ok(Exit::Send(word(source)?, words(alloc, landings)?)),
-        Leaves::Halts => Ok(Exit::Stop),
+        HowLeft::Lands { landings, .. } => Ok(Exit::Send(word(source)?, words(alloc, landings)?)),
+        HowLeft::Halts => Ok(Exit::Stop),
     }
 }
 

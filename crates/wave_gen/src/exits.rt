@@ -11,7 +11,7 @@ ghost use Rattle.wave_gen.specs.Placed.{place};
 
 use crate::body::{Body, names};
 use crate::order::Order;
-use crate::plan::{Leaves, Names};
+use crate::plan::{HowLeft, Names};
 use crate::values::{PULSE, name_of};
 use cfg_core::{Leave, Term};
 use std::alloc::Global;
@@ -115,7 +115,7 @@ impl Body {
         alloc: Global,
         order: &Order,
         exit: &Leave,
-    ) -> Result<Leaves, NoMemory>
+    ) -> Result<HowLeft, NoMemory>
         ensures items { let made = gen_exit (place order.now) self.old.next (view.exit exit.now) in
             OnOk result (map plans.item self.new.items.items ≡
             map plans.item self.old.items.items ++ made.items) }
@@ -125,10 +125,10 @@ impl Body {
             exit_next self.old.next (view.exit exit.now)) }
     {
         match exit {
-            Leave::Goto(c) => Ok(Leaves::Onto(order.place(*c))),
+            Leave::Goto(c) => Ok(HowLeft::Onto(order.place(*c))),
             Leave::Branch(t, c, d) => {
                 let source = self.source(alloc, t)?;
-                Ok(Leaves::Either {
+                Ok(HowLeft::Either {
                     op: source.op,
                     from: source.from,
                     some: order.place(*c),
@@ -143,7 +143,7 @@ impl Body {
                 let address = self.term(alloc, address)?;
                 let values = self.values(alloc, values)?;
                 let from = names(alloc, &[address])?;
-                Ok(Leaves::Lands {
+                Ok(HowLeft::Lands {
                     op: Op::Merge,
                     from,
                     values,
@@ -152,10 +152,10 @@ impl Body {
             }
             Leave::Return(t) => {
                 self.term(alloc, t)?;
-                Ok(Leaves::Halts)
+                Ok(HowLeft::Halts)
             }
-            Leave::Call { .. } => Ok(Leaves::Halts),
-            Leave::Stop => Ok(Leaves::Halts),
+            Leave::Call { .. } => Ok(HowLeft::Halts),
+            Leave::Stop => Ok(HowLeft::Halts),
         }
     }
 }

@@ -8,7 +8,7 @@ ghost use Rattle.wave_gen.specs.Tables.{listed, tail_of};
 ghost use Rattle.wave_gen.specs.Kept.{Forked};
 
 use crate::frame::PULSE;
-use crate::spot::{Line, Spot};
+use crate::spot::{Line, Target};
 use crate::table::Table;
 use crate::tails::Tail;
 use std::alloc::Global;
@@ -128,7 +128,7 @@ pub(crate) fn byte(number: usize) -> Result<u8, NoMemory>
     }
 }
 
-fn same_spots(one: &[Spot], other: &[Spot]) -> bool
+fn same_spots(one: &[Target], other: &[Target]) -> bool
     ensures { result ≡ same_spots one.now other.now }
 {
     if one.len() != other.len() {
@@ -142,14 +142,14 @@ fn same_spots(one: &[Spot], other: &[Spot]) -> bool
     true
 }
 
-fn same_spot(one: Spot, other: Spot) -> bool
+fn same_spot(one: Target, other: Target) -> bool
     ensures { result ≡ same_spot one other }
 {
     match (one, other) {
-        (Spot::Back(b, back, port), Spot::Back(c, behind, slot)) => {
+        (Target::Back(b, back, port), Target::Back(c, behind, slot)) => {
             b == c && back == behind && port == slot
         }
-        (Spot::Front(b, place), Spot::Front(c, slot)) => b == c && place == slot,
+        (Target::Front(b, place), Target::Front(c, slot)) => b == c && place == slot,
         _ => false,
     }
 }

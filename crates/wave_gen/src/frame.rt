@@ -1,15 +1,15 @@
 //! What stands around the items of a block: the choice of its edge, and its front.
 
 ghost use Rattle.std.specs.Prelude.{◌≡◌, ◌∷◌, ◌-◌, ◌/◌, [], ℕ, OnOk, IfOk, length, ◌&&◌, not, map, reverse};
-ghost use Rattle.wave_gen.specs.Wire.{Made, Spot, make, with_rooms};
+ghost use Rattle.wave_gen.specs.Wire.{Made, Target, make, with_rooms};
 ghost use Rattle.ws_isa.specs.Image.{is_giving_op};
 ghost use Rattle.wave_gen.specs.Plans.{has_front, renew, advances, gives};
 ghost use Rattle.wave_gen.specs.View as view;
-ghost use Rattle.wave_gen.specs.Tables.{Stands, line_of, leaves_made, behind_of, begun};
+ghost use Rattle.wave_gen.specs.Tables.{HasMade, line_of, leaves_made, behind_of, begun};
 
 use crate::maker::Maker;
-use crate::plan::{Leaves, Plan};
-use crate::spot::{Line, Spot};
+use crate::plan::{HowLeft, Plan};
+use crate::spot::{Line, Target};
 use std::alloc::Global;
 use ws_isa::Op;
 use ws_words::NoMemory;
@@ -24,18 +24,18 @@ impl Maker {
         &mut self,
         alloc: Global,
         test: usize,
-        exit: &Leaves,
+        exit: &HowLeft,
     ) -> Result<usize, NoMemory>
-        ensures made { OnOk result ((b : ℕ) (s : Made) → Stands b self.old s →
-            Stands b self.new (leaves_made b test (view.leaves exit.now) s)) }
-        ensures behind { IfOk result (λ n. (b : ℕ) (s : Made) → Stands b self.old s →
+        ensures made { OnOk result ((b : ℕ) (s : Made) → HasMade b self.old s →
+            HasMade b self.new (leaves_made b test (view.leaves exit.now) s)) }
+        ensures behind { IfOk result (λ n. (b : ℕ) (s : Made) → HasMade b self.old s →
             n ≡ behind_of b (view.leaves exit.now) s) }
     {
         match exit {
-            Leaves::Onto(_) => Ok(self.code.len()),
-            Leaves::Either { op, from, .. } => self.choose(alloc, test, *op, from),
-            Leaves::Lands { op, from, .. } => self.choose(alloc, test, *op, from),
-            Leaves::Halts => self.halt(alloc),
+            HowLeft::Onto(_) => Ok(self.code.len()),
+            HowLeft::Either { op, from, .. } => self.choose(alloc, test, *op, from),
+            HowLeft::Lands { op, from, .. } => self.choose(alloc, test, *op, from),
+            HowLeft::Halts => self.halt(alloc),
         }
     }
 
@@ -46,9 +46,9 @@ impl Maker {
         op: Op,
         from: &[usize],
     ) -> Result<usize, NoMemory>
-        ensures made { OnOk result ((b : ℕ) (s : Made) → Stands b self.old s →
-            Stands b self.new (make b name op from.now s)) }
-        ensures behind { IfOk result (λ n. (b : ℕ) (s : Made) → Stands b self.old s →
+        ensures made { OnOk result ((b : ℕ) (s : Made) → HasMade b self.old s →
+            HasMade b self.new (make b name op from.now s)) }
+        ensures behind { IfOk result (λ n. (b : ℕ) (s : Made) → HasMade b self.old s →
             n ≡ length (with_rooms b (length from.now) from.now s).code) }
     {
         self.make_rooms(alloc, from)?;
@@ -58,9 +58,9 @@ impl Maker {
     }
 
     fn halt(&mut self, alloc: Global) -> Result<usize, NoMemory>
-        ensures made { OnOk result ((b : ℕ) (s : Made) → Stands b self.old s →
-            Stands b self.new (leaves_made b 0 (view.leaves Leaves.Halts) s)) }
-        ensures behind { IfOk result (λ n. (b : ℕ) (s : Made) → Stands b self.old s →
+        ensures made { OnOk result ((b : ℕ) (s : Made) → HasMade b self.old s →
+            HasMade b self.new (leaves_made b 0 (view.leaves HowLeft.Halts) s)) }
+        ensures behind { IfOk result (λ n. (b : ℕ) (s : Made) → HasMade b self.old s →
             n ≡ length s.code) }
     {
         let behind = self.code.len();
@@ -75,8 +75,8 @@ impl Maker {
 
     /// The front of a block.
     pub(crate) fn begin(&mut self, alloc: Global, plan: &Plan) -> Result<(), NoMemory>
-        ensures { OnOk result ((b : ℕ) (s : Made) → Stands b self.old s →
-            Stands b self.new (begun b (view.plan plan.now) s)) }
+        ensures { OnOk result ((b : ℕ) (s : Made) → HasMade b self.old s →
+            HasMade b self.new (begun b (view.plan plan.now) s)) }
     {
         if plan.first {
             self.renew(alloc, &plan.entries)?;
@@ -98,8 +98,8 @@ impl Maker {
 
     // An advance that would send to one of its own block sends to a merge.
     fn renew(&mut self, alloc: Global, entries: &[usize]) -> Result<(), NoMemory>
-        ensures { OnOk result ((b : ℕ) (s : Made) → Stands b self.old s →
-            Stands b self.new (renew b entries.now s)) }
+        ensures { OnOk result ((b : ℕ) (s : Made) → HasMade b self.old s →
+            HasMade b self.new (renew b entries.now s)) }
     {
         for name in entries {
             self.renew_one(alloc, *name)?;
@@ -108,8 +108,8 @@ impl Maker {
     }
 
     fn renew_one(&mut self, alloc: Global, name: usize) -> Result<(), NoMemory>
-        ensures { OnOk result ((b : ℕ) (s : Made) → Stands b self.old s →
-            Stands b self.new (renew b (name ∷ []) s)) }
+        ensures { OnOk result ((b : ℕ) (s : Made) → HasMade b self.old s →
+            HasMade b self.new (renew b (name ∷ []) s)) }
     {
         if has_front(self.wants.list(name), self.block) {
             self.gather(alloc, name)
@@ -119,8 +119,8 @@ impl Maker {
     }
 
     fn advance(&mut self, alloc: Global, entries: &[usize]) -> Result<(), NoMemory>
-        ensures { OnOk result ((b : ℕ) (s : Made) → Stands b self.old s →
-            Stands b self.new (advances b entries.now s)) }
+        ensures { OnOk result ((b : ℕ) (s : Made) → HasMade b self.old s →
+            HasMade b self.new (advances b entries.now s)) }
     {
         let mut left = entries.len();
         while left > 0 {
@@ -131,7 +131,7 @@ impl Maker {
     }
 }
 
-fn has_front(spots: &[Spot], block: usize) -> bool
+fn has_front(spots: &[Target], block: usize) -> bool
     ensures { result ≡ has_front block spots.now }
 {
     for spot in spots {
@@ -142,12 +142,12 @@ fn has_front(spots: &[Spot], block: usize) -> bool
     false
 }
 
-fn fronts(spot: Spot, block: usize) -> bool
+fn fronts(spot: Target, block: usize) -> bool
     ensures { result ≡ has_front block (spot ∷ []) }
 {
     match spot {
-        Spot::Front(front, _) => front == block,
-        Spot::Back(..) => false,
+        Target::Front(front, _) => front == block,
+        Target::Back(..) => false,
     }
 }
 

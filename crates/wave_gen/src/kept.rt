@@ -5,7 +5,7 @@ ghost use Rattle.wave_gen.specs.Wire.{Wants};
 ghost use Rattle.wave_gen.specs.Tables.{listed};
 ghost use Rattle.wave_gen.specs.Kept.{wanted, wants_of};
 
-use crate::spot::{Line, Spot};
+use crate::spot::{Line, Target};
 use crate::table::Table;
 use std::alloc::Global;
 use ws_words::NoMemory;
@@ -14,7 +14,7 @@ use ws_words::NoMemory;
 #[derive(Clone, Copy)]
 pub(crate) struct Want {
     pub(crate) name: usize,
-    pub(crate) spot: Spot,
+    pub(crate) spot: Target,
 }
 
 pub(crate) type WantList = Vec<Want>;
@@ -40,7 +40,7 @@ pub(crate) fn keep(alloc: Global, table: &Table) -> Result<WantList, NoMemory>
     Ok(wants)
 }
 
-fn keep_list(wants: &mut WantList, name: usize, spots: &[Spot]) -> Result<(), NoMemory>
+fn keep_list(wants: &mut WantList, name: usize, spots: &[Target]) -> Result<(), NoMemory>
     ensures { OnOk result (wants.new.items ≡ wants.old.items ++ wants_of name spots.now) }
 {
     for spot in spots {

@@ -19,7 +19,7 @@ ghost use Rattle.wave_gen.specs.Keeps.{KeepsWalk, EndlessWith};
 
 use crate::arrays::arrays;
 use crate::draft::make_draft;
-use crate::plans::Outline;
+use crate::plans::PlanGround;
 use cfg_core::Graph;
 use live_vars::LiveSets;
 use std::alloc::Global;
@@ -64,7 +64,7 @@ pub fn generate(
         WorldOfWords world → (turns : ℕ) →
         CostsAtMost (view.graph graph.now) (has live.now) (image.draft made) world turns) }
 {
-    let outline = Outline::of(alloc, graph, live, waves)?;
+    let outline = PlanGround::of(alloc, graph, live, waves)?;
     let plans = outline.plans(alloc)?;
     let arrays = arrays(alloc, graph)?;
     let draft = make_draft(alloc, arrays, outline.width, &plans)?;

@@ -1,14 +1,14 @@
 //! The code of a block, made from its end.
 
 ghost use Rattle.std.specs.Prelude.{◌≡◌, ◌+◌, ℕ, OnOk, length, ltb, ◌&&◌, not, map};
-ghost use Rattle.wave_gen.specs.Tables.{Stands, listed, line_of};
+ghost use Rattle.wave_gen.specs.Tables.{HasMade, listed, line_of};
 ghost use Rattle.wave_gen.specs.Wire.{Made, most, emit, rest, gather, with_room, with_rooms};
 ghost use Rattle.wave_gen.specs.Wire.{make, alias, copy, is_nil, Make, Act, wire_item, wire};
 ghost use Rattle.ws_isa.specs.Image.{is_memory_op};
 ghost use Rattle.wave_gen.specs.View as view;
 
 use crate::plan::Item;
-use crate::spot::{Line, Spot};
+use crate::spot::{Line, Target};
 use crate::table::Table;
 use std::alloc::Global;
 use ws_isa::Op;
@@ -28,8 +28,8 @@ const MOST: usize = 7;
 impl Maker {
     /// One more instruction in front.
     pub(crate) fn rest(&mut self, alloc: Global, line: Line, from: &[usize]) -> Result<(), NoMemory>
-        ensures { OnOk result ((b : ℕ) (s : Made) → Stands b self.old s →
-            Stands b self.new (rest b (line_of line) from.now s)) }
+        ensures { OnOk result ((b : ℕ) (s : Made) → HasMade b self.old s →
+            HasMade b self.new (rest b (line_of line) from.now s)) }
     {
         let back = self.code.len();
         self.code.push(line)?;
@@ -44,8 +44,8 @@ impl Maker {
         op: Op,
         from: &[usize],
     ) -> Result<(), NoMemory>
-        ensures { OnOk result ((b : ℕ) (s : Made) → Stands b self.old s →
-            Stands b self.new (emit b name op from.now s)) }
+        ensures { OnOk result ((b : ℕ) (s : Made) → HasMade b self.old s →
+            HasMade b self.new (emit b name op from.now s)) }
     {
         let dests = self.wants.take(alloc, name);
         let others = Vec::new(alloc);
@@ -54,8 +54,8 @@ impl Maker {
 
     /// All that is wanted of a name goes to a merge first.
     pub(crate) fn gather(&mut self, alloc: Global, name: usize) -> Result<(), NoMemory>
-        ensures { OnOk result ((b : ℕ) (s : Made) → Stands b self.old s →
-            Stands b self.new (gather b name s)) }
+        ensures { OnOk result ((b : ℕ) (s : Made) → HasMade b self.old s →
+            HasMade b self.new (gather b name s)) }
     {
         self.emit(alloc, name, Op::Merge, &[name])
     }
@@ -69,8 +69,8 @@ impl Maker {
 
     // So many more may be wanted of a name.
     fn make_room(&mut self, alloc: Global, more: usize, name: usize) -> Result<(), NoMemory>
-        ensures { OnOk result ((b : ℕ) (s : Made) → Stands b self.old s →
-            Stands b self.new (with_room b more name s)) }
+        ensures { OnOk result ((b : ℕ) (s : Made) → HasMade b self.old s →
+            HasMade b self.new (with_room b more name s)) }
     {
         if self.is_full(more, name) {
             self.gather(alloc, name)
@@ -81,8 +81,8 @@ impl Maker {
 
     /// Each of these names may be wanted as often more as there are names.
     pub(crate) fn make_rooms(&mut self, alloc: Global, from: &[usize]) -> Result<(), NoMemory>
-        ensures { OnOk result ((b : ℕ) (s : Made) → Stands b self.old s →
-            Stands b self.new (with_rooms b (length from.now) from.now s)) }
+        ensures { OnOk result ((b : ℕ) (s : Made) → HasMade b self.old s →
+            HasMade b self.new (with_rooms b (length from.now) from.now s)) }
     {
         for name in from {
             self.make_room(alloc, from.len(), *name)?;
@@ -98,8 +98,8 @@ impl Maker {
         op: Op,
         from: &[usize],
     ) -> Result<(), NoMemory>
-        ensures { OnOk result ((b : ℕ) (s : Made) → Stands b self.old s →
-            Stands b self.new (make b name op from.now s)) }
+        ensures { OnOk result ((b : ℕ) (s : Made) → HasMade b self.old s →
+            HasMade b self.new (make b name op from.now s)) }
     {
         self.make_rooms(alloc, from)?;
         self.emit(alloc, name, op, from)
@@ -107,8 +107,8 @@ impl Maker {
 
     /// A name takes the value of another one.
     pub(crate) fn alias(&mut self, alloc: Global, name: usize, other: usize) -> Result<(), NoMemory>
-        ensures { OnOk result ((b : ℕ) (s : Made) → Stands b self.old s →
-            Stands b self.new (alias b name other s)) }
+        ensures { OnOk result ((b : ℕ) (s : Made) → HasMade b self.old s →
+            HasMade b self.new (alias b name other s)) }
     {
         if self.is_full(self.wants.list(other).len(), name) {
             self.gather(alloc, name)?;
@@ -118,8 +118,8 @@ impl Maker {
     }
 
     fn copy(&mut self, alloc: Global, name: usize, other: usize) -> Result<(), NoMemory>
-        ensures { OnOk result ((b : ℕ) (s : Made) → Stands b self.old s →
-            Stands b self.new (copy name other s)) }
+        ensures { OnOk result ((b : ℕ) (s : Made) → HasMade b self.old s →
+            HasMade b self.new (copy name other s)) }
     {
         if name == other {
             Ok(())
@@ -144,8 +144,8 @@ impl Maker {
         op: Op,
         from: &[usize],
     ) -> Result<(), NoMemory>
-        ensures { OnOk result ((b : ℕ) (s : Made) → Stands b self.old s →
-            Stands b self.new (wire_item b (Make name op from.now) s)) }
+        ensures { OnOk result ((b : ℕ) (s : Made) → HasMade b self.old s →
+            HasMade b self.new (wire_item b (Make name op from.now) s)) }
     {
         if self.is_idle(name, op) {
             Ok(())
@@ -155,8 +155,8 @@ impl Maker {
     }
 
     fn act(&mut self, alloc: Global, op: Op, from: &[usize]) -> Result<(), NoMemory>
-        ensures { OnOk result ((b : ℕ) (s : Made) → Stands b self.old s →
-            Stands b self.new (wire_item b (Act op from.now) s)) }
+        ensures { OnOk result ((b : ℕ) (s : Made) → HasMade b self.old s →
+            HasMade b self.new (wire_item b (Act op from.now) s)) }
     {
         self.make_rooms(alloc, from)?;
         let dests = Vec::new(alloc);
@@ -165,8 +165,8 @@ impl Maker {
     }
 
     fn wire_item(&mut self, alloc: Global, item: &Item) -> Result<(), NoMemory>
-        ensures { OnOk result ((b : ℕ) (s : Made) → Stands b self.old s →
-            Stands b self.new (wire_item b (view.item item.now) s)) }
+        ensures { OnOk result ((b : ℕ) (s : Made) → HasMade b self.old s →
+            HasMade b self.new (wire_item b (view.item item.now) s)) }
     {
         match item {
             Item::Make { name, op, from } => self.wire_make(alloc, *name, *op, from),
@@ -177,8 +177,8 @@ impl Maker {
 
     /// Items, from the last to the first.
     pub(crate) fn wire(&mut self, alloc: Global, items: &[Item]) -> Result<(), NoMemory>
-        ensures { OnOk result ((b : ℕ) (s : Made) → Stands b self.old s →
-            Stands b self.new (wire b (map view.item items.now) s)) }
+        ensures { OnOk result ((b : ℕ) (s : Made) → HasMade b self.old s →
+            HasMade b self.new (wire b (map view.item items.now) s)) }
     {
         let mut left = items.len();
         while left > 0 {
@@ -189,7 +189,7 @@ impl Maker {
     }
 }
 
-fn is_none(spots: &[Spot]) -> bool
+fn is_none(spots: &[Target]) -> bool
     ensures { result ≡ is_nil spots.now }
 {
     match spots {

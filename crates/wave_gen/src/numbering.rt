@@ -9,7 +9,7 @@ ghost use Rattle.wave_gen.specs.Numbered.{number_at, numbers_from};
 
 use crate::fork::byte;
 use crate::kept::Kept;
-use crate::spot::{Line, Spot};
+use crate::spot::{Line, Target};
 use std::alloc::Global;
 use ws_isa::{Dest, Dests, Instr, Instrs};
 use ws_words::NoMemory;
@@ -63,16 +63,16 @@ pub(crate) fn word(number: usize) -> Result<u32, NoMemory>
     }
 }
 
-fn dest(numbers: &[usize], spot: Spot) -> Result<Dest, NoMemory>
+fn dest(numbers: &[usize], spot: Target) -> Result<Dest, NoMemory>
     ensures { IfOk result (λ dest. dest ≡ dest_of (number_at numbers.now) spot) }
 {
     match spot {
-        Spot::Back(block, back, port) => {
+        Target::Back(block, back, port) => {
             let instr = word(number_back(numbers, block, back)?)?;
             let port = byte(port)?;
             Ok(Dest { instr, port })
         }
-        Spot::Front(block, place) => {
+        Target::Front(block, place) => {
             let Some(number) = number(numbers, block).checked_add(place) else {
                 return Err(NoMemory);
             };
@@ -82,7 +82,7 @@ fn dest(numbers: &[usize], spot: Spot) -> Result<Dest, NoMemory>
     }
 }
 
-pub(crate) fn dests(alloc: Global, numbers: &[usize], spots: &[Spot]) -> Result<Dests, NoMemory>
+pub(crate) fn dests(alloc: Global, numbers: &[usize], spots: &[Target]) -> Result<Dests, NoMemory>
     ensures { IfOk result (λ dests. dests.items ≡
         dests_of (number_at numbers.now) spots.now) }
 {

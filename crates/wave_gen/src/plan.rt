@@ -19,7 +19,7 @@ pub(crate) type Items = Vec<Item>;
 /// How a block is left. The value by which an edge is chosen is that of an operation on names;
 /// `Either` goes to the block `some` unless it is 0, else to `none`.
 #[derive(Drop)]
-pub(crate) enum Leaves {
+pub(crate) enum HowLeft {
     Onto(usize),
     Either {
         op: Op,
@@ -47,7 +47,7 @@ pub(crate) struct Plan {
     pub(crate) entries: Names,
     pub(crate) pads: Names,
     pub(crate) items: Items,
-    pub(crate) exit: Leaves,
+    pub(crate) exit: HowLeft,
     pub(crate) test: usize,
 }
 

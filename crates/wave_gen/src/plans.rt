@@ -20,7 +20,7 @@ ghost use Rattle.ws_words.specs.Items.{flag_at};
 use crate::body::{Body, names};
 use crate::marks::{arms, landed, width};
 use crate::order::{Order, turned};
-use crate::plan::{Items, Leaves, Names, Plan, Plans};
+use crate::plan::{HowLeft, Items, Names, Plan, Plans};
 use crate::share::share_constants;
 use crate::values::{PULSE, name_of};
 use cfg_core::{Graph, GraphBlock, GraphTable};
@@ -33,7 +33,7 @@ use ws_words::NoMemory;
 /// for each whether it is an arm of a branch and whether a Send lands there, where the walk starts,
 /// and how many names there are for the pulse and the variables.
 #[derive(Drop)]
-pub(crate) struct Outline<'a> {
+pub(crate) struct PlanGround<'a> {
     pub(crate) table: GraphTable<'a>,
     pub(crate) live: &'a LiveSets,
     pub(crate) waves: &'a Waves,
@@ -54,14 +54,14 @@ fn small(count: usize) -> Result<u32, NoMemory>
     }
 }
 
-impl<'a> Outline<'a> {
+impl<'a> PlanGround<'a> {
     /// The outline of a graph. More blocks than 32 bits count are answered as want of memory.
     pub(crate) fn of(
         alloc: Global,
         graph: &'a Graph,
         live: &'a LiveSets,
         waves: &'a Waves,
-    ) -> Result<Outline<'a>, NoMemory>
+    ) -> Result<PlanGround<'a>, NoMemory>
         ensures graph { IfOk result (λ made. made.table.graph.now ≡ graph.now) }
         ensures live { IfOk result (λ made. made.live.now ≡ live.now) }
         ensures waves { IfOk result (λ made. made.waves.now ≡ waves.now) }
@@ -74,7 +74,7 @@ impl<'a> Outline<'a> {
         let arms = arms(alloc, &table)?;
         let landed = landed(alloc, &table)?;
         let width = width(&table);
-        Ok(Outline {
+        Ok(PlanGround {
             table,
             live,
             waves,
@@ -164,14 +164,19 @@ impl<'a> Outline<'a> {
 
 // The items of a block, how it is left, and the next free name.
 #[derive(Drop)]
-struct Code {
+struct BlockCode {
     items: Items,
-    exit: Leaves,
+    exit: HowLeft,
     next: usize,
 }
 
 // The code of a block, where names from `width` on are free.
-fn code_of(alloc: Global, order: &Order, width: usize, block: &GraphBlock) -> Result<Code, NoMemory>
+fn code_of(
+    alloc: Global,
+    order: &Order,
+    width: usize,
+    block: &GraphBlock,
+) -> Result<BlockCode, NoMemory>
     ensures items { let block = view.block block.now in let d = gen_ops width block.ops in
         IfOk result (λ made. map plans.item made.items.items ≡ shared none_known
         (d.items ++ (gen_exit (place order.now) d.next block.exit).items)) }
@@ -187,7 +192,7 @@ fn code_of(alloc: Global, order: &Order, width: usize, block: &GraphBlock) -> Re
     };
     body.ops(alloc, &block.ops)?;
     let exit = body.exit(alloc, order, &block.exit)?;
-    Ok(Code {
+    Ok(BlockCode {
         items: share_constants(alloc, body.items)?,
         exit,
         next: body.next,

@@ -17,7 +17,7 @@ use ws_words::NoMemory;
 
 /// The names of the numbers that were made.
 #[derive(Drop)]
-pub(crate) struct Known {
+pub(crate) struct KnownNumbers {
     pub(crate) names: HashMap<u64, usize>,
 }
 
@@ -60,12 +60,12 @@ fn name_of(item: &Item) -> usize
     }
 }
 
-impl Known {
+impl KnownNumbers {
     #[tactic(auto, unfolding(crate::specs::Placed::known_name))]
-    fn none(alloc: Global) -> Known
+    fn none(alloc: Global) -> KnownNumbers
         ensures { (n : ℕ) → known_name result n ≡ pulse }
     {
-        Known {
+        KnownNumbers {
             names: HashMap::new(alloc),
         }
     }
@@ -116,7 +116,7 @@ pub(crate) fn share_constants(alloc: Global, items: Items) -> Result<Items, NoMe
         sharing.shared none_known (map plans.item items.items)) }
 {
     let mut list = items;
-    let mut known = Known::none(alloc);
+    let mut known = KnownNumbers::none(alloc);
     for i in 0..list.len() {
         known.share(&mut list[i])?;
     }

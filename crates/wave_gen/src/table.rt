@@ -4,7 +4,7 @@ ghost use Rattle.std.specs.Prelude.{◌≡◌, ◌∷◌, ◌<◌, [], OnOk, len
 ghost use Rattle.wave_gen.specs.Tables.{listed};
 ghost use Rattle.wave_gen.specs.Wire.{Wants, no_wants, with_wants, with_uses, moved};
 
-use crate::spot::{Spot, Spots};
+use crate::spot::{Target, Targets};
 use std::alloc::Global;
 use std::mem;
 use ws_words::NoMemory;
@@ -12,7 +12,7 @@ use ws_words::NoMemory;
 /// The lists of spots by name. Names beyond the last list want nothing.
 #[derive(Drop)]
 pub(crate) struct Table {
-    pub(crate) lists: Vec<Spots>,
+    pub(crate) lists: Vec<Targets>,
 }
 
 impl Table {
@@ -24,7 +24,7 @@ impl Table {
         }
     }
 
-    pub(crate) fn list(&self, name: usize) -> &[Spot]
+    pub(crate) fn list(&self, name: usize) -> &[Target]
         ensures { result.now ≡ listed self.now.lists.items name }
     {
         if name < self.lists.len() {
@@ -47,7 +47,7 @@ impl Table {
     }
 
     /// All that a name wants; it is wanted nowhere then.
-    pub(crate) fn take(&mut self, alloc: Global, name: usize) -> Spots
+    pub(crate) fn take(&mut self, alloc: Global, name: usize) -> Targets
         ensures list { result.items ≡ listed self.old.lists.items name }
         ensures wants { ◌≡◌ {A = Wants} (listed self.new.lists.items)
             (with_wants (listed self.old.lists.items) name []) }
@@ -59,7 +59,7 @@ impl Table {
         }
     }
 
-    pub(crate) fn put(&mut self, alloc: Global, name: usize, list: Spots) -> Result<(), NoMemory>
+    pub(crate) fn put(&mut self, alloc: Global, name: usize, list: Targets) -> Result<(), NoMemory>
         ensures { OnOk result (◌≡◌ {A = Wants} (listed self.new.lists.items)
             (with_wants (listed self.old.lists.items) name list.items)) }
     {
@@ -68,7 +68,7 @@ impl Table {
         Ok(())
     }
 
-    pub(crate) fn add(&mut self, alloc: Global, name: usize, spot: Spot) -> Result<(), NoMemory>
+    pub(crate) fn add(&mut self, alloc: Global, name: usize, spot: Target) -> Result<(), NoMemory>
         ensures { OnOk result (◌≡◌ {A = Wants} (listed self.new.lists.items)
             (with_wants (listed self.old.lists.items) name
             (spot ∷ listed self.old.lists.items name))) }
@@ -90,7 +90,7 @@ impl Table {
             (with_uses block back 0 from.now (listed self.old.lists.items))) }
     {
         for (port, name) in from.iter().enumerate() {
-            self.add(alloc, *name, Spot::Back(block, back, port))?;
+            self.add(alloc, *name, Target::Back(block, back, port))?;
         }
         Ok(())
     }

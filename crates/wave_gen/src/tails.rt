@@ -3,7 +3,7 @@
 ghost use Rattle.std.specs.Prelude.{◌-◌, ◌/◌, ℕ, OnOk, map};
 ghost use Rattle.wave_gen.specs.Wire.{Made, Wants, wire};
 ghost use Rattle.wave_gen.specs.Plans.{hung, chain, selected};
-ghost use Rattle.wave_gen.specs.Tables.{Stands, bare, tail_of, hangs};
+ghost use Rattle.wave_gen.specs.Tables.{HasMade, bare, tail_of, hangs};
 
 use crate::maker::Maker;
 use crate::spot::Line;
@@ -29,8 +29,8 @@ impl Maker {
         test: usize,
         tails: Vec<Tail>,
     ) -> Result<(), NoMemory>
-        ensures { OnOk result ((b : ℕ) (w : Wants) → Stands b self.old (bare w) →
-            Stands b self.new (selected b test (map tail_of tails.items) w)) }
+        ensures { OnOk result ((b : ℕ) (w : Wants) → HasMade b self.old (bare w) →
+            HasMade b self.new (selected b test (map tail_of tails.items) w)) }
     {
         let links = tails.len().saturating_sub(1) / SHARE;
         self.hang_all(alloc, tails, test)?;
@@ -39,8 +39,8 @@ impl Maker {
 
     // A name beyond what `usize` counts would need a table that fits in no memory.
     fn hang_all(&mut self, alloc: Global, mut tails: Vec<Tail>, test: usize) -> Result<(), NoMemory>
-        ensures { OnOk result ((b : ℕ) (s : Made) → Stands b self.old s →
-            Stands b self.new (hangs b test 0 (map tail_of tails.items) s)) }
+        ensures { OnOk result ((b : ℕ) (s : Made) → HasMade b self.old s →
+            HasMade b self.new (hangs b test 0 (map tail_of tails.items) s)) }
     {
         while let Some(tail) = tails.pop() {
             let Some(selector) = test.checked_add(tails.len() / SHARE) else {
@@ -52,8 +52,8 @@ impl Maker {
     }
 
     fn hang(&mut self, alloc: Global, tail: Tail, selector: usize) -> Result<(), NoMemory>
-        ensures { OnOk result ((b : ℕ) (s : Made) → Stands b self.old s →
-            Stands b self.new (hung b (tail_of tail) selector s)) }
+        ensures { OnOk result ((b : ℕ) (s : Made) → HasMade b self.old s →
+            HasMade b self.new (hung b (tail_of tail) selector s)) }
     {
         let Tail { held, line } = tail;
         match line.op {
@@ -64,8 +64,8 @@ impl Maker {
 
     // Further names of the selector, each a merge of the one before.
     fn link(&mut self, alloc: Global, test: usize, links: usize) -> Result<(), NoMemory>
-        ensures { OnOk result ((b : ℕ) (s : Made) → Stands b self.old s →
-            Stands b self.new (wire b (chain test links) s)) }
+        ensures { OnOk result ((b : ℕ) (s : Made) → HasMade b self.old s →
+            HasMade b self.new (wire b (chain test links) s)) }
     {
         let mut left = links;
         while left > 0 {

@@ -6,7 +6,7 @@ use Rattle.ws_isa.proofs.Blocks.{block_is, instr_is, number_next}
 use Rattle.ws_isa.proofs.Steps.{first_le, first_zero}
 use Rattle.wave_link.specs.declared.outline.Outline.{Outline}
 use Rattle.wave_link.specs.declared.states.Ways.{Ways}
-use Rattle.wave_link.specs.declared.states.State.{State}
+use Rattle.wave_link.specs.declared.states.LastOps.{LastOps}
 use Rattle.wave_link.specs.States.{reached, is_vain, state_in, states_step, states_from}
 use Rattle.wave_link.specs.Outlines.{firsts_of, one_more_op, ops_from, outline_of, outlines_from, outlines_of}
 use Rattle.wave_link.specs.Adds.{adds}
@@ -87,7 +87,7 @@ middle false b c e = absurd (cc)
 is_zero : (n : ℕ) → eqb n 0 ≡ true → n ≡ 0
 is_zero n e = elim (cases_eq n 0) [ inl f ↦ f | inr f ↦ absurd (cc (ne_eqb n 0 f, e)) ]
 
-states_idle : (os : List Outline) (b : ℕ) (ways : List Ways) (states : List State) (n : ℕ) (o : Outline) → get_or (states_from os b ways states) n false ≡ true → nth os n ≡ Some o → o.ops ≡ 0
+states_idle : (os : List Outline) (b : ℕ) (ways : List Ways) (states : List LastOps) (n : ℕ) (o : Outline) → get_or (states_from os b ways states) n false ≡ true → nth os n ≡ Some o → o.ops ≡ 0
 states_idle [] b ways states n o e f = absurd (cc)
 states_idle (x ∷ os) b ways states zero o e f =
     let g : x ≡ o = cc in

@@ -13,7 +13,7 @@ use Rattle.ws_isa.proofs.There.{There, dests_there, others_there}
 use Rattle.wave_link.specs.Layout.{Tables}
 use Rattle.wave_link.specs.Grown.{extra_dest, grown_exit, nop_instr, annotated}
 use Rattle.wave_link.specs.Adds.{adds}
-use Rattle.wave_link.specs.Triggers.{IsAdded, Names, IsSteerBefore, TriggeredNear}
+use Rattle.wave_link.specs.Triggers.{IsAdded, NamesInstr, IsSteerBefore, TriggeredNear}
 use Rattle.wave_link.proofs.Parts.{tables_in}
 use Rattle.wave_link.proofs.Edges.{exit_kept}
 use Rattle.wave_link.proofs.Numbers.{place_of, one_if, shift, new, nop, nop_positive, ends_are, nop_is_there}
@@ -193,7 +193,7 @@ module _ (draft : Image) (ok : OpenToNotes draft) where
   steered_number b h t = subst (λ (ds : List Dest). HasDest ds (nop draft b) 0) (sym (steered_is draft b h ∙ ap (λ (z : Trigger). before_slot z (nop draft b)) t)) (inl (refl, refl))
 
   -- a steer of the block before names it
-  from_before : (b : ℕ) → IsBlock draft b → trigger draft b ≡ Before → (m : ℕ) × Names (annotated draft) m (nop draft b)
+  from_before : (b : ℕ) → IsBlock draft b → trigger draft b ≡ Before → (m : ℕ) × NamesInstr (annotated draft) m (nop draft b)
   from_before b h t = elim (steer_cases draft y.before y.block) [
     | inl n ↦ absurd (cc (n.none y.instr y.inside, ap is_steer_op y.steers))
     | inr o ↦ (let k : ℕ = steer_in draft y.before in
@@ -217,7 +217,7 @@ module _ (draft : Image) (ok : OpenToNotes draft) where
       y : EnteredBySteer draft b
       y = entered draft ok b h (case_before draft ok b t)
 
-  from_giver : (b : ℕ) → IsBlock draft b → adds draft b ≡ true → (giver draft b ≡ 0 → ⊥) → (m : ℕ) × Names (annotated draft) m (nop draft b)
+  from_giver : (b : ℕ) → IsBlock draft b → adds draft b ≡ true → (giver draft b ≡ 0 → ⊥) → (m : ℕ) × NamesInstr (annotated draft) m (nop draft b)
   from_giver b h a g = elim (giver_cases draft b h) [
     | inl n ↦ absurd (g n.zero_is)
     | inr o ↦ (let k : ℕ = giver draft b in
@@ -232,7 +232,7 @@ module _ (draft : Image) (ok : OpenToNotes draft) where
         ))
   ]
 
-  named : (b : ℕ) → IsBlock draft b → adds draft b ≡ true → (m : ℕ) × Names (annotated draft) m (nop draft b)
+  named : (b : ℕ) → IsBlock draft b → adds draft b ≡ true → (m : ℕ) × NamesInstr (annotated draft) m (nop draft b)
   named b h a = elim (trigger_case draft b) [
     | whole x t ↦ absurd (cc)
     | before x g t ↦ from_before b h t
@@ -241,7 +241,7 @@ module _ (draft : Image) (ok : OpenToNotes draft) where
 
   pub triggered_near : TriggeredNear draft (annotated draft)
   triggered_near = record {
-    some = λ b n h d. (let x = added_is draft b n h d in subst (λ (j : ℕ). (m : ℕ) × Names (annotated draft) m j) (sym x.1) (named b h x.0));
+    some = λ b n h d. (let x = added_is draft b n h d in subst (λ (j : ℕ). (m : ℕ) × NamesInstr (annotated draft) m j) (sym x.1) (named b h x.0));
     near = λ b n m h d s. (let x = added_is draft b n h d in
         near b m s.0 h x.0 (subst (λ (j : ℕ). HasDest (instr_at (annotated draft) m).dests j s.0 ⊎ HasDest (instr_at (annotated draft) m).others j s.0) x.1 s.1));
   }

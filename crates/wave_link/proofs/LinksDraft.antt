@@ -12,8 +12,8 @@ use Rattle.wave_link.specs.declared.outline.Outline.{Outline}
 use Rattle.wave_link.specs.declared.links.Behind.{Behind}
 use Rattle.wave_link.specs.declared.states.Ways.{Ways}
 use Rattle.wave_link.specs.declared.states.Ways.TheVariants.{Zero}
-use Rattle.wave_link.specs.declared.states.State.{State}
-use Rattle.wave_link.specs.declared.states.State.TheVariants.{Shared}
+use Rattle.wave_link.specs.declared.states.LastOps.{LastOps}
+use Rattle.wave_link.specs.declared.states.LastOps.TheVariants.{Shared}
 use Rattle.wave_link.specs.Outlines.{one_more_op, ops_from, writer_from, with_nop}
 use Rattle.wave_link.specs.States.{reached, ways_step, ways_of, state_in, is_vain, needs_nop, spread_state, states_step}
 use Rattle.wave_link.specs.Notes.{head_at, head_link, heads_of, lows_of, place_at}
@@ -39,9 +39,9 @@ ways_at draft (suc n) = stepped ways_step (bare_of draft) 1 n (replicate (length
 abbrev pub ways_in : Image → List Ways
 ways_in draft = ways_of (bare_of draft)
 
-abbrev pub states_at : Image → ℕ → List State
+abbrev pub states_at : Image → ℕ → List LastOps
 states_at draft zero = []
-states_at draft (suc n) = stepped (λ (x : Outline) (k : ℕ) (s : List State). states_step x k (ways_in draft) s) (bare_of draft) 1 n (replicate (length (bare_of draft) + 1) Shared)
+states_at draft (suc n) = stepped (λ (x : Outline) (k : ℕ) (s : List LastOps). states_step x k (ways_in draft) s) (bare_of draft) 1 n (replicate (length (bare_of draft) + 1) Shared)
 
 abbrev pub behind_at : Image → ℕ → List (Option Behind)
 behind_at draft zero = []
@@ -125,15 +125,15 @@ module _ (draft : Image) (open_to : OpenToNotes draft) where
       (spread_state (outline_at draft (suc n)).way (not (eqb (outline_at draft (suc n)).ops 0)) (state_in (outline_at draft (suc n)) (suc n) (ways_at draft (suc count)) (states_at draft (suc n))) (states_at draft (suc n)))
       (states_at draft (suc n))
   step_states n l =
-      let f : Outline → ℕ → List State → List State = λ (x : Outline) (k : ℕ) (s : List State). states_step x k (ways_in draft) s in
+      let f : Outline → ℕ → List LastOps → List LastOps = λ (x : Outline) (k : ℕ) (s : List LastOps). states_step x k (ways_in draft) s in
       let y : Outline = outline_in (bare_of draft) n in
-      let s : List State = states_at draft (suc n) in
+      let s : List LastOps = states_at draft (suc n) in
       let e : outline_at draft (suc n) ≡ with_nop y (adds draft (suc n)) = grown_is draft n l in
       let a : adds draft (suc n) ≡ needs_nop y (suc n) (ways_in draft) s = added n l in
       stepped_next f (bare_of draft) 1 n (suc n) (replicate (length (bare_of draft) + 1) Shared) (omega (arith, l, bare_length draft)) (omega arith)
       ∙ (same y s a ∙ (ap (λ (w : List Ways). form w (with_nop y (adds draft (suc n))) s n) (sym (ways_end draft count refl)) ∙ ap (λ (o : Outline). form (ways_at draft (suc count)) o s n) (sym e)))
     where
-      form : List Ways → Outline → List State → ℕ → List State
+      form : List Ways → Outline → List LastOps → ℕ → List LastOps
       form w o s n = cond (reached o (suc n) w) (spread_state o.way (not (eqb o.ops 0)) (state_in o (suc n) w s) s) s
 
       minus : (n : ℕ) → suc n - 1 ≡ n
@@ -142,7 +142,7 @@ module _ (draft : Image) (open_to : OpenToNotes draft) where
       added : (n : ℕ) → n < length draft.blocks → adds draft (suc n) ≡ needs_nop (outline_in (bare_of draft) n) (suc n) (ways_in draft) (states_at draft (suc n))
       added n l = adds_is draft (suc n) (omega arith, l) ∙ ap (λ (k : ℕ). needs_nop (outline_in (bare_of draft) k) (suc n) (ways_in draft) (states_at draft (suc n))) (minus n)
 
-      same : (y : Outline) (s : List State) → adds draft (suc n) ≡ needs_nop y (suc n) (ways_in draft) s → states_step y (suc n) (ways_in draft) s ≡ form (ways_in draft) (with_nop y (adds draft (suc n))) s n
+      same : (y : Outline) (s : List LastOps) → adds draft (suc n) ≡ needs_nop y (suc n) (ways_in draft) s → states_step y (suc n) (ways_in draft) s ≡ form (ways_in draft) (with_nop y (adds draft (suc n))) s n
       same y s a = ap (λ (v : Bool). cond (reached y (suc n) (ways_in draft)) (spread_state y.way v (state_in y (suc n) (ways_in draft) s) s) s)
           (ap (λ (v : Bool). not (eqb y.ops 0) || v) (sym a) ∙ sym (full_is (adds draft (suc n)) y.ops))
 
@@ -154,7 +154,7 @@ module _ (draft : Image) (open_to : OpenToNotes draft) where
       is_vain (outline_at draft (suc n)).way (ways_at draft (suc count)) (state_in (outline_at draft (suc n)) (suc n) (ways_at draft (suc count)) (states_at draft (suc n))) ≡ true
   vain_left n l r z =
       let y : Outline = outline_in (bare_of draft) n in
-      let s : List State = states_at draft (suc n) in
+      let s : List LastOps = states_at draft (suc n) in
       let e : outline_at draft (suc n) ≡ with_nop y (adds draft (suc n)) = grown_is draft n l in
       let w : ways_at draft (suc count) ≡ ways_in draft = ways_end draft count refl in
       let a : adds draft (suc n) ≡ needs_nop y (suc n) (ways_in draft) s = adds_is draft (suc n) (omega arith, l) ∙ ap (λ (k : ℕ). needs_nop (outline_in (bare_of draft) k) (suc n) (ways_in draft) s) (minus n) in

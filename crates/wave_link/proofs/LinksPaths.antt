@@ -12,7 +12,7 @@ use Rattle.wave_link.specs.declared.outline.Outline.{Outline}
 use Rattle.wave_link.specs.declared.links.Behind.{Behind}
 use Rattle.wave_link.specs.declared.links.Passage.{Passage}
 use Rattle.wave_link.specs.declared.states.Ways.{Ways}
-use Rattle.wave_link.specs.declared.states.State.{State}
+use Rattle.wave_link.specs.declared.states.LastOps.{LastOps}
 use Rattle.wave_link.specs.Notes.{head_at, out_link, unreached, place_at, note_at, writer_next}
 use Rattle.wave_link.specs.Grown.{seq_next}
 use Rattle.wave_link.specs.Ripples.{MayPrecede, ExactRipples}
@@ -40,7 +40,7 @@ pub record Marked (image : Image) (n : ℕ) (x : ℕ → Outline) (low : ℕ →
   pub first_is : (b : ℕ) → IsBlock image b → (x b).first ≡ is_first image b
   pub one_wave : (b c m : ℕ) → IsBlock image b → IsBlock image c → (block_at image b).wave ≡ (block_at image c).wave → b < m → m ≤ c → (x m).first ≡ false
 
-module _ (image : Image) (n : ℕ) (x : ℕ → Outline) (low : ℕ → ℕ) (heads : List Link) (ways : ℕ → List Ways) (states : ℕ → List State) (behind : ℕ → List (Option Behind)) (sq wr : ℕ → ℕ → ℕ)
+module _ (image : Image) (n : ℕ) (x : ℕ → Outline) (low : ℕ → ℕ) (heads : List Link) (ways : ℕ → List Ways) (states : ℕ → List LastOps) (behind : ℕ → List (Option Behind)) (sq wr : ℕ → ℕ → ℕ)
     (run : Run n x low heads ways states behind) (marked : Marked image n x low heads behind sq wr) where
   abbrev pub place : ℕ → Passage
   place b = place_at (x b) b (low b) heads (behind b)

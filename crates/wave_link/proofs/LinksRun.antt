@@ -9,15 +9,15 @@ use Rattle.wave_link.specs.declared.outline.Outline.{Outline}
 use Rattle.wave_link.specs.declared.links.Behind.{Behind}
 use Rattle.wave_link.specs.declared.states.Ways.{Ways}
 use Rattle.wave_link.specs.declared.states.Ways.TheVariants.{Zero, One, Several}
-use Rattle.wave_link.specs.declared.states.State.{State}
-use Rattle.wave_link.specs.declared.states.State.TheVariants.{Shared, Sole, Many}
+use Rattle.wave_link.specs.declared.states.LastOps.{LastOps}
+use Rattle.wave_link.specs.declared.states.LastOps.TheVariants.{Shared, Sole, Many}
 use Rattle.wave_link.specs.States.{more, has_way, is_several, reached, enter_way, ways_step, is_shared, is_many, state_in, is_vain, spread_state}
 use Rattle.wave_link.specs.Notes.{low_at, head_at, out_link, head_link, larger, joined, begin, behind_in, behind_out, hand_all}
 use Rattle.wave_link.proofs.LinksTables.{Leads, leads, Parts, handed, hit_ways, miss_ways, ways_length, hit_states, miss_states, states_length, hit_behind, miss_behind, behind_length, exact, both_says}
 use Rattle.ws_words.proofs.Bools.{or_none, plain_of as or_right}
 
 -- the tables before each of n blocks, and after the last one
-pub record Run (n : ℕ) (x : ℕ → Outline) (low : ℕ → ℕ) (heads : List Link) (ways : ℕ → List Ways) (states : ℕ → List State) (behind : ℕ → List (Option Behind)) : Type 0 where
+pub record Run (n : ℕ) (x : ℕ → Outline) (low : ℕ → ℕ) (heads : List Link) (ways : ℕ → List Ways) (states : ℕ → List LastOps) (behind : ℕ → List (Option Behind)) : Type 0 where
   pub later : (b c : ℕ) → 1 ≤ b → b ≤ n → Leads (x b).way c → (b < c) × (c ≤ n)
   pub inner : (b c m : ℕ) → 1 ≤ b → b ≤ n → Leads (x b).way c → b < m → m ≤ c → (x m).first ≡ false
   pub parts : (b : ℕ) → 1 ≤ b → b ≤ n → Parts (x b).way
@@ -70,7 +70,7 @@ on_or_fork Out c h = absurd h
 on_or_fork (On b) c h = inl (ap On (sym h))
 on_or_fork (Fork p q) c h = inr (p, q, refl)
 
-module _ (n : ℕ) (x : ℕ → Outline) (low : ℕ → ℕ) (heads : List Link) (ways : ℕ → List Ways) (states : ℕ → List State) (behind : ℕ → List (Option Behind)) (run : Run n x low heads ways states behind) where
+module _ (n : ℕ) (x : ℕ → Outline) (low : ℕ → ℕ) (heads : List Link) (ways : ℕ → List Ways) (states : ℕ → List LastOps) (behind : ℕ → List (Option Behind)) (run : Run n x low heads ways states behind) where
   abbrev pub seen : ℕ → ℕ → Ways
   seen m c = get_or (ways m) c Zero
 
@@ -80,7 +80,7 @@ module _ (n : ℕ) (x : ℕ → Outline) (low : ℕ → ℕ) (heads : List Link)
   abbrev pub here : ℕ → Option Behind
   here b = behind_in (x b) b (behind b)
 
-  abbrev pub state : ℕ → State
+  abbrev pub state : ℕ → LastOps
   state b = state_in (x b) b (ways (suc n)) (states b)
 
   abbrev pub full : ℕ → Bool
@@ -146,11 +146,11 @@ module _ (n : ℕ) (x : ℕ → Outline) (low : ℕ → ℕ) (heads : List Link)
   states_hit : (m c : ℕ) → 1 ≤ m → m ≤ n → c ≤ n → reach m ≡ true → Leads (x m).way c → get_or (states (suc m)) c Shared ≡ handed (x m).way (full m) (state m)
   states_hit m c l h k r e =
       let r' : reached (x m) m (ways (suc n)) ≡ true = reach_same m l h ∙ r in
-      ap (λ (t : List State). get_or t c Shared) (run.states_next m l h)
+      ap (λ (t : List LastOps). get_or t c Shared) (run.states_next m l h)
       ∙ (ap (λ (v : Bool). get_or (cond v (spread_state (x m).way (full m) (state m) (states m)) (states m)) c Shared) r' ∙ hit_states (x m).way c (full m) (state m) (states m) e (omega (arith, states_len m l (omega arith))))
 
   states_miss : (m c : ℕ) → 1 ≤ m → m ≤ n → (reach m ≡ false) ⊎ (Leads (x m).way c → ⊥) → get_or (states (suc m)) c Shared ≡ get_or (states m) c Shared
-  states_miss m c l h k = ap (λ (t : List State). get_or t c Shared) (run.states_next m l h) ∙ go (reached (x m) m (ways (suc n))) (reach_same m l h) k
+  states_miss m c l h k = ap (λ (t : List LastOps). get_or t c Shared) (run.states_next m l h) ∙ go (reached (x m) m (ways (suc n))) (reach_same m l h) k
     where
       go : (v : Bool) → v ≡ reach m → (reach m ≡ false) ⊎ (Leads (x m).way c → ⊥) → get_or (cond v (spread_state (x m).way (full m) (state m) (states m)) (states m)) c Shared ≡ get_or (states m) c Shared
       go true e (inl r) = absurd (cc (e ∙ r))
@@ -382,7 +382,7 @@ module _ (n : ℕ) (x : ℕ → Outline) (low : ℕ → ℕ) (heads : List Link)
       here_by : (z : Behind) → get_or (behind c) c None ≡ Some z → here c ≡ Some z
       here_by z g = rw inside g
 
-      one_state : (s : State) → seen c c ≡ One → get_or (states c) c Shared ≡ s → state c ≡ s
+      one_state : (s : LastOps) → seen c c ≡ One → get_or (states c) c Shared ≡ s → state c ≡ s
       one_state s w g = rw inside (ap (λ (v : Bool). cond v Many (get_or (states c) c Shared)) (ap is_several (end ∙ w)) ∙ g)
 
       many_state : seen c c ≡ Several → state c ≡ Many
@@ -506,7 +506,7 @@ module _ (n : ℕ) (x : ℕ → Outline) (low : ℕ → ℕ) (heads : List Link)
       empty = rw (eq-eqb (x b).ops 0 e) refl
 
       no_fork : (p q : ℕ) → (x b).way ≡ Fork p q → state b ≡ Many → ⊥
-      no_fork p q w s = cc (sym vain ∙ (ap (λ (v : Way). is_vain v (ways (suc n)) (state b)) w ∙ ap (λ (v : State). not (is_many v)) s))
+      no_fork p q w s = cc (sym vain ∙ (ap (λ (v : Way). is_vain v (ways (suc n)) (state b)) w ∙ ap (λ (v : LastOps). not (is_many v)) s))
 
       hand : (d : ℕ) → (x b).way ≡ On d → handed (x b).way (full b) (state b) ≡ state b
       hand d w = ap (λ (v : Way). handed v (full b) (state b)) w ∙ ap (λ (v : Bool). cond v Sole (state b)) empty
@@ -527,7 +527,7 @@ module _ (n : ℕ) (x : ℕ → Outline) (low : ℕ → ℕ) (heads : List Link)
       ]
 
       not_shared : is_several (get_or (ways (suc n)) c Zero) ≡ true → (x b).way ≡ On c → state b ≡ Shared → ⊥
-      not_shared v w s = cc (sym vain ∙ (ap (λ (u : Way). is_vain u (ways (suc n)) (state b)) w ∙ (ap (λ (u : State). not (is_shared u && is_several (get_or (ways (suc n)) c Zero))) s ∙ ap not v)))
+      not_shared v w s = cc (sym vain ∙ (ap (λ (u : Way). is_vain u (ways (suc n)) (state b)) w ∙ (ap (λ (u : LastOps). not (is_shared u && is_several (get_or (ways (suc n)) c Zero))) s ∙ ap not v)))
 
       owns : Kind b c f.y i.z →
           (state b ≡ Shared) ⊎ Owned b a → (state c ≡ Shared) ⊎ Owned c a
@@ -626,7 +626,7 @@ module _ (n : ℕ) (x : ℕ → Outline) (low : ℕ → ℕ) (heads : List Link)
       vain = run.none_vain b f.low_block f.high_block (reach_same b f.low_block f.high_block ∙ f.reaches) e
 
       go : (state b ≡ Shared) ⊎ Owned b a → (1 ≤ a) × (out_link (x a).way heads ≡ Nothing)
-      go (inl s) = absurd (cc (sym vain ∙ (ap (λ (u : Way). is_vain u (ways (suc n)) (state b)) w ∙ ap (λ (u : State). not (is_shared u)) s)))
+      go (inl s) = absurd (cc (sym vain ∙ (ap (λ (u : Way). is_vain u (ways (suc n)) (state b)) w ∙ ap (λ (u : LastOps). not (is_shared u)) s)))
       go (inr o) = (o.some, o.head ∙ (head_empty b f.low_block f.high_block e ∙ ap (λ (v : Way). out_link v heads) w))
 
   -- Writing operations.

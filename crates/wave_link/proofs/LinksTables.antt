@@ -11,8 +11,8 @@ use Rattle.wave_link.specs.declared.outline.Outline.{Outline}
 use Rattle.wave_link.specs.declared.links.Behind.{Behind}
 use Rattle.wave_link.specs.declared.states.Ways.{Ways}
 use Rattle.wave_link.specs.declared.states.Ways.TheVariants.{Zero}
-use Rattle.wave_link.specs.declared.states.State.{State}
-use Rattle.wave_link.specs.declared.states.State.TheVariants.{Shared, Sole}
+use Rattle.wave_link.specs.declared.states.LastOps.{LastOps}
+use Rattle.wave_link.specs.declared.states.LastOps.TheVariants.{Shared, Sole}
 use Rattle.wave_link.specs.States.{more, enter, enter_way, ways_step, ways_from, needs_nop, spread_state, states_step, states_from}
 use Rattle.wave_link.specs.Notes.{both, low_at, lows_from, head_at, out_link, head_link, heads_from, joined, behind_in, hand_on, hand_way, hand_all, place_at, places_from}
 use Rattle.wave_link.specs.Grown.{no_place}
@@ -39,8 +39,8 @@ pub ways_are : (xs : List Outline) (b : ℕ) (t : List Ways) → ways_from xs b 
 ways_are [] b t = refl
 ways_are (x ∷ xs) b t = ways_are xs (suc b) (ways_step x b t)
 
-pub nop_at_place : (xs : List Outline) (b n m : ℕ) (ways : List Ways) (t : List State) → n < length xs → m ≡ b + n →
-    get_or (states_from xs b ways t) n false ≡ needs_nop (outline_in xs n) m ways (stepped (λ (x : Outline) (k : ℕ) (s : List State). states_step x k ways s) xs b n t)
+pub nop_at_place : (xs : List Outline) (b n m : ℕ) (ways : List Ways) (t : List LastOps) → n < length xs → m ≡ b + n →
+    get_or (states_from xs b ways t) n false ≡ needs_nop (outline_in xs n) m ways (stepped (λ (x : Outline) (k : ℕ) (s : List LastOps). states_step x k ways s) xs b n t)
 nop_at_place [] b n m ways t l e = absurd (omega arith)
 nop_at_place (x ∷ xs) b zero m ways t l e = let g : b ≡ m = omega arith in ap (λ (k : ℕ). needs_nop x k ways t) g
 nop_at_place (x ∷ xs) b (suc n) m ways t l e = nop_at_place xs (suc b) n m ways (states_step x b ways t) (omega arith) (omega arith)
@@ -109,11 +109,11 @@ ways_length (On b) t = length-set t b (more (get_or t b Zero))
 ways_length (Fork a b) t = length-set (enter a t) b (more (get_or (enter a t) b Zero)) ∙ length-set t a (more (get_or t a Zero))
 
 -- the state that a way hands on
-abbrev pub handed : Way → Bool → State → State
+abbrev pub handed : Way → Bool → LastOps → LastOps
 handed (On b) full s = cond full Sole s
 handed _ full s = Shared
 
-pub hit_states : (w : Way) (c : ℕ) (full : Bool) (s : State) (t : List State) → Leads w c → c < length t → get_or (spread_state w full s t) c Shared ≡ handed w full s
+pub hit_states : (w : Way) (c : ℕ) (full : Bool) (s : LastOps) (t : List LastOps) → Leads w c → c < length t → get_or (spread_state w full s t) c Shared ≡ handed w full s
 hit_states Out c full s t h l = absurd h
 hit_states (On b) c full s t h l = same_place t b c (cond full Sole s) Shared h l
 hit_states (Fork a b) c full s t h l = go (cases_eq c b) h
@@ -123,12 +123,12 @@ hit_states (Fork a b) c full s t h l = go (cases_eq c b) h
     go (inr n) (inl e) = get_or-set_other (set t a Shared) b c Shared Shared n ∙ same_place t a c Shared Shared e l
     go (inr n) (inr e) = absurd (n e)
 
-pub miss_states : (w : Way) (c : ℕ) (full : Bool) (s : State) (t : List State) → (Leads w c → ⊥) → get_or (spread_state w full s t) c Shared ≡ get_or t c Shared
+pub miss_states : (w : Way) (c : ℕ) (full : Bool) (s : LastOps) (t : List LastOps) → (Leads w c → ⊥) → get_or (spread_state w full s t) c Shared ≡ get_or t c Shared
 miss_states Out c full s t n = refl
 miss_states (On b) c full s t n = get_or-set_other t b c (cond full Sole s) Shared n
 miss_states (Fork a b) c full s t n = get_or-set_other (set t a Shared) b c Shared Shared (λ e. n (inr e)) ∙ get_or-set_other t a c Shared Shared (λ e. n (inl e))
 
-pub states_length : (w : Way) (full : Bool) (s : State) (t : List State) → length (spread_state w full s t) ≡ length t
+pub states_length : (w : Way) (full : Bool) (s : LastOps) (t : List LastOps) → length (spread_state w full s t) ≡ length t
 states_length Out full s t = refl
 states_length (On b) full s t = length-set t b (cond full Sole s)
 states_length (Fork a b) full s t = length-set (set t a Shared) b Shared ∙ length-set t a Shared

@@ -7,7 +7,7 @@ use Rattle.ws_isa.specs.Open.{OpenToNotes}
 use Rattle.wave_link.specs.declared.outline.Way.TheVariants.{Out}
 use Rattle.wave_link.specs.declared.outline.Outline.{Outline}
 use Rattle.wave_link.specs.declared.states.Ways.{Ways}
-use Rattle.wave_link.specs.declared.states.State.{State}
+use Rattle.wave_link.specs.declared.states.LastOps.{LastOps}
 use Rattle.wave_link.specs.Outlines.{with_nop, ops_from}
 use Rattle.wave_link.specs.States.{reached, state_in, is_vain, needs_nop}
 use Rattle.wave_link.specs.Grown.{annotated}
@@ -65,7 +65,7 @@ module _ (draft : Image) (open_to : OpenToNotes draft) where
       let l : m < length draft.blocks = omega (arith, h.1) in
       let minus : suc m - 1 ≡ m = omega arith in
       let y : Outline = outline_in (bare_of draft) m in
-      let s : List State = states_at draft (suc m) in
+      let s : List LastOps = states_at draft (suc m) in
       let e : outline_at draft (suc m) ≡ with_nop y (adds draft (suc m)) = grown_is draft m l in
       let w : ways_at draft (suc count) ≡ ways_in draft = ways_end draft count refl in
       let n : needs_nop y (suc m) (ways_in draft) s ≡ true = ap (λ (k : ℕ). needs_nop (outline_in (bare_of draft) k) (suc m) (ways_in draft) s) (sym minus) ∙ (sym (adds_is draft (suc m) h) ∙ a) in

@@ -8,7 +8,7 @@ use Rattle.wave_link.specs.declared.outline.Way.TheVariants.{Out}
 use Rattle.wave_link.specs.declared.outline.Outline.{Outline}
 use Rattle.wave_link.specs.declared.links.Behind.{Behind}
 use Rattle.wave_link.specs.declared.states.Ways.{Ways}
-use Rattle.wave_link.specs.declared.states.State.{State}
+use Rattle.wave_link.specs.declared.states.LastOps.{LastOps}
 use Rattle.wave_link.specs.Vain.{moved, without, FollowsIn, EndsIn, other, Unlinkable, no_operation, first_and_not, last_and_not, neighbours}
 use Rattle.wave_link.proofs.LinksTables.{Leads}
 use Rattle.wave_link.proofs.LinksRun.{Run, Before, starts, goes, last_of, last_empty, last_full, Facts, facts}
@@ -16,7 +16,7 @@ use Rattle.wave_link.proofs.LinksPaths.{Marked, OpAt, LastIs, entry_none, entry_
 use Rattle.wave_link.proofs.VainRun.{Skip, stay, over, Past, Last, Need, no_op, first_and_not as needs_first, last_and_not as needs_last, two_and_two}
 use Rattle.wave_link.proofs.VainWithout.{last_but, moved_op, moved_one, Comes, Stops, follows, ends}
 
-module _ (image : Image) (n : ℕ) (x : ℕ → Outline) (low : ℕ → ℕ) (heads : List Link) (ways : ℕ → List Ways) (states : ℕ → List State) (behind : ℕ → List (Option Behind)) (sq wr : ℕ → ℕ → ℕ)
+module _ (image : Image) (n : ℕ) (x : ℕ → Outline) (low : ℕ → ℕ) (heads : List Link) (ways : ℕ → List Ways) (states : ℕ → List LastOps) (behind : ℕ → List (Option Behind)) (sq wr : ℕ → ℕ → ℕ)
     (run : Run n x low heads ways states behind) (marked : Marked image n x low heads behind sq wr)
     (wave_on : (b c : ℕ) → IsBlock image b → Leads (x b).way c → (block_at image c).wave ≡ (block_at image b).wave)
     (out_ends : (b : ℕ) → IsBlock image b → (x b).way ≡ Out → (stops image b ≡ true) ⊎ ((stops image b ≡ false) × ((r : ℕ) × (is_first image (target image b r) ≡ true))))

@@ -8,13 +8,13 @@ use Rattle.wave_link.specs.declared.outline.Outline.{Outline}
 use Rattle.wave_link.specs.declared.links.Behind.{Behind}
 use Rattle.wave_link.specs.declared.states.Ways.{Ways}
 use Rattle.wave_link.specs.declared.states.Ways.TheVariants.{Zero}
-use Rattle.wave_link.specs.declared.states.State.{State}
-use Rattle.wave_link.specs.declared.states.State.TheVariants.{Shared, Sole, Many}
+use Rattle.wave_link.specs.declared.states.LastOps.{LastOps}
+use Rattle.wave_link.specs.declared.states.LastOps.TheVariants.{Shared, Sole, Many}
 use Rattle.wave_link.specs.States.{is_several, is_shared, is_many, is_vain}
 use Rattle.wave_link.proofs.LinksTables.{Leads, Parts, handed}
 use Rattle.wave_link.proofs.LinksRun.{Run, Before, starts, goes, last_of, last_empty, last_full, Facts, facts, Into, into, Came, TwoCame, Inv, zero_in, one_in, many_in, inv, Kind, reach, state, full, attained, on_or_fork, reach_same, settle}
 
-module _ (n : ℕ) (x : ℕ → Outline) (low : ℕ → ℕ) (heads : List Link) (ways : ℕ → List Ways) (states : ℕ → List State) (behind : ℕ → List (Option Behind)) (run : Run n x low heads ways states behind) where
+module _ (n : ℕ) (x : ℕ → Outline) (low : ℕ → ℕ) (heads : List Link) (ways : ℕ → List Ways) (states : ℕ → List LastOps) (behind : ℕ → List (Option Behind)) (run : Run n x low heads ways states behind) where
   abbrev Path : ℕ → ℕ → Type 0
   Path b a = Before n x low heads ways states behind run b a
 
@@ -27,7 +27,7 @@ module _ (n : ℕ) (x : ℕ → Outline) (low : ℕ → ℕ) (heads : List Link)
   abbrev after : ℕ → ℕ → ℕ
   after b a = last_of n x low heads ways states behind run b a
 
-  abbrev st : ℕ → State
+  abbrev st : ℕ → LastOps
   st b = state n x low heads ways states behind run b
 
   abbrev Edge : ℕ → ℕ → ℕ → Type 0
@@ -64,13 +64,13 @@ module _ (n : ℕ) (x : ℕ → Outline) (low : ℕ → ℕ) (heads : List Link)
 
   -- what the state of an empty block forbids
   no_fork : (b a p q : ℕ) → Known b a → (x b).ops ≡ 0 → (x b).way ≡ Fork p q → st b ≡ Many → ⊥
-  no_fork b a p q f e w s = cc (sym (vain b a f e) ∙ (ap (λ (v : Way). is_vain v (ways (suc n)) (st b)) w ∙ ap (λ (v : State). not (is_many v)) s))
+  no_fork b a p q f e w s = cc (sym (vain b a f e) ∙ (ap (λ (v : Way). is_vain v (ways (suc n)) (st b)) w ∙ ap (λ (v : LastOps). not (is_many v)) s))
 
   no_out : (b a : ℕ) → Known b a → (x b).ops ≡ 0 → (x b).way ≡ Out → st b ≡ Shared → ⊥
-  no_out b a f e w s = cc (sym (vain b a f e) ∙ (ap (λ (v : Way). is_vain v (ways (suc n)) (st b)) w ∙ ap (λ (v : State). not (is_shared v)) s))
+  no_out b a f e w s = cc (sym (vain b a f e) ∙ (ap (λ (v : Way). is_vain v (ways (suc n)) (st b)) w ∙ ap (λ (v : LastOps). not (is_shared v)) s))
 
   no_meet : (b a c : ℕ) → Known b a → (x b).ops ≡ 0 → (x b).way ≡ On c → many_ways c ≡ true → st b ≡ Shared → ⊥
-  no_meet b a c f e w v s = cc (sym (vain b a f e) ∙ (ap (λ (u : Way). is_vain u (ways (suc n)) (st b)) w ∙ (ap (λ (u : State). not (is_shared u && many_ways c)) s ∙ ap not v)))
+  no_meet b a c f e w v s = cc (sym (vain b a f e) ∙ (ap (λ (u : Way). is_vain u (ways (suc n)) (st b)) w ∙ (ap (λ (u : LastOps). not (is_shared u && many_ways c)) s ∙ ap not v)))
 
   full_is : (b : ℕ) → 1 ≤ (x b).ops → full n x low heads ways states behind run b ≡ true
   full_is b e = rw (ne_eqb (x b).ops 0 (λ d. absurd (omega arith))) refl
@@ -78,7 +78,7 @@ module _ (n : ℕ) (x : ℕ → Outline) (low : ℕ → ℕ) (heads : List Link)
   empty_is : (b : ℕ) → (x b).ops ≡ 0 → full n x low heads ways states behind run b ≡ false
   empty_is b e = rw (eq-eqb (x b).ops 0 e) refl
 
-  abbrev hand : ℕ → State
+  abbrev hand : ℕ → LastOps
   hand b = handed (x b).way (full n x low heads ways states behind run b) (st b)
 
   hand_fork : (b p q : ℕ) → (x b).way ≡ Fork p q → hand b ≡ Shared
@@ -735,7 +735,7 @@ module _ (n : ℕ) (x : ℕ → Outline) (low : ℕ → ℕ) (heads : List Link)
           (λ y. d (unique t.block a v t.path (subst (λ (j : ℕ). Path j v) (sym y) r) (shared_not_many t.block t.shares)))
           (by_self q) (past_here v t.block a t.path d) (by_other q)
 
-  not_vain : (w : Way) (t : State) → is_vain w (ways (suc n)) t ≡ false → ((w ≡ Out) × (t ≡ Shared)) ⊎ ((c : ℕ) × (w ≡ On c) × (t ≡ Shared) × (many_ways c ≡ true)) ⊎ ((p : ℕ) × (q : ℕ) × (w ≡ Fork p q) × (t ≡ Many))
+  not_vain : (w : Way) (t : LastOps) → is_vain w (ways (suc n)) t ≡ false → ((w ≡ Out) × (t ≡ Shared)) ⊎ ((c : ℕ) × (w ≡ On c) × (t ≡ Shared) × (many_ways c ≡ true)) ⊎ ((p : ℕ) × (q : ℕ) × (w ≡ Fork p q) × (t ≡ Many))
   not_vain Out Shared e = inl (refl, refl)
   not_vain Out Sole e = absurd (cc)
   not_vain Out Many e = absurd (cc)

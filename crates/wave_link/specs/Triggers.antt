@@ -11,8 +11,8 @@ pub record IsAdded (draft image : Image) (b n : ℕ) : Type 0 where
   pub last : suc n ≡ first_number image (suc b)
 
 -- a list of instruction m names instruction n
-abbrev pub Names : Image → ℕ → ℕ → Type 0
-Names image m n = (port : ℕ) × (HasDest (instr_at image m).dests n port
+abbrev pub NamesInstr : Image → ℕ → ℕ → Type 0
+NamesInstr image m n = (port : ℕ) × (HasDest (instr_at image m).dests n port
     ⊎ HasDest (instr_at image m).others n port)
 
 -- instruction m is a steer of the one block before b
@@ -27,6 +27,6 @@ pub record IsSteerBefore (image : Image) (b m : ℕ) : Type 0 where
 -- Each added instruction is named, by instructions of its block or by a steer of the one block
 -- before it alone.
 pub record TriggeredNear (draft image : Image) : Type 0 where
-  pub some : (b n : ℕ) → IsBlock draft b → IsAdded draft image b n → (m : ℕ) × Names image m n
-  pub near : (b n m : ℕ) → IsBlock draft b → IsAdded draft image b n → Names image m n →
+  pub some : (b n : ℕ) → IsBlock draft b → IsAdded draft image b n → (m : ℕ) × NamesInstr image m n
+  pub near : (b n m : ℕ) → IsBlock draft b → IsAdded draft image b n → NamesInstr image m n →
       IsIn image b m ⊎ IsSteerBefore image b m

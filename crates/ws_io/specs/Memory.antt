@@ -21,7 +21,7 @@ pub record Supply : Type 0 where
 -- The bytes written, how many of them the last good flush covered, how many a call takes at most,
 -- the calls so far, the numbers of the calls that fail, and how many have failed. Calls are
 -- numbered from 1, writes and flushes together.
-pub record Store : Type 0 where
+pub record Drain : Type 0 where
   pub held : List ℕ
   pub flushed : ℕ
   pub piece : ℕ

@@ -27,9 +27,9 @@ pub struct MemSink {
 
 impl Model for MemSink {
     ghost use Rattle.std.specs.Prelude.{◌<◌, ◌≤◌, length, vec_capacity};
-    ghost use Rattle.ws_io.specs.Memory.{Store, room};
+    ghost use Rattle.ws_io.specs.Memory.{Drain, room};
 
-    ghost Value = { Store };
+    ghost Value = { Drain };
 
     ghost view = { λ s. record {
       held = s.bytes.items;

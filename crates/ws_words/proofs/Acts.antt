@@ -3,8 +3,16 @@ use Rattle.std.proofs.Common.{ℕ, zero, suc, ◌+◌, ◌-◌, ◌≡◌, ◌<�
 use Rattle.std.proofs.lemmas.List.{append-nil, append_assoc}
 use Rattle.std.proofs.lemmas.Bool.Decides.{nat_tests}
 use Rattle.ws_words.specs.Outside.{Act, loads, stores, reads, prints, gives, takes, Outside, row, with_row, printed_words}
-use Rattle.ws_words.specs.Past.{after_act, after_acts}
+use Rattle.ws_words.specs.Past.{ActsBegin, after_act, after_acts}
 use Rattle.ws_words.specs.Plain.{took_words, took_from, took_by_ports}
+
+-- acts begin with themselves
+pub begins_all : (xs : List Act) → ActsBegin xs xs
+begins_all xs = ([], sym (append-nil xs))
+
+-- what begins with the beginning begins so
+pub begins_then : (xs ys zs : List Act) → ActsBegin xs ys → ActsBegin ys zs → ActsBegin xs zs
+begins_then xs ys zs h i = (h.0 ++ i.0, i.1 ∙ ap (λ (ws : List Act). ws ++ i.0) h.1 ∙ append_assoc xs h.0 i.0)
 
 -- acts after others print their words after those of the others
 pub printed_append : (xs ys : List Act) → printed_words (xs ++ ys) ≡ printed_words xs ++ printed_words ys

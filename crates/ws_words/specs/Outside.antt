@@ -29,7 +29,7 @@ abbrev pub with_input : List ℕ → World
 with_input input = record { input = input; left = [] }
 
 -- the values of the procedure's variables, in order of declaration, and what is outside
-pub record State : Type 0 where
+pub record ProcState : Type 0 where
   pub vars : List ℕ
   pub out : Outside
 
@@ -53,10 +53,10 @@ abbrev pub rest_of : List ℕ → List ℕ
 rest_of [] = []
 rest_of (x ∷ xs) = xs
 
-abbrev pub write : State → ℕ → ℕ → State
+abbrev pub write : ProcState → ℕ → ℕ → ProcState
 write s x v = record { vars = slice_set s.vars x v; out = s.out }
 
-abbrev pub with_out : State → Outside → State
+abbrev pub with_out : ProcState → Outside → ProcState
 with_out s o = record { vars = s.vars; out = o }
 
 abbrev pub with_act : Outside → Act → Outside
@@ -66,7 +66,7 @@ with_act o a = record { cells = o.cells; input = o.input; left = o.left; acts = 
 abbrev pub array_of : Outside → ℕ → List ℕ
 array_of o a = row o.cells (a - 1)
 
-abbrev pub with_acts : State → List Act → State
+abbrev pub with_acts : ProcState → List Act → ProcState
 with_acts s acts = with_out s (record {
   cells = s.out.cells;
   input = s.out.input;
@@ -75,7 +75,7 @@ with_acts s acts = with_out s (record {
 })
 
 -- past the end a store changes no cell
-abbrev pub stored : State → ℕ → ℕ → ℕ → State
+abbrev pub stored : ProcState → ℕ → ℕ → ℕ → ProcState
 stored s a i v = with_out s (record {
   cells = with_row s.out.cells (a - 1) (slice_set (array_of s.out a) i v);
   input = s.out.input;
@@ -83,13 +83,13 @@ stored s a i v = with_out s (record {
   acts = s.out.acts ++ stores a i v ∷ [];
 })
 
-abbrev pub printed : State → ℕ → State
+abbrev pub printed : ProcState → ℕ → ProcState
 printed s v = with_out s (with_act s.out (prints v))
 
-abbrev pub taken : State → ℕ → ℕ → State
+abbrev pub taken : ProcState → ℕ → ℕ → ProcState
 taken s p v = with_out s (with_act s.out (takes p v))
 
-abbrev pub has_read : State → ℕ → State
+abbrev pub has_read : ProcState → ℕ → ProcState
 has_read s x = record {
   vars = slice_set s.vars x (head_or_zero s.out.input);
   out = record {
@@ -100,7 +100,7 @@ has_read s x = record {
   };
 }
 
-abbrev pub given : State → ℕ → ℕ → State
+abbrev pub given : ProcState → ℕ → ℕ → ProcState
 given s p x = record {
   vars = slice_set s.vars x (head_or_zero (row s.out.left (p - 1)));
   out = record {

@@ -1,8 +1,8 @@
 -- Loads and stores past the end of their array, and what a list of acts leaves.
 use Rattle.std.specs.Prelude.{◌≡◌, ℕ, ◌-◌, ◌<◌, ◌≤◌, List, [], ◌∷◌, ◌++◌, slice_index}
 use Rattle.std.specs.List.{AllByRecursion}
-use Rattle.ws_words.specs.Outside.{Act, loads, stores, reads, prints, gives, takes, Outside, State, with_act}
-use Rattle.ws_words.specs.Outside.{stored, has_read, given}
+use Rattle.ws_words.specs.Outside.{Act, loads, stores, reads, prints, gives, takes}
+use Rattle.ws_words.specs.Outside.{Outside, ProcState, with_act, stored, has_read, given}
 
 -- the length of an array by its number from 1; one that isn't there has length 0
 abbrev pub length_of : List ℕ → ℕ → ℕ
@@ -32,8 +32,12 @@ pub record FirstPast (lengths : List ℕ) (acts before : List Act) (array : ℕ)
   pub after : List Act
   pub split : acts ≡ before ++ act ∷ after
 
+-- acts that begin with these
+abbrev pub ActsBegin : List Act → List Act → Type 0
+ActsBegin front acts = (more : List Act) × (acts ≡ front ++ more)
+
 -- a state without variables
-abbrev pub bare : Outside → State
+abbrev pub bare : Outside → ProcState
 bare o = record { vars = []; out = o }
 
 -- what is outside after an act

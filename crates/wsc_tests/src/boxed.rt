@@ -4,7 +4,7 @@ ghost use Rattle.std.specs.Prelude.{◌≡◌, [], ◌∷◌, false, IfOk};
 ghost use Rattle.port_set.specs.Slots.{AllOpen, contents};
 ghost use Rattle.wsc_top.specs.Answers.{TellWords};
 
-use crate::replies::{Asked, SOUND, call_with_any};
+use crate::replies::{AskedCall, SOUND, call_with_any};
 use fire_crew::Free;
 use port_set::{Port, PortError, PortSet, Slots, TapePort};
 use std::alloc::Global;
@@ -24,7 +24,7 @@ const EIGHT: &str = "run --workers 8";
 fn ends_so<P: Port + Send, R: Threads + Wait + Sync>(
     rt: &R,
     alloc: Global,
-    asked: Asked<'_>,
+    asked: AskedCall<'_>,
     ports: Slots<P>,
     status: Status,
 ) -> Result<bool, NoMemory>
@@ -50,7 +50,7 @@ fn gives_and_takes<R: Threads + Wait + Sync>(
     alloc: Global,
     line: &str,
 ) -> Result<bool, NoMemory> {
-    let asked = Asked {
+    let asked = AskedCall {
         line,
         text: b"proc main() { var x; give 2, x; print x; give 2, x; print x; give 4, x; print x; \
             take 2, 7; }",
@@ -80,7 +80,7 @@ fn failing(alloc: Global) -> Result<TapePort, NoMemory>
 }
 
 fn fails<R: Threads + Wait + Sync>(rt: &R, alloc: Global, line: &str) -> Result<bool, NoMemory> {
-    let asked = Asked {
+    let asked = AskedCall {
         line,
         text: b"proc main() { take 3, 8; take 3, 9; print 1; }",
         wanted: "port 3\n",
@@ -128,7 +128,7 @@ fn finds_no_memory<R: Threads + Wait + Sync>(
     alloc: Global,
     line: &str,
 ) -> Result<bool, NoMemory> {
-    let asked = Asked {
+    let asked = AskedCall {
         line,
         text: b"proc main() { print 1; take 1, 5; }",
         wanted: "",

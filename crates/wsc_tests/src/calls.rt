@@ -2,7 +2,7 @@
 
 ghost use Rattle.std.specs.Prelude.{◌<◌};
 
-use crate::replies::{Asked, Ends, Reply, SOUND, call};
+use crate::replies::{AskedCall, CallReply, ReplyEnds, SOUND, call};
 use fire_crew::Free;
 use std::alloc::Global;
 use std::sync::Wait;
@@ -108,12 +108,12 @@ fn is_answered<R: Threads + Wait + Sync>(
 ) -> Result<bool, NoMemory>
     requires { 0 < piece }
 {
-    let asked = Asked {
+    let asked = AskedCall {
         line: row.line,
         text: row.job,
         wanted: row.answer,
     };
-    let reply = call(rt, alloc, asked, Ends { piece, ..SOUND }, &Free)?;
+    let reply = call(rt, alloc, asked, ReplyEnds { piece, ..SOUND }, &Free)?;
     Ok(reply.has(row.code) && reply.flushed == row.answer.len() && reply.left == 0)
 }
 
@@ -145,7 +145,7 @@ fn is_refused<R: Threads + Wait + Sync>(
     wanted: &str,
     left: usize,
 ) -> Result<bool, NoMemory> {
-    let asked = Asked {
+    let asked = AskedCall {
         line: "run",
         text,
         wanted,
@@ -178,7 +178,7 @@ fn is_no_line<R: Threads + Wait + Sync>(
     alloc: Global,
     line: &str,
 ) -> Result<bool, NoMemory> {
-    let asked = Asked {
+    let asked = AskedCall {
         line,
         text: b"proc main() { }",
         wanted: "",
@@ -213,13 +213,13 @@ fn cut_at<R: Threads + Wait + Sync>(
     text: &[u8],
     faults: (u64, u64),
     wanted: &str,
-) -> Result<Reply, NoMemory> {
-    let asked = Asked {
+) -> Result<CallReply, NoMemory> {
+    let asked = AskedCall {
         line: "run",
         text,
         wanted,
     };
-    let ends = Ends {
+    let ends = ReplyEnds {
         piece: 1,
         read_fault: faults.0,
         write_fault: faults.1,

@@ -1,7 +1,7 @@
 //! Whole calls with a gate that counts the tokens.
 
 use crate::crews::{JOB, call_alone};
-use crate::replies::{Asked, image_of};
+use crate::replies::{AskedCall, image_of};
 use fire_crew::Gate;
 use std::alloc::Global;
 use std::sync::Wait;
@@ -182,7 +182,7 @@ fn ports_of_run<R: Threads + Wait + Sync>(
     alloc: Global,
     gate: &Counts,
 ) -> Result<Vec<u8>, NoMemory> {
-    let asked = Asked {
+    let asked = AskedCall {
         line: "run",
         text: JOB.as_bytes(),
         wanted: "",

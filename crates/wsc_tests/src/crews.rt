@@ -1,6 +1,6 @@
 //! Whole calls whose images a crew runs.
 
-use crate::replies::{Asked, Reply, SOUND, call};
+use crate::replies::{AskedCall, CallReply, SOUND, call};
 use fire_crew::{Free, Gate};
 use std::alloc::Global;
 use std::sync::Wait;
@@ -19,8 +19,8 @@ pub fn call_alone<G: Gate, R: Threads + Wait + Sync>(
     text: &str,
     wanted: &str,
     gate: &G,
-) -> Result<Reply, NoMemory> {
-    let asked = Asked {
+) -> Result<CallReply, NoMemory> {
+    let asked = AskedCall {
         line,
         text: text.as_bytes(),
         wanted,
@@ -96,7 +96,7 @@ impl Gate for Held {
 
 // Whether a gate let its token of that image go before the others had come; nothing where the image
 // wasn't run as it should be.
-fn lateness(reply: Reply, gate: &Held) -> Option<bool> {
+fn lateness(reply: CallReply, gate: &Held) -> Option<bool> {
     if reply.said && gate.have_come() {
         Some(gate.was_late())
     } else {

@@ -4,7 +4,7 @@ ghost use Rattle.df_core.specs.Cores.{IsRunning};
 use crate::events::checked;
 use crate::graphs::{compiled, world};
 use crate::schedules::{FIRINGS, INPUT, PROGRAMS, has_done, is_at_end_of};
-use df_core::{Core, Done, Finish, Run, run_checked};
+use df_core::{Core, Done, Finish, RunAnswer, run_checked};
 use std::alloc::Global;
 use std::test::Fail;
 use ws_isa::Checked;
@@ -22,28 +22,28 @@ fn run_until(core: &mut Core<'_>, budget: u64) -> Result<Option<Finish>, NoMemor
     Ok(Some(core.run(budget)))
 }
 
-fn finish_of(run: &Run) -> Finish {
+fn finish_of(run: &RunAnswer) -> Finish {
     match run {
-        Run::Rest(_) => Finish::Rest,
-        Run::Budget(_) => Finish::Budget,
-        Run::Fault(array, _) => Finish::Fault { array: *array },
+        RunAnswer::Rest(_) => Finish::Rest,
+        RunAnswer::Budget(_) => Finish::Budget,
+        RunAnswer::Fault(array, _) => Finish::Fault { array: *array },
     }
 }
 
-fn done_of(run: &Run) -> &Done {
+fn done_of(run: &RunAnswer) -> &Done {
     match run {
-        Run::Rest(done) => done,
-        Run::Budget(done) => done,
-        Run::Fault(_, done) => done,
+        RunAnswer::Rest(done) => done,
+        RunAnswer::Budget(done) => done,
+        RunAnswer::Fault(_, done) => done,
     }
 }
 
 // Whether a core that ended so has done what this run did.
-fn is_as(core: &Core<'_>, finish: Option<Finish>, run: &Run) -> bool
+fn is_as(core: &Core<'_>, finish: Option<Finish>, run: &RunAnswer) -> bool
     requires { IsRunning core.now }
 {
     let same = match run {
-        Run::Budget(done) => has_done(core, done) && core.fired() == done.fired,
+        RunAnswer::Budget(done) => has_done(core, done) && core.fired() == done.fired,
         _ => is_at_end_of(core, run),
     };
     same && finish == Some(finish_of(run))
@@ -55,8 +55,8 @@ fn runs_in_two(
     alloc: Global,
     image: &Checked,
     world: &World,
-    short: &Run,
-    whole: &Run,
+    short: &RunAnswer,
+    whole: &RunAnswer,
 ) -> Result<bool, NoMemory> {
     let mut core = Core::begin(alloc, image, world)?;
     let first = run_until(&mut core, done_of(short).fired)?;
@@ -70,7 +70,7 @@ fn runs_at_once(
     alloc: Global,
     image: &Checked,
     world: &World,
-    whole: &Run,
+    whole: &RunAnswer,
 ) -> Result<bool, NoMemory> {
     let mut core = Core::begin(alloc, image, world)?;
     let finish = run_until(&mut core, done_of(whole).fired)?;
@@ -82,7 +82,7 @@ fn runs_short_of_one(
     alloc: Global,
     image: &Checked,
     world: &World,
-    whole: &Run,
+    whole: &RunAnswer,
 ) -> Result<bool, NoMemory> {
     let budget = done_of(whole).fired.saturating_sub(1);
     let short = run_checked(alloc, image, world, budget)?;

@@ -59,7 +59,7 @@ fn stay_open(ports: &Slots<TapePort>)
 
 // What is asked of the program: its words, which spaces separate, what it reads, and what is to go out.
 #[derive(Clone, Copy)]
-pub struct Asked<'a> {
+pub struct AskedCall<'a> {
     pub line: &'a str,
     pub text: &'a [u8],
     pub wanted: &'a str,
@@ -67,14 +67,14 @@ pub struct Asked<'a> {
 
 // How many bytes a call of the source or the sink moves, and which of their calls fail.
 #[derive(Clone, Copy)]
-pub struct Ends {
+pub struct ReplyEnds {
     pub piece: usize,
     pub read_fault: u64,
     pub write_fault: u64,
 }
 
 // Nothing fails, since calls are counted from 1.
-pub const SOUND: Ends = Ends {
+pub const SOUND: ReplyEnds = ReplyEnds {
     piece: 100_000,
     read_fault: 0,
     write_fault: 0,
@@ -83,7 +83,7 @@ pub const SOUND: Ends = Ends {
 // What a call answers, as plain data: whether what is wanted went out, how it ended, how many bytes were
 // flushed and were left to read, whether an image came back, and how many of threads.
 #[derive(Clone, Copy)]
-pub struct Reply {
+pub struct CallReply {
     pub said: bool,
     pub status: Status,
     pub flushed: usize,
@@ -92,7 +92,7 @@ pub struct Reply {
     pub threads: usize,
 }
 
-impl Reply {
+impl CallReply {
     // Whether what is wanted went out, with this status.
     pub fn is(&self, status: Status) -> bool {
         self.said && self.status == status
@@ -113,7 +113,7 @@ fn words_of(alloc: Global, line: &str) -> Result<Vec<String>, NoMemory> {
     Ok(words)
 }
 
-fn source_of(alloc: Global, text: &[u8], ends: Ends) -> Result<MemSource, NoMemory>
+fn source_of(alloc: Global, text: &[u8], ends: ReplyEnds) -> Result<MemSource, NoMemory>
     requires { 0 < ends.piece }
 {
     let faults = Words::from_slice(alloc, &[ends.read_fault])?;
@@ -121,7 +121,7 @@ fn source_of(alloc: Global, text: &[u8], ends: Ends) -> Result<MemSource, NoMemo
     Ok(MemSource::new(bytes, ends.piece, faults))
 }
 
-fn sink_of(alloc: Global, ends: Ends) -> Result<MemSink, NoMemory>
+fn sink_of(alloc: Global, ends: ReplyEnds) -> Result<MemSink, NoMemory>
     requires { 0 < ends.piece }
 {
     let faults = Words::from_slice(alloc, &[ends.write_fault])?;
@@ -136,7 +136,7 @@ struct Memory {
     sink: MemSink,
 }
 
-fn prepared(alloc: Global, asked: Asked<'_>, ends: Ends) -> Result<Memory, NoMemory>
+fn prepared(alloc: Global, asked: AskedCall<'_>, ends: ReplyEnds) -> Result<Memory, NoMemory>
     requires { 0 < ends.piece }
 {
     let words = words_of(alloc, asked.line)?;
@@ -174,7 +174,7 @@ fn heard<P: Port + Send, G: Gate, R: Threads + Wait + Sync>(
     wanted: &str,
     ports: Slots<P>,
     gate: &G,
-) -> (Reply, Outcome<P>)
+) -> (CallReply, Outcome<P>)
     requires told { TellWords (contents P.tells ports) }
     requires open { AllOpen (contents P.tells ports) }
     ensures { AllOpen (contents P.tells result.1.ports) }
@@ -185,7 +185,7 @@ fn heard<P: Port + Send, G: Gate, R: Threads + Wait + Sync>(
         sink,
     } = memory;
     let outcome = brief(rt, alloc, words, source, sink, ports, gate);
-    let reply = Reply {
+    let reply = CallReply {
         said: sink.held() == wanted.as_bytes(),
         status: outcome.status,
         flushed: sink.flushed(),
@@ -200,11 +200,11 @@ fn heard<P: Port + Send, G: Gate, R: Threads + Wait + Sync>(
 fn outcome_of<P: Port + Send, G: Gate, R: Threads + Wait + Sync>(
     rt: &R,
     alloc: Global,
-    asked: Asked<'_>,
-    ends: Ends,
+    asked: AskedCall<'_>,
+    ends: ReplyEnds,
     ports: Slots<P>,
     gate: &G,
-) -> Result<(Reply, Outcome<P>), NoMemory>
+) -> Result<(CallReply, Outcome<P>), NoMemory>
     requires piece { 0 < ends.piece }
     requires told { TellWords (contents P.tells ports) }
     requires open { AllOpen (contents P.tells ports) }
@@ -218,11 +218,11 @@ fn outcome_of<P: Port + Send, G: Gate, R: Threads + Wait + Sync>(
 pub fn call_with_any<P: Port + Send, G: Gate, R: Threads + Wait + Sync>(
     rt: &R,
     alloc: Global,
-    asked: Asked<'_>,
-    ends: Ends,
+    asked: AskedCall<'_>,
+    ends: ReplyEnds,
     ports: Slots<P>,
     gate: &G,
-) -> Result<(Reply, Slots<P>), NoMemory>
+) -> Result<(CallReply, Slots<P>), NoMemory>
     requires piece { 0 < ends.piece }
     requires told { TellWords (contents P.tells ports) }
     requires open { AllOpen (contents P.tells ports) }
@@ -236,9 +236,9 @@ pub fn call_with_any<P: Port + Send, G: Gate, R: Threads + Wait + Sync>(
 pub fn call_with<R: Threads + Wait + Sync>(
     rt: &R,
     alloc: Global,
-    asked: Asked<'_>,
+    asked: AskedCall<'_>,
     ports: Slots<TapePort>,
-) -> Result<(Reply, Slots<TapePort>), NoMemory>
+) -> Result<(CallReply, Slots<TapePort>), NoMemory>
     requires { AllByRecursion IsOpen (contents tape_tells ports) }
     ensures { IfOk result (λ answer. AllByRecursion IsOpen (contents tape_tells answer.1)) }
 {
@@ -264,10 +264,10 @@ fn no_ports() -> Slots<TapePort>
 pub fn call<G: Gate, R: Threads + Wait + Sync>(
     rt: &R,
     alloc: Global,
-    asked: Asked<'_>,
-    ends: Ends,
+    asked: AskedCall<'_>,
+    ends: ReplyEnds,
     gate: &G,
-) -> Result<Reply, NoMemory>
+) -> Result<CallReply, NoMemory>
     requires { 0 < ends.piece }
 {
     let (reply, _) = call_with_any(rt, alloc, asked, ends, no_ports(), gate)?;
@@ -278,7 +278,7 @@ pub fn call<G: Gate, R: Threads + Wait + Sync>(
 pub fn image_of<G: Gate, R: Threads + Wait + Sync>(
     rt: &R,
     alloc: Global,
-    asked: Asked<'_>,
+    asked: AskedCall<'_>,
     gate: &G,
 ) -> Result<Option<Checked>, NoMemory> {
     let (_, outcome) = outcome_of(rt, alloc, asked, SOUND, no_ports(), gate)?;

@@ -3,7 +3,7 @@ ghost use Rattle.df_core.specs.Cores.{IsRunning};
 
 use crate::graphs::{compiled, world};
 use crate::images::are_first;
-use df_core::{Core, Done, Event, Run, StepFault, run_checked};
+use df_core::{Core, Done, Event, RunAnswer, StepFault, run_checked};
 use std::alloc::Global;
 use std::test::Fail;
 use ws_isa::{Checked, walk_image};
@@ -169,13 +169,13 @@ pub fn has_done(core: &Core<'_>, done: &Done) -> bool
 }
 
 // Whether a core at rest has done what this run did.
-pub fn is_at_end_of(core: &Core<'_>, run: &Run) -> bool
+pub fn is_at_end_of(core: &Core<'_>, run: &RunAnswer) -> bool
     requires { IsRunning core.now }
 {
     match run {
-        Run::Rest(done) => has_done(core, done) && core.fired() == done.fired,
-        Run::Fault(_, done) => has_done(core, done),
-        Run::Budget(_) => false,
+        RunAnswer::Rest(done) => has_done(core, done) && core.fired() == done.fired,
+        RunAnswer::Fault(_, done) => has_done(core, done),
+        RunAnswer::Budget(_) => false,
     }
 }
 
@@ -184,7 +184,7 @@ fn comes_to(
     alloc: Global,
     image: &Checked,
     world: &World,
-    run: &Run,
+    run: &RunAnswer,
     printed: &Words,
     seed: u64,
 ) -> Result<bool, NoMemory> {
@@ -201,7 +201,7 @@ fn seeds(
     alloc: Global,
     image: &Checked,
     world: &World,
-    run: &Run,
+    run: &RunAnswer,
     printed: &Words,
 ) -> Result<u64, NoMemory> {
     for seed in 0..SEEDS {

@@ -5,7 +5,7 @@ ghost use Rattle.std.specs.List.{AllByRecursion};
 ghost use Rattle.port_set.specs.Slots.{IsOpen, contents};
 ghost use Rattle.port_set.specs.Tape.{tape_tells};
 
-use crate::replies::{Asked, call_with};
+use crate::replies::{AskedCall, call_with};
 use port_set::{Slots, TapePort};
 use std::alloc::Global;
 use std::sync::Wait;
@@ -85,9 +85,9 @@ const JOB: &str = "proc main() { var x, y; give 1, x; print x; take 2, x + 1; gi
     print 8; }";
 
 // Of each port the number of the call that fails; what goes out, the status, and where the ports are.
-pub type Row = ([u64; 3], &'static str, Status, Lists);
+pub type TapeRow = ([u64; 3], &'static str, Status, Lists);
 
-const ROWS: &[Row] = &[
+const ROWS: &[TapeRow] = &[
     (
         [4, 4, 2],
         "5\n6\n11\n8\nhalt\n",
@@ -149,8 +149,8 @@ const ROWS: &[Row] = &[
 fn ends_so<R: Threads + Wait + Sync>(
     rt: &R,
     alloc: Global,
-    asked: Asked<'_>,
-    row: &Row,
+    asked: AskedCall<'_>,
+    row: &TapeRow,
     threads: usize,
 ) -> Result<bool, NoMemory> {
     let (fails, _, status, lists) = row;
@@ -169,11 +169,11 @@ pub fn first_wrong<R: Threads + Wait + Sync>(
     alloc: Global,
     line: &str,
     text: &str,
-    rows: &[Row],
+    rows: &[TapeRow],
     threads: usize,
 ) -> Result<Option<&'static str>, NoMemory> {
     for row in rows {
-        let asked = Asked {
+        let asked = AskedCall {
             line,
             text: text.as_bytes(),
             wanted: row.1,
@@ -217,7 +217,7 @@ fn stepped<R: Threads + Wait + Sync>(
     requires { AllByRecursion IsOpen (contents tape_tells ports) }
     ensures { IfOk result (λ answer. AllByRecursion IsOpen (contents tape_tells answer.1)) }
 {
-    let asked = Asked {
+    let asked = AskedCall {
         line,
         text: STEP.as_bytes(),
         wanted,

@@ -1,7 +1,7 @@
 //! Whole calls with several threads, of which the first has the ports.
 
-use crate::replies::{Asked, call_with};
-use crate::tapes::{Row, first_wrong, tapes};
+use crate::replies::{AskedCall, call_with};
+use crate::tapes::{TapeRow, first_wrong, tapes};
 use std::alloc::Global;
 use std::sync::Wait;
 use std::test::Fail;
@@ -21,7 +21,7 @@ proc main() { var x; x = 3; take 1, 9; give 1, x; print x; }
 ";
 
 // Rows as of ports.
-const ROWS: &[Row] = &[
+const ROWS: &[TapeRow] = &[
     (
         [0, 0, 0],
         "thread 1\n5\n6\nhalt\nthread 2\n1\nbudget\nthread 3\n2\nfault a\nthread 4\n0\nhalt\n",
@@ -58,7 +58,7 @@ fn no_thread_ends_another(rt: HostRuntime) -> Result<(), Fail> {
 fn has_no_threads<R: Threads + Wait + Sync>(
     rt: &R,
     alloc: Global,
-    asked: Asked<'_>,
+    asked: AskedCall<'_>,
     status: Status,
     image: bool,
 ) -> Result<bool, NoMemory> {
@@ -70,13 +70,13 @@ fn has_no_threads<R: Threads + Wait + Sync>(
 #[test]
 fn no_threads_without_jobs(rt: HostRuntime) -> Result<(), Fail> {
     let alloc = rt.alloc();
-    let refused = Asked {
+    let refused = AskedCall {
         line: "multi",
         text: b"proc main() { print 7; }\n%job\nproc main() { print x; }\n",
         wanted: "refused 3:21 unknown\n",
     };
     assert!(rt; has_no_threads(&rt, alloc, refused, Status::Refused, false)?);
-    let run = Asked {
+    let run = AskedCall {
         line: "run",
         text: b"proc main() { print 7; }",
         wanted: "7\nhalt\n",

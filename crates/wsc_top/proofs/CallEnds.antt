@@ -15,13 +15,13 @@ use Rattle.wsc_top.specs.declared.task.BenchOptions.{BenchOptions}
 use Rattle.wsc_top.specs.declared.task.JobTask.{JobTask}
 use Rattle.wsc_top.specs.declared.task.RunOptions.{RunOptions}
 use Rattle.wsc_top.specs.declared.task.AssemblyTask.{AssemblyTask}
-use Rattle.wsc_top.specs.Tasks.{IsLine, IsNoLine}
+use Rattle.wsc_top.specs.Tasks.{AsksFor, IsNoLine}
 use Rattle.wsc_top.specs.Generated.{IsGeneratedJob}
-use Rattle.wsc_top.specs.Answers.{TellWords, EndsSo, AssemblyEndsSo, BenchEndsSo, IsToldJob, IsToldAssembly, Answers}
+use Rattle.wsc_top.specs.Answers.{TellWords, JobEndsSo, AssemblyEndsSo, BenchEndsSo, IsToldJob, IsToldAssembly, Answers}
 use Rattle.wsc_top.specs.Jobs.{ProgramAndInput}
 use Rattle.wsc_top.specs.Threads.{Replies, Falls, AreToldJobs, MultiEndsSo}
 use Rattle.wsc_top.specs.Codes.{code_of}
-use Rattle.wsc_top.specs.Calls.{Reading, Writing, CallEnds, EndsWithCode, in_first}
+use Rattle.wsc_top.specs.Calls.{SourceCall, Writing, CallEnds, EndsWithCode, in_first}
 use Rattle.wsc_top.proofs.Tasks.{OneLine}
 use Rattle.wsc_top.proofs.Calls.{unfailed, no_line_usage, generates, told_refused, told_unassembled}
 use Rattle.wsc_top.proofs.ThreadAnswers.{reply_not_memory, reply_not_write_fault, reply_read_rose, reply_port_rose, reply_no_line, reply_other, told_unjobs, ends_done}
@@ -29,11 +29,11 @@ use Rattle.wsc_top.proofs.ThreadAnswers.{reply_not_memory, reply_not_write_fault
 -- an answer has the status that its run decides
 pub record Decided : Type 0 where
   pub job : (words : List (List ℕ)) (left after : Option (List ℕ)) (faults counted : ℕ) (handed back : List (Option Told)) (status : Status) (out : List ℕ) (image : Option Image) (task : JobTask) (parts : List Part) (input : List ℕ)
-      → Answers words left after faults counted handed status out image back → IsToldJob words left task parts input → TellWords handed → (status ≡ ReadFault → ⊥) → EndsSo task parts input handed status
+      → Answers words left after faults counted handed status out image back → IsToldJob words left task parts input → TellWords handed → (status ≡ ReadFault → ⊥) → JobEndsSo task parts input handed status
   pub assembly : (words : List (List ℕ)) (left after : Option (List ℕ)) (faults counted : ℕ) (handed back : List (Option Told)) (status : Status) (out : List ℕ) (again : Option Image) (task : AssemblyTask) (image : Image) (input : List ℕ)
       → Answers words left after faults counted handed status out again back → (told : IsToldAssembly words left task image input) → (status ≡ ReadFault → ⊥) → AssemblyEndsSo task told.text image input handed status
   pub bench : (words : List (List ℕ)) (left after : Option (List ℕ)) (faults counted : ℕ) (handed back : List (Option Told)) (status : Status) (out : List ℕ) (image : Option Image) (options : BenchOptions) (parts : List Part)
-      → Answers words left after faults counted handed status out image back → IsLine words (Bench options) → IsGeneratedJob options.number parts → TellWords handed → BenchEndsSo options parts handed status
+      → Answers words left after faults counted handed status out image back → AsksFor words (Bench options) → IsGeneratedJob options.number parts → TellWords handed → BenchEndsSo options parts handed status
   pub threads : (words : List (List ℕ)) (left after : Option (List ℕ)) (faults counted : ℕ) (handed back : List (Option Told)) (status : Status) (out : List ℕ) (image : Option Image) (images : List Image) (options : RunOptions) (jobs : List ProgramAndInput)
       → Replies words left after faults counted handed status out image images back → AreToldJobs words left options jobs → TellWords handed → (status ≡ ReadFault → ⊥) → MultiEndsSo options jobs handed status
 
@@ -50,7 +50,7 @@ not_ok (Err f) e is h = let bad : false ≡ true = h in absurd cc
 no_command : (words : List (List ℕ)) → (HasCommand words → ⊥) → IsNoLine words
 no_command words h task line = h (line.1.command, line.1.rest, line.1.begins)
 
-module _ (words : List (List ℕ)) (reads : Reading) (writes : Writing) (handed : List (Option Told)) where
+module _ (words : List (List ℕ)) (reads : SourceCall) (writes : Writing) (handed : List (Option Told)) where
   -- the whole answer went out
   module _ (one : OneLine) (law : Decided) (told : TellWords handed) (status : Status) (text : List ℕ) (image : Option Image) (images : List Image) (back : List (Option Told))
       (r : Replies words reads.left reads.after reads.faults reads.counted handed status text image images back) where
@@ -64,16 +64,16 @@ module _ (words : List (List ℕ)) (reads : Reading) (writes : Writing) (handed 
     no_line_of none = no_line_usage words reads.left reads.after reads.faults reads.counted handed status text image back
         (reply_no_line words reads.left reads.after reads.faults reads.counted handed status text image images back none r) none
 
-    answer_of : (task : Task) → IsLine words task → ((o : RunOptions) → Multi o ≡ task → ⊥) → Answers words reads.left reads.after reads.faults reads.counted handed status text image back
+    answer_of : (task : Task) → AsksFor words task → ((o : RunOptions) → Multi o ≡ task → ⊥) → Answers words reads.left reads.after reads.faults reads.counted handed status text image back
     answer_of task line other = reply_other words reads.left reads.after reads.faults reads.counted handed status text image images back one task line other r
 
-    job_of : (task : JobTask) (line : IsLine words (Job task)) → Answers words reads.left reads.after reads.faults reads.counted handed status text image back
+    job_of : (task : JobTask) (line : AsksFor words (Job task)) → Answers words reads.left reads.after reads.faults reads.counted handed status text image back
     job_of task line = answer_of (Job task) line (λ o e. absurd cc)
 
-    assembly_of : (task : AssemblyTask) (line : IsLine words (Assembly task)) → Answers words reads.left reads.after reads.faults reads.counted handed status text image back
+    assembly_of : (task : AssemblyTask) (line : AsksFor words (Assembly task)) → Answers words reads.left reads.after reads.faults reads.counted handed status text image back
     assembly_of task line = answer_of (Assembly task) line (λ o e. absurd cc)
 
-    job_ends : (task : JobTask) (parts : List Part) (input : List ℕ) → IsToldJob words reads.left task parts input → (Rose reads.faults reads.counted → ⊥) → EndsSo task parts input handed status
+    job_ends : (task : JobTask) (parts : List Part) (input : List ℕ) → IsToldJob words reads.left task parts input → (Rose reads.faults reads.counted → ⊥) → JobEndsSo task parts input handed status
     job_ends task parts input told_job source =
         law.job words reads.left reads.after reads.faults reads.counted handed back status text image task parts input (job_of task told_job.line) told_job told (well_read source)
 
@@ -163,7 +163,7 @@ module _ (words : List (List ℕ)) (reads : Reading) (writes : Writing) (handed 
   }
 
 -- of slots of which the first alone has a port
-pub ends_alone : (words others : List (List ℕ)) (reads : Reading) (writes : Writing) (handed : List (Option Told)) (port : Told) (status : Status) (image : Option Image) (images : List Image) (back : List (Option Told)) (code : ℕ)
+pub ends_alone : (words others : List (List ℕ)) (reads : SourceCall) (writes : Writing) (handed : List (Option Told)) (port : Told) (status : Status) (image : Option Image) (images : List Image) (back : List (Option Told)) (code : ℕ)
     → words ≡ others → handed ≡ in_first port → CallEnds words reads writes handed status image images back → code ≡ code_of status → EndsWithCode others reads writes port code
 ends_alone words others reads writes handed port status image images back code same alone ends is = (
   status,

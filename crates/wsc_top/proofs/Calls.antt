@@ -16,9 +16,9 @@ use Rattle.wsc_top.specs.declared.task.AssemblyTask.TheVariants.{Replay}
 use Rattle.trace_check.specs.declared.events.Lined.{Lined}
 use Rattle.wsc_top.specs.declared.task.RunOptions.{RunOptions}
 use Rattle.wsc_top.specs.declared.task.BenchOptions.{BenchOptions}
-use Rattle.wsc_top.specs.declared.step.Step.{Step}
-use Rattle.wsc_top.specs.declared.step.Starved.{Starved}
-use Rattle.wsc_top.specs.declared.step.Step.TheVariants.{Ready, Run as Due, Threads as Many}
+use Rattle.wsc_top.specs.declared.step.CallStep.{CallStep}
+use Rattle.wsc_top.specs.declared.step.StarvedCall.{StarvedCall}
+use Rattle.wsc_top.specs.declared.step.CallStep.TheVariants.{Ready, Run as Due, Threads as Many}
 use Rattle.wsc_top.specs.declared.assembly.AsmRefusal.{AsmRefusal}
 use Rattle.wsc_top.specs.declared.assembly.AssemblyFault.{AssemblyFault}
 use Rattle.wsc_top.specs.declared.assembly.AssemblyFault.TheVariants as fault
@@ -26,7 +26,7 @@ use Rattle.wsc_top.specs.declared.status.Status.{Status}
 use Rattle.wsc_top.specs.declared.status.Status.TheVariants.{Done, Usage, Refused, ReadFault, WriteFault, PortFault, NoMemory}
 use Rattle.wsc_top.specs.Assembly.{assembly_limit, IsAssembly, IsAssemblyFault}
 use Rattle.work_gen.specs.Job.{words_of, job_text}
-use Rattle.wsc_top.specs.Tasks.{IsLine, IsNoLine}
+use Rattle.wsc_top.specs.Tasks.{AsksFor, IsNoLine}
 use Rattle.wsc_top.specs.Job.{job_limit, IsJob}
 use Rattle.wsc_top.specs.Texts.{usage_text, unread_text, long_text, asm_refusal_text}
 use Rattle.wsc_top.specs.Executions.{Executes, rested, spent, stopped, failed, OrFailed}
@@ -47,36 +47,36 @@ use Rattle.wsc_top.specs.Steps.{AssemblyYieldStep, IsBegun, JobStep, JobBegun, J
 use Rattle.wsc_top.proofs.Tasks.{OneLine, same_task_by}
 
 -- a step that is known
-pub known_step : (words : List (List ℕ)) (left after : Option (List ℕ)) (m n : ℕ) (step s : Step) → step ≡ s → StepSo words left after m n s → StepSo words left after m n step
+pub known_step : (words : List (List ℕ)) (left after : Option (List ℕ)) (m n : ℕ) (step s : CallStep) → step ≡ s → StepSo words left after m n s → StepSo words left after m n step
 known_step words left after m n step s e h = subst (StepSo words left after m n) (sym e) h
 
 module _ (words : List (List ℕ)) (left after : Option (List ℕ)) (m n : ℕ) where
   -- where reading failed
-  pub unread_step : (t : Task) → IsLine words t → IsReader t → Rose m n → (bytes : List ℕ) × (length bytes ≤ limit_of t) × Takes left bytes after
+  pub unread_step : (t : Task) → AsksFor words t → IsReader t → Rose m n → (bytes : List ℕ) × (length bytes ≤ limit_of t) × Takes left bytes after
       → StepSo words left after m n (Ready ReadFault unread_text None)
   unread_step t r is f b handed = alone (unread t b.0 r is f b.1 b.2)
 
   -- where there are too many bytes
-  pub long_step : (t : Task) → IsLine words t → IsReader t → (bytes : List ℕ) × (length bytes ≡ limit_of t + 1) × Takes left bytes after
+  pub long_step : (t : Task) → AsksFor words t → IsReader t → (bytes : List ℕ) × (length bytes ≡ limit_of t + 1) × Takes left bytes after
       → StepSo words left after m n (Ready Refused long_text None)
   long_step t r is b handed = alone (long t b.0 r is b.1 b.2)
 
   -- where the whole text was read
-  pub read_step : (text same : List ℕ) (c : JobTask) (step : Step) → IsLine words (Job c) → length text ≤ job_limit → TakesAll left text after → same ≡ text
+  pub read_step : (text same : List ℕ) (c : JobTask) (step : CallStep) → AsksFor words (Job c) → length text ≤ job_limit → TakesAll left text after → same ≡ text
       → JobStep c same step → StepSo words left after m n step
   read_step text same c (Ready status out image) r l t e a = λ handed. alone (read c text r l t (subst (λ x. Answered c x handed status out image handed) e (a handed)))
   read_step text same c (Due options image input) r l t e a =
-      answers.IsDue.job text a.1 (subst (λ (d : JobTask). IsLine words (Job d)) a.0 r) l t (subst (λ x. IsJob x a.1 input) e a.2) a.3
+      answers.IsDue.job text a.1 (subst (λ (d : JobTask). AsksFor words (Job d)) a.0 r) l t (subst (λ x. IsJob x a.1 input) e a.2) a.3
   read_step text same c (Many options jobs) r l t e a = absurd a
 
-  pub assembled_step : (text same : List ℕ) (c : AssemblyTask) (step : Step) → IsLine words (Assembly c) → length text ≤ assembly_limit → TakesAll left text after → same ≡ text
+  pub assembled_step : (text same : List ℕ) (c : AssemblyTask) (step : CallStep) → AsksFor words (Assembly c) → length text ≤ assembly_limit → TakesAll left text after → same ≡ text
       → AssemblyStep c same step → StepSo words left after m n step
   assembled_step text same c (Ready status out image) r l t e a = λ handed. alone (assembled c text r l t (subst (λ x. AssemblyAnswered c x handed status out image handed) e (a handed)))
   assembled_step text same c (Due options image input) r l t e a =
-      answers.IsDue.assembly text (subst (λ (d : AssemblyTask). IsLine words (Assembly d)) a.0 r) l t (subst (λ x. IsAssembly x image input) e a.1)
+      answers.IsDue.assembly text (subst (λ (d : AssemblyTask). AsksFor words (Assembly d)) a.0 r) l t (subst (λ x. IsAssembly x image input) e a.1)
   assembled_step text same c (Many options jobs) r l t e a = absurd a
 
-  pub jobs_step : (text same : List ℕ) (options : RunOptions) (step : Step) → IsLine words (Multi options) → length text ≤ job_limit → TakesAll left text after → same ≡ text
+  pub jobs_step : (text same : List ℕ) (options : RunOptions) (step : CallStep) → AsksFor words (Multi options) → length text ≤ job_limit → TakesAll left text after → same ≡ text
       → JobsStep options same step → StepSo words left after m n step
   jobs_step text same options (Ready status out image) r l t e a = λ handed.
       subst (λ (s : Status). Replies words left after m n handed s out image [] handed) (sym a.0)
@@ -88,7 +88,7 @@ module _ (words : List (List ℕ)) (left after : Option (List ℕ)) (m n : ℕ) 
     a.1.threads,
     record {
       text = text;
-      line = subst (λ (o : RunOptions). IsLine words (Multi o)) (sym a.0) r;
+      line = subst (λ (o : RunOptions). AsksFor words (Multi o)) (sym a.0) r;
       short = l;
       takes = t;
       jobs = subst (λ x. AreThreads x a.1.threads) e a.1.jobs;
@@ -103,12 +103,12 @@ pub usage_step : (words : List (List ℕ)) (left : Option (List ℕ)) (m n : ℕ
 usage_step words left m n h handed = alone (usage h refl)
 
 -- where a generated job is asked for
-pub generated_step : (words : List (List ℕ)) (left : Option (List ℕ)) (m n number : ℕ) (out : List ℕ) → IsLine words (Generate number) → out ≡ job_text number
+pub generated_step : (words : List (List ℕ)) (left : Option (List ℕ)) (m n number : ℕ) (out : List ℕ) → AsksFor words (Generate number) → out ≡ job_text number
     → StepSo words left left m n (Ready Done out None)
 generated_step words left m n number out h e handed = alone (subst (λ o. Answers words left left m n handed Done o None handed) (sym e) (generated number h refl))
 
 -- where one is to be run
-pub bench_step : (words : List (List ℕ)) (left : Option (List ℕ)) (options : BenchOptions) (image : Image) (input : List ℕ) → IsLine words (Bench options)
+pub bench_step : (words : List (List ℕ)) (left : Option (List ℕ)) (options : BenchOptions) (image : Image) (input : List ℕ) → AsksFor words (Bench options)
     → (parts : List Part) × IsGeneratedJob options.number parts × IsCompiled parts image × (input ≡ words_of options.number) → IsDue words left left options.run image input
 bench_step words left options image input h b =
     subst (λ (ws : List ℕ). IsDue words left left options.run image ws) (sym b.3) (answers.IsDue.generated options b.0 h refl b.1 b.2)
@@ -122,7 +122,7 @@ unsound_step task text out f why is h e handed =
     (answers.AssemblyAnswered.refused why (subst (λ x. IsAssemblyFault (assembly_text task text) x) is h))
 
 -- and where it is sound
-pub sound_step : (task : AssemblyTask) (text : List ℕ) (image : Image) (input : List ℕ) (step : Step) → IsAssembly (assembly_text task text) image input → AssemblyYieldStep task text image input step
+pub sound_step : (task : AssemblyTask) (text : List ℕ) (image : Image) (input : List ℕ) (step : CallStep) → IsAssembly (assembly_text task text) image input → AssemblyYieldStep task text image input step
     → AssemblyStep task text step
 sound_step task text image input (Ready status out again) a y = λ handed. answers.AssemblyAnswered.done image input a (y handed)
 sound_step task text image input (Many options jobs) a y = absurd y
@@ -135,7 +135,7 @@ sound_step task text image input (Due options found words) a y = (
 module _ (one : OneLine) (words : List (List ℕ)) where
   -- any told text that is no job is refused
   other_refused : (c : JobTask) (text : List ℕ) (after : Option (List ℕ)) (m n : ℕ) (handed : List (Option Told)) (status : Status) (out : List ℕ) (image : Option Image) (back : List (Option Told))
-      → Answers words (Some text) after m n handed status out image back → IsLine words (Job c)
+      → Answers words (Some text) after m n handed status out image back → AsksFor words (Job c)
       → (length text ≤ job_limit → (parts : List Part) (input : List ℕ) → IsJob text parts input → ⊥) → (status ≡ ReadFault → ⊥) → status ≡ Refused
   other_refused c text after m n handed status out image back (usage h e) r b f = absurd (h (Job c) r)
   other_refused c text after m n handed status out image back (generated k q e) r b f = let same : Generate k ≡ Job c = same_task_by one words (Generate k) (Job c) q r in absurd cc
@@ -149,7 +149,7 @@ module _ (one : OneLine) (words : List (List ℕ)) where
 
   -- any told text that is no assembly is refused
   none_refused : (c : AssemblyTask) (text : List ℕ) (after : Option (List ℕ)) (m n : ℕ) (handed : List (Option Told)) (status : Status) (out : List ℕ) (again : Option Image) (back : List (Option Told))
-      → Answers words (Some text) after m n handed status out again back → IsLine words (Assembly c)
+      → Answers words (Some text) after m n handed status out again back → AsksFor words (Assembly c)
       → (length text ≤ assembly_limit → (image : Image) (input : List ℕ) → IsAssembly (assembly_text c text) image input → ⊥) → (status ≡ ReadFault → ⊥) → status ≡ Refused
   none_refused c text after m n handed status out again back (usage h e) r b f = absurd (h (Assembly c) r)
   none_refused c text after m n handed status out again back (generated k q e) r b f = let same : Generate k ≡ Assembly c = same_task_by one words (Generate k) (Assembly c) q r in absurd cc
@@ -301,7 +301,7 @@ module _ (words : List (List ℕ)) (left after : Option (List ℕ)) (m n : ℕ) 
   no_line_usage status out image back (assembled c text q k t a) h = absurd (h (Assembly c) q)
 
   -- and those that ask for a generated job have it
-  pub generates : OneLine → (status : Status) (out : List ℕ) (image : Option Image) (back : List (Option Told)) → Answers words left after m n handed status out image back → (number : ℕ) → IsLine words (Generate number) → status ≡ Done
+  pub generates : OneLine → (status : Status) (out : List ℕ) (image : Option Image) (back : List (Option Told)) → Answers words left after m n handed status out image back → (number : ℕ) → AsksFor words (Generate number) → status ≡ Done
   generates one status out image back (usage g e) number h = absurd (g (Generate number) h)
   generates one status out image back (generated k q e) number h = refl
   generates one status out image back (benched o q e x) number h = let same : Bench o ≡ Generate number = same_task_by one words (Bench o) (Generate number) q h in absurd cc
@@ -332,17 +332,17 @@ pub none_read : (words : List (List ℕ)) (left : Option (List ℕ))
 none_read words left = ([], inl refl, takes_none left)
 
 -- these bytes were read
-pub some_read : (words : List (List ℕ)) (left after : Option (List ℕ)) (t : Task) → IsLine words t → IsReader t
+pub some_read : (words : List (List ℕ)) (left after : Option (List ℕ)) (t : Task) → AsksFor words t → IsReader t
     → (bytes : List ℕ) × (length bytes ≤ limit_of t + 1) × Takes left bytes after
     → (bytes : List ℕ) × WereRead words bytes × Takes left bytes after
 some_read words left after t r is b = (b.0, inr (t, r, is, b.1), b.2)
 
 -- what is answered where memory ran out in a call: the same, or nothing that was begun
-pub err_same : {T : Type 0} (Q : Starved → Type 0) (r : Result T Starved) (s : Starved) → IsErrAnd r (λ t. t ≡ s) → Q s → IfErr r Q
+pub err_same : {T : Type 0} (Q : StarvedCall → Type 0) (r : Result T StarvedCall) (s : StarvedCall) → IsErrAnd r (λ t. t ≡ s) → Q s → IfErr r Q
 err_same Q (Ok x) s h q = tt
 err_same Q (Err t) s h q = subst Q (sym h) q
 
-pub err_none : {T : Type 0} (Q : Starved → Type 0) (r : Result T Starved) → IsErrAnd r (λ (t : Starved). t.image ≡ None) → ((t : Starved) → t.image ≡ None → Q t) → IfErr r Q
+pub err_none : {T : Type 0} (Q : StarvedCall → Type 0) (r : Result T StarvedCall) → IsErrAnd r (λ (t : StarvedCall). t.image ≡ None) → ((t : StarvedCall) → t.image ≡ None → Q t) → IfErr r Q
 err_none Q (Ok x) h q = tt
 err_none Q (Err t) h q = q t h
 
@@ -373,14 +373,14 @@ module _ (words : List (List ℕ)) (left after : Option (List ℕ)) where
   none_out image e b = subst (λ (i : Option Image). RunsOut words left after i) (sym e) (unbegun b.0 b.1 b.2)
 
   -- where the whole text of a job was read
-  pub job_out : (text same : List ℕ) (c : JobTask) (image : Option Image) → IsLine words (Job c) → length text ≤ job_limit → TakesAll left text after → same ≡ text
+  pub job_out : (text same : List ℕ) (c : JobTask) (image : Option Image) → AsksFor words (Job c) → length text ≤ job_limit → TakesAll left text after → same ≡ text
       → IfSome image (JobBegun c same) → RunsOut words left after image
   job_out text same c None r l t e b = unbegun text (inr (Job c, r, tt, omega (arith, l))) (taken_all left text after t)
   job_out text same c (Some image) r l t e b =
-      begun (written text b.0 b.1 (subst (λ (d : JobTask). IsLine words (Job d)) b.3.0 r) l t (subst (λ x. IsJob x b.0 b.1) e b.2) b.3.1)
+      begun (written text b.0 b.1 (subst (λ (d : JobTask). AsksFor words (Job d)) b.3.0 r) l t (subst (λ x. IsJob x b.0 b.1) e b.2) b.3.1)
 
   -- and where that of an assembly was
-  pub assembly_out : (text same : List ℕ) (c : AssemblyTask) (image : Option Image) → IsLine words (Assembly c) → length text ≤ assembly_limit → TakesAll left text after → same ≡ text
+  pub assembly_out : (text same : List ℕ) (c : AssemblyTask) (image : Option Image) → AsksFor words (Assembly c) → length text ≤ assembly_limit → TakesAll left text after → same ≡ text
       → IfSome image (AssemblyBegun c same) → RunsOut words left after image
   assembly_out text same c None r l t e b = unbegun text (inr (Assembly c, r, tt, omega (arith, l))) (taken_all left text after t)
   assembly_out text same c (Some image) r l t e b =

@@ -18,11 +18,11 @@ use Rattle.wsc_top.specs.declared.task.PlainOptions.{PlainOptions}
 use Rattle.wsc_top.specs.declared.task.BenchOptions.{BenchOptions}
 use Rattle.wsc_top.specs.declared.status.Status.{Status}
 use Rattle.wsc_top.specs.declared.status.Status.TheVariants.{ReadFault}
-use Rattle.wsc_top.specs.Tasks.{IsLine}
+use Rattle.wsc_top.specs.Tasks.{AsksFor}
 use Rattle.wsc_top.specs.Job.{IsJob, IsTextAnswer, world_of}
 use Rattle.wsc_top.specs.Assembly.{IsAssembly}
 use Rattle.wsc_top.specs.Generated.{IsGeneratedJob}
-use Rattle.wsc_top.specs.Answers.{TellWords, Yields, formatted, compiled, ended, faulted, going, EndsSo, Answered, refused, done, assembly_text, AssemblyYields, checked, listed, executed, traced, replayed, gridded, AssemblyEndsSo, AssemblyAnswered, Benched, BenchEndsSo, IsReader, limit_of, Answers, usage, generated, benched, unread, long, read, assembled, IsToldJob, IsToldAssembly}
+use Rattle.wsc_top.specs.Answers.{TellWords, Yields, formatted, compiled, ended, faulted, going, JobEndsSo, Answered, refused, done, assembly_text, AssemblyYields, checked, listed, executed, traced, replayed, gridded, AssemblyEndsSo, AssemblyAnswered, Benched, BenchEndsSo, IsReader, limit_of, Answers, usage, generated, benched, unread, long, read, assembled, IsToldJob, IsToldAssembly}
 use Rattle.wsc_top.specs.Answers as answers
 use Rattle.wsc_top.specs.declared.task.Task.{Task}
 use Rattle.wsc_top.proofs.Tasks.{OneLine, same_task_by}
@@ -36,7 +36,7 @@ use Rattle.wsc_top.proofs.Calls.{too_much, told_text}
 
 module _ (law : RunsOnce) (options : PlainOptions) (parts : List Part) (input : List ℕ) (handed : List (Option Told)) where
   plain_so : (status : Status) (out : List ℕ) (image : Option Image) (back : List (Option Told)) → Yields (Plain options) parts input handed status out image back
-      → EndsSo (Plain options) parts input handed status
+      → JobEndsSo (Plain options) parts input handed status
   plain_so status out image back (ended n end r w) = record {
     done = λ h. inl refl;
     fault = λ h. absurd (law.no_end_with_a_fault parts (world_of input) n h.0 h.1 end h.2 r h.3);
@@ -54,15 +54,15 @@ module _ (law : RunsOnce) (options : PlainOptions) (parts : List Part) (input : 
   }
 
 format_so : (parts : List Part) (input : List ℕ) (handed : List (Option Told)) (status : Status) (out : List ℕ) (image : Option Image) (back : List (Option Told))
-    → Yields Format parts input handed status out image back → EndsSo Format parts input handed status
+    → Yields Format parts input handed status out image back → JobEndsSo Format parts input handed status
 format_so parts input handed status out image back (formatted r) = record { done = λ h. inl refl; fault = λ h. absurd h; budget = λ h. absurd h }
 
 compile_so : (parts : List Part) (input : List ℕ) (handed : List (Option Told)) (status : Status) (out : List ℕ) (image : Option Image) (back : List (Option Told))
-    → Yields Compile parts input handed status out image back → EndsSo Compile parts input handed status
+    → Yields Compile parts input handed status out image back → JobEndsSo Compile parts input handed status
 compile_so parts input handed status out again back (compiled image h) = record { done = λ h. inl refl; fault = λ h. absurd h; budget = λ h. absurd h }
 
 yields_so : RunsOnce → (task : JobTask) (parts : List Part) (input : List ℕ) (handed : List (Option Told)) → AllByRecursion IsWord input → TellWords handed
-    → (status : Status) (out : List ℕ) (image : Option Image) (back : List (Option Told)) → Yields task parts input handed status out image back → EndsSo task parts input handed status
+    → (status : Status) (out : List ℕ) (image : Option Image) (back : List (Option Told)) → Yields task parts input handed status out image back → JobEndsSo task parts input handed status
 yields_so law (Run options) parts input handed words told status out image back y = run_so options parts input handed words told status out image back y
 yields_so law Format parts input handed words told status out image back y = format_so parts input handed status out image back y
 yields_so law Compile parts input handed words told status out image back y = compile_so parts input handed status out image back y
@@ -70,10 +70,10 @@ yields_so law (Plain options) parts input handed words told status out image bac
 
 -- so of an answer to a job
 answered_so : RunsOnce → (text : List ℕ) → ExactlyOne (IsTextAnswer text) → (task : JobTask) (parts : List Part) (input : List ℕ) (handed : List (Option Told)) → TellWords handed → IsJob text parts input
-    → (status : Status) (out : List ℕ) (image : Option Image) (back : List (Option Told)) → Answered task text handed status out image back → EndsSo task parts input handed status
+    → (status : Status) (out : List ℕ) (image : Option Image) (back : List (Option Told)) → Answered task text handed status out image back → JobEndsSo task parts input handed status
 answered_so law text once task parts input handed told j status out image back (refused r h) = absurd (refused_job text once r parts input h j)
 answered_so law text once task parts input handed told j status out image back (done others words k y) =
-    subst (λ (x : alike.Job). EndsSo task x.0 x.1 handed status) (one_job text once others parts words input k j)
+    subst (λ (x : alike.Job). JobEndsSo task x.0 x.1 handed status) (one_job text once others parts words input k j)
     (yields_so law task others words handed (input_words _ _ words k.words) told status out image back y)
 
 -- and to an assembly
@@ -96,15 +96,15 @@ assembly_answered_so breaks task text image input handed a status out again back
 
 module _ (one : OneLine) (words : List (List ℕ)) (left after : Option (List ℕ)) (m n : ℕ) (handed : List (Option Told)) where
   -- no more is read of what is told than it has
-  not_long : (task d : Task) (text bytes : List ℕ) → IsLine words task → left ≡ Some text → length text ≤ limit_of task
-      → IsLine words d → length bytes ≡ limit_of d + 1 → Takes left bytes after → ⊥
+  not_long : (task d : Task) (text bytes : List ℕ) → AsksFor words task → left ≡ Some text → length text ≤ limit_of task
+      → AsksFor words d → length bytes ≡ limit_of d + 1 → Takes left bytes after → ⊥
   not_long task d text bytes line told short q k t =
       too_much (limit_of task) left text bytes after told short
       (subst (λ (e : Task). length bytes ≡ limit_of e + 1) (same_task_by one words d task q line) k) t
 
   pub job_answer_so : RunsOnce → ((text : List ℕ) → ExactlyOne (IsTextAnswer text)) → (task : JobTask) (parts : List Part) (input : List ℕ) → TellWords handed → IsToldJob words left task parts input
       → (status : Status) (out : List ℕ) (image : Option Image) (back : List (Option Told)) → Answers words left after m n handed status out image back
-      → (status ≡ ReadFault → ⊥) → EndsSo task parts input handed status
+      → (status ≡ ReadFault → ⊥) → JobEndsSo task parts input handed status
   job_answer_so law once task parts input told t status out image back (usage h e) f = absurd (h (Job task) t.line)
   job_answer_so law once task parts input told t status out image back (generated k q e) f = let same : Generate k ≡ Job task = same_task_by one words (Generate k) (Job task) q t.line in absurd cc
   job_answer_so law once task parts input told t status out image back (benched o q e x) f = let same : Bench o ≡ Job task = same_task_by one words (Bench o) (Job task) q t.line in absurd cc
@@ -113,7 +113,7 @@ module _ (one : OneLine) (words : List (List ℕ)) (left after : Option (List �
   job_answer_so law once task parts input told t status out image back (read d text q k x a) f =
       let whole : Job d ≡ Job task = same_task_by one words (Job d) (Job task) q t.line in
       let same : d ≡ task = cc in
-      subst (λ (e : JobTask). EndsSo e parts input handed status) same
+      subst (λ (e : JobTask). JobEndsSo e parts input handed status) same
       (answered_so law text (once text) d parts input handed told (subst (λ (s : List ℕ). IsJob s parts input) (sym (told_text left t.text text after t.told x)) t.job) status out image back a)
   job_answer_so law once task parts input told t status out image back (assembled d text q k x a) f =
       let same : Assembly d ≡ Job task = same_task_by one words (Assembly d) (Job task) q t.line in absurd cc
@@ -141,7 +141,7 @@ module _ (one : OneLine) (words : List (List ℕ)) (left after : Option (List �
       answered_so law (job_text options.number) (once (job_text options.number)) (Run options.run) parts (words_of options.number) handed told job.job status out image back
       (done b.parts (words_of options.number) b.job.job b.yields)
 
-  pub bench_answer_so : RunsOnce → ((text : List ℕ) → ExactlyOne (IsTextAnswer text)) → (options : BenchOptions) (parts : List Part) → TellWords handed → IsLine words (Bench options) → IsGeneratedJob options.number parts
+  pub bench_answer_so : RunsOnce → ((text : List ℕ) → ExactlyOne (IsTextAnswer text)) → (options : BenchOptions) (parts : List Part) → TellWords handed → AsksFor words (Bench options) → IsGeneratedJob options.number parts
       → (status : Status) (out : List ℕ) (image : Option Image) (back : List (Option Told)) → Answers words left after m n handed status out image back → BenchEndsSo options parts handed status
   bench_answer_so law once options parts told line job status out image back (usage h e) = absurd (h (Bench options) line)
   bench_answer_so law once options parts told line job status out image back (generated k q e) = let same : Generate k ≡ Bench options = same_task_by one words (Generate k) (Bench options) q line in absurd cc

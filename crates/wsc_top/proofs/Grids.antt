@@ -16,7 +16,7 @@ use Rattle.wsc_top.specs.declared.task.Task.TheVariants.{Assembly}
 use Rattle.wsc_top.specs.declared.task.AssemblyTask.{AssemblyTask}
 use Rattle.wsc_top.specs.declared.task.AssemblyTask.TheVariants as task
 use Rattle.wsc_top.specs.declared.task.Report.TheVariants.{Full}
-use Rattle.wsc_top.specs.Tasks.{IsLine, task_of, task_by, options_of, decoupled_options, grid_options}
+use Rattle.wsc_top.specs.Tasks.{AsksFor, task_of, task_by, options_of, decoupled_options, grid_options}
 use Rattle.wsc_top.specs.Executions.{EndsRun}
 use Rattle.wsc_top.specs.Clocked.{InRange, TaskInRange, clocked_status}
 use Rattle.df_core.proofs.Saying.{no_fault_at}
@@ -63,7 +63,7 @@ task_in_range command.Decouple given ranges t e = let same : task.Exec (decouple
 task_in_range command.Grid given ranges t e = let same : task.Grid (grid_options (line_of command.Grid given)) ≡ t = cc in subst TaskInRange same (given_in_range given ranges)
 
 -- a line asks for no other grid
-pub line_in_range : (words : List (List ℕ)) (t : AssemblyTask) → IsLine words (Assembly t) → TaskInRange t
+pub line_in_range : (words : List (List ℕ)) (t : AssemblyTask) → AsksFor words (Assembly t) → TaskInRange t
 line_in_range words t (line, l, e) = task_in_range l.command l.given l.ranges t (ap task_of (sym l.is) ∙ e)
 
 -- a run on a grid ends as a run of the core does

@@ -22,7 +22,7 @@ use Rattle.cfg_core.specs.Graph.{GraphArray}
 use Rattle.cfg_core.specs.Shown.{shown_arrays, shown_cells, shown_among, hidden, is_hidden}
 use Rattle.cfg_build.specs.Keeps as program
 use Rattle.wave_gen.specs.Words.{array_of}
-use Rattle.wave_build.specs.Compiled.{in_graph, shown, ShowsArrays, Shows, WalksAsRun}
+use Rattle.wave_build.specs.Compiled.{in_graph, shown, ShowsArrays, ShowsOutside, WalksAsRun}
 use Rattle.seq_run.specs.Laws.{HasAnswer}
 use Rattle.seq_run.proofs.FirstPasts.{not_within, one_array, one_before}
 use Rattle.seq_run.proofs.OneAnswer.{fronts, some_answer, passed}
@@ -30,7 +30,7 @@ use Rattle.ws_words.specs.Plain.{took_words}
 use Rattle.df_core.specs.Began.{Began}
 use Rattle.port_set.specs.Ports.{Told}
 use Rattle.store_buf.specs.Outdoors.{SlotsAre, port_of}
-use Rattle.wsc_top.specs.Answers.{Does, to_end, to_fault, so_far, IsOnPort}
+use Rattle.wsc_top.specs.Answers.{DoesWithin, to_end, to_fault, so_far, IsOnPort}
 use Rattle.wsc_top.proofs.PortActs.{ports_moved, shown_took, left_shown, port_act, within_next}
 use Rattle.wsc_top.specs.Texts.{names_of, shown_names, name_at, array_name, called, maybe_name, name_or_number}
 use Rattle.wsc_top.proofs.WalkActs.{sizes, HasArray, mem_is, mem_within, acts_next, fault_is_first}
@@ -192,7 +192,7 @@ module _ (parts : List Part) (image : Image) (world : World) (formed : Formed im
     pub runs : Runs parts world turns end
     pub words : printed ≡ printed_words end.acts
     pub rows : image_shown.shown_cells image.arrays cells ≡ end.cells
-    pub shows : Shows image (mem image world t) end
+    pub shows : ShowsOutside image (mem image world t) end
 
   pub end_told : (t : ℕ) → NoFault image world → has_ended image world t ≡ true → (printed : List ℕ) (cells : List (List ℕ)) → printed ≡ printed_words (mem image world t).acts → cells ≡ (mem image world t).cells → EndTold t printed cells
   end_told t none ended printed cells p q =
@@ -211,7 +211,7 @@ module _ (parts : List Part) (image : Image) (world : World) (formed : Formed im
       }
 
   -- the ports are where the run leaves them that is shown
-  pub end_ports : (began : List (Option Began)) (back : List (Option Told)) (t : ℕ) (end : Outside) → Shows image (mem image world t) end → SlotsAre began (mem image world t) back → SlotsAre began end back
+  pub end_ports : (began : List (Option Began)) (back : List (Option Told)) (t : ℕ) (end : Outside) → ShowsOutside image (mem image world t) end → SlotsAre began (mem image world t) back → SlotsAre began end back
   end_ports began back t end shows h =
       ports_moved began (mem image world t) end back shows.left
       (λ slot. sym (shown_took G slot (mem image world t).acts) ∙ ap (took_words slot) shows.acts) h
@@ -229,7 +229,7 @@ module _ (parts : List Part) (image : Image) (world : World) (formed : Formed im
   pub record FrontTold (t : ℕ) : Type 0 where
     pub turns : ℕ
     pub more : List Act
-    pub does : Does parts world turns (shown image (mem image world t).acts ++ more)
+    pub does : DoesWithin parts world turns (shown image (mem image world t).acts ++ more)
 
   module _ (t : ℕ) (first : FirstWithin image world t) where
     abbrev seen : List Act
@@ -247,8 +247,8 @@ module _ (parts : List Part) (image : Image) (world : World) (formed : Formed im
     till_acts : acts_in parts world till ≡ seen ++ behind
     till_acts = (walks.goes_only t).1.1
 
-    told_front : (acts more : List Act) → acts ≡ seen ++ more → Does parts world till acts → FrontTold t
-    told_front acts more e does = record { turns = till; more = more; does = subst (Does parts world till) e does }
+    told_front : (acts more : List Act) → acts ≡ seen ++ more → DoesWithin parts world till acts → FrontTold t
+    told_front acts more e does = record { turns = till; more = more; does = subst (DoesWithin parts world till) e does }
 
     front_by : HasAnswer parts world till → FrontTold t
     front_by (inl e) =
@@ -259,8 +259,8 @@ module _ (parts : List Part) (image : Image) (world : World) (formed : Formed im
     front_by (inr (inl f)) =
         let b = fronts parts world f.turn till f.within in
         let there : FirstPast (lengths_of parts) (acts_in parts world till) f.state.acts f.array =
-        subst (λ (xs : List Act). FirstPast (lengths_of parts) xs f.state.acts f.array) (sym b.rest)
-        (first_more (lengths_of parts) (acts_in parts world f.turn) b.more f.state.acts f.array f.faults.first) in
+        subst (λ (xs : List Act). FirstPast (lengths_of parts) xs f.state.acts f.array) (sym b.1)
+        (first_more (lengths_of parts) (acts_in parts world f.turn) b.0 f.state.acts f.array f.faults.first) in
         let r = within_before (lengths_of parts) there.act there.after f.array there.past seen behind f.state.acts seen_within (sym till_acts ∙ there.split) in
         told_front f.state.acts r.0 r.1 (to_fault f.turn f.array f.state f.within f.faults)
 
@@ -276,7 +276,7 @@ module _ (parts : List Part) (image : Image) (world : World) (formed : Formed im
     pub turns : ℕ
     pub act : Act
     pub more : List Act
-    pub does : Does parts world turns (shown image (mem image world t).acts ++ act ∷ more)
+    pub does : DoesWithin parts world turns (shown image (mem image world t).acts ++ act ∷ more)
     pub on : IsOnPort port act
 
   pub fail_told : (t port : ℕ) (x : Inst) → fires image world t ≡ Some x → port_of (instr_at image x.instr).op ≡ Some port → FirstWithin image world t → FailTold t port
@@ -291,7 +291,7 @@ module _ (parts : List Part) (image : Image) (world : World) (formed : Formed im
         turns = r.turns;
         act = p.act;
         more = r.more;
-        does = subst (Does parts world r.turns)
+        does = subst (DoesWithin parts world r.turns)
             (ap (λ (xs : List Act). xs ++ r.more) next ∙ append_assoc (shown image (mem image world t).acts) (p.act ∷ []) r.more) r.does;
         on = p.on;
       }
@@ -355,8 +355,8 @@ module _ (parts : List Part) (image : Image) (world : World) (formed : Formed im
     told array printed cells a p q (inr (inl f)) =
         let b = fronts parts world f.turn turns f.within in
         let there : FirstPast (lengths_of parts) (acts_in parts world turns) f.state.acts f.array =
-        subst (λ (xs : List Act). FirstPast (lengths_of parts) xs f.state.acts f.array) (sym b.rest)
-        (first_more (lengths_of parts) (acts_in parts world f.turn) b.more f.state.acts f.array f.faults.first) in
+        subst (λ (xs : List Act). FirstPast (lengths_of parts) xs f.state.acts f.array) (sym b.1)
+        (first_more (lengths_of parts) (acts_in parts world f.turn) b.0 f.state.acts f.array f.faults.first) in
         let same : f.state.acts ≡ shown image (mem image world t).acts = one_before (lengths_of parts) (acts_in parts world turns) f.state.acts (shown image (mem image world t).acts) f.array (shown_among on G) there run_fault in
         let number : f.array ≡ shown_among on G = one_array (lengths_of parts) (acts_in parts world turns) f.state.acts (shown image (mem image world t).acts) f.array (shown_among on G) there run_fault in
         record {

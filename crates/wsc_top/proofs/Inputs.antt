@@ -9,7 +9,7 @@ use Rattle.ws_words.specs.Digits.{is_number, value_of}
 use Rattle.src_ast.specs.declared.lexeme.Place.{Place}
 use Rattle.src_ast.specs.Lexemes.{start, after, is_blank}
 use Rattle.src_ast.specs.Once.{ExactlyOne}
-use Rattle.wsc_top.specs.Sections.{program_of, input_place, IsItem, IsWordText, Items, stop, next, InputWords, InputFault, IsInputAnswer}
+use Rattle.wsc_top.specs.Sections.{program_of, input_place, IsItem, IsWordText, InputItems, stop, next, InputWords, InputFault, IsInputAnswer}
 use Rattle.ws_words.specs.Letters.{starts_without}
 use Rattle.ws_words.proofs.Runs.{prefix_all, prefix_stops}
 use Rattle.ws_words.proofs.Numbers.{one_more}
@@ -59,7 +59,7 @@ word_same : (a b : List ℕ) (v w : ℕ) → a ≡ b → IsWordText a v → IsWo
 word_same a b v w e h k = sym h.1 ∙ (ap value_of e ∙ k.1)
 
 -- two readings of a text have the same words, where the first comes to its end
-same_words : (at : Place) (text ws vs : List ℕ) (p q : Place) (r s : List ℕ) → Items at text ws p r → Items at text vs q s → r ≡ [] → s ≡ [] → ws ≡ vs
+same_words : (at : Place) (text ws vs : List ℕ) (p q : Place) (r s : List ℕ) → InputItems at text ws p r → InputItems at text vs q s → r ≡ [] → s ≡ [] → ws ≡ vs
 same_words at text ws vs p q r s (stop a e h n o) (stop b f k m u) x y = refl
 same_words at text ws vs p q r s (stop a e h n o) (next w b bytes further f k i t more) x y =
     let same = run_same is_blank a b r (bytes ++ further) h k n (item_starts bytes further i) (sym e ∙ f) in
@@ -70,12 +70,12 @@ same_words at text ws vs p q r s (next w b bytes further f k i t more) (stop a e
 same_words at text ws vs p q r s (next {words = us} w b bytes further f k i t more) (next {words = zs} v c others far g l j u rest) x y =
     let same = run_same is_blank b c (bytes ++ further) (others ++ far) k l (item_starts bytes further i) (item_starts others far j) (sym f ∙ g) in
     let items = run_same is_dense bytes others further far i.dense j.dense i.longest j.longest same.rest in
-    let again : Items (after (after at b) bytes) further zs q s = subst (λ z. Items (after (after at z) bytes) further zs q s) (sym same.run)
-    (subst (λ z. Items (after (after at c) z) further zs q s) (sym items.run) (subst (λ z. Items (after (after at c) others) z zs q s) (sym items.rest) rest)) in
+    let again : InputItems (after (after at b) bytes) further zs q s = subst (λ z. InputItems (after (after at z) bytes) further zs q s) (sym same.run)
+    (subst (λ z. InputItems (after (after at c) z) further zs q s) (sym items.run) (subst (λ z. InputItems (after (after at c) others) z zs q s) (sym items.rest) rest)) in
     ap (λ n. n ∷ us) (word_same bytes others w v items.run t u) ∙ ap (λ z. v ∷ z) (same_words _ further us zs p q r s more again x y)
 
 -- a text of words has no item that is none
-no_fault : (at : Place) (text ws vs : List ℕ) (p q : Place) (r s bad far : List ℕ) → Items at text ws p r → Items at text vs q s → r ≡ [] → s ≡ bad ++ far → IsItem bad far → ((w : ℕ) → IsWordText bad w → ⊥) → ⊥
+no_fault : (at : Place) (text ws vs : List ℕ) (p q : Place) (r s bad far : List ℕ) → InputItems at text ws p r → InputItems at text vs q s → r ≡ [] → s ≡ bad ++ far → IsItem bad far → ((w : ℕ) → IsWordText bad w → ⊥) → ⊥
 no_fault at text ws vs p q r s bad far (stop a e h n o) (stop b f k m u) x y item wrong =
     let same = run_same is_blank a b r s h k n m (sym e ∙ f) in
     no_item bad far item (sym y ∙ sym same.rest ∙ x)
@@ -89,8 +89,8 @@ no_fault at text ws vs p q r s bad far (next w b bytes further f k i t more) (st
 no_fault at text ws vs p q r s bad far (next {words = us} w b bytes further f k i t more) (next {words = zs} v c others away g l j u rest) x y item wrong =
     let same = run_same is_blank b c (bytes ++ further) (others ++ away) k l (item_starts bytes further i) (item_starts others away j) (sym f ∙ g) in
     let items = run_same is_dense bytes others further away i.dense j.dense i.longest j.longest same.rest in
-    let again : Items (after (after at b) bytes) further zs q s = subst (λ z. Items (after (after at z) bytes) further zs q s) (sym same.run)
-    (subst (λ z. Items (after (after at c) z) further zs q s) (sym items.run) (subst (λ z. Items (after (after at c) others) z zs q s) (sym items.rest) rest)) in
+    let again : InputItems (after (after at b) bytes) further zs q s = subst (λ z. InputItems (after (after at z) bytes) further zs q s) (sym same.run)
+    (subst (λ z. InputItems (after (after at c) z) further zs q s) (sym items.run) (subst (λ z. InputItems (after (after at c) others) z zs q s) (sym items.rest) rest)) in
     no_fault _ further us zs p q r s bad far more again x y item wrong
 
 pub one_list : (at : Place) (text ws vs : List ℕ) → InputWords at text ws → InputWords at text vs → ws ≡ vs
@@ -101,7 +101,7 @@ no_fault_in_words at text ws p a b = no_fault at text ws b.words a.place p [] (b
 
 -- Whatever the rest leads to, the whole does.
 pub record Reading (at : Place) (text words : List ℕ) (place : Place) (rest : List ℕ) : Type 0 where
-  pub leads : (more : List ℕ) (p : Place) (r : List ℕ) → Items place rest more p r → Items at text (words ++ more) p r
+  pub leads : (more : List ℕ) (p : Place) (r : List ℕ) → InputItems place rest more p r → InputItems at text (words ++ more) p r
 
 pub reads_none : (at : Place) (text : List ℕ) → Reading at text [] at text
 reads_none at text = record { leads = λ more p r h. h }
@@ -124,7 +124,7 @@ item_run (b ∷ text) run rest n h s e f g =
 pub reads_end : (at place : Place) (text words rest blanks front : List ℕ) → Reading at text words place rest → rest ≡ blanks ++ front → IsTrue (list_all is_blank blanks) → front ≡ [] → InputWords at text words
 reads_end at place text words rest blanks front r e h n = record {
   place = after place blanks;
-  items = subst (λ ws. Items at text ws (after place blanks) []) (append-nil words) (r.leads [] (after place blanks) [] (stop blanks (e ∙ ap (λ x. blanks ++ x) n) h refl refl));
+  items = subst (λ ws. InputItems at text ws (after place blanks) []) (append-nil words) (r.leads [] (after place blanks) [] (stop blanks (e ∙ ap (λ x. blanks ++ x) n) h refl refl));
 }
 
 -- an item that is no word
@@ -134,7 +134,7 @@ reads_fault at place after_blanks text words rest blanks front bytes further r e
   words = words;
   bytes = bytes;
   further = further;
-  items = subst (λ ws. Items at text ws after_blanks (bytes ++ further)) (append-nil words)
+  items = subst (λ ws. InputItems at text ws after_blanks (bytes ++ further)) (append-nil words)
       (r.leads [] after_blanks (bytes ++ further) (stop blanks (e ∙ ap (λ x. blanks ++ x) f) h (subst (λ x. IsTrue (starts_without is_blank x)) f s) p));
   item = i;
   wrong = wrong;
@@ -146,15 +146,15 @@ pub reads_word : (at place after_blanks after_item : Place) (text words more res
     → Reading at text more after_item further
 reads_word at place after_blanks after_item text words more rest blanks front bytes further word r e h p f i t q m = record {
   leads = λ others far x items.
-      subst (λ ws. Items at text ws far x) (sym (append_assoc words (word ∷ []) others) ∙ ap (λ z. z ++ others) (sym m))
-      (r.leads (word ∷ others) far x (next word blanks bytes further (e ∙ ap (λ z. blanks ++ z) f) h i t (subst (λ z. Items z further others far x) (q ∙ ap (λ z. after z bytes) p) items)));
+      subst (λ ws. InputItems at text ws far x) (sym (append_assoc words (word ∷ []) others) ∙ ap (λ z. z ++ others) (sym m))
+      (r.leads (word ∷ others) far x (next word blanks bytes further (e ∙ ap (λ z. blanks ++ z) f) h i t (subst (λ z. InputItems z further others far x) (q ∙ ap (λ z. after z bytes) p) items)));
 }
 
 pub empty_is : (xs : List ℕ) (b : Bool) → b ≡ (length xs == 0) → b ≡ true → xs ≡ []
 empty_is xs b e h = nil_from_length xs (eqb-true (length xs) 0 (sym e ∙ h))
 
 -- two readings that end at items that are no words end at one place
-same_fault : (at : Place) (text ws vs : List ℕ) (p q : Place) (r s bad far ill away : List ℕ) → Items at text ws p r → Items at text vs q s → r ≡ bad ++ far → s ≡ ill ++ away
+same_fault : (at : Place) (text ws vs : List ℕ) (p q : Place) (r s bad far ill away : List ℕ) → InputItems at text ws p r → InputItems at text vs q s → r ≡ bad ++ far → s ≡ ill ++ away
     → IsItem bad far → IsItem ill away → ((w : ℕ) → IsWordText bad w → ⊥) → ((w : ℕ) → IsWordText ill w → ⊥) → p ≡ q
 same_fault at text ws vs p q r s bad far ill away (stop a e h n o) (stop b f k m u) x y item other wrong mistaken =
     let same = run_same is_blank a b r s h k n m (sym e ∙ f) in
@@ -170,8 +170,8 @@ same_fault at text ws vs p q r s bad far ill away (next w b bytes further f k i 
 same_fault at text ws vs p q r s bad far ill away (next {words = us} w b bytes further f k i t more) (next {words = zs} v c others along g l j u rest) x y item other wrong mistaken =
     let same = run_same is_blank b c (bytes ++ further) (others ++ along) k l (item_starts bytes further i) (item_starts others along j) (sym f ∙ g) in
     let items = run_same is_dense bytes others further along i.dense j.dense i.longest j.longest same.rest in
-    let again : Items (after (after at b) bytes) further zs q s = subst (λ z. Items (after (after at z) bytes) further zs q s) (sym same.run)
-    (subst (λ z. Items (after (after at c) z) further zs q s) (sym items.run) (subst (λ z. Items (after (after at c) others) z zs q s) (sym items.rest) rest)) in
+    let again : InputItems (after (after at b) bytes) further zs q s = subst (λ z. InputItems (after (after at z) bytes) further zs q s) (sym same.run)
+    (subst (λ z. InputItems (after (after at c) z) further zs q s) (sym items.run) (subst (λ z. InputItems (after (after at c) others) z zs q s) (sym items.rest) rest)) in
     same_fault _ further us zs p q r s bad far ill away more again x y item other wrong mistaken
 
 -- an input section has at most one first item that is no word

@@ -16,8 +16,8 @@ use Rattle.wsc_top.specs.declared.status.Status.TheVariants.{Refused}
 use Rattle.wsc_top.specs.Sections.{program_of, input_of, input_place, InputWords, IsInputFault, AnswersWords}
 use Rattle.wsc_top.specs.Texts.{refusal_text}
 use Rattle.wsc_top.specs.Job.{ReadsAs, IsJob, Refuses, program, input, IsRefused, IsProgramFault, AnswersParts}
-use Rattle.wsc_top.specs.declared.step.Step.{Step}
-use Rattle.wsc_top.specs.declared.step.Step.TheVariants.{Ready, Run as Due, Threads as Many}
+use Rattle.wsc_top.specs.declared.step.CallStep.{CallStep}
+use Rattle.wsc_top.specs.declared.step.CallStep.TheVariants.{Ready, Run as Due, Threads as Many}
 use Rattle.wsc_top.specs.Answers.{Answered, refused, done}
 use Rattle.wsc_top.specs.Steps.{YieldStep, JobStep}
 
@@ -54,7 +54,7 @@ pub refused_step : (task : JobTask) (text out : List ℕ) (r : Refusal) → Refu
 refused_step task text out r h e handed = subst (λ o. Answered task text handed Refused o None handed) (sym e) (refused r h)
 
 -- and where it is a job
-pub job_step : (task : JobTask) (text : List ℕ) (parts : List Part) (ws : List ℕ) (step : Step) → IsJob text parts ws → YieldStep task parts ws step → JobStep task text step
+pub job_step : (task : JobTask) (text : List ℕ) (parts : List Part) (ws : List ℕ) (step : CallStep) → IsJob text parts ws → YieldStep task parts ws step → JobStep task text step
 job_step task text parts ws (Ready status out image) j y = λ handed. done parts ws j (y handed)
 job_step task text parts ws (Many options jobs) j y = absurd y
 job_step task text parts ws (Due options image words) j y = (y.0, parts, subst (λ (xs : List ℕ). IsJob text parts xs) (sym y.1) j, y.2)

@@ -29,7 +29,7 @@ use Rattle.wsc_top.specs.declared.task.JobTask.TheVariants.{Compile}
 use Rattle.wsc_top.specs.declared.task.AssemblyTask.TheVariants.{Replay}
 use Rattle.wsc_top.specs.Job.{world_of}
 use Rattle.wsc_top.specs.Assembly.{IsAssembly}
-use Rattle.wsc_top.specs.Sections.{rest_of, after_line, input_place, trace_section, before_trace, trace_of, trace_line, Items, stop, next, InputWords}
+use Rattle.wsc_top.specs.Sections.{rest_of, after_line, input_place, trace_section, before_trace, trace_of, trace_line, InputItems, stop, next, InputWords}
 use Rattle.wsc_top.specs.Texts.{word_line, with_input}
 use Rattle.wsc_top.specs.Traced as traces
 use Rattle.wsc_top.specs.Traced.{traced_text, trace_status, replayed_text, IsTraced, illegal, made, IsReplayed, missing, faulty, HasTrace, CanReplay}
@@ -73,7 +73,7 @@ module _ (program : List ℕ) (plain : is_plain true program ≡ true) (input : 
       ap (λ t. take cut t) whole_is ∙ take_at front section cut (omega (arith, behind, all))
 
 -- the words of an input section are below 2^64
-are_words : (at place : Place) (text rest words : List ℕ) → Items at text words place rest → AllByRecursion IsWord words
+are_words : (at place : Place) (text rest words : List ℕ) → InputItems at text words place rest → AllByRecursion IsWord words
 are_words at place text rest words (stop blanks e b n o) = tt
 are_words at place text rest words (next {words = others} w blanks bytes further e b i t more) = (t.2, are_words _ place further rest others more)
 

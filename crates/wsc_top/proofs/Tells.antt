@@ -24,10 +24,10 @@ use Rattle.wsc_top.specs.declared.status.Status.TheVariants.{Done, Usage, Refuse
 use Rattle.wsc_top.specs.declared.task.RunOptions.{RunOptions}
 use Rattle.wsc_top.specs.declared.task.JobTask.TheVariants.{Run}
 use Rattle.wsc_top.specs.Texts.{names_of, array_name, shown_names, called}
-use Rattle.wsc_top.specs.Sections.{InputWords, Items, stop, next}
-use Rattle.wsc_top.specs.Executions.{PortsAre, IsSpent, Executes, rested, spent, stopped, failed, OrFailed, end_report, fault_report, spent_report, failed_report}
+use Rattle.wsc_top.specs.Sections.{InputWords, InputItems, stop, next}
+use Rattle.wsc_top.specs.Executions.{PortsAre, StopsShort, Executes, rested, spent, stopped, failed, OrFailed, end_report, fault_report, spent_report, failed_report}
 use Rattle.wsc_top.specs.Executions as executions
-use Rattle.wsc_top.specs.Answers.{TellWords, IsCompiled, TellsRun, Yields, ran, EndsSo, ComesToItsEnd, MeetsFault}
+use Rattle.wsc_top.specs.Answers.{TellWords, IsCompiled, TellsRun, Yields, ran, JobEndsSo, ComesToItsEnd, MeetsFault}
 use Rattle.wsc_top.specs.Answers as answers
 use Rattle.wsc_top.proofs.PortActs.{ports_moved}
 use Rattle.wsc_top.proofs.AssembliesOnce.{WalksOnce, either_way, one_walk, one_effect, one_print, one_cells}
@@ -35,7 +35,7 @@ use Rattle.wsc_top.proofs.Headline.{end_told, end_ports, act_ports, front_told, 
 use Rattle.df_core.proofs.Issuing.{took_alike}
 
 -- the words of an input section are words
-items_words : (at place : Place) (text words rest : List ℕ) → Items at text words place rest → AllByRecursion IsWord words
+items_words : (at place : Place) (text words rest : List ℕ) → InputItems at text words place rest → AllByRecursion IsWord words
 items_words at place text words rest (stop blanks e all starts is) = tt
 items_words at place text words rest (next word blanks bytes further e all item is items) = (is.2, items_words _ place further _ rest items)
 
@@ -79,7 +79,7 @@ module _ (known : WalksOnce) (whole : WalksEnd) (options : RunOptions) (parts : 
       subst (λ (o : List ℕ). TellsRun options parts world handed Done o back) text
       (answers.TellsRun.ended r.turns fired r.end r.runs le (end_ports parts image world c.formed c.arrays walks (began_of handed) back e.0 r.end r.shows there))
 
-  spent_tells : (t : ℕ) → IsSpent image world options.budget t → PortsAre handed (mem image world t) back
+  spent_tells : (t : ℕ) → StopsShort image world options.budget t → PortsAre handed (mem image world t) back
       → TellsRun options parts world handed Budget (spent_report options.report (printed_words (mem image world t).acts) options.budget) back
   spent_tells t s ports =
       let r = front_told parts image world c.formed c.arrays walks t s.within in
@@ -174,7 +174,7 @@ module _ (options : RunOptions) (parts : List Part) (input : List ℕ) (handed :
   tells_fault status out back unspent (answers.TellsRun.spent n front more e ports) h = absurd (unspent refl)
   tells_fault status out back unspent (answers.TellsRun.failed n port front more act e on rose ports) h = inr (port, refl)
 
-  pub run_so : (status : Status) (out : List ℕ) (image : Option Image) (back : List (Option Told)) → Yields (Run options) parts input handed status out image back → EndsSo (Run options) parts input handed status
+  pub run_so : (status : Status) (out : List ℕ) (image : Option Image) (back : List (Option Told)) → Yields (Run options) parts input handed status out image back → JobEndsSo (Run options) parts input handed status
   run_so status out some back (ran image c e tells) = record {
     done = λ h. tells_done status out back (never_spent image status out back c e h.0 h.1 h.2.passes h.3) tells h;
     fault = λ h. tells_fault status out back (never_spent image status out back c e h.1.0 h.1.1 h.1.2 h.1.3) tells h;

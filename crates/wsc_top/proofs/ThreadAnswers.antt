@@ -22,7 +22,7 @@ use Rattle.wsc_top.specs.declared.task.Task.{Task}
 use Rattle.wsc_top.specs.declared.task.Task.TheVariants.{Job, Assembly, Generate, Bench, Multi}
 use Rattle.wsc_top.specs.declared.task.JobTask.TheVariants.{Run}
 use Rattle.wsc_top.specs.declared.task.RunOptions.{RunOptions}
-use Rattle.wsc_top.specs.Tasks.{IsLine, IsNoLine}
+use Rattle.wsc_top.specs.Tasks.{AsksFor, IsNoLine}
 use Rattle.wsc_top.specs.Job.{job_limit, IsJob, IsTextAnswer}
 use Rattle.wsc_top.specs.Jobs.{most_jobs, Piece, last, next, Jobs, ProgramAndInput, AreJobs, jobs_refusal_text}
 use Rattle.wsc_top.specs.Executions.{Executes, rested, spent, stopped, failed, PortsAre, IsFailed, OrFailed}
@@ -240,7 +240,7 @@ module _ (words : List (List ℕ)) (left after : Option (List ℕ)) (m n : ℕ) 
   reply_no_line status out image images back h (together o text q short takes a) = absurd (h (Multi o) q)
 
   -- nor are those that ask for another task
-  pub reply_other : (status : Status) (out : List ℕ) (image : Option Image) (images : List Image) (back : List (Option Told)) → OneLine → (task : Task) → IsLine words task → ((o : RunOptions) → Multi o ≡ task → ⊥)
+  pub reply_other : (status : Status) (out : List ℕ) (image : Option Image) (images : List Image) (back : List (Option Told)) → OneLine → (task : Task) → AsksFor words task → ((o : RunOptions) → Multi o ≡ task → ⊥)
       → Replies words left after m n handed status out image images back → Answers words left after m n handed status out image back
   reply_other status out image images back one task line not (alone a) = a
   reply_other status out image images back one task line not (together o text q short takes a) = absurd (not o (same_task_by one words (Multi o) task q line))

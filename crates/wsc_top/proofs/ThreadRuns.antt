@@ -15,7 +15,7 @@ use Rattle.wsc_top.specs.declared.task.RunOptions.{RunOptions}
 use Rattle.wsc_top.specs.Answers.{TellWords}
 use Rattle.wsc_top.specs.Jobs.{most_jobs}
 use Rattle.wsc_top.specs.Threads.{no_ports, ThreadsDo, none, more, status_of, Thread, images_of, inputs_of, ExecutesAlone, HaveBegun}
-use Rattle.wsc_top.specs.Running.{alone_with, alone_at, Reply, ThreadTold, BeforeSo, RunEnds, AllTold}
+use Rattle.wsc_top.specs.Running.{alone_with, alone_at, StatusText, ThreadTold, BeforeSo, RunEnds, AllTold}
 use Rattle.wsc_top.proofs.Runs.{run_executes, run_begun}
 
 -- Slots without ports.
@@ -97,13 +97,13 @@ undone_status NoMemory further h = refl
 undone_status Fault further h = refl
 
 module _ {P : Type 0} (tells : P → Told) (options : RunOptions) where
-  abbrev Fits : ℕ → List Thread → List (Option Told) → Reply → List (Option Told) → Type 0
+  abbrev Fits : ℕ → List Thread → List (Option Told) → StatusText → List (Option Told) → Type 0
   Fits t threads handed told back = (statuses : List Status) × ThreadsDo (ExecutesAlone options) t threads handed statuses told.1 back × (told.0 ≡ status_of statuses)
 
   abbrev alone_of : List (Option Told) → Thread → Alone
   alone_of handed x = record { image = x.image; world = world_with x.input handed; handed = handed; budget = options.budget }
 
-  fits_one : (t : ℕ) (x : Thread) (xs : List Thread) (handed others : List (Option Told)) (end : RunEnd P) (further told : Reply) → EndsAlone tells (alone_of handed x) end
+  fits_one : (t : ℕ) (x : Thread) (xs : List Thread) (handed others : List (Option Told)) (end : RunEnd P) (further told : StatusText) → EndsAlone tells (alone_of handed x) end
       → ThreadTold options t x.image end.finish further told → Fits (suc t) xs no_ports further others → Fits t (x ∷ xs) handed told (contents tells end.ports)
   fits_one t x xs handed others end further told ends is fits =
       let runs = run_executes options x.image (world_with x.input handed) handed (contents tells end.ports) end.finish is.0 is.1 ends.0 is.2 in (
@@ -118,19 +118,19 @@ module _ {P : Type 0} (tells : P → Told) (options : RunOptions) where
   EndsOf (x ∷ xs) handed [] = ⊥
   EndsOf (x ∷ xs) handed (e ∷ es) = EndSo tells (Some (alone_of handed x)) e × EndsOf xs no_ports es
 
-  abbrev ToldOf : ℕ → List Thread → List (Option (RunEnd P)) → Reply → Type 0
+  abbrev ToldOf : ℕ → List Thread → List (Option (RunEnd P)) → StatusText → Type 0
   ToldOf t xs [] told = told ≡ (Done, [])
-  ToldOf t [] (e ∷ es) told = (further : Reply) × BeforeSo options t None e further told × ToldOf (suc t) [] es further
-  ToldOf t (x ∷ xs) (e ∷ es) told = (further : Reply) × BeforeSo options t (Some x.image) e further told × ToldOf (suc t) xs es further
+  ToldOf t [] (e ∷ es) told = (further : StatusText) × BeforeSo options t None e further told × ToldOf (suc t) [] es further
+  ToldOf t (x ∷ xs) (e ∷ es) told = (further : StatusText) × BeforeSo options t (Some x.image) e further told × ToldOf (suc t) xs es further
 
-  silent : (t : ℕ) (es : List (Option (RunEnd P))) (told : Reply) → ToldOf t [] es told → told ≡ (Done, [])
+  silent : (t : ℕ) (es : List (Option (RunEnd P))) (told : StatusText) → ToldOf t [] es told → told ≡ (Done, [])
   silent t [] told is = is
   silent t (e ∷ es) told is = is.1 ∙ silent (suc t) es is.0 is.2
 
-  fits_none : (t : ℕ) (handed : List (Option Told)) (told : Reply) → told ≡ (Done, []) → Fits t [] handed told handed
-  fits_none t handed told e = ([], subst (λ (r : Reply). ThreadsDo (ExecutesAlone options) t [] handed [] r.1 handed) (sym e) none, ap (λ (r : Reply). r.0) e)
+  fits_none : (t : ℕ) (handed : List (Option Told)) (told : StatusText) → told ≡ (Done, []) → Fits t [] handed told handed
+  fits_none t handed told e = ([], subst (λ (r : StatusText). ThreadsDo (ExecutesAlone options) t [] handed [] r.1 handed) (sym e) none, ap (λ (r : StatusText). r.0) e)
 
-  fits_all : (t : ℕ) (xs : List Thread) (handed : List (Option Told)) (es : List (Option (RunEnd P))) (told : Reply) → EndsOf xs handed es → ToldOf t xs es told → (back : List (Option Told)) × Fits t xs handed told back
+  fits_all : (t : ℕ) (xs : List Thread) (handed : List (Option Told)) (es : List (Option (RunEnd P))) (told : StatusText) → EndsOf xs handed es → ToldOf t xs es told → (back : List (Option Told)) × Fits t xs handed told back
   fits_all t [] handed es told ends is = (handed, fits_none t handed told (silent t es told is))
   fits_all t (x ∷ xs) handed [] told ends is = absurd ends
   fits_all t (x ∷ xs) handed (None ∷ es) told ends is = absurd ends.0
@@ -139,7 +139,7 @@ module _ {P : Type 0} (tells : P → Told) (options : RunOptions) where
       (contents tells end.ports, fits_one t x xs handed r.0 end is.0 told ends.0 is.1 r.1)
 
   -- the ports are those of the first
-  fits_first : (t : ℕ) (x : Thread) (xs : List Thread) (handed : List (Option Told)) (end : RunEnd P) (es : List (Option (RunEnd P))) (told : Reply) → EndsOf (x ∷ xs) handed (Some end ∷ es) → ToldOf t (x ∷ xs) (Some end ∷ es) told
+  fits_first : (t : ℕ) (x : Thread) (xs : List Thread) (handed : List (Option Told)) (end : RunEnd P) (es : List (Option (RunEnd P))) (told : StatusText) → EndsOf (x ∷ xs) handed (Some end ∷ es) → ToldOf t (x ∷ xs) (Some end ∷ es) told
       → Fits t (x ∷ xs) handed told (contents tells end.ports)
   fits_first t x xs handed end es told ends is =
       let r = fits_all (suc t) xs no_ports es is.0 ends.1 is.2 in fits_one t x xs handed r.0 end is.0 told ends.0 is.1 r.1
@@ -160,7 +160,7 @@ module _ {P : Type 0} (tells : P → Told) (options : RunOptions) where
   ends_of (a ∷ b ∷ c ∷ d ∷ []) handed ends some few h = (h.0, (h.1, (h.2, (h.3, tt))))
   ends_of (a ∷ b ∷ c ∷ d ∷ e ∷ xs) handed ends some few h = absurd (omega (arith, few))
 
-  told_of : (xs : List Thread) (ends : RunEnds P) (told : Reply) → 1 ≤ length xs → length xs ≤ most_jobs → AllTold options (images_of xs) ends told → ToldOf 1 xs (list_of ends) told
+  told_of : (xs : List Thread) (ends : RunEnds P) (told : StatusText) → 1 ≤ length xs → length xs ≤ most_jobs → AllTold options (images_of xs) ends told → ToldOf 1 xs (list_of ends) told
   told_of [] ends told some few h = absurd (omega (arith, some))
   told_of (a ∷ []) ends told some few h = (h.second, h.first_is, (h.third, h.second_is, (h.fourth, h.third_is, ((Done, []), h.fourth_is, refl))))
   told_of (a ∷ b ∷ []) ends told some few h = (h.second, h.first_is, (h.third, h.second_is, (h.fourth, h.third_is, ((Done, []), h.fourth_is, refl))))
@@ -168,7 +168,7 @@ module _ {P : Type 0} (tells : P → Told) (options : RunOptions) where
   told_of (a ∷ b ∷ c ∷ d ∷ []) ends told some few h = (h.second, h.first_is, (h.third, h.second_is, (h.fourth, h.third_is, ((Done, []), h.fourth_is, refl))))
   told_of (a ∷ b ∷ c ∷ d ∷ e ∷ xs) ends told some few h = absurd (omega (arith, few))
 
-  first_of' : (xs : List Thread) (handed : List (Option Told)) (first : Option (RunEnd P)) (es : List (Option (RunEnd P))) (end : RunEnd P) (told : Reply) → first ≡ Some end → 1 ≤ length xs
+  first_of' : (xs : List Thread) (handed : List (Option Told)) (first : Option (RunEnd P)) (es : List (Option (RunEnd P))) (end : RunEnd P) (told : StatusText) → first ≡ Some end → 1 ≤ length xs
       → EndsOf xs handed (first ∷ es) → ToldOf 1 xs (first ∷ es) told → Fits 1 xs handed told (contents tells end.ports)
   first_of' [] handed first es end told e some ends is = absurd (omega (arith, some))
   first_of' (x ∷ xs) handed first es end told e some ends is =
@@ -176,7 +176,7 @@ module _ {P : Type 0} (tells : P → Told) (options : RunOptions) where
       (subst (λ (f : Option (RunEnd P)). EndsOf (x ∷ xs) handed (f ∷ es)) e ends) (subst (λ (f : Option (RunEnd P)). ToldOf 1 (x ∷ xs) (f ∷ es) told) e is)
 
   -- where all is told, it is what the threads do
-  pub all_executed : (xs : List Thread) (handed : List (Option Told)) (ends : RunEnds P) (end : RunEnd P) (told : Reply) → ends.first ≡ Some end → 1 ≤ length xs → length xs ≤ most_jobs
+  pub all_executed : (xs : List Thread) (handed : List (Option Told)) (ends : RunEnds P) (end : RunEnd P) (told : StatusText) → ends.first ≡ Some end → 1 ≤ length xs → length xs ≤ most_jobs
       → EachEnds (images_of xs) (inputs_of xs) handed ends → AllTold options (images_of xs) ends told
       → (statuses : List Status) × ThreadsDo (ExecutesAlone options) 1 xs handed statuses told.1 (contents tells end.ports) × (told.0 ≡ status_of statuses)
   all_executed xs handed ends end told e some few h is =
@@ -229,7 +229,7 @@ count_inputs (x ∷ xs) = ap suc (count_inputs xs)
 -- The run of all, from what its pieces say.
 module _ {P : Type 0} (tells : P → Told) (options : RunOptions) (images : List Image) (inputs : List (List ℕ)) (handed : List (Option Told)) (some : 1 ≤ length inputs) (few : length inputs ≤ most_jobs)
     (ends : RunEnds P) (ports : Slots P) (ports_are : IfSome ends.first (λ e. ports ≡ e.ports)) (each : EachEnds tells options images inputs handed ends) where
-  pub told_runs : (told : Reply) → AllTold options images ends told → (xs : List Thread) → images_of xs ≡ images → inputs_of xs ≡ inputs
+  pub told_runs : (told : StatusText) → AllTold options images ends told → (xs : List Thread) → images_of xs ≡ images → inputs_of xs ≡ inputs
       → (statuses : List Status) × ThreadsDo (ExecutesAlone options) 1 xs handed statuses told.1 (contents tells ports) × (told.0 ≡ status_of statuses)
   told_runs told is xs i w = go ends.first refl ports_are
     where
@@ -253,7 +253,7 @@ module _ {P : Type 0} (tells : P → Told) (options : RunOptions) (images : List
           let r = all_executed tells options xs handed ends end told e all_some all_few own (subst (λ (y : List Image). AllTold options y ends told) (sym i) is) in
           subst (λ (s : Slots P). (statuses : List Status) × ThreadsDo (ExecutesAlone options) 1 xs handed statuses told.1 (contents tells s) × (told.0 ≡ status_of statuses)) (sym p) r
 
-  pub answer_runs : {E : Type 0} (answer : Result Reply E) → IfOk answer (λ y. AllTold options images ends y) → IfOk answer (λ y. (xs : List Thread) → images_of xs ≡ images → inputs_of xs ≡ inputs
+  pub answer_runs : {E : Type 0} (answer : Result StatusText E) → IfOk answer (λ y. AllTold options images ends y) → IfOk answer (λ y. (xs : List Thread) → images_of xs ≡ images → inputs_of xs ≡ inputs
       → (statuses : List Status) × ThreadsDo (ExecutesAlone options) 1 xs handed statuses y.1 (contents tells ports) × (y.0 ≡ status_of statuses))
   answer_runs (Ok y) is = told_runs y is
   answer_runs (Err e) is = tt
@@ -267,13 +267,13 @@ module _ {P : Type 0} (tells : P → Told) (options : RunOptions) (images : List
       go (y ∷ ys) None n p h = absurd h
       go (y ∷ ys) (Some end) n p h = subst (λ (s : Slots P). HaveBegun (y ∷ ys) handed (contents tells s)) (sym p) (has_begun tells options (y ∷ ys) handed (Some end) end refl n h)
 
-  pub answer_begun : {E : Type 0} (answer : Result Reply E) → OnErr answer ((xs : List Thread) → images_of xs ≡ images → inputs_of xs ≡ inputs → HaveBegun xs handed (contents tells ports))
+  pub answer_begun : {E : Type 0} (answer : Result StatusText E) → OnErr answer ((xs : List Thread) → images_of xs ≡ images → inputs_of xs ≡ inputs → HaveBegun xs handed (contents tells ports))
   answer_begun (Ok y) = tt
   answer_begun (Err e) = have_begun
 
 -- What is told of all, and the end of each, from the calls one after another.
 
-pub all_told : {P E : Type 0} (options : RunOptions) (images : List Image) (ends : RunEnds P) (answer : Result Reply E) (b c d : Reply) (empty : List ℕ) (i0 i1 i2 i3 : Option Image) → i0 ≡ slice_get images 0 → i1 ≡ slice_get images 1 → i2 ≡ slice_get images 2
+pub all_told : {P E : Type 0} (options : RunOptions) (images : List Image) (ends : RunEnds P) (answer : Result StatusText E) (b c d : StatusText) (empty : List ℕ) (i0 i1 i2 i3 : Option Image) → i0 ≡ slice_get images 0 → i1 ≡ slice_get images 1 → i2 ≡ slice_get images 2
     → i3 ≡ slice_get images 3 → empty ≡ [] → BeforeSo options 4 i3 ends.fourth (Done, empty) d → BeforeSo options 3 i2 ends.third d c → BeforeSo options 2 i1 ends.second c b → IfOk answer (BeforeSo options 1 i0 ends.first b)
     → IfOk answer (AllTold options images ends)
 all_told options images ends (Err x) b c d empty i0 i1 i2 i3 e0 e1 e2 e3 e h3 h2 h1 h0 = tt

@@ -41,7 +41,7 @@ use Rattle.list_out.specs.Listing.{listing}
 use Rattle.wsc_top.specs.Sections.{before_trace}
 use Rattle.wsc_top.specs.Assembly.{assembly_limit, IsAssembly, RefusesAssembly}
 use Rattle.work_gen.specs.Job.{words_of, job_text}
-use Rattle.wsc_top.specs.Tasks.{IsLine, IsNoLine}
+use Rattle.wsc_top.specs.Tasks.{AsksFor, IsNoLine}
 use Rattle.wsc_top.specs.Job.{job_limit, IsJob, Refuses, world_of}
 use Rattle.wsc_top.specs.Texts.{ended_text, faulted_text, going_text, turns_line, names_of, array_name}
 use Rattle.wsc_top.specs.Texts.{usage_text, unread_text, long_text, refusal_text, sound_text}
@@ -77,11 +77,11 @@ SomeRose handed back = (port : ℕ) × RoseAt port handed back
 
 -- The acts of the sequential run in at most n turns: to its end, to its first index fault, or to
 -- where it wants a further turn.
-pub data Does (parts : List Part) (world : World) (n : ℕ) : List Act → Type 0 where
-  to_end : (m : ℕ) (end : Outside) → m ≤ n → Runs parts world m end → Does parts world n end.acts
+pub data DoesWithin (parts : List Part) (world : World) (n : ℕ) : List Act → Type 0 where
+  to_end : (m : ℕ) (end : Outside) → m ≤ n → Runs parts world m end → DoesWithin parts world n end.acts
   to_fault : (m array : ℕ) (state : Outside) → m ≤ n → Faults parts world m array state
-      → Does parts world n state.acts
-  so_far : (now : Outside) → Goes parts world n now → Does parts world n now.acts
+      → DoesWithin parts world n state.acts
+  so_far : (now : Outside) → Goes parts world n now → DoesWithin parts world n now.acts
 
 -- an act on the port with this number
 abbrev pub IsOnPort : ℕ → Act → Type 0
@@ -106,13 +106,13 @@ pub data TellsRun (options : RunOptions) (parts : List Part) (world : World)
       (printed_words state.acts) state.cells) back
   -- what the first of its acts in some number of turns print is told
   spent : {back : List (Option Told)} (n : ℕ) (front more : List Act)
-      → Does parts world n (front ++ more)
+      → DoesWithin parts world n (front ++ more)
       → PortsAre handed (after_acts (opened parts world) front) back
       → TellsRun options parts world handed Budget
       (spent_report options.report (printed_words front) options.budget) back
   -- this port failed at its next act, and what those before it print is told
   failed : {back : List (Option Told)} (n port : ℕ) (front more : List Act) (act : Act)
-      → Does parts world n (front ++ act ∷ more) → IsOnPort port act → RoseAt port handed back
+      → DoesWithin parts world n (front ++ act ∷ more) → IsOnPort port act → RoseAt port handed back
       → PortsAre handed (after_acts (opened parts world) front) back
       → TellsRun options parts world handed (PortFault port)
       (failed_report options.report (printed_words front) port) back
@@ -188,7 +188,7 @@ WantsTurns (Plain options) parts input handed =
     (now : Outside) × Goes parts (world_of input) options.turns now
 
 -- each of the three has its status, unless a port failed
-pub record EndsSo (task : JobTask) (parts : List Part) (input : List ℕ)
+pub record JobEndsSo (task : JobTask) (parts : List Part) (input : List ℕ)
     (handed : List (Option Told)) (status : Status) : Type 0 where
   pub done : ComesToItsEnd task parts input handed → OrFailed status Done
   pub fault : MeetsFault task parts input handed → OrFailed status Fault
@@ -294,7 +294,7 @@ pub record Benched (options : BenchOptions) (handed : List (Option Told)) (statu
 -- the status of `bench`: that of the run of the program
 abbrev pub BenchEndsSo : BenchOptions → List Part → List (Option Told) → Status → Type 0
 BenchEndsSo options parts handed status =
-    EndsSo (Run options.run) parts (words_of options.number) handed status
+    JobEndsSo (Run options.run) parts (words_of options.number) handed status
 
 -- a task that doesn't speak of the order of events
 abbrev pub IsSettled : AssemblyTask → Type 0
@@ -333,31 +333,31 @@ pub data Answers (words : List (List ℕ)) (left after : Option (List ℕ)) (fau
     usage : IsNoLine words → after ≡ left
         → Answers words left after faults counted handed Usage usage_text None handed
     -- the job of this number is written; nothing is read
-    generated : (number : ℕ) → IsLine words (Generate number) → after ≡ left
+    generated : (number : ℕ) → AsksFor words (Generate number) → after ≡ left
         → Answers words left after faults counted handed Done (job_text number) None handed
     -- the job of this number is run; nothing is read
     benched : {status : Status} {out : List ℕ} {image : Option Image} {back : List (Option Told)}
         (options : BenchOptions)
-        → IsLine words (Bench options) → after ≡ left
+        → AsksFor words (Bench options) → after ≡ left
         → Benched options handed status out image back
         → Answers words left after faults counted handed status out image back
     -- reading failed
-    unread : (task : Task) (bytes : List ℕ) → IsLine words task → IsReader task
+    unread : (task : Task) (bytes : List ℕ) → AsksFor words task → IsReader task
         → Rose faults counted → length bytes ≤ limit_of task → Takes left bytes after
         → Answers words left after faults counted handed ReadFault unread_text None handed
     -- one byte more than the text may have was read
-    long : (task : Task) (bytes : List ℕ) → IsLine words task → IsReader task
+    long : (task : Task) (bytes : List ℕ) → AsksFor words task → IsReader task
         → length bytes ≡ limit_of task + 1 → Takes left bytes after
         → Answers words left after faults counted handed Refused long_text None handed
     -- the whole text was read, and this is the answer to it
     read : {status : Status} {out : List ℕ} {image : Option Image} {back : List (Option Told)}
         (task : JobTask) (text : List ℕ)
-        → IsLine words (Job task) → length text ≤ job_limit → TakesAll left text after
+        → AsksFor words (Job task) → length text ≤ job_limit → TakesAll left text after
         → Answered task text handed status out image back
         → Answers words left after faults counted handed status out image back
     assembled : {status : Status} {out : List ℕ} {image : Option Image} {back : List (Option Told)}
         (task : AssemblyTask) (text : List ℕ)
-        → IsLine words (Assembly task) → length text ≤ assembly_limit → TakesAll left text after
+        → AsksFor words (Assembly task) → length text ≤ assembly_limit → TakesAll left text after
         → AssemblyAnswered task text handed status out image back
         → Answers words left after faults counted handed status out image back
 
@@ -366,17 +366,17 @@ pub data IsDue (words : List (List ℕ)) (left after : Option (List ℕ))
     : RunOptions → Image → List ℕ → Type 0 where
   -- an image of the program of a job
   job : {options : RunOptions} {image : Image} {input : List ℕ} (text : List ℕ) (parts : List Part)
-      → IsLine words (Job (Run options)) → length text ≤ job_limit → TakesAll left text after
+      → AsksFor words (Job (Run options)) → length text ≤ job_limit → TakesAll left text after
       → IsJob text parts input → IsCompiled parts image
       → IsDue words left after options image input
   -- that of an assembly
   assembly : {options : RunOptions} {image : Image} {input : List ℕ} (text : List ℕ)
-      → IsLine words (Assembly (Exec options)) → length text ≤ assembly_limit
+      → AsksFor words (Assembly (Exec options)) → length text ≤ assembly_limit
       → TakesAll left text after → IsAssembly text image input
       → IsDue words left after options image input
   -- one of the program of a generated job
   generated : {image : Image} (options : BenchOptions) (parts : List Part)
-      → IsLine words (Bench options) → after ≡ left → IsGeneratedJob options.number parts
+      → AsksFor words (Bench options) → after ≡ left → IsGeneratedJob options.number parts
       → IsCompiled parts image
       → IsDue words left after options.run image (words_of options.number)
 
@@ -384,7 +384,7 @@ pub data IsDue (words : List (List ℕ)) (left after : Option (List ℕ))
 -- its text may have.
 abbrev pub WereRead : List (List ℕ) → List ℕ → Type 0
 WereRead words bytes = (bytes ≡ []) ⊎ ((task : Task)
-    × IsLine words task × IsReader task × (length bytes ≤ limit_of task + 1))
+    × AsksFor words task × IsReader task × (length bytes ≤ limit_of task + 1))
 
 -- a task that runs the image of this text without ports: `trace`, `grid`, and `replay` where the text
 -- has a trace
@@ -398,11 +398,11 @@ RunsClosed _ text = ⊥
 pub data IsWanted (words : List (List ℕ)) (left after : Option (List ℕ)) : Image → Type 0 where
   -- `compile` writes an image of the program of a job
   written : {image : Image} (text : List ℕ) (parts : List Part) (input : List ℕ)
-      → IsLine words (Job Compile) → length text ≤ job_limit → TakesAll left text after
+      → AsksFor words (Job Compile) → length text ≤ job_limit → TakesAll left text after
       → IsJob text parts input → IsCompiled parts image → IsWanted words left after image
   -- that of an assembly is run
   closed : {image : Image} (task : AssemblyTask) (text input : List ℕ)
-      → IsLine words (Assembly task) → length text ≤ assembly_limit → TakesAll left text after
+      → AsksFor words (Assembly task) → length text ≤ assembly_limit → TakesAll left text after
       → IsAssembly (assembly_text task text) image input → RunsClosed task text
       → IsWanted words left after image
 
@@ -428,7 +428,7 @@ pub data Starves (words : List (List ℕ)) (left after : Option (List ℕ)) (han
 pub record IsToldJob (words : List (List ℕ)) (left : Option (List ℕ)) (task : JobTask)
     (parts : List Part) (input : List ℕ) : Type 0 where
   pub text : List ℕ
-  pub line : IsLine words (Job task)
+  pub line : AsksFor words (Job task)
   pub told : left ≡ Some text
   pub short : length text ≤ job_limit
   pub job : IsJob text parts input
@@ -437,7 +437,7 @@ pub record IsToldJob (words : List (List ℕ)) (left : Option (List ℕ)) (task 
 pub record IsToldOther (words : List (List ℕ)) (left : Option (List ℕ)) (task : JobTask)
     : Type 0 where
   pub text : List ℕ
-  pub line : IsLine words (Job task)
+  pub line : AsksFor words (Job task)
   pub told : left ≡ Some text
   pub other : length text ≤ job_limit → (parts : List Part) (input : List ℕ)
       → IsJob text parts input → ⊥
@@ -446,7 +446,7 @@ pub record IsToldOther (words : List (List ℕ)) (left : Option (List ℕ)) (tas
 pub record IsToldAssembly (words : List (List ℕ)) (left : Option (List ℕ)) (task : AssemblyTask)
     (image : Image) (input : List ℕ) : Type 0 where
   pub text : List ℕ
-  pub line : IsLine words (Assembly task)
+  pub line : AsksFor words (Assembly task)
   pub told : left ≡ Some text
   pub short : length text ≤ assembly_limit
   pub assembly : IsAssembly (assembly_text task text) image input
@@ -455,7 +455,7 @@ pub record IsToldAssembly (words : List (List ℕ)) (left : Option (List ℕ)) (
 pub record IsToldNoAssembly (words : List (List ℕ)) (left : Option (List ℕ)) (task : AssemblyTask)
     : Type 0 where
   pub text : List ℕ
-  pub line : IsLine words (Assembly task)
+  pub line : AsksFor words (Assembly task)
   pub told : left ≡ Some text
   pub other : length text ≤ assembly_limit → (image : Image) (input : List ℕ)
       → IsAssembly (assembly_text task text) image input → ⊥

@@ -15,7 +15,7 @@ use Rattle.wsc_top.specs.declared.task.JobTask.{JobTask}
 use Rattle.wsc_top.specs.declared.task.RunOptions.{RunOptions}
 use Rattle.wsc_top.specs.declared.task.AssemblyTask.{AssemblyTask}
 use Rattle.wsc_top.specs.Codes.{code_of}
-use Rattle.wsc_top.specs.Tasks.{IsLine, IsNoLine}
+use Rattle.wsc_top.specs.Tasks.{AsksFor, IsNoLine}
 use Rattle.wsc_top.specs.Generated.{IsGeneratedJob}
 use Rattle.wsc_top.specs.Answers.{SomeRose, ComesToItsEnd, MeetsFault, WantsTurns, AssemblyEndsSo}
 use Rattle.wsc_top.specs.Answers.{BenchEndsSo, IsToldJob, IsToldOther, IsToldAssembly, IsToldNoAssembly}
@@ -24,7 +24,7 @@ use Rattle.wsc_top.specs.Jobs.{ProgramAndInput}
 use Rattle.wsc_top.specs.Threads.{Replies, Falls, AreToldJobs, AreToldNoJobs, MultiEndsSo, ComeToTheirEnd}
 
 -- a source before and after a call: the bytes that it has left, where it tells them, and its faults
-pub record Reading : Type 0 where
+pub record SourceCall : Type 0 where
   pub left : Option (List ℕ)
   pub after : Option (List ℕ)
   pub faults : ℕ
@@ -41,7 +41,7 @@ pub record Writing : Type 0 where
   pub counted : ℕ
 
 -- what a source tells of itself before and after a call
-abbrev pub reading : {S : Type 0} → (S → Option (List ℕ)) → (S → ℕ) → S → S → Reading
+abbrev pub reading : {S : Type 0} → (S → Option (List ℕ)) → (S → ℕ) → S → S → SourceCall
 reading left faults old new = record {
   left = left old;
   after = left new;
@@ -62,7 +62,7 @@ writing held flushed faults old new = record {
 }
 
 -- no fault of the source, or of the sink, came
-abbrev pub ReadsWell : Reading → Type 0
+abbrev pub ReadsWell : SourceCall → Type 0
 ReadsWell reads = ¬ Rose reads.faults reads.counted
 
 abbrev pub WritesWell : Writing → Type 0
@@ -70,7 +70,7 @@ WritesWell writes = ¬ Rose writes.faults writes.counted
 
 -- A call on these words, of which the source and the sink tell this, and to which these ports are handed
 -- in, ends with this status and hands back this image, the images of these threads, and the ports.
-pub record CallEnds (words : List (List ℕ)) (reads : Reading) (writes : Writing)
+pub record CallEnds (words : List (List ℕ)) (reads : SourceCall) (writes : Writing)
     (handed : List (Option Told)) (status : Status) (image : Option Image) (threads : List Image)
     (back : List (Option Told)) : Type 0 where
   -- what went out is the whole answer, and it was flushed
@@ -98,9 +98,9 @@ pub record CallEnds (words : List (List ℕ)) (reads : Reading) (writes : Writin
   pub usage : IsNoLine words → WritesWell writes → OrNoMemory status Usage
   -- a word that is no command is told without any memory
   pub unknown : ¬ HasCommand words → WritesWell writes → status ≡ Usage
-  pub generated : (number : ℕ) → IsLine words (Generate number) → WritesWell writes
+  pub generated : (number : ℕ) → AsksFor words (Generate number) → WritesWell writes
       → OrNoMemory status Done
-  pub benched : (options : BenchOptions) (parts : List Part) → IsLine words (Bench options)
+  pub benched : (options : BenchOptions) (parts : List Part) → AsksFor words (Bench options)
       → IsGeneratedJob options.number parts → WritesWell writes
       → BenchEndsSo options parts handed status ⊎ (status ≡ NoMemory)
   pub done : (task : JobTask) (parts : List Part) (input : List ℕ)
@@ -134,7 +134,7 @@ abbrev pub in_first : Told → List (Option Told)
 in_first port = Some port ∷ None ∷ None ∷ None ∷ None ∷ None ∷ None ∷ []
 
 -- Such a call, with a port in the first slot alone, ends with a status of which this is the code.
-abbrev pub EndsWithCode : List (List ℕ) → Reading → Writing → Told → ℕ → Type 0
+abbrev pub EndsWithCode : List (List ℕ) → SourceCall → Writing → Told → ℕ → Type 0
 EndsWithCode words reads writes port code =
     (status : Status) × (image : Option Image) × (threads : List Image) × (back : List (Option Told))
     × CallEnds words reads writes (in_first port) status image threads back × (code ≡ code_of status)

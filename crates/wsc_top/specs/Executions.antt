@@ -49,7 +49,7 @@ abbrev pub PortsAre : List (Option Told) → Outside → List (Option Told) → 
 PortsAre handed o back = SlotsAre (began_of handed) o back
 
 -- the walk has more instances than the budget, and of its operations before step t none is past the end
-pub record IsSpent (image : Image) (world : World) (budget t : ℕ) : Type 0 where
+pub record StopsShort (image : Image) (world : World) (budget t : ℕ) : Type 0 where
   pub dear : CostAtMost image world budget → ⊥
   pub within : FirstWithin image world t
 
@@ -66,7 +66,7 @@ pub data Executes (options : RunOptions) (image : Image) (world : World) (handed
       (printed_words (mem image world t).acts)
       (shown_cells image.arrays (mem image world t).cells) (length (walk image world t))) back
   -- the budget is spent, and what the operations before step t print is told
-  spent : {back : List (Option Told)} (t : ℕ) → IsSpent image world options.budget t
+  spent : {back : List (Option Told)} (t : ℕ) → StopsShort image world options.budget t
       → PortsAre handed (mem image world t) back
       → Executes options image world handed Budget
       (spent_report options.report (printed_words (mem image world t).acts) options.budget) back
@@ -101,8 +101,8 @@ Trips image world budget =
     ((t : ℕ) × FaultsAt image world t) × CostAtMost image world budget
 
 -- its walk has no index fault, and more instances than its budget
-abbrev pub Exceeds : Image → World → ℕ → Type 0
-Exceeds image world budget = NoFault image world × (CostAtMost image world budget → ⊥)
+abbrev pub CostsMore : Image → World → ℕ → Type 0
+CostsMore image world budget = NoFault image world × (CostAtMost image world budget → ⊥)
 
 -- a port failed
 abbrev pub IsFailed : Status → Type 0
@@ -118,4 +118,4 @@ pub record EndsRun (image : Image) (world : World) (most : ℕ) (status : Status
   pub done : Rests image world most → OrFailed status Done
   pub only : status ≡ Done → Rests image world most
   pub fault : Trips image world most → OrFailed status Fault
-  pub budget : Exceeds image world most → OrFailed status Budget
+  pub budget : CostsMore image world most → OrFailed status Budget

@@ -51,20 +51,20 @@ alone_at budget handed images inputs place =
     alone_with budget handed (slice_get images place) (slice_get inputs place)
 
 -- a status and a text
-abbrev pub Reply : Type 0
-Reply = Status × List ℕ
+abbrev pub StatusText : Type 0
+StatusText = Status × List ℕ
 
 -- what is told of the thread of this number, which ended so, and those behind it, by what is told of
 -- those
-abbrev pub ThreadTold : RunOptions → ℕ → Image → CrewFinish → Reply → Reply → Type 0
+abbrev pub ThreadTold : RunOptions → ℕ → Image → CrewFinish → StatusText → StatusText → Type 0
 ThreadTold options number image finish further told = (status : Status) × (out : List ℕ)
     × ReportsSo options.report options.budget image.arrays finish status out
     × (told.0 ≡ status_of (status ∷ further.0 ∷ []))
     × (told.1 ≡ thread_line number ++ out ++ further.1)
 
 -- the same where the thread may be absent: nothing is told of it then
-abbrev pub BeforeSo : {P : Type 0} → RunOptions → ℕ → Option Image → Option (RunEnd P) → Reply → Reply
-    → Type 0
+abbrev pub BeforeSo : {P : Type 0} → RunOptions → ℕ → Option Image → Option (RunEnd P)
+    → StatusText → StatusText → Type 0
 BeforeSo options number (Some image) (Some end) further told =
     ThreadTold options number image end.finish further told
 BeforeSo options number _ _ further told = told ≡ further
@@ -74,10 +74,10 @@ RunEnds P = Each (Option (RunEnd P)) (Option (RunEnd P)) (Option (RunEnd P)) (Op
 
 -- what is told of all of them
 pub record AllTold {P : Type 0} (options : RunOptions) (images : List Image) (ends : RunEnds P)
-    (told : Reply) : Type 0 where
-  pub second : Reply
-  pub third : Reply
-  pub fourth : Reply
+    (told : StatusText) : Type 0 where
+  pub second : StatusText
+  pub third : StatusText
+  pub fourth : StatusText
   pub fourth_is : BeforeSo options 4 (slice_get images 3) ends.fourth (Done, []) fourth
   pub third_is : BeforeSo options 3 (slice_get images 2) ends.third fourth third
   pub second_is : BeforeSo options 2 (slice_get images 1) ends.second third second

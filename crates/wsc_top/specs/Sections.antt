@@ -85,27 +85,27 @@ IsWordText bytes word = IsTrue (is_number bytes) × (value_of bytes ≡ word) ×
 
 -- From this place on the text begins with items that are these words, blanks in front of each;
 -- after them and blanks stands this rest, at its place.
-pub data Items : Place → List ℕ → List ℕ → Place → List ℕ → Type 0 where
+pub data InputItems : Place → List ℕ → List ℕ → Place → List ℕ → Type 0 where
   stop : {at place : Place} {text rest : List ℕ} (blanks : List ℕ) → text ≡ blanks ++ rest
       → IsTrue (list_all is_blank blanks) → IsTrue (starts_without is_blank rest)
-      → place ≡ after at blanks → Items at text [] place rest
+      → place ≡ after at blanks → InputItems at text [] place rest
   next : {at place : Place} {text rest words : List ℕ} (word : ℕ) (blanks bytes further : List ℕ)
       → text ≡ blanks ++ (bytes ++ further) → IsTrue (list_all is_blank blanks)
       → IsItem bytes further → IsWordText bytes word
-      → Items (after (after at blanks) bytes) further words place rest
-      → Items at text (word ∷ words) place rest
+      → InputItems (after (after at blanks) bytes) further words place rest
+      → InputItems at text (word ∷ words) place rest
 
 -- the words of an input section that begins at this place
 pub record InputWords (at : Place) (text words : List ℕ) : Type 0 where
   pub place : Place
-  pub items : Items at text words place []
+  pub items : InputItems at text words place []
 
 -- its first item that is no word stands at this place
 pub record InputFault (at : Place) (text : List ℕ) (place : Place) : Type 0 where
   pub words : List ℕ
   pub bytes : List ℕ
   pub further : List ℕ
-  pub items : Items at text words place (bytes ++ further)
+  pub items : InputItems at text words place (bytes ++ further)
   pub item : IsItem bytes further
   pub wrong : (word : ℕ) → IsWordText bytes word → ⊥
 

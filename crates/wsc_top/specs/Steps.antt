@@ -6,8 +6,8 @@ use Rattle.port_set.specs.Ports.{Told}
 use Rattle.wsc_top.specs.declared.status.Status.TheVariants.{Refused}
 use Rattle.wsc_top.specs.declared.batch.JobsRefusal.{JobsRefusal}
 use Rattle.wsc_top.specs.declared.task.RunOptions.{RunOptions}
-use Rattle.wsc_top.specs.declared.step.Step.{Step}
-use Rattle.wsc_top.specs.declared.step.Step.TheVariants.{Ready, Run as Due, Threads as Many}
+use Rattle.wsc_top.specs.declared.step.CallStep.{CallStep}
+use Rattle.wsc_top.specs.declared.step.CallStep.TheVariants.{Ready, Run as Due, Threads as Many}
 use Rattle.wsc_top.specs.declared.task.JobTask.{JobTask}
 use Rattle.wsc_top.specs.declared.task.JobTask.TheVariants.{Run, Compile}
 use Rattle.wsc_top.specs.declared.task.AssemblyTask.{AssemblyTask}
@@ -21,7 +21,7 @@ use Rattle.wsc_top.specs.Threads.{Replies, Thread, AreDue, images_of, inputs_of}
 use Rattle.wsc_top.specs.Running.{AreRead}
 
 -- of a task to a program and its input words
-abbrev pub YieldStep : JobTask → List Part → List ℕ → Step → Type 0
+abbrev pub YieldStep : JobTask → List Part → List ℕ → CallStep → Type 0
 YieldStep task parts input (Ready status out image) =
     (handed : List (Option Told)) → Yields task parts input handed status out image handed
 YieldStep task parts input (Due options image words) =
@@ -43,7 +43,7 @@ AssemblyBegun task text image = (input : List ℕ) × IsAssembly (assembly_text 
     × RunsClosed task text
 
 -- of a task to the text of a job
-abbrev pub JobStep : JobTask → List ℕ → Step → Type 0
+abbrev pub JobStep : JobTask → List ℕ → CallStep → Type 0
 JobStep task text (Ready status out image) =
     (handed : List (Option Told)) → Answered task text handed status out image handed
 JobStep task text (Due options image words) =
@@ -51,7 +51,7 @@ JobStep task text (Due options image words) =
 JobStep task text (Many options jobs) = ⊥
 
 -- of a task to a sound image and its input words
-abbrev pub AssemblyYieldStep : AssemblyTask → List ℕ → Image → List ℕ → Step → Type 0
+abbrev pub AssemblyYieldStep : AssemblyTask → List ℕ → Image → List ℕ → CallStep → Type 0
 AssemblyYieldStep task text image input (Ready status out again) = (handed : List (Option Told))
     → AssemblyYields task text image input handed status out again handed
 AssemblyYieldStep task text image input (Due options found words) =
@@ -59,7 +59,7 @@ AssemblyYieldStep task text image input (Due options found words) =
 AssemblyYieldStep task text image input (Many options jobs) = ⊥
 
 -- of a task to the text of an assembly
-abbrev pub AssemblyStep : AssemblyTask → List ℕ → Step → Type 0
+abbrev pub AssemblyStep : AssemblyTask → List ℕ → CallStep → Type 0
 AssemblyStep task text (Ready status out image) =
     (handed : List (Option Told)) → AssemblyAnswered task text handed status out image handed
 AssemblyStep task text (Due options image words) =
@@ -67,7 +67,7 @@ AssemblyStep task text (Due options image words) =
 AssemblyStep task text (Many options jobs) = ⊥
 
 -- of the text of the jobs of several threads
-abbrev pub JobsStep : RunOptions → List ℕ → Step → Type 0
+abbrev pub JobsStep : RunOptions → List ℕ → CallStep → Type 0
 JobsStep options text (Ready status out image) = (status ≡ Refused) × (image ≡ None)
     × (r : JobsRefusal) × RefusesJobs text r × (out ≡ jobs_refusal_text r)
 JobsStep options text (Due found image words) = ⊥
@@ -75,7 +75,7 @@ JobsStep options text (Many found jobs) =
     (found ≡ options) × AreRead text jobs.images.items jobs.inputs.items
 
 -- of the words themselves
-abbrev pub StepSo : List (List ℕ) → Option (List ℕ) → Option (List ℕ) → ℕ → ℕ → Step → Type 0
+abbrev pub StepSo : List (List ℕ) → Option (List ℕ) → Option (List ℕ) → ℕ → ℕ → CallStep → Type 0
 StepSo words left after faults counted (Ready status out image) = (handed : List (Option Told))
     → Replies words left after faults counted handed status out image [] handed
 StepSo words left after faults counted (Due options image input) =

@@ -68,9 +68,9 @@ abbrev pub task_of : Invocation → Option Task
 task_of line = task_by line.command line
 
 -- these words are a line that asks for this
-abbrev pub IsLine : List (List ℕ) → Task → Type 0
-IsLine words task = (line : Invocation) × lines.IsLine words line × (task_of line ≡ Some task)
+abbrev pub AsksFor : List (List ℕ) → Task → Type 0
+AsksFor words task = (line : Invocation) × lines.IsLine words line × (task_of line ≡ Some task)
 
 -- these words are no line, or none that is built
 abbrev pub IsNoLine : List (List ℕ) → Type 0
-IsNoLine words = (task : Task) → IsLine words task → ⊥
+IsNoLine words = (task : Task) → AsksFor words task → ⊥

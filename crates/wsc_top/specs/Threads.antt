@@ -13,12 +13,12 @@ use Rattle.wsc_top.specs.declared.batch.JobsRefusal.{JobsRefusal}
 use Rattle.wsc_top.specs.declared.task.RunOptions.{RunOptions}
 use Rattle.wsc_top.specs.declared.task.JobTask.TheVariants.{Run}
 use Rattle.wsc_top.specs.declared.task.Task.TheVariants.{Multi}
-use Rattle.wsc_top.specs.Tasks.{IsLine}
+use Rattle.wsc_top.specs.Tasks.{AsksFor}
 use Rattle.wsc_top.specs.Job.{job_limit, IsJob}
 use Rattle.wsc_top.specs.Jobs.{Piece, ProgramAndInput, Jobs, most_jobs, AreJobs, RefusesJobs}
 use Rattle.wsc_top.specs.Jobs.{jobs_refusal_text}
 use Rattle.wsc_top.specs.Executions.{Executes, HasBegun, IsFailed}
-use Rattle.wsc_top.specs.Answers.{IsCompiled, Yields, ComesToItsEnd, EndsSo, IsFree, Answers, Starves}
+use Rattle.wsc_top.specs.Answers.{IsCompiled, Yields, ComesToItsEnd, JobEndsSo, IsFree, Answers, Starves}
 
 -- seven slots without a port
 abbrev pub no_ports : List (Option Told)
@@ -108,7 +108,7 @@ pub data Replies (words : List (List ℕ)) (left after : Option (List ℕ)) (fau
   -- the whole text was read, and this is the answer of `multi` to it
   together : {statuses : List Status} {out : List ℕ} {images : List Image}
       {back : List (Option Told)} (options : RunOptions) (text : List ℕ)
-      → IsLine words (Multi options) → length text ≤ job_limit → TakesAll left text after
+      → AsksFor words (Multi options) → length text ≤ job_limit → TakesAll left text after
       → MultiAnswered options text handed statuses out images back
       → Replies words left after faults counted handed (status_of statuses) out None images back
 
@@ -116,7 +116,7 @@ pub data Replies (words : List (List ℕ)) (left after : Option (List ℕ)) (fau
 pub record AreDue (words : List (List ℕ)) (left after : Option (List ℕ)) (options : RunOptions)
     (threads : List Thread) : Type 0 where
   pub text : List ℕ
-  pub line : IsLine words (Multi options)
+  pub line : AsksFor words (Multi options)
   pub short : length text ≤ job_limit
   pub takes : TakesAll left text after
   pub jobs : AreThreads text threads
@@ -142,7 +142,7 @@ pub data Falls (words : List (List ℕ)) (left after : Option (List ℕ)) (hande
 pub record AreToldJobs (words : List (List ℕ)) (left : Option (List ℕ)) (options : RunOptions)
     (jobs : List ProgramAndInput) : Type 0 where
   pub text : List ℕ
-  pub line : IsLine words (Multi options)
+  pub line : AsksFor words (Multi options)
   pub told : left ≡ Some text
   pub short : length text ≤ job_limit
   pub jobs_are : AreJobs text jobs
@@ -151,7 +151,7 @@ pub record AreToldJobs (words : List (List ℕ)) (left : Option (List ℕ)) (opt
 pub record AreToldNoJobs (words : List (List ℕ)) (left : Option (List ℕ)) (options : RunOptions)
     : Type 0 where
   pub text : List ℕ
-  pub line : IsLine words (Multi options)
+  pub line : AsksFor words (Multi options)
   pub told : left ≡ Some text
   pub other : length text ≤ job_limit → (jobs : List ProgramAndInput) → AreJobs text jobs → ⊥
 
@@ -161,7 +161,7 @@ OthersEndSo options [] [] = Unit {0}
 OthersEndSo options [] (status ∷ statuses) = ⊥
 OthersEndSo options (job ∷ jobs) [] = ⊥
 OthersEndSo options (job ∷ jobs) (status ∷ statuses) =
-    EndsSo (Run options) job.0 job.1 no_ports status × (IsFailed status → ⊥)
+    JobEndsSo (Run options) job.0 job.1 no_ports status × (IsFailed status → ⊥)
     × OthersEndSo options jobs statuses
 
 -- thread 1 has a status as `run` has it for its job and the ports, and so do the others without ports
@@ -169,7 +169,7 @@ abbrev pub EachEndsSo : RunOptions → List ProgramAndInput → List (Option Tol
 EachEndsSo options [] handed statuses = ⊥
 EachEndsSo options (job ∷ jobs) handed [] = ⊥
 EachEndsSo options (job ∷ jobs) handed (status ∷ statuses) =
-    EndsSo (Run options) job.0 job.1 handed status × OthersEndSo options jobs statuses
+    JobEndsSo (Run options) job.0 job.1 handed status × OthersEndSo options jobs statuses
 
 -- the status of `multi`: that of the first thread that isn't Done
 abbrev pub MultiEndsSo : RunOptions → List ProgramAndInput → List (Option Told) → Status → Type 0

@@ -7,11 +7,11 @@ ghost use Rattle.port_set.specs.Slots.{AllOpen, contents};
 ghost use Rattle.wsc_words.specs.Lines.{HasCommand};
 ghost use Rattle.wsc_top.specs.declared.status.Status.TheVariants.{Usage};
 ghost use Rattle.wsc_top.specs.declared.task.Task.{Task};
-ghost use Rattle.wsc_top.specs.Tasks.{IsLine};
+ghost use Rattle.wsc_top.specs.Tasks.{AsksFor};
 ghost use Rattle.wsc_top.specs.Job.{job_limit};
 ghost use Rattle.wsc_top.specs.Assembly.{assembly_limit};
 ghost use Rattle.wsc_top.specs.Clocked.{TaskInRange};
-ghost use Rattle.wsc_top.specs.declared.step.Step.TheVariants.{Ready};
+ghost use Rattle.wsc_top.specs.declared.step.CallStep.TheVariants.{Ready};
 ghost use Rattle.wsc_top.specs.Phrases.{phrase_text};
 ghost use Rattle.wsc_top.specs.Texts.{usage_text};
 ghost use Rattle.wsc_top.specs.Steps.{JobStep, JobBegun, JobsStep, AssemblyStep, AssemblyBegun, StepSo};
@@ -21,13 +21,13 @@ ghost use Rattle.wsc_top.specs.Threads.{Replies, Falls};
 use crate::assembly::{self, AssemblyFault};
 use crate::batch::{self, JobsFault};
 use crate::bench::generated;
-use crate::exec::{Reply, executed};
+use crate::exec::{CommandReply, executed};
 use crate::laws::what_is_due_is_answered;
 use crate::multi::all_executed;
 use crate::multi_laws::what_threads_do_is_answered;
 use crate::sections::split_trace;
 use crate::status::Status;
-use crate::step::{Starved, Step};
+use crate::step::{CallStep, StarvedCall};
 use crate::task::{AssemblyTask, JobTask, RunOptions, Task, read_task};
 use crate::text::{Phrase, Text};
 use crate::yields::{assembly_yielded, yielded};
@@ -49,14 +49,14 @@ const JOB_LIMIT: usize = 1_048_576;
 const ASSEMBLY_LIMIT: usize = 134_217_728;
 
 // An answer of this text and no image, which takes no memory.
-fn plain(status: Status, phrase: Phrase) -> Step
+fn plain(status: Status, phrase: Phrase) -> CallStep
     ensures { result ≡ Ready status (phrase_text phrase) None }
 {
-    Step::Ready(status, Text::fixed(phrase), None)
+    CallStep::Ready(status, Text::fixed(phrase), None)
 }
 
 // What is to be done for a task to the text of a job.
-fn to_text(alloc: Global, task: JobTask, text: &[u8]) -> Result<Step, Starved>
+fn to_text(alloc: Global, task: JobTask, text: &[u8]) -> Result<CallStep, StarvedCall>
     requires { length text.now ≤ job_limit }
     ensures ok { IfOk result (JobStep task text.now) }
     ensures begun { IfErr result (λ starved. IfSome starved.image (JobBegun task text.now)) }
@@ -66,25 +66,25 @@ fn to_text(alloc: Global, task: JobTask, text: &[u8]) -> Result<Step, Starved>
         Ok((accepted, input)) => Ok(yielded(alloc, task, &accepted, input)?),
         Err(TextFault::Refused(refusal)) => {
             let text = refusals::refused(alloc, refusal)?;
-            Ok(Step::Ready(Status::Refused, Text::built(text), None))
+            Ok(CallStep::Ready(Status::Refused, Text::built(text), None))
         }
-        Err(TextFault::NoMemory) => Err(Starved { image: None }),
+        Err(TextFault::NoMemory) => Err(StarvedCall { image: None }),
     }
 }
 
 // What is to be done for what the source gives, of which a job is to be read.
-fn of_job<S: Source>(alloc: Global, task: JobTask, source: &mut S) -> Result<Step, Starved>
-    ensures ok { IfOk result (λ step. (words : List (List ℕ)) → IsLine words (Task.Job task)
+fn of_job<S: Source>(alloc: Global, task: JobTask, source: &mut S) -> Result<CallStep, StarvedCall>
+    ensures ok { IfOk result (λ step. (words : List (List ℕ)) → AsksFor words (Task.Job task)
         → StepSo words (S.left source.old) (S.left source.new)
         (S.faults source.old) (S.faults source.new) step) }
-    ensures memory { IfErr result (λ starved. (words : List (List ℕ)) → IsLine words (Task.Job task)
+    ensures memory { IfErr result (λ starved. (words : List (List ℕ)) → AsksFor words (Task.Job task)
         → RunsOut words (S.left source.old) (S.left source.new) starved.image) }
 {
     match read_all(alloc, source, JOB_LIMIT) {
         Ok(text) => Ok(to_text(alloc, task, text.as_slice())?),
         Err(ReadEnd::Failed) => Ok(plain(Status::ReadFault, Phrase::Unread)),
         Err(ReadEnd::TooLong) => Ok(plain(Status::Refused, Phrase::Long)),
-        Err(ReadEnd::NoMemory) => Err(Starved { image: None }),
+        Err(ReadEnd::NoMemory) => Err(StarvedCall { image: None }),
     }
 }
 
@@ -103,7 +103,7 @@ fn assembly_text(task: AssemblyTask, text: &[u8]) -> &[u8]
 }
 
 // What is to be done for a task to the text of an assembly.
-fn to_assembly(alloc: Global, task: AssemblyTask, text: &[u8]) -> Result<Step, Starved>
+fn to_assembly(alloc: Global, task: AssemblyTask, text: &[u8]) -> Result<CallStep, StarvedCall>
     requires text { length text.now ≤ assembly_limit }
     requires task { TaskInRange task }
     ensures ok { IfOk result (AssemblyStep task text.now) }
@@ -113,9 +113,9 @@ fn to_assembly(alloc: Global, task: AssemblyTask, text: &[u8]) -> Result<Step, S
         Ok((image, input)) => Ok(assembly_yielded(alloc, task, text, image, input)?),
         Err(AssemblyFault::Refused(why)) => {
             let text = refusals::asm_refused(alloc, why)?;
-            Ok(Step::Ready(Status::Refused, Text::built(text), None))
+            Ok(CallStep::Ready(Status::Refused, Text::built(text), None))
         }
-        Err(AssemblyFault::NoMemory) => Err(Starved { image: None }),
+        Err(AssemblyFault::NoMemory) => Err(StarvedCall { image: None }),
     }
 }
 
@@ -124,41 +124,45 @@ fn of_assembly<S: Source>(
     alloc: Global,
     task: AssemblyTask,
     source: &mut S,
-) -> Result<Step, Starved>
+) -> Result<CallStep, StarvedCall>
     requires { TaskInRange task }
-    ensures ok { IfOk result (λ step. (words : List (List ℕ)) → IsLine words (Task.Assembly task)
+    ensures ok { IfOk result (λ step. (words : List (List ℕ)) → AsksFor words (Task.Assembly task)
         → StepSo words (S.left source.old) (S.left source.new)
         (S.faults source.old) (S.faults source.new) step) }
     ensures memory { IfErr result (λ starved. (words : List (List ℕ))
-        → IsLine words (Task.Assembly task)
+        → AsksFor words (Task.Assembly task)
         → RunsOut words (S.left source.old) (S.left source.new) starved.image) }
 {
     match read_all(alloc, source, ASSEMBLY_LIMIT) {
         Ok(text) => Ok(to_assembly(alloc, task, text.as_slice())?),
         Err(ReadEnd::Failed) => Ok(plain(Status::ReadFault, Phrase::Unread)),
         Err(ReadEnd::TooLong) => Ok(plain(Status::Refused, Phrase::Long)),
-        Err(ReadEnd::NoMemory) => Err(Starved { image: None }),
+        Err(ReadEnd::NoMemory) => Err(StarvedCall { image: None }),
     }
 }
 
 // What is to be done for the text of the jobs of several threads.
-fn to_jobs(alloc: Global, options: RunOptions, text: &[u8]) -> Result<Step, NoMemory>
+fn to_jobs(alloc: Global, options: RunOptions, text: &[u8]) -> Result<CallStep, NoMemory>
     requires { length text.now ≤ job_limit }
     ensures { IfOk result (JobsStep options text.now) }
 {
     match batch::read(alloc, text) {
-        Ok(read) => Ok(Step::Threads(options, read)),
+        Ok(read) => Ok(CallStep::Threads(options, read)),
         Err(JobsFault::Refused(refusal)) => {
             let text = refusals::jobs_refused(alloc, refusal)?;
-            Ok(Step::Ready(Status::Refused, Text::built(text), None))
+            Ok(CallStep::Ready(Status::Refused, Text::built(text), None))
         }
         Err(JobsFault::NoMemory) => Err(NoMemory),
     }
 }
 
 // What is to be done for what the source gives, of which the jobs of several threads are to be read.
-fn of_jobs<S: Source>(alloc: Global, options: RunOptions, source: &mut S) -> Result<Step, NoMemory>
-    ensures ok { IfOk result (λ step. (words : List (List ℕ)) → IsLine words (Task.Multi options)
+fn of_jobs<S: Source>(
+    alloc: Global,
+    options: RunOptions,
+    source: &mut S,
+) -> Result<CallStep, NoMemory>
+    ensures ok { IfOk result (λ step. (words : List (List ℕ)) → AsksFor words (Task.Multi options)
         → StepSo words (S.left source.old) (S.left source.new)
         (S.faults source.old) (S.faults source.new) step) }
     ensures memory { OnErr result ((bytes : List ℕ) × (length bytes ≤ job_limit + 1)
@@ -174,7 +178,11 @@ fn of_jobs<S: Source>(alloc: Global, options: RunOptions, source: &mut S) -> Res
 
 /// What is to be done for these words of the command line and what the source gives: an answer that is
 /// ready, or images to be run. It has no ports and starts no thread. An answer that is ready needs none.
-pub fn prepare<S: Source>(alloc: Global, words: &[String], source: &mut S) -> Result<Step, Starved>
+pub fn prepare<S: Source>(
+    alloc: Global,
+    words: &[String],
+    source: &mut S,
+) -> Result<CallStep, StarvedCall>
     ensures ok { IfOk result (StepSo (map string_bytes words.now) (S.left source.old)
         (S.left source.new) (S.faults source.old) (S.faults source.new)) }
     ensures memory { IfErr result (λ starved. RunsOut (map string_bytes words.now)
@@ -187,11 +195,11 @@ pub fn prepare<S: Source>(alloc: Global, words: &[String], source: &mut S) -> Re
         None => Ok(plain(Status::Usage, Phrase::Usage)),
         Some(Task::Generate(number)) => {
             let text = workload(alloc, number)?;
-            Ok(Step::Ready(Status::Done, Text::built(text), None))
+            Ok(CallStep::Ready(Status::Done, Text::built(text), None))
         }
         Some(Task::Bench(options)) => {
             let (image, input) = generated(alloc, options.number)?;
-            Ok(Step::Run(options.run, image, input))
+            Ok(CallStep::Run(options.run, image, input))
         }
         Some(Task::Job(task)) => Ok(of_job(alloc, task, source)?),
         Some(Task::Assembly(task)) => Ok(of_assembly(alloc, task, source)?),
@@ -207,7 +215,7 @@ pub fn to_words<S: Source, P: Port + Send, G: Gate, R: Threads + Wait + Sync>(
     source: &mut S,
     ports: Slots<P>,
     gate: &G,
-) -> Reply<P>
+) -> CommandReply<P>
     requires told { TellWords (contents P.tells ports) }
     requires open { AllOpen (contents P.tells ports) }
     ensures answered { IfOk result.answer (λ a.
@@ -223,17 +231,17 @@ pub fn to_words<S: Source, P: Port + Send, G: Gate, R: Threads + Wait + Sync>(
     what_is_due_is_answered();
     what_threads_do_is_answered();
     match prepare(alloc, words, source) {
-        Ok(Step::Ready(status, text, image)) => Reply {
+        Ok(CallStep::Ready(status, text, image)) => CommandReply {
             answer: Ok((status, text)),
             image,
             threads: Vec::new(alloc),
             ports,
         },
-        Ok(Step::Run(options, image, input)) => {
+        Ok(CallStep::Run(options, image, input)) => {
             executed(rt, alloc, options, image, input, ports, gate)
         }
-        Ok(Step::Threads(options, jobs)) => all_executed(rt, alloc, options, jobs, ports, gate),
-        Err(Starved { image }) => Reply {
+        Ok(CallStep::Threads(options, jobs)) => all_executed(rt, alloc, options, jobs, ports, gate),
+        Err(StarvedCall { image }) => CommandReply {
             answer: Err(NoMemory),
             image,
             threads: Vec::new(alloc),

@@ -6,7 +6,7 @@ ghost use Rattle.wsc_top.specs.Answers.{TellWords};
 ghost use Rattle.wsc_top.specs.Calls.{CallEnds, reading, writing};
 
 use crate::answer::to_words;
-use crate::exec::Reply;
+use crate::exec::CommandReply;
 use crate::laws::each_answer_has_its_status;
 use crate::multi_laws::each_answer_of_threads_has_its_status;
 use crate::status::{Outcome, Status};
@@ -42,7 +42,7 @@ pub fn wsc<S: Source, K: Sink, P: Port + Send, G: Gate, R: Threads + Wait + Sync
     words_are_one_line();
     each_answer_has_its_status();
     each_answer_of_threads_has_its_status();
-    let Reply {
+    let CommandReply {
         answer,
         image,
         threads,

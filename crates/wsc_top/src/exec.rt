@@ -27,7 +27,7 @@ use ws_words::{NoMemory, Words};
 /// What is to be written, the image that was run or is printed, the images of the threads that were run,
 /// and the ports.
 #[derive(Drop)]
-pub struct Reply<P: Port> {
+pub struct CommandReply<P: Port> {
     pub answer: Result<(Status, Text), NoMemory>,
     pub image: Option<Checked>,
     pub threads: Vec<Checked>,
@@ -46,7 +46,7 @@ pub fn executed<P: Port + Send, G: Gate, R: Threads + Wait + Sync>(
     input: Words,
     ports: Slots<P>,
     gate: &G,
-) -> Reply<P>
+) -> CommandReply<P>
     requires told { TellWords (contents P.tells ports) }
     requires open { AllOpen (contents P.tells ports) }
     ensures executes { IfOk result.answer (λ y. Executes options image
@@ -62,7 +62,7 @@ pub fn executed<P: Port + Send, G: Gate, R: Threads + Wait + Sync>(
     let end = run(rt, alloc, options, &image, input, ports, gate);
     let arrays = image.image().arrays.as_slice();
     let answer = answer(alloc, options.report, options.budget, arrays, &end.finish);
-    Reply {
+    CommandReply {
         answer,
         image: Some(image),
         threads: Vec::new(alloc),

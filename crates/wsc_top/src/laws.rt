@@ -33,8 +33,8 @@ ghost use Rattle.wsc_top.specs.Executions.{Executes, IsFailed};
 ghost use Rattle.wsc_top.specs.Generated.{IsGeneratedJob};
 ghost use Rattle.wsc_top.specs.Texts.{with_input};
 ghost use Rattle.wsc_top.specs.Traced.{IsTraced, HasTrace, CanReplay, replayed_text};
-ghost use Rattle.wsc_top.specs.Tasks.{IsLine};
-ghost use Rattle.wsc_top.specs.Answers.{TellWords, EndsSo, AssemblyEndsSo, BenchEndsSo, Answers, IsDue};
+ghost use Rattle.wsc_top.specs.Tasks.{AsksFor};
+ghost use Rattle.wsc_top.specs.Answers.{TellWords, JobEndsSo, AssemblyEndsSo, BenchEndsSo, Answers, IsDue};
 ghost use Rattle.wsc_top.specs.Answers.{IsFixed, IsAnswer, IsFree, IsSettled, Yields, AssemblyAnswered};
 ghost use Rattle.wsc_top.specs.Answers.{IsAssemblyReply, IsToldJob, IsToldAssembly};
 
@@ -111,7 +111,7 @@ pub fn each_answer_has_its_status()
         (task : JobTask) (parts : List Part) (input : List ℕ)
         → Answers words left after faults counted handed status out image back
         → IsToldJob words left task parts input → TellWords handed
-        → (status ≡ Status.ReadFault → ⊥) → EndsSo task parts input handed status }
+        → (status ≡ Status.ReadFault → ⊥) → JobEndsSo task parts input handed status }
     ensures assembly { (words : List (List ℕ)) (left after : Option (List ℕ)) (faults counted : ℕ)
         (handed back : List (Option Told)) (status : Status) (out : List ℕ) (again : Option Image)
         (task : AssemblyTask) (image : Image) (input : List ℕ)
@@ -123,7 +123,7 @@ pub fn each_answer_has_its_status()
         (handed back : List (Option Told)) (status : Status) (out : List ℕ) (image : Option Image)
         (options : BenchOptions) (parts : List Part)
         → Answers words left after faults counted handed status out image back
-        → IsLine words (Task.Bench options) → IsGeneratedJob options.number parts → TellWords handed
+        → AsksFor words (Task.Bench options) → IsGeneratedJob options.number parts → TellWords handed
         → BenchEndsSo options parts handed status }
 {
     words_are_one_line();

@@ -46,6 +46,6 @@ pub use multi_laws::{
     threads_are_answered_alike, what_threads_do_is_answered,
 };
 pub use status::{Outcome, Status};
-pub use step::{Starved, Step};
+pub use step::{CallStep, StarvedCall};
 pub use task::{Report, RunOptions};
 pub use text::Text;

@@ -12,7 +12,7 @@ ghost use Rattle.wsc_top.specs.Jobs.{most_jobs};
 ghost use Rattle.wsc_top.specs.Running.{alone_at, ThreadTold, BeforeSo, AllTold};
 
 use crate::batch::ReadJobs;
-use crate::exec::Reply;
+use crate::exec::CommandReply;
 use crate::run_texts::answer;
 use crate::status::Status;
 use crate::task::RunOptions;
@@ -197,7 +197,7 @@ pub fn all_executed<P: Port + Send, G: Gate, R: Threads + Wait + Sync>(
     jobs: ReadJobs,
     ports: Slots<P>,
     gate: &G,
-) -> Reply<P>
+) -> CommandReply<P>
     requires told { TellWords (contents P.tells ports) }
     requires open { AllOpen (contents P.tells ports) }
     requires some { 1 ≤ length jobs.inputs.items }
@@ -221,7 +221,7 @@ pub fn all_executed<P: Port + Send, G: Gate, R: Threads + Wait + Sync>(
     let ends = multi_run(rt, alloc, parts, workers, &Unnumbered { gate });
     let answer = told(alloc, options, images.as_slice(), &ends);
     let ports = ports_of(ends.first);
-    Reply {
+    CommandReply {
         answer,
         image: None,
         threads: images,

@@ -10,7 +10,7 @@ use ws_words::{NoMemory, Words};
 /// An answer that is ready: its status, its text, and the image that it ran without ports or prints; or an
 /// image that is to be run on these words; or those of the threads that are to be run.
 #[derive(Drop)]
-pub enum Step {
+pub enum CallStep {
     Ready(Status, Text, Option<Checked>),
     Run(RunOptions, Checked, Words),
     Threads(RunOptions, ReadJobs),
@@ -18,17 +18,17 @@ pub enum Step {
 
 /// Memory ran out, and no port has been called.
 #[derive(Drop)]
-pub struct Starved {
+pub struct StarvedCall {
     /// The image that was begun to be run or to be written, where the call had come so far.
     pub image: Option<Checked>,
 }
 
-impl From<NoMemory> for Starved {
+impl From<NoMemory> for StarvedCall {
     ghost use Rattle.std.specs.Prelude.{◌≡◌, None};
 
     ghost from_gives = { λ _ starved. starved.image ≡ None };
 
-    fn from(_: NoMemory) -> Starved {
-        Starved { image: None }
+    fn from(_: NoMemory) -> StarvedCall {
+        StarvedCall { image: None }
     }
 }

@@ -2,7 +2,8 @@
 
 ghost use Rattle.std.specs.Prelude.{◌≡◌, None, Ok, map, string_bytes, IfOk, IfSome, IfNone};
 ghost use Rattle.wsc_words.specs.Lines.{HasCommand};
-ghost use Rattle.wsc_top.specs.Tasks.{task_of, options_of, decoupled_options, grid_options, IsLine, IsNoLine};
+ghost use Rattle.wsc_top.specs.Tasks.{AsksFor, IsNoLine, decoupled_options, grid_options, options_of};
+ghost use Rattle.wsc_top.specs.Tasks.{task_of};
 ghost use Rattle.wsc_top.specs.declared.task.Report.TheVariants.{Full};
 
 use std::alloc::Global;
@@ -195,7 +196,7 @@ fn task_of(line: &Invocation) -> Option<Task>
 /// What these words of the command line ask for, without the program's own name.
 pub fn read_task(alloc: Global, words: &[String]) -> Result<Option<Task>, NoMemory>
     ensures some { IfOk result (λ found.
-        IfSome found (λ task. IsLine (map string_bytes words.now) task)) }
+        IfSome found (λ task. AsksFor (map string_bytes words.now) task)) }
     ensures none { IfOk result (λ found. IfNone found (IsNoLine (map string_bytes words.now))) }
     ensures unknown { ¬ HasCommand (map string_bytes words.now) → result ≡ Ok None }
 {

@@ -16,7 +16,7 @@ use crate::refusals::asm_refused;
 use crate::run_texts::put_firings;
 use crate::sections::{after_line, split_trace};
 use crate::status::Status;
-use crate::step::Starved;
+use crate::step::StarvedCall;
 use crate::texts::put_words;
 use crate::world::world;
 use asm_text::{AsmFault, AsmKind, print_asm};
@@ -138,7 +138,7 @@ pub fn replayed(
     text: &[u8],
     image: Checked,
     input: Words,
-) -> Result<(Status, Bytes, Option<Checked>), Starved>
+) -> Result<(Status, Bytes, Option<Checked>), StarvedCall>
     requires { length text.now ≤ assembly_limit }
     ensures told { IfOk result (λ y. IsReplayed text.now image input y.0 y.1 y.2) }
     ensures ends { IfOk result (λ y. EndsReplay text.now image input y.0) }
@@ -155,13 +155,13 @@ pub fn replayed(
     match read_trace(alloc, after_line(section), last_line(front) + 1) {
         Ok(trace) => match made(alloc, &image, input, &trace) {
             Ok((status, text)) => Ok((status, text, Some(image))),
-            Err(NoMemory) => Err(Starved { image: Some(image) }),
+            Err(NoMemory) => Err(StarvedCall { image: Some(image) }),
         },
         Err(AsmFault::Refused { kind, line }) => Ok((
             Status::Refused,
             asm_refused(alloc, AsmRefusal::Text(kind, line))?,
             None,
         )),
-        Err(AsmFault::NoMemory) => Err(Starved { image: None }),
+        Err(AsmFault::NoMemory) => Err(StarvedCall { image: None }),
     }
 }

@@ -15,7 +15,7 @@ ghost use Rattle.wsc_top.specs.declared.status.Status.{Status};
 
 use crate::clocked::clocked;
 use crate::status::Status;
-use crate::step::{Starved, Step};
+use crate::step::{CallStep, StarvedCall};
 use crate::task::{AssemblyTask, JobTask, PlainOptions};
 use crate::text::{Phrase, Text};
 use crate::texts;
@@ -42,7 +42,7 @@ pub fn image_of(alloc: Global, accepted: &Accepted) -> Result<Checked, NoMemory>
 }
 
 // The image of a program and its text.
-fn compiled(alloc: Global, accepted: &Accepted) -> Result<(Checked, Text), Starved>
+fn compiled(alloc: Global, accepted: &Accepted) -> Result<(Checked, Text), StarvedCall>
     requires { IsWritten (view.parts accepted.now.program.items.items) }
     ensures ok { IfOk result (λ x. (input : List ℕ) (handed : List (Option Told))
         → Yields JobTask.Compile (view.parts accepted.now.program.items.items) input handed
@@ -53,7 +53,7 @@ fn compiled(alloc: Global, accepted: &Accepted) -> Result<(Checked, Text), Starv
     let image = image_of(alloc, accepted)?;
     match print_asm(alloc, image.image()) {
         Ok(text) => Ok((image, Text::built(text))),
-        Err(NoMemory) => Err(Starved { image: Some(image) }),
+        Err(NoMemory) => Err(StarvedCall { image: Some(image) }),
     }
 }
 
@@ -114,7 +114,7 @@ pub fn yielded(
     task: JobTask,
     accepted: &Accepted,
     input: Words,
-) -> Result<Step, Starved>
+) -> Result<CallStep, StarvedCall>
     requires { IsWritten (view.parts accepted.now.program.items.items) }
     ensures ok { IfOk result
         (YieldStep task (view.parts accepted.now.program.items.items) input) }
@@ -123,18 +123,18 @@ pub fn yielded(
 {
     printed_reads_the_same();
     match task {
-        JobTask::Run(options) => Ok(Step::Run(options, image_of(alloc, accepted)?, input)),
+        JobTask::Run(options) => Ok(CallStep::Run(options, image_of(alloc, accepted)?, input)),
         JobTask::Format => {
             let text = print_program(alloc, &accepted.program)?;
-            Ok(Step::Ready(Status::Done, Text::built(text), None))
+            Ok(CallStep::Ready(Status::Done, Text::built(text), None))
         }
         JobTask::Compile => {
             let (image, text) = compiled(alloc, accepted)?;
-            Ok(Step::Ready(Status::Done, text, Some(image)))
+            Ok(CallStep::Ready(Status::Done, text, Some(image)))
         }
         JobTask::Plain(options) => {
             let (status, text) = plainly(alloc, options, accepted, input)?;
-            Ok(Step::Ready(status, text, None))
+            Ok(CallStep::Ready(status, text, None))
         }
     }
 }
@@ -146,7 +146,7 @@ pub fn assembly_yielded(
     text: &[u8],
     image: Checked,
     input: Words,
-) -> Result<Step, Starved>
+) -> Result<CallStep, StarvedCall>
     requires text { length text.now ≤ assembly_limit }
     requires task { TaskInRange task }
     ensures ok { IfOk result (AssemblyYieldStep task text.now image input) }
@@ -156,24 +156,24 @@ pub fn assembly_yielded(
     match task {
         AssemblyTask::Check => {
             let sound = Text::fixed(Phrase::Sound);
-            Ok(Step::Ready(Status::Done, sound, None))
+            Ok(CallStep::Ready(Status::Done, sound, None))
         }
         AssemblyTask::List => {
             let listing = list_image(alloc, &image)?;
-            Ok(Step::Ready(Status::Done, Text::built(listing), None))
+            Ok(CallStep::Ready(Status::Done, Text::built(listing), None))
         }
-        AssemblyTask::Exec(options) => Ok(Step::Run(options, image, input)),
+        AssemblyTask::Exec(options) => Ok(CallStep::Run(options, image, input)),
         AssemblyTask::Trace(budget) => match traced(alloc, budget, &image, input) {
-            Ok((status, text)) => Ok(Step::Ready(status, Text::built(text), Some(image))),
-            Err(NoMemory) => Err(Starved { image: Some(image) }),
+            Ok((status, text)) => Ok(CallStep::Ready(status, Text::built(text), Some(image))),
+            Err(NoMemory) => Err(StarvedCall { image: Some(image) }),
         },
         AssemblyTask::Replay => {
             let (status, text, again) = replayed(alloc, text, image, input)?;
-            Ok(Step::Ready(status, Text::built(text), again))
+            Ok(CallStep::Ready(status, Text::built(text), again))
         }
         AssemblyTask::Grid(options) => match clocked(alloc, options, &image, input) {
-            Ok((status, text)) => Ok(Step::Ready(status, Text::built(text), Some(image))),
-            Err(NoMemory) => Err(Starved { image: Some(image) }),
+            Ok((status, text)) => Ok(CallStep::Ready(status, Text::built(text), Some(image))),
+            Err(NoMemory) => Err(StarvedCall { image: Some(image) }),
         },
     }
 }

@@ -3,7 +3,7 @@ use Rattle.std.proofs.lemmas.Grind.{common_steps}
 use Rattle.std.proofs.lemmas.List.{length-replicate}
 use Rattle.cfg_core.specs.Graph.{entry_of}
 use Rattle.cfg_core.specs.View as view
-use Rattle.call_gen.specs.Part.{Marks}
+use Rattle.call_gen.specs.Part.{FlagsMore}
 use Rattle.call_gen.proofs.Marking.{found_main, found_more, found_all}
 use Rattle.call_gen.proofs.find.find.Goals as goal
 use Rattle.cfg_core.proofs.Spots.{count_is, rooms_are}
@@ -17,8 +17,8 @@ loop-b-init c =
     let empty : c.new.result.items ≡ [] = c.new.ensures.items in
     let last : c.saturating_sub.result ≡ length g.procs - 1 = omega (arith, rooms_are t c.requires.table, t.rooms.ok.0) in
     found_main g c.requires.rules c.requires.no_send n main new waits (omega (arith, count_is t c.requires.table, t.spots.ok.0)) (length-replicate n false) (c.room.ensures.entry ∙ ap (entry_of g) last)
-    (subst (λ (ws : List ℕ). Marks (λ k. k ≡ main) (replicate n false) new ws waits) empty
-    (subst (λ (fs : List Bool). Marks (λ k. k ≡ main) fs new c.new.result.items waits) items c.in_ok-mark.ensures))
+    (subst (λ (ws : List ℕ). FlagsMore (λ k. k ≡ main) (replicate n false) new ws waits) empty
+    (subst (λ (fs : List Bool). FlagsMore (λ k. k ≡ main) fs new c.new.result.items waits) items c.in_ok-mark.ensures))
 
 pub loop-b-preserved : goal.loop-b-preserved
 loop-b-preserved c =

@@ -24,6 +24,6 @@ returns g c =
     let chosen = c.choice_at-choice.ensures key ∙ ap (λ (k : Key). selector_of op (of k)) (c.key_at-wave.ensures key) in
     λ come. told_key g.J.Job.image (part_behind c.args.tables.now).held c.args.place c.args.table.now key c.key_at-wave.ensures
     (λ m. subst (λ (ts : List Token). HaveCome (part_behind c.args.tables.now).held ts)
-    (code_sent g.J.Job.image (image_of c.program-2.result.now) key.wave key.instr op c.in-Some.number (result_of_op op (of key)) c.choice_at-choice.result c.destinations-dests.result.now is c.in-Some.ensures c.destinations-dests.ensures c.program-2.ensures.image
+    (code_sent g.J.Job.image (image_of c.program-2.result.now) key.wave key.instr op c.in-Some.number (result_of_op op (of key)) c.choice_at-choice.result c.destinations-dests.result.now is c.in-Some.ensures.number c.destinations-dests.ensures c.program-2.ensures.image
     ∙ sent_is g.J.Job.image key.wave key.instr op (of key) c.choice_at-choice.result (result_of_op op (of key)) is chosen refl)
     (c.have_come.ensures come (result_of_op op (of key))))

@@ -1,6 +1,6 @@
 use Rattle.std.proofs.Common.{◌≡◌, ◌∙◌, ◌-◌, ◌++◌, ◌∷◌, [], List, drop, length, sym, ap, subst, arith}
 use Rattle.std.proofs.lemmas.List.{drop_all}
-use Rattle.wave_gen.specs.Wire.{Spot, Front, Wants}
+use Rattle.wave_gen.specs.Wire.{Target, Front, Wants}
 use Rattle.wave_gen.specs.Plans.{fronts}
 use Rattle.wave_gen.specs.Tables.{listed}
 use Rattle.wave_gen.proofs.Framed.{front_more}
@@ -14,7 +14,7 @@ loop-left-init c =
 pub loop-left-preserved : goal.loop-left-preserved
 loop-left-preserved c = (
   omega arith,
-  front_more c.args.block c.loop-left.left c.args.entries.now (listed c.loop-left.table.lists.items) (listed c.put.new.self.lists.items) c.push.new.self.items 0 (omega arith) c.loop-left.invariant.0 c.loop-left.invariant.1 (c.in_ok-push.ensures.items ∙ ap (λ (l : List Spot). l ++ Front c.args.block (c.loop-left.left - 1) ∷ []) c.new-list.ensures.items) c.in_ok-put.ensures,
+  front_more c.args.block c.loop-left.left c.args.entries.now (listed c.loop-left.table.lists.items) (listed c.put.new.self.lists.items) c.push.new.self.items 0 (omega arith) c.loop-left.invariant.0 c.loop-left.invariant.1 (c.in_ok-push.ensures.items ∙ ap (λ (l : List Target). l ++ Front c.args.block (c.loop-left.left - 1) ∷ []) c.new-list.ensures.items) c.in_ok-put.ensures,
 )
 
 pub returns : goal.returns

@@ -1,5 +1,5 @@
 use Rattle.std.proofs.Common.{◌≡◌, subst}
-use Rattle.wsc_top.specs.declared.step.Step.TheVariants.{Run as Due, Threads as Many}
+use Rattle.wsc_top.specs.declared.step.CallStep.TheVariants.{Run as Due, Threads as Many}
 use Rattle.wsc_top.specs.Steps.{StepSo}
 use Rattle.wsc_top.specs.Answers.{before}
 use Rattle.wsc_top.proofs.Due.{due_reply, due_starves}

@@ -3,12 +3,12 @@ use Rattle.std.proofs.Common.{sym}
 use Rattle.wsc_words.specs.Lines as lines
 use Rattle.wsc_words.specs.declared.line.Invocation.{Invocation}
 use Rattle.wsc_top.specs.declared.task.Task.{Task}
-use Rattle.wsc_top.specs.Tasks.{task_of, IsLine}
+use Rattle.wsc_top.specs.Tasks.{task_of, AsksFor}
 use Rattle.wsc_top.proofs.Tasks.{no_task}
 use Rattle.wsc_top.proofs.task.read_task.Goals as goal
 
 some_task : (words : List (List ℕ)) (l : Invocation) (found : Option Task) → lines.IsLine words l → found ≡ task_of l
-    → IfSome found (λ task. IsLine words task)
+    → IfSome found (λ task. AsksFor words task)
 some_task words l None h e = tt
 some_task words l (Some t) h e = (l, h, sym e)
 

@@ -1,5 +1,5 @@
 use Rattle.std.proofs.Common.{◌≤◌, ◌+◌, suc, drop}
-use Rattle.ws_words.specs.Outside.{Outside, State}
+use Rattle.ws_words.specs.Outside.{Outside, ProcState}
 use Rattle.cfg_core.specs.View as graph
 use Rattle.seq_run.specs.Resolved.{While, calls_below, run_one, run_all}
 use Rattle.seq_run.specs.Shows.{Holds, Upto}
@@ -28,7 +28,7 @@ decreases-run_steps l = weight_below l.below (view.procs l.self.now.procs.now) +
 abbrev pub invariant-run_loop-loop-run : goal.invariant-run_loop-loop-run
 invariant-run_loop-loop-run l = record {
   fewer : l.run.turns ≤ l.initial.run.turns;
-  upto : (start : Outside) (s : State) → Holds start s l.initial.run.memory l.initial.vars →
+  upto : (start : Outside) (s : ProcState) → Holds start s l.initial.run.memory l.initial.vars →
       Upto start (λ at k. run_one (calls_below l.below (view.procs l.self.procs.now)) (While (graph.term l.test) (view.steps l.body)) at k)
       (λ k. run_one (calls_below l.below (view.procs l.self.procs.now)) (While (graph.term l.test) (view.steps l.body)) s k) l.initial.run.turns l.run.memory l.vars l.run.turns;
 }
@@ -39,7 +39,7 @@ decreases-run_loop-loop-run l = l.run.turns
 abbrev pub invariant-run_steps-loop-step : goal.invariant-run_steps-loop-step
 invariant-run_steps-loop-step l = record {
   fewer : l.run.turns ≤ l.initial.run.turns;
-  upto : (start : Outside) (s : State) → Holds start s l.initial.run.memory l.initial.vars →
+  upto : (start : Outside) (s : ProcState) → Holds start s l.initial.run.memory l.initial.vars →
       Upto start (run_all (calls_below l.below (view.procs l.self.procs.now)) (view.steps (drop l.step-index l.steps)))
       (run_all (calls_below l.below (view.procs l.self.procs.now)) (view.steps l.steps) s) l.initial.run.turns l.run.memory l.vars l.run.turns;
 }

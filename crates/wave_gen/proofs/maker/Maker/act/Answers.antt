@@ -3,7 +3,7 @@ use Rattle.std.proofs.lemmas.Result.{on_ok_weaker}
 use Rattle.wave_gen.specs.declared.spot.Line.{Line}
 use Rattle.wave_gen.specs.Wire as plain
 use Rattle.wave_gen.specs.Wire.{rest, with_rooms}
-use Rattle.wave_gen.specs.Tables.{Stands}
+use Rattle.wave_gen.specs.Tables.{HasMade}
 use Rattle.wave_gen.proofs.Making.{bare_line}
 use Rattle.wave_gen.proofs.maker.Maker.act.Goals as goal
 
@@ -12,5 +12,5 @@ returns c =
     let from = c.args.from.now in
     let l : Line = record { op = c.args.op; dests = c.new-dests.result; others = c.new-others.result } in
     on_ok_weaker c.rest.result (λ e b s st.
-    subst (λ (k : plain.WiredInstr). Stands b c.rest.new.self (rest b k from (with_rooms b (length from) from s))) (bare_line l c.new-dests.ensures.items c.new-others.ensures.items)
+    subst (λ (k : plain.WiredInstr). HasMade b c.rest.new.self (rest b k from (with_rooms b (length from) from s))) (bare_line l c.new-dests.ensures.items c.new-others.ensures.items)
     (e b (with_rooms b (length from) from s) (c.in_ok-make_rooms.ensures b s st))) c.rest.ensures

@@ -2,7 +2,7 @@ use Rattle.std.proofs.Common.{true, false, sym, ◌∙◌, ℕ, List, subst}
 use Rattle.std.proofs.lemmas.Result.{on_ok_weaker}
 use Rattle.wave_gen.specs.View as view
 use Rattle.wave_gen.specs.Plans.{advances, renew}
-use Rattle.wave_gen.specs.Tables.{Stands}
+use Rattle.wave_gen.specs.Tables.{HasMade}
 use Rattle.wave_gen.proofs.Making.{begun_first, begun_other}
 use Rattle.wave_gen.proofs.maker.Maker.begin.Goals as goal
 
@@ -10,9 +10,9 @@ pub returns-in_ok-renew : goal.returns-in_ok-renew
 returns-in_ok-renew c =
     on_ok_weaker c.advance.result (λ e b s st.
     begun_first b (view.plan c.args.plan.now) c.advance.new.self s c.if-plan.true
-    (subst (λ (xs : List ℕ). Stands b c.advance.new.self (advances b xs (renew b c.args.plan.now.entries.items s))) c.deref-then-plan.ensures.value
+    (subst (λ (xs : List ℕ). HasMade b c.advance.new.self (advances b xs (renew b c.args.plan.now.entries.items s))) c.deref-then-plan.ensures.value
     (e b (renew b c.args.plan.now.entries.items s)
-    (subst (λ (xs : List ℕ). Stands b c.renew.new.self (renew b xs s)) c.deref.ensures.value (c.in_ok-renew.ensures b s st))))) c.advance.ensures
+    (subst (λ (xs : List ℕ). HasMade b c.renew.new.self (renew b xs s)) c.deref.ensures.value (c.in_ok-renew.ensures b s st))))) c.advance.ensures
 
 pub returns-then-merges : goal.returns-then-merges
 returns-then-merges c =

@@ -1,7 +1,7 @@
 use Rattle.std.proofs.Common.{ℕ, List, take, slice_index, subst}
 use Rattle.std.proofs.lemmas.List.{take_more, take_all}
 use Rattle.wave_gen.specs.Plans.{renew}
-use Rattle.wave_gen.specs.Tables.{Stands}
+use Rattle.wave_gen.specs.Tables.{HasMade}
 use Rattle.wave_gen.proofs.Making.{renew_push}
 use Rattle.wave_gen.proofs.maker.Maker.renew.Goals as goal
 
@@ -13,4 +13,4 @@ loop-name-preserved c b s st =
 pub returns : goal.returns
 returns c b s st =
     let xs = c.args.entries.now in
-    subst (λ (ys : List ℕ). Stands b c.loop-name.self (renew b ys s)) (take_all c.loop-name.name-index xs c.loop-name-test.false) (c.loop-name.invariant b s st)
+    subst (λ (ys : List ℕ). HasMade b c.loop-name.self (renew b ys s)) (take_all c.loop-name.name-index xs c.loop-name-test.false) (c.loop-name.invariant b s st)

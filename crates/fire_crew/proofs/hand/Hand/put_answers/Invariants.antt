@@ -1,5 +1,0 @@
-use Rattle.std.proofs.Common.{length}
-use Rattle.fire_crew.proofs.hand.Hand.put_answers.Given as goal
-
-abbrev pub decreases-loop-token : goal.decreases-loop-token
-decreases-loop-token g l = length l.self.answers

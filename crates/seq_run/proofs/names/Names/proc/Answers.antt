@@ -1,5 +1,0 @@
-use Rattle.std.proofs.Common.{arith}
-use Rattle.seq_run.proofs.names.Names.proc.Goals as goal
-
-pub returns : goal.returns
-returns c = λ scope are. let h = c.number.ensures 0 scope.procs are.procs in omega (arith, h)
